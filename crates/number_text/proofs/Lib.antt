@@ -1,0 +1,4 @@
+pub mod DecimalValues
+pub mod ListItems
+pub mod FirstMarks
+pub mod Scaling
