@@ -1,0 +1,133 @@
+-- Small files by computation: the data of each layout, and the first fault of each faulty file.
+use Rattle.std.proofs.Common.{◌≡◌, ℕ, ◌-◌, ◌*◌, ◌^◌, pos, negsuc, List, [], ◌∷◌, codes, Ok, Err, refl}
+use Rattle.number_text.specs.NumberTexts.{units_of, value_of}
+use Rattle.record_reader.specs.declared.faults.Kind.TheVariants as kind
+use Rattle.record_reader.specs.declared.layouts.LayoutFault.{LayoutFault}
+use Rattle.record_reader.specs.declared.layouts.Picks.{Picks}
+use Rattle.record_reader.specs.declared.layouts.LayoutFault.TheVariants.{Columns}
+use Rattle.record_reader.specs.declared.layouts.Picks.TheVariants.{Natural, Listed}
+use Rattle.sample_reader.specs.CellLayouts.{binary_blocks_in, blocks_in, differences_in}
+use Rattle.sample_reader.specs.GroupLayout.{groups_in}
+use Rattle.sample_reader.specs.Groups.{GroupData, group_sizes}
+use Rattle.sample_reader.specs.Layouts.{field_fault, row_fault}
+
+-- a row of one field, of two and of three
+abbrev one : List ℕ → List (List ℕ)
+one a = a ∷ []
+
+abbrev two : List ℕ → List ℕ → List (List ℕ)
+two a b = a ∷ b ∷ []
+
+abbrev three : List ℕ → List ℕ → List ℕ → List (List ℕ)
+three a b c = a ∷ b ∷ c ∷ []
+
+abbrev header : List (List ℕ)
+header = two (codes "group") (codes "value")
+
+-- ---- groups
+
+abbrev small : GroupData
+small = record {
+  labels = (121 ∷ []) ∷ (120 ∷ []) ∷ [];
+  members = 0 ∷ 1 ∷ 0 ∷ [];
+  values = pos (10 ^ 13) ∷ pos (2 * 10 ^ 18) ∷ negsuc (3 * 10 ^ 18 - 1) ∷ [];
+}
+
+small_file : groups_in 2 Natural (header ∷ two (codes " y\t") (codes "1e-05") ∷ two (codes "x") (codes " 2 ") ∷ two (codes "y") (codes "-3") ∷ []) ≡ Ok small
+unfolding units_of value_of
+small_file = refl
+
+small_sizes : group_sizes small ≡ 2 ∷ 1 ∷ []
+small_sizes = refl
+
+-- a file of two labels at most has this first fault
+abbrev IsFaulty : Picks → List (List (List ℕ)) → LayoutFault → Type 0
+IsFaulty picks rows fault = groups_in 2 picks rows ≡ Err fault
+
+not_a_number : IsFaulty Natural (header ∷ two (codes "x") (codes "1") ∷ two (codes "x") (codes "2") ∷ two (codes "y") (codes "1.2.3") ∷ []) (field_fault 4 2 kind.NotNumber)
+unfolding units_of value_of
+not_a_number = refl
+
+no_header : IsFaulty Natural [] (row_fault 1 kind.NoHeader)
+no_header = refl
+
+third_label : IsFaulty Natural (header ∷ two (codes "x") (codes "1") ∷ two (codes "y") (codes "2") ∷ two (codes "z") (codes "3") ∷ []) (field_fault 4 1 kind.GroupTooMany)
+unfolding units_of value_of
+third_label = refl
+
+short_row : IsFaulty Natural (header ∷ two (codes "x") (codes "1") ∷ one (codes "y") ∷ []) (row_fault 3 kind.FieldCount)
+unfolding units_of value_of
+short_row = refl
+
+missing_value : IsFaulty Natural (header ∷ two (codes "x") (codes "NA") ∷ []) (field_fault 2 2 kind.Missing)
+unfolding units_of value_of
+missing_value = refl
+
+large_value : IsFaulty Natural (header ∷ two (codes "x") (codes "1e18") ∷ []) (field_fault 2 2 kind.OutOfRange)
+unfolding units_of value_of
+large_value = refl
+
+one_label : IsFaulty Natural (header ∷ two (codes "x") (codes "1") ∷ two (codes "x") (codes "2") ∷ []) (row_fault 3 kind.EndsEarly)
+unfolding units_of value_of
+one_label = refl
+
+only_header : IsFaulty Natural (header ∷ []) (row_fault 1 kind.EndsEarly)
+only_header = refl
+
+-- the header's fault comes first, and a row's field count before its fields
+wide_header : IsFaulty Natural (three (codes "") (codes "group") (codes "value") ∷ one (codes "") ∷ []) (row_fault 1 kind.FieldCount)
+wide_header = refl
+
+long_row : IsFaulty Natural (header ∷ three (codes "") (codes "NA") (codes "1") ∷ []) (row_fault 2 kind.FieldCount)
+long_row = refl
+
+unknown_field : IsFaulty (Listed (2 ∷ 4 ∷ [])) (three (codes "") (codes "group") (codes "value") ∷ one (codes "") ∷ []) Columns
+unknown_field = refl
+
+-- a fault's field has its number in the file, and the label is read first
+label_behind_value : IsFaulty (Listed (3 ∷ 1 ∷ [])) (three (codes "value") (codes "") (codes "group") ∷ three (codes "one") (codes "") (codes " ") ∷ []) (field_fault 2 3 kind.Missing)
+label_behind_value = refl
+
+value_before_label : IsFaulty (Listed (3 ∷ 1 ∷ [])) (three (codes "value") (codes "") (codes "group") ∷ three (codes "one") (codes "") (codes "x") ∷ []) (field_fault 2 1 kind.NotNumber)
+unfolding units_of value_of
+value_before_label = refl
+
+-- ---- pairs
+
+single_values : differences_in Natural (one (codes "d") ∷ one (codes "1") ∷ one (codes "-2") ∷ one (codes "0") ∷ []) ≡ Ok (pos (10 ^ 18) ∷ negsuc (2 * 10 ^ 18 - 1) ∷ pos 0 ∷ [])
+unfolding units_of value_of
+single_values = refl
+
+two_values : differences_in Natural (two (codes "before") (codes "after") ∷ two (codes "1") (codes "2") ∷ two (codes "5") (codes "4") ∷ []) ≡ Ok (pos (10 ^ 18) ∷ negsuc (10 ^ 18 - 1) ∷ [])
+unfolding units_of value_of
+two_values = refl
+
+turned_values : differences_in (Listed (2 ∷ 1 ∷ [])) (two (codes "after") (codes "before") ∷ two (codes "3") (codes "1") ∷ []) ≡ Ok (pos (2 * 10 ^ 18) ∷ [])
+unfolding units_of value_of
+turned_values = refl
+
+no_pairs : differences_in Natural (one (codes "d") ∷ []) ≡ Err (row_fault 1 kind.EndsEarly)
+no_pairs = refl
+
+-- ---- blocks
+
+two_blocks : blocks_in Natural (two (codes "a") (codes "b") ∷ two (codes "1") (codes "2") ∷ two (codes "3") (codes "4") ∷ [])
+    ≡ Ok (record { blocks = 2; treatments = 2; cells = pos (10 ^ 18) ∷ pos (2 * 10 ^ 18) ∷ pos (3 * 10 ^ 18) ∷ pos (4 * 10 ^ 18) ∷ [] })
+unfolding units_of value_of
+two_blocks = refl
+
+picked_treatments : binary_blocks_in (Listed (3 ∷ 1 ∷ [])) (three (codes "a") (codes "b") (codes "c") ∷ three (codes "0 ") (codes "") (codes "1") ∷ [])
+    ≡ Ok (record { blocks = 1; treatments = 2; cells = pos 1 ∷ pos 0 ∷ [] })
+picked_treatments = refl
+
+not_binary : binary_blocks_in Natural (two (codes "a") (codes "b") ∷ two (codes "1") (codes "+1") ∷ []) ≡ Err (field_fault 2 2 kind.NotBinary)
+not_binary = refl
+
+missing_binary : binary_blocks_in Natural (two (codes "a") (codes "b") ∷ two (codes " NA ") (codes "2") ∷ []) ≡ Err (field_fault 2 1 kind.Missing)
+missing_binary = refl
+
+one_treatment : blocks_in Natural (one (codes "a") ∷ one (codes "1") ∷ []) ≡ Err (row_fault 1 kind.FieldCount)
+one_treatment = refl
+
+nine_treatments : blocks_in Natural ((codes "a" ∷ codes "b" ∷ codes "c" ∷ codes "d" ∷ codes "e" ∷ codes "f" ∷ codes "g" ∷ codes "h" ∷ codes "i" ∷ []) ∷ []) ≡ Err (row_fault 1 kind.TooManyColumns)
+nine_treatments = refl

@@ -1,0 +1,11 @@
+mod Appearances
+mod BinaryBlocks
+mod LayoutLemmas
+mod LayoutVectors
+mod OrderLemmas
+mod Rearranged
+mod Sizes
+mod SubjectLemmas
+mod WholeBlocks
+mod WholeGroups
+mod WholePairs

@@ -1,0 +1,75 @@
+// Samples, and what is always true of them.
+ghost use Rattle.std.specs.Prelude.{◌≡◌, ◌≢◌, ◌<◌, ◌≤◌, ◌*◌, ◌^◌, nat_abs, length, All, AllPairs, IfOk};
+ghost use Rattle.weights.specs.Labellings.{counts_of};
+ghost use Rattle.sample_reader.specs.declared.TheConstants.{MOST_ROWS};
+
+use crate::labels::Labels;
+use std::alloc::Global;
+use weights::{Ints, NoMemory, Nums};
+
+/// The differences of the pairs of a file.
+#[derive(Drop)]
+pub struct Pairs {
+    /// How many pairs there are.
+    pub rows: u64,
+    /// Each pair's difference, in units of 10^-18, in the order of the file.
+    pub differences: Ints,
+    pub ghost not_empty: { 1 ≤ rows },
+    pub ghost few_enough: { rows ≤ MOST_ROWS },
+    pub ghost one_each: { length differences ≡ rows },
+    pub ghost in_range: { All (λ difference. nat_abs difference < 2 * 10 ^ 36) differences },
+}
+
+/// The cells of a file, one for each block and treatment.
+#[derive(Drop)]
+pub struct Blocks {
+    /// How many blocks there are. Each is a row of the file.
+    pub blocks: u64,
+    /// How many treatments there are.
+    pub treatments: u64,
+    /// The cells by blocks, in the order of the file: values in units of 10^-18, or numbers 0 and 1.
+    pub cells: Ints,
+    pub ghost not_empty: { 1 ≤ blocks },
+    pub ghost few_enough: { blocks ≤ MOST_ROWS },
+    pub ghost at_least_two: { 2 ≤ treatments },
+    pub ghost at_most_eight: { treatments ≤ 8 },
+    pub ghost one_each: { length cells ≡ blocks * treatments },
+    pub ghost in_range: { All (λ cell. nat_abs cell < 10 ^ 36) cells },
+}
+
+/// The values of a file, each with its group.
+#[derive(Drop)]
+pub struct Groups {
+    /// The labels of the groups, in the order in which they first appear.
+    pub labels: Labels,
+    /// How many subjects each group has.
+    pub sizes: Nums,
+    /// The number of each subject's group, from 0, in the order of the file.
+    pub members: Nums,
+    /// Each subject's value, in units of 10^-18, in the order of the file.
+    pub values: Ints,
+    pub ghost at_least_two: { 2 ≤ length labels },
+    pub ghost at_most_eight: { length labels ≤ 8 },
+    pub ghost distinct: { AllPairs ◌≢◌ labels },
+    pub ghost few_enough: { length values ≤ MOST_ROWS },
+    pub ghost in_range: { All (λ value. nat_abs value < 10 ^ 36) values },
+    pub ghost one_group_each: { length members ≡ length values },
+    pub ghost groups_exist: { All (λ group. group < length labels) members },
+    pub ghost counted: { sizes ≡ counts_of (length labels) members },
+    pub ghost none_empty: { All (λ size. 1 ≤ size) sizes },
+}
+
+/// How many members each of the groups below `groups` has.
+pub(crate) fn sizes_of(alloc: Global, groups: usize, members: &[u64]) -> Result<Nums, NoMemory>
+    ensures { IfOk result (λ sizes. sizes ≡ counts_of groups members.now) }
+{
+    let mut sizes = Nums::empty(alloc);
+    for group in 0..groups {
+        let size = members
+            .iter()
+            .filter(|member| **member == group as u64)
+            .count();
+        sizes.push(size as u64)?;
+    }
+    Ok(sizes)
+}
