@@ -1,0 +1,15 @@
+pub mod Choices
+pub mod Completions
+pub mod Exactly
+pub mod Merging
+pub mod NodeSums
+pub mod PooledLemmas
+pub mod Quotients
+pub mod RankSumLemmas
+pub mod ReportLemmas
+pub mod SecondSums
+pub mod SettingsLemmas
+mod SettingsVectors
+pub mod SortedOnce
+pub mod TailWeights
+mod Vectors

@@ -1,0 +1,11 @@
+pub mod Decimals
+pub mod Midranks
+pub mod Nodes
+pub mod Outcome
+pub mod PooledSample
+pub mod Promises
+pub mod RankSum
+pub mod Refusals
+pub mod Report
+pub mod Settings
+pub mod Tails

@@ -1,0 +1,323 @@
+use crate::rank_sum::rank_sum;
+use crate::walked::Walked;
+use crate::{Status, run};
+use enumerate::plain_tail;
+use outside::{MemorySink, MemorySource, SteadySource};
+use record_reader::{Picks, records};
+use sample_reader::groups;
+use std::alloc::{AllocError, Global};
+use std::process::Abort;
+use std::test::Fail;
+use weights::Tail;
+
+// The words of a text that is cut at its blanks.
+fn words_of(alloc: Global, text: &str) -> Result<Vec<String>, AllocError> {
+    let mut words = Vec::new(alloc);
+    for word in text.split_whitespace() {
+        words.push(word.to_string(alloc)?)?;
+    }
+    Ok(words)
+}
+
+// A sink with room for a report.
+fn sink(alloc: Global) -> Result<MemorySink, AllocError> {
+    Ok(MemorySink::new(Vec::with_capacity(alloc, 1000)?, 16, Vec::new(alloc)))
+}
+
+// Runs the words over a steady source, and compares what `out` and `err` hold in the end.
+fn expect(
+    rt: &impl Abort,
+    alloc: Global,
+    words: &str,
+    file: &[u8],
+    status: Status,
+    told: &str,
+) -> Result<(), AllocError> {
+    let words = words_of(alloc, words)?;
+    let mut source = SteadySource::new(Vec::from_slice(alloc, file)?, 7);
+    let mut out = sink(alloc)?;
+    let mut err = sink(alloc)?;
+    let answer = run(alloc, &words, &mut source, &mut out, &mut err);
+    assert!(rt; answer == status, "status of {told}");
+    let is_done = status == Status::Done;
+    assert!(rt;
+        out.taken()
+            == if is_done {
+                told.as_bytes()
+            } else {
+                b"".as_slice()
+            },
+        "{told}"
+    );
+    assert!(rt;
+        err.taken()
+            == if is_done {
+                b"".as_slice()
+            } else {
+                told.as_bytes()
+            },
+        "{told}"
+    );
+    Ok(())
+}
+
+const SIX: &[u8; 36] = b"group,value\nx,1\nx,2\nx,3\ny,4\ny,5\ny,6\n";
+
+#[test]
+fn reports(rt: HostRuntime) -> Result<(), AllocError> {
+    let table: [(&str, &[u8], &str); 8] = [
+        (
+            "ranksum f.csv",
+            SIX,
+            "test ranksum\ngroup 3 x\ngroup 3 y\nstatistic 30/2\ntotal 20\nless 20/20 1.000000\ngreater 1/20 0.050000\ntwo 2/20 0.100000\n",
+        ),
+        (
+            "ranksum f.csv",
+            b"group,value\nx,1\nx,2\nx,2\ny,2\ny,3\ny,3\n",
+            "test ranksum\ngroup 3 x\ngroup 3 y\nstatistic 28/2\ntotal 20\nless 20/20 1.000000\ngreater 3/20 0.150000\ntwo 6/20 0.300000\n",
+        ),
+        (
+            "ranksum f.csv",
+            b"group,value\nx,5\nx,5\ny,5",
+            "test ranksum\ngroup 2 x\ngroup 1 y\nstatistic 4/2\ntotal 3\nless 3/3 1.000000\ngreater 3/3 1.000000\ntwo 3/3 1.000000\n",
+        ),
+        (
+            "ranksum f.csv",
+            b"\xEF\xBB\xBF\"group\",\"value\"\r\n\"x\",1e-05\r\n\"x\",2\r\n\"y\",3\r\n",
+            "test ranksum\ngroup 2 x\ngroup 1 y\nstatistic 6/2\ntotal 3\nless 3/3 1.000000\ngreater 1/3 0.333333\ntwo 2/3 0.666667\n",
+        ),
+        (
+            "ranksum f.csv --columns=2,3",
+            b"\"\",\"group\",\"value\"\n\"1\",\"x\",4.17\n\"2\",\"x\",5.58\n\"3\",\"y\",6.31\n\"4\",\"y\",5.87\n",
+            "test ranksum\ngroup 2 x\ngroup 2 y\nstatistic 14/2\ntotal 6\nless 6/6 1.000000\ngreater 1/6 0.166667\ntwo 2/6 0.333333\n",
+        ),
+        (
+            "ranksum f.csv --separator=semicolon --columns=2,1",
+            b"value;group\n1; x\n2;x \n3;y\t\n",
+            "test ranksum\ngroup 2 x\ngroup 1 y\nstatistic 6/2\ntotal 3\nless 3/3 1.000000\ngreater 1/3 0.333333\ntwo 2/3 0.666667\n",
+        ),
+        (
+            "ranksum f.csv --separator=tab",
+            b"g\tv\na\x01\t1\nb\x7F\t2\n",
+            "test ranksum\ngroup 1 a?\ngroup 1 b?\nstatistic 4/2\ntotal 2\nless 2/2 1.000000\ngreater 1/2 0.500000\ntwo 2/2 1.000000\n",
+        ),
+        (
+            "ranksum f.csv",
+            b"g,v\nx,-1e17\ny,0.5\nx,.000000000000000001\n",
+            "test ranksum\ngroup 2 x\ngroup 1 y\nstatistic 6/2\ntotal 3\nless 3/3 1.000000\ngreater 1/3 0.333333\ntwo 2/3 0.666667\n",
+        ),
+    ];
+    for (words, file, report) in table {
+        expect(&rt, rt.alloc(), words, file, Status::Done, report)?;
+    }
+    Ok(())
+}
+
+#[test]
+fn refuses_data(rt: HostRuntime) -> Result<(), AllocError> {
+    let table: [(&[u8], &str); 9] = [
+        (
+            b"group,value\nx,1\nx,2\ny,1.2.3\n",
+            "refused: row 4 field 2: not a number\n",
+        ),
+        (b"", "refused: row 1: no header\n"),
+        (
+            b"group,value\nx,1\ny,2\nz,3\n",
+            "refused: row 4 field 1: a group too many\n",
+        ),
+        (b"group,value\nx,1\ny\n", "refused: row 3: field count\n"),
+        (b"group,value\nx,NA\n", "refused: row 2 field 2: missing\n"),
+        (
+            b"group,value\nx,1e18\n",
+            "refused: row 2 field 2: out of range\n",
+        ),
+        (
+            b"group,value\nx,1\nx,2\n",
+            "refused: row 3: ends too early\n",
+        ),
+        (
+            b"\"\",\"group\",\"value\"\n\"1\",\"x\",4.17\n",
+            "refused: row 1: field count\n",
+        ),
+        (b"group,value\n ,1\n", "refused: row 2 field 1: missing\n"),
+    ];
+    for (file, line) in table {
+        expect(
+            &rt,
+            rt.alloc(),
+            "ranksum f.csv",
+            file,
+            Status::BadData,
+            line,
+        )?;
+    }
+    Ok(())
+}
+
+#[test]
+fn refuses_words(rt: HostRuntime) -> Result<(), AllocError> {
+    for words in [
+        "",
+        "ranksum",
+        "spearman f.csv",
+        "ranksum f.csv g.csv",
+        "ranksum f.csv --columns=2,2",
+        "ranksum f.csv --separator=comma --separator=comma",
+        "ranksum f.csv --tail=less",
+    ] {
+        expect(
+            &rt,
+            rt.alloc(),
+            words,
+            SIX,
+            Status::Usage,
+            "refused: command line\n",
+        )?;
+    }
+    expect(
+        &rt,
+        rt.alloc(),
+        "ranksum f.csv --columns=2,4",
+        SIX,
+        Status::Usage,
+        "refused: --columns does not fit the data\n",
+    )
+}
+
+// The values from 1 to `last`, those up to 65 in the group x and the others in y.
+fn numbered(alloc: Global, last: u64) -> Result<Vec<u8>, AllocError> {
+    let mut text = Vec::from_slice(alloc, b"group,value\n")?;
+    for before in 0..last {
+        let value = before + 1;
+        let label = if value <= 65 { 'x' } else { 'y' };
+        let line = format!(in alloc; "{label},{value}\n")?;
+        text.extend_from_slice(line.as_bytes())?;
+    }
+    Ok(text)
+}
+
+#[test]
+fn counts_up_to_the_limit(rt: HostRuntime) -> Result<(), AllocError> {
+    expect(
+        &rt,
+        rt.alloc(),
+        "ranksum f.csv",
+        &numbered(rt.alloc(), 130)?,
+        Status::Done,
+        "test ranksum\ngroup 65 x\ngroup 65 y\nstatistic 12740/2\ntotal 95067625827960698145584333020095113100\nless 95067625827960698145584333020095113100/95067625827960698145584333020095113100 1.000000\ngreater 1/95067625827960698145584333020095113100 0.000000\ntwo 2/95067625827960698145584333020095113100 0.000000\n",
+    )?;
+    expect(
+        &rt,
+        rt.alloc(),
+        "ranksum f.csv",
+        &numbered(rt.alloc(), 131)?,
+        Status::TooWide,
+        "refused: too wide: total\n",
+    )?;
+    let long = vec![in rt.alloc(); b'x'; 1_048_577usize]?;
+    expect(
+        &rt,
+        rt.alloc(),
+        "ranksum f.csv",
+        &long,
+        Status::BadData,
+        "refused: file longer than 1048576 bytes\n",
+    )
+}
+
+// Runs over six values with a source, an `out` and an `err` whose calls of these numbers fail.
+fn fail_at(
+    rt: &impl Abort,
+    alloc: Global,
+    calls: [&[u64]; 3],
+    status: Status,
+    told: &str,
+    line: &str,
+) -> Result<(), AllocError> {
+    let words = words_of(alloc, "ranksum f.csv")?;
+    let bytes = Vec::from_slice(alloc, SIX)?;
+    let mut source = MemorySource::new(bytes, 8, Vec::from_slice(alloc, calls[0])?);
+    let room = Vec::with_capacity(alloc, 1000)?;
+    let mut out = MemorySink::new(room, 16, Vec::from_slice(alloc, calls[1])?);
+    let room = Vec::with_capacity(alloc, 1000)?;
+    let mut err = MemorySink::new(room, 16, Vec::from_slice(alloc, calls[2])?);
+    let answer = run(alloc, &words, &mut source, &mut out, &mut err);
+    assert!(rt; answer == status);
+    assert!(rt; out.taken() == told.as_bytes());
+    assert!(rt; err.taken() == line.as_bytes());
+    Ok(())
+}
+
+#[test]
+fn tells_faults(rt: HostRuntime) -> Result<(), AllocError> {
+    let read = "refused: read fault\n";
+    let write = "refused: write fault\n";
+    fail_at(
+        &rt,
+        rt.alloc(),
+        [&[3], &[], &[]],
+        Status::ReadFault,
+        "",
+        read,
+    )?;
+    fail_at(
+        &rt,
+        rt.alloc(),
+        [&[], &[2], &[]],
+        Status::WriteFault,
+        "test ranksum\ngro",
+        write,
+    )?;
+    fail_at(
+        &rt,
+        rt.alloc(),
+        [&[0], &[], &[2]],
+        Status::ReadFault,
+        "",
+        "refused: read fa",
+    )
+}
+
+#[test]
+fn numbers_its_statuses(rt: HostRuntime) {
+    let numbers = [
+        Status::Done,
+        Status::Usage,
+        Status::BadData,
+        Status::TooWide,
+        Status::ReadFault,
+        Status::WriteFault,
+        Status::NoMemory,
+    ]
+    .map(Status::number);
+    assert!(rt; numbers == [0, 2, 3, 4, 5, 6, 7]);
+}
+
+// Each numerator of the merged list is the sum over a walk through all labellings.
+#[test]
+fn agrees_with_the_walk(rt: HostRuntime) -> Result<(), Fail> {
+    for file in [
+        "g,v\nx,1\nx,2\nx,3\ny,4\ny,5\ny,6\n",
+        "g,v\nx,1\nx,2\nx,2\ny,2\ny,3\ny,3\n",
+        "g,v\nx,5\nx,5\ny,5\n",
+        "g,v\nx,4.17\nx,5.58\ny,6.31\ny,5.87\n",
+        "g,v\nb,0.5\na,-3\na,2\nb,2\na,1e3\nb,-7\na,0.5\na,2\nb,11\n",
+        "g,v\nx,3\ny,1\ny,4\ny,1\ny,5\ny,9\ny,2\ny,6\n",
+    ] {
+        let rows = records(rt.alloc(), file.as_bytes(), b',')?;
+        let groups = groups(rt.alloc(), &rows, &Picks::Natural, 2)?;
+        let answer = rank_sum(rt.alloc(), &groups).expect(&rt, "an answer");
+        let walked = Walked::of(rt.alloc(), &groups)?.expect(&rt, "few subjects");
+        for (tail, numerator) in [
+            (Tail::Less, answer.less),
+            (Tail::Greater, answer.greater),
+            (Tail::Two, answer.two),
+        ] {
+            assert!(rt;
+                plain_tail(rt.alloc(), &walked, tail)? == numerator,
+                "of {file:?}"
+            );
+        }
+    }
+    Ok(())
+}
