@@ -1,7 +1,7 @@
 -- The rank sum test of two samples (Wilcoxon's; Hollander and Wolfe, Nonparametric Statistical Methods, chapter 4), given the ties.
 use Rattle.std.specs.Prelude.{ℕ, pos, ◌+◌, ◌*◌, List, [], ◌∷◌, length, nat_eq, slice_index, if◌then◌else◌}
 use Rattle.std.specs.List.{sum}
-use Rattle.weights.specs.Conditional.{ConditionalTest, by_distance, unit_weight}
+use Rattle.weights.specs.Conditional.{ConditionalTest, by_distance, every_tail, unit_weight}
 use Rattle.weights.specs.Labellings.{labellings}
 
 -- the sum of the scores of the second sample, which has the label 1
@@ -18,6 +18,7 @@ rank_sum_of sizes scores observed = record {
   statistic = λ labels. pos (second_sum scores labels);
   observed = observed;
   weight = unit_weight;
+  has_tail = every_tail;
   two_sided = by_distance (length scores) (pos (slice_index sizes 1 * sum scores));
   scale = 2;
   bound = 2 * length scores * sum scores;

@@ -1,5 +1,5 @@
 // The walk through every labelling of two samples, one after another. The merged list is compared with it.
-ghost use Rattle.std.specs.Prelude.{◌≡◌, ◌*◌, ◌≤◌, ⊤, length, slice_index};
+ghost use Rattle.std.specs.Prelude.{◌≡◌, ◌*◌, ◌≤◌, length, slice_index};
 ghost use Rattle.std.specs.List.{All};
 ghost use Rattle.weights.specs.Labellings.{number_of_labellings};
 ghost use Rattle.weights.specs.declared.TheConstants.{MAX};
@@ -86,8 +86,6 @@ impl Plain for Walked {
     ghost use Rattle.exact_run.specs.RankSum.{rank_sum_of};
 
     ghost test = { λ walked. rank_sum_of walked.sizes walked.scores walked.observed };
-
-    ghost has_tail = { λ _ _. ⊤ };
 
     fn first(&self, alloc: Global) -> Result<Bytes, NoMemory> {
         first_labelling(alloc, self.sizes.as_slice())
