@@ -1,3 +1,4 @@
 pub mod Faults
 pub mod MemorySink
 pub mod MemorySource
+pub mod Steady

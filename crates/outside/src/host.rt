@@ -1,7 +1,7 @@
 // The files and the writers of the host. Each call passes one call on and counts its errors; nothing is told of content.
-ghost use Rattle.std.specs.Prelude.{◌≡◌, ◌≤◌};
-ghost use Rattle.outside.specs.Faults.{Rose};
+ghost use Rattle.std.specs.Prelude.{◌≡◌};
 
+use crate::fault_count::FaultCount;
 use crate::sink::Sink;
 use crate::source::{Failed, Source};
 use std::fs;
@@ -13,7 +13,7 @@ use std::rt::Files;
 pub struct HostSource<R: Files> {
     rt: R,
     file: Option<R::File>,
-    faults: u64,
+    faults: FaultCount,
 }
 
 impl<R: Files> HostSource<R> {
@@ -24,22 +24,13 @@ impl<R: Files> HostSource<R> {
         HostSource {
             rt,
             file: None,
-            faults: 0,
+            faults: FaultCount::none(),
         }
-    }
-
-    // Counts a fault.
-    fn count_fault(&mut self) -> Failed
-        ensures counts { self.old.faults ≤ self.new.faults }
-        ensures rises { Rose self.old.faults self.new.faults }
-    {
-        self.faults = self.faults.saturating_add(1);
-        Failed
     }
 }
 
 impl<R: Files> Source for HostSource<R> {
-    ghost faults = { λ s. s.faults };
+    ghost faults = { λ s. s.faults.count };
 
     fn start(&mut self, name: &str) -> Result<(), Failed> {
         match fs::open(&self.rt, name) {
@@ -47,7 +38,7 @@ impl<R: Files> Source for HostSource<R> {
                 self.file = Some(file);
                 Ok(())
             }
-            Err(_) => Err(self.count_fault()),
+            Err(_) => Err(self.faults.rise()),
         }
     }
 
@@ -56,7 +47,7 @@ impl<R: Files> Source for HostSource<R> {
             None => Ok(0),
             Some(file) => match file.read(buf) {
                 Ok(n) => Ok(n),
-                Err(_) => Err(self.count_fault()),
+                Err(_) => Err(self.faults.rise()),
             },
         }
     }
@@ -66,7 +57,7 @@ impl<R: Files> Source for HostSource<R> {
 #[derive(Drop)]
 pub struct HostSink<W: Write> {
     writer: W,
-    faults: u64,
+    faults: FaultCount,
 }
 
 impl<W: Write> HostSink<W> {
@@ -74,29 +65,26 @@ impl<W: Write> HostSink<W> {
     pub fn new(writer: W) -> HostSink<W>
         ensures { ⟦<HostSink<W> as Sink>⟧.faults result ≡ 0 }
     {
-        HostSink { writer, faults: 0 }
-    }
-
-    // Counts a fault.
-    fn count_fault(&mut self) -> Failed
-        ensures counts { self.old.faults ≤ self.new.faults }
-        ensures rises { Rose self.old.faults self.new.faults }
-    {
-        self.faults = self.faults.saturating_add(1);
-        Failed
+        HostSink {
+            writer,
+            faults: FaultCount::none(),
+        }
     }
 }
 
 impl<W: Write> Sink for HostSink<W> {
-    ghost faults = { λ s. s.faults };
+    ghost faults = { λ s. s.faults.count };
 
     fn write(&mut self, piece: &[u8]) -> Result<usize, Failed> {
         if piece.is_empty() {
             return Ok(0);
         }
         match self.writer.write(piece) {
-            Ok(0) | Err(_) => Err(self.count_fault()),
+            Ok(0) | Err(_) => Err(self.faults.rise()),
             Ok(n) => Ok(n),
         }
     }
 }
+
+#[cfg(test)]
+mod tests;

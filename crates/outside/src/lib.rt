@@ -1,6 +1,7 @@
 //! Where bytes come from and where they go: the traits of the outside, and what stands behind them.
 #![tactic(auto)]
 
+mod fault_count;
 mod host;
 mod memory_sink;
 mod memory_source;

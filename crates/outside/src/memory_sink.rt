@@ -1,10 +1,12 @@
 // A sink in memory, whose writes fail by their numbers.
-ghost use Rattle.std.specs.Prelude.{◌≡◌, ◌+◌, ◌≤◌, ◌<◌, ◌++◌, ◌==◌, true, false, Ok, IfOk, OnErr, IsErr, length, take};
+ghost use Rattle.std.specs.Prelude.{◌≡◌, ◌+◌, ◌≤◌, ◌<◌, ◌++◌, ◌==◌, true, false, Some, Ok, IfOk, OnErr, IsErr, length, take};
 ghost use Rattle.std.specs.List.{list_any};
+ghost use Rattle.std.specs.Io.KnownBytes.{WriteAppends};
 ghost use Rattle.std.specs.Vec.{vec_capacity};
 ghost use Rattle.outside.specs.Faults.{Rose};
-ghost use Rattle.outside.specs.MemorySink.{after_fault, after_write, count_taken, is_failing, next_write, refuses_bytes};
+ghost use Rattle.outside.specs.MemorySink.{Takes, WritesOnce, after_fault, is_failing, next_write, refuses_bytes};
 
+use crate::fault_count::FaultCount;
 use crate::sink::Sink;
 use crate::source::Failed;
 use std::marker::Model;
@@ -17,7 +19,7 @@ pub struct MemorySink {
     step: usize,
     fail: Vec<u64>,
     calls: u64,
-    faults: u64,
+    faults: FaultCount,
 }
 
 impl Model for MemorySink {
@@ -27,7 +29,7 @@ impl Model for MemorySink {
 
     ghost Value = { Taken };
 
-    ghost view = { λ a. record { bytes = a.bytes.items; room = a.room; step = a.step; fail = a.fail.items; calls = a.calls; faults = a.faults } };
+    ghost view = { λ a. record { bytes = a.bytes.items; room = a.room; step = a.step; fail = a.fail.items; calls = a.calls; faults = a.faults.count } };
 
     ghost invariant = { λ a. (1 ≤ a.step) × (a.room ≤ vec_capacity a.bytes) × (vec_len a.bytes ≤ a.room) };
 }
@@ -47,7 +49,7 @@ impl MemorySink {
             step,
             fail,
             calls: 0,
-            faults: 0,
+            faults: FaultCount::none(),
         }
     }
 
@@ -84,8 +86,10 @@ impl MemorySink {
     // Takes the first bytes of the piece.
     fn take(&mut self, piece: &[u8]) -> Result<usize, Failed>
         ensures empty { length piece.now ≡ 0 → (result ≡ Ok 0) × (self.new ≡ self.old) }
-        ensures fails { 0 < length piece.now → is_failing self.old (length piece.now) ≡ true → IsErr result × (self.new ≡ after_fault self.old) }
-        ensures takes { 0 < length piece.now → is_failing self.old (length piece.now) ≡ false → (result ≡ Ok (count_taken self.old (length piece.now))) × (self.new ≡ after_write self.old piece.now) }
+        ensures fails { 0 < length piece.now → is_failing self.old (length piece.now) ≡ true
+            → IsErr result × (self.new ≡ after_fault self.old) }
+        ensures takes { 0 < length piece.now → is_failing self.old (length piece.now) ≡ false
+            → Takes self.old self.new result piece.now }
         ensures some { IfOk result (λ n. 0 < length piece.now → 0 < n) }
         ensures bound { IfOk result (λ n. n ≤ length piece.now) }
         ensures bytes { IfOk result (λ n. self.new.bytes ≡ self.old.bytes ++ take n piece.now) }
@@ -100,8 +104,7 @@ impl MemorySink {
         let refuses = self.refuses(n);
         self.calls = self.number();
         if refuses {
-            self.faults = self.faults.saturating_add(1);
-            return Err(Failed);
+            return Err(self.faults.rise());
         }
         self.bytes.extend_from_slice(&piece[..n]).unwrap();
         Ok(n)
@@ -115,7 +118,15 @@ impl Sink for MemorySink {
 
     ghost faults = { λ m. m.faults };
 
-    fn write(&mut self, piece: &[u8]) -> Result<usize, Failed> {
+    fn write(&mut self, piece: &[u8]) -> Result<usize, Failed>
+        ensures writes { WritesOnce self.old self.new result piece.now }
+        ensures within { IfOk result (λ n. n ≤ length piece.now) }
+        ensures some { IfOk result (λ n. 0 < length piece.now → 0 < n) }
+        ensures empty { length piece.now ≡ 0 → result ≡ Ok 0 }
+        ensures takes { WriteAppends (Some self.old.bytes) (Some self.new.bytes) result piece.now }
+        ensures counts { self.old.faults ≤ self.new.faults }
+        ensures fails { OnErr result (Rose self.old.faults self.new.faults) }
+    {
         self.take(piece)
     }
 }

@@ -1,8 +1,10 @@
 // A source in memory, whose calls fail by their numbers.
-ghost use Rattle.std.specs.Prelude.{◌≡◌, ◌+◌, ◌≤◌, ◌<◌, ◌++◌, ◌↔◌, [], true, false, Ok, IfOk, OnErr, IsErr, IsTrue, length, take, drop};
+ghost use Rattle.std.specs.Prelude.{◌≡◌, ◌+◌, ◌≤◌, ◌<◌, ◌++◌, ◌↔◌, [], true, false, Some, IfOk, OnOk, OnErr, IsErr, IsTrue, length, take, drop};
+ghost use Rattle.std.specs.Io.KnownBytes.{Consumes, IsAtEnd};
 ghost use Rattle.outside.specs.Faults.{Rose};
-ghost use Rattle.outside.specs.MemorySource.{after_start, bytes_left, count_given, counted, is_failing, next_number};
+ghost use Rattle.outside.specs.MemorySource.{Gives, IsIdle, ReadsOnce, after_start, bytes_left, counted, is_failing, next_number};
 
+use crate::fault_count::FaultCount;
 use crate::source::{Failed, Source};
 use std::marker::Model;
 
@@ -15,7 +17,7 @@ pub struct MemorySource {
     is_started: bool,
     given: usize,
     calls: u64,
-    faults: u64,
+    faults: FaultCount,
 }
 
 impl Model for MemorySource {
@@ -24,7 +26,7 @@ impl Model for MemorySource {
 
     ghost Value = { Held };
 
-    ghost view = { λ a. record { bytes = a.bytes.items; step = a.step; fail = a.fail.items; is_started = a.is_started; given = a.given; calls = a.calls; faults = a.faults } };
+    ghost view = { λ a. record { bytes = a.bytes.items; step = a.step; fail = a.fail.items; is_started = a.is_started; given = a.given; calls = a.calls; faults = a.faults.count } };
 
     ghost invariant = { λ a. (1 ≤ a.step) × (a.given ≤ length a.bytes.items) };
 }
@@ -43,7 +45,7 @@ impl MemorySource {
             is_started: false,
             given: 0,
             calls: 0,
-            faults: 0,
+            faults: FaultCount::none(),
         }
     }
 
@@ -78,7 +80,7 @@ impl MemorySource {
         self.is_started = true;
         self.calls = number;
         if fails {
-            self.faults = self.faults.saturating_add(1);
+            let _failed = self.faults.rise();
         }
         fails
     }
@@ -99,9 +101,11 @@ impl MemorySource {
 
     // Gives the next bytes.
     fn give(&mut self, buf: &mut [u8]) -> Result<usize, Failed>
-        ensures idle { self.old.is_started ≡ false → (result ≡ Ok 0) × (self.new ≡ self.old) }
-        ensures fails { self.old.is_started ≡ true → is_failing self.old ≡ true → (IsErr result) × (self.new ≡ counted self.old) }
-        ensures gives { self.old.is_started ≡ true → is_failing self.old ≡ false → (result ≡ Ok (count_given self.old (length buf.old))) × (self.new ≡ record (counted self.old) { given = self.old.given + count_given self.old (length buf.old) }) }
+        ensures idle { self.old.is_started ≡ false → IsIdle self.old self.new result }
+        ensures fails { self.old.is_started ≡ true → is_failing self.old ≡ true
+            → IsErr result × (self.new ≡ counted self.old) }
+        ensures gives { self.old.is_started ≡ true → is_failing self.old ≡ false
+            → Gives self.old self.new result (length buf.old) }
         ensures counts { self.old.faults ≤ self.new.faults }
         ensures rises { OnErr result (Rose self.old.faults self.new.faults) }
         ensures moves { IfOk result (λ n. bytes_left self.old ≡ take n buf.new ++ bytes_left self.new) }
@@ -132,11 +136,29 @@ impl Source for MemorySource {
 
     ghost faults = { λ m. m.faults };
 
-    fn start(&mut self, _name: &str) -> Result<(), Failed> {
+    fn start(&mut self, name: &str) -> Result<(), Failed>
+        ensures marked { IsTrue (is_failing self.old) ↔ IsErr result }
+        ensures after { self.new ≡ after_start self.old }
+        ensures starts { OnOk result (bytes_left self.new ≡ self.old.bytes) }
+        ensures keeps { self.new.bytes ≡ self.old.bytes }
+        ensures counts { self.old.faults ≤ self.new.faults }
+        ensures fails { OnErr result (Rose self.old.faults self.new.faults) }
+    {
+        let _ = name;
         self.begin()
     }
 
-    fn read(&mut self, buf: &mut [u8]) -> Result<usize, Failed> {
+    fn read(&mut self, buf: &mut [u8]) -> Result<usize, Failed>
+        ensures reads { ReadsOnce self.old self.new result buf.old buf.new }
+        ensures within { IfOk result (λ n. n ≤ length buf.new) }
+        ensures moves { IfOk result (λ n.
+            Consumes (Some (bytes_left self.old)) (Some (bytes_left self.new)) (take n buf.new)) }
+        ensures end { IfOk result (λ n. n ≡ 0 → 0 < length buf.new
+            → IsAtEnd (Some (bytes_left self.new))) }
+        ensures keeps { self.new.bytes ≡ self.old.bytes }
+        ensures counts { self.old.faults ≤ self.new.faults }
+        ensures fails { OnErr result (Rose self.old.faults self.new.faults) }
+    {
         self.give(buf)
     }
 }

@@ -1,9 +1,8 @@
 use crate::{
-    Counter, HostSink, HostSource, MemorySink, MemorySource, ReadFail, Sink, Source, SteadySink,
-    SteadySource, WriteFault, read_all, write_all,
+    Counter, MemorySink, MemorySource, ReadFail, Sink, Source, SteadySink, SteadySource,
+    WriteFault, read_all, write_all,
 };
 use std::alloc::{AllocError, Global};
-use std::io;
 
 const FILE: &[u8; 24] = b"group,value\nx,1\nx,2\ny,3\n";
 
@@ -93,15 +92,4 @@ fn counts_up_to_the_last_number(rt: HostRuntime) {
         assert!(rt; write_all(&mut sink, b"cdef") == Ok(()));
     }
     assert!(rt; room.bytes == u128::MAX);
-}
-
-#[test]
-fn passes_calls_on_to_the_host(rt: HostRuntime) {
-    let alloc = rt.alloc();
-    let mut out = HostSink::new(io::writer(&rt));
-    let is_written = write_all(&mut out, b"a line of the test\n").is_ok();
-    let mut source = HostSource::new(&rt);
-    let answer = read_all(alloc, &mut source, "no such file");
-    assert!(rt; is_written);
-    assert!(rt; matches!(answer, Err(ReadFail::ReadFault)));
 }

@@ -1,5 +1,6 @@
 use Rattle.std.proofs.Common.{rules, ◌≡◌, ◌≤◌, ℕ, List, length, take, ◌+◌, ◌-◌, drop, arith, ap, sym, ◌∙◌}
 use Rattle.std.proofs.lemmas.List.{length-drop}
+use Rattle.outside.specs.Steady.{Steady}
 use Rattle.outside.proofs.Joined.{joined}
 use Rattle.outside.proofs.steady.SteadySource.give.Goals as goal
 
@@ -16,4 +17,4 @@ returns-clause-moves c =
     let cut : c.copy_from_slice.new.self ≡ take n (drop g bs) = rw (same, c.deref.ensures.value) at c.copy_from_slice.ensures.after in
     let size : length (drop g bs) ≡ length bs - g = length-drop g bs in
     let le : n ≤ length (drop g bs) = omega (arith, least) in
-    rw cut (sym (ap (λ (p : List ℕ × List ℕ). p.1) c.self.view_is) ∙ joined n g bs c.args.buf.now le)
+    rw cut (sym (ap (λ (p : Steady). p.left) c.self.view_is) ∙ joined n g bs c.args.buf.now le)
