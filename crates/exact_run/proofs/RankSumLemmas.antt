@@ -18,7 +18,7 @@ use Rattle.weights.proofs.FirstLabel.{number_of_labellings-positive}
 use Rattle.weights.proofs.Sums.{sum_by-filter, sum_by-filter-≤, sum_by-one, sum_by-same}
 use Rattle.sample_reader.specs.Groups.{GroupData, group_sizes}
 use Rattle.sample_reader.specs.Data.{data_of}
-use Rattle.sample_reader.specs.declared.TheConstants.{MOST_ROWS}
+use Rattle.record_reader.specs.declared.TheConstants.{MOST_ROWS}
 use Rattle.sample_reader.specs.declared.samples.Groups.{Groups}
 use Rattle.exact_run.specs.Midranks.{doubled_midrank, midranks_among, number_below, number_equal}
 use Rattle.exact_run.specs.Nodes.{AreFinal, all_weight, always, completions, one_where}

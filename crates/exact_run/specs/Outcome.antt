@@ -5,8 +5,8 @@ use Rattle.outside.specs.declared.source.TheConstants.{LONGEST_FILE}
 use Rattle.weights.specs.Conditional.{ConditionalTest, is_total_too_wide}
 use Rattle.sample_reader.specs.Groups.{GroupData}
 use Rattle.record_reader.specs.Records.{records_of}
-use Rattle.record_reader.specs.declared.layouts.LayoutFault.{LayoutFault}
-use Rattle.record_reader.specs.declared.layouts.LayoutFault.TheVariants as layout
+use Rattle.record_reader.specs.declared.faults.LayoutFault.{LayoutFault}
+use Rattle.record_reader.specs.declared.faults.LayoutFault.TheVariants as layout
 use Rattle.sample_reader.specs.GroupLayout.{groups_in}
 use Rattle.exact_run.specs.PooledSample.{rank_sum_test}
 use Rattle.exact_run.specs.Report.{report_text}

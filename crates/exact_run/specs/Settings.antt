@@ -3,8 +3,8 @@ use Rattle.std.specs.Prelude.{◌==◌, ◌≡◌, ◌≢◌, ◌≤◌, ℕ, Al
 use Rattle.std.specs.List.{after_first, before_first, list_any}
 use Rattle.number_text.specs.ListTexts.{list_of}
 use Rattle.record_reader.specs.Records.{comma, semicolon, tab}
-use Rattle.record_reader.specs.declared.layouts.Picks.{Picks}
-use Rattle.record_reader.specs.declared.layouts.Picks.TheVariants.{Natural, Listed}
+use Rattle.record_reader.specs.declared.picks.Picks.{Picks}
+use Rattle.record_reader.specs.declared.picks.Picks.TheVariants.{Natural, Listed}
 use Rattle.exact_run.specs.declared.settings.Accepted.{Accepted}
 use Rattle.exact_run.specs.declared.settings.Options.{Options}
 use Rattle.exact_run.specs.declared.settings.Settings.{Settings}

@@ -1,7 +1,7 @@
 // Average ranks at ties, doubled.
 ghost use Rattle.std.specs.Prelude.{◌≡◌, ◌≤◌, length, IfOk};
 ghost use Rattle.std.specs.List.{All};
-ghost use Rattle.sample_reader.specs.declared.TheConstants.{MOST_ROWS};
+ghost use Rattle.record_reader.specs.declared.TheConstants.{MOST_ROWS};
 ghost use Rattle.exact_run.specs.Midranks.{doubled_midrank, doubled_midranks, number_below, number_equal};
 
 use std::alloc::Global;

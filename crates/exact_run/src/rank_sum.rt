@@ -5,7 +5,7 @@ ghost use Rattle.weights.specs.Conditional.{is_total_too_wide};
 ghost use Rattle.weights.specs.Labellings.{number_of_labellings};
 ghost use Rattle.weights.specs.declared.TheConstants.{MAX};
 ghost use Rattle.sample_reader.specs.Data.{data_of};
-ghost use Rattle.sample_reader.specs.declared.TheConstants.{MOST_ROWS};
+ghost use Rattle.record_reader.specs.declared.TheConstants.{MOST_ROWS};
 ghost use Rattle.exact_run.specs.PooledSample.{labels_of, rank_sum_test};
 ghost use Rattle.exact_run.specs.RankSum.{rank_sum_of};
 ghost use Rattle.exact_run.specs.Tails.{Answers, RefusesTest};

@@ -2,7 +2,7 @@
 ghost use Rattle.std.specs.Prelude.{◌≡◌, ◌*◌, ◌≤◌, length, IfOk};
 ghost use Rattle.std.specs.List.{All};
 ghost use Rattle.sample_reader.specs.Data.{data_of};
-ghost use Rattle.sample_reader.specs.declared.TheConstants.{MOST_ROWS};
+ghost use Rattle.record_reader.specs.declared.TheConstants.{MOST_ROWS};
 ghost use Rattle.exact_run.specs.PooledSample.{labels_of, pooled, subjects_of, values_of};
 ghost use Rattle.exact_run.specs.RankSum.{second_sum};
 

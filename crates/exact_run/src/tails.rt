@@ -1,7 +1,7 @@
 // How much the nodes weigh whose sums are extreme.
 ghost use Rattle.std.specs.Prelude.{◌≡◌, ◌*◌, ◌≤◌};
 ghost use Rattle.weights.specs.declared.TheConstants.{MAX};
-ghost use Rattle.sample_reader.specs.declared.TheConstants.{MOST_ROWS};
+ghost use Rattle.record_reader.specs.declared.TheConstants.{MOST_ROWS};
 ghost use Rattle.exact_run.specs.Nodes.{AllWithin, all_weight};
 
 use crate::midranks::MOST_SCORE;

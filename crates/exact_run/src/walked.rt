@@ -3,7 +3,7 @@ ghost use Rattle.std.specs.Prelude.{◌≡◌, ◌*◌, ◌≤◌, length, slice
 ghost use Rattle.std.specs.List.{All};
 ghost use Rattle.weights.specs.Labellings.{number_of_labellings};
 ghost use Rattle.weights.specs.declared.TheConstants.{MAX};
-ghost use Rattle.sample_reader.specs.declared.TheConstants.{MOST_ROWS};
+ghost use Rattle.record_reader.specs.declared.TheConstants.{MOST_ROWS};
 ghost use Rattle.exact_run.specs.RankSum.{second_sum};
 ghost use Rattle.exact_run.specs.declared.midranks.TheConstants.{MOST_SCORE};
 

@@ -1,4 +1,5 @@
 pub mod DecimalValues
-pub mod ListItems
 pub mod FirstMarks
+pub mod ListItems
 pub mod Scaling
+mod Vectors

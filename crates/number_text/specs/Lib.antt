@@ -5,4 +5,3 @@ pub mod Numerals
 pub mod NumeralTexts
 pub mod Significands
 pub mod Trimmed
-pub mod Vectors

@@ -9,12 +9,13 @@ mod integer;
 mod list;
 mod numeral;
 mod significand;
-mod trim;
+mod blanks;
 mod value;
 
 pub use count::read_count;
 pub use list::read_list;
 use thiserror::Error;
+pub use blanks::trim;
 pub use value::read_value;
 
 /// Why a text has no value. Where several faults hold, the first of this order is given.

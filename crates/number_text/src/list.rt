@@ -4,7 +4,7 @@ ghost use Rattle.std.specs.Prelude.{◌≡◌, ◌≤◌, ◌++◌, All, IfSome,
 ghost use Rattle.number_text.specs.ListTexts.{IsWithin, item_of, list_of};
 
 use crate::integer::split_sign;
-use crate::trim::trim;
+use crate::blanks::trim;
 
 /// Reads a list: one item or more, separated by commas. An item is an optional `+` or `-` and at least one digit; spaces and
 /// tabs around it are ignored.

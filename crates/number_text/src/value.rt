@@ -5,7 +5,7 @@ ghost use Rattle.number_text.specs.NumberTexts.{value_of};
 
 use crate::NumberFault;
 use crate::numeral::NumeralText;
-use crate::trim::trim;
+use crate::blanks::trim;
 
 /// Reads a value as its number of units of 10^-18. Spaces and tabs at both ends are ignored.
 ///

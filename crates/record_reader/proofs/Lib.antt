@@ -1,3 +1,5 @@
+pub mod LayoutLemmas
+mod Limits
 pub mod Listed
 pub mod Pieces
 pub mod Reading

@@ -3,6 +3,7 @@ ghost use Rattle.std.specs.Prelude.{◌≡◌};
 
 use std::fmt;
 use thiserror::Error;
+use weights::NoMemory;
 
 /// The kinds of fault that the data of a file may have.
 #[derive(Clone, Copy, Debug, PartialEq, Eq)]
@@ -113,5 +114,41 @@ impl fmt::Display for Place {
             Some(field) => write!(f, "row {} field {field}", self.row),
             None => write!(f, "row {}", self.row),
         }
+    }
+}
+
+/// Why the data of a file do not have a layout.
+#[derive(Clone, Copy, Debug, PartialEq, Eq, Error)]
+pub enum LayoutFault {
+    /// The number of a picked field is greater than the number of fields of the header.
+    #[error("a picked field is not in the header")]
+    Columns,
+    /// The first fault in the data.
+    #[error(transparent)]
+    At(DataFault),
+    /// Memory ran out.
+    #[error("no memory")]
+    NoMemory,
+}
+
+impl From<DataFault> for LayoutFault {
+    ghost use Rattle.std.specs.Prelude.{◌≡◌};
+    ghost use Rattle.record_reader.specs.declared.faults.LayoutFault.TheVariants.{At};
+
+    ghost from_gives = { λ fault result. result ≡ At fault };
+
+    fn from(fault: DataFault) -> LayoutFault {
+        LayoutFault::At(fault)
+    }
+}
+
+impl From<NoMemory> for LayoutFault {
+    ghost use Rattle.std.specs.Prelude.{◌≡◌};
+    ghost use Rattle.record_reader.specs.declared.faults.LayoutFault.TheVariants as fault;
+
+    ghost from_gives = { λ _ result. result ≡ fault.NoMemory };
+
+    fn from(_error: NoMemory) -> LayoutFault {
+        LayoutFault::NoMemory
     }
 }

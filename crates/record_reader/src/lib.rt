@@ -1,14 +1,20 @@
-//! The records of a data file, as `csv` reads them, and the faults that its data may have.
+//! The records of a data file, as `csv` reads them, and the rules by which layouts read them: which
+//! fields, in which order, and the first fault.
 #![tactic(auto)]
 
 mod faults;
 mod fields;
 mod layouts;
+mod picks;
 mod rows;
 
-pub use faults::{DataFault, Kind};
-pub use layouts::{LayoutFault, Picks};
+pub use faults::{DataFault, Kind, LayoutFault};
+pub use layouts::{FieldFault, Layout, Shape, read_in};
+pub use picks::Picks;
 pub use rows::{Rows, records};
+
+/// The greatest number of rows that a file may have below its header.
+pub const MOST_ROWS: u64 = 10_000;
 
 #[cfg(test)]
 mod tests;

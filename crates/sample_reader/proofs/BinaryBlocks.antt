@@ -5,11 +5,11 @@ use Rattle.std.proofs.lemmas.List.Elements.{All-push}
 use Rattle.number_text.specs.NumberTexts.{is_missing}
 use Rattle.number_text.specs.Trimmed.{trimmed}
 use Rattle.record_reader.specs.declared.faults.Kind.TheVariants.{Missing, NotBinary}
-use Rattle.record_reader.specs.declared.layouts.Picks.{Picks}
+use Rattle.record_reader.specs.declared.picks.Picks.{Picks}
 use Rattle.sample_reader.specs.CellLayouts.{BlockData, binary_blocks_in, block_layout, blocked}
-use Rattle.sample_reader.specs.Layouts.{field_fault, read_in, text_of, with_fields}
+use Rattle.record_reader.specs.Layouts.{field_fault, read_in, text_of, with_fields}
 use Rattle.sample_reader.specs.Values.{IsBinary, binary_in}
-use Rattle.sample_reader.proofs.LayoutLemmas.{and_then-ok, read_in-ok, with_fault-ok, with_rows-keep, with_value-ok}
+use Rattle.record_reader.proofs.LayoutLemmas.{and_then-ok, read_in-ok, with_fault-ok, with_rows-keep, with_value-ok}
 
 by_tests : (missing zero one : Bool) (n : ℤ) → cond missing (Err Missing) (cond zero (Ok (pos 0)) (cond one (Ok (pos 1)) (Err NotBinary))) ≡ Ok n → IsBinary n
 by_tests true zero one n e = absurd (cc)

@@ -2,14 +2,14 @@
 use Rattle.std.proofs.Common.{◌≡◌, ℕ, ◌-◌, ◌*◌, ◌^◌, pos, negsuc, List, [], ◌∷◌, codes, Ok, Err, refl}
 use Rattle.number_text.specs.NumberTexts.{units_of, value_of}
 use Rattle.record_reader.specs.declared.faults.Kind.TheVariants as kind
-use Rattle.record_reader.specs.declared.layouts.LayoutFault.{LayoutFault}
-use Rattle.record_reader.specs.declared.layouts.Picks.{Picks}
-use Rattle.record_reader.specs.declared.layouts.LayoutFault.TheVariants.{Columns}
-use Rattle.record_reader.specs.declared.layouts.Picks.TheVariants.{Natural, Listed}
+use Rattle.record_reader.specs.declared.faults.LayoutFault.{LayoutFault}
+use Rattle.record_reader.specs.declared.picks.Picks.{Picks}
+use Rattle.record_reader.specs.declared.faults.LayoutFault.TheVariants.{Columns}
+use Rattle.record_reader.specs.declared.picks.Picks.TheVariants.{Natural, Listed}
 use Rattle.sample_reader.specs.CellLayouts.{binary_blocks_in, blocks_in, differences_in}
 use Rattle.sample_reader.specs.GroupLayout.{groups_in}
 use Rattle.sample_reader.specs.Groups.{GroupData, group_sizes}
-use Rattle.sample_reader.specs.Layouts.{field_fault, row_fault}
+use Rattle.record_reader.specs.Layouts.{field_fault, row_fault}
 
 -- a row of one field, of two and of three
 abbrev one : List ℕ → List (List ℕ)

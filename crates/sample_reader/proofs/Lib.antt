@@ -1,6 +1,5 @@
 mod Appearances
 mod BinaryBlocks
-mod LayoutLemmas
 mod LayoutVectors
 mod OrderLemmas
 mod Rearranged

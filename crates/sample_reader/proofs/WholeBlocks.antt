@@ -5,13 +5,13 @@ use Rattle.std.proofs.lemmas.Bool.Decides.{nat_tests}
 use Rattle.std.proofs.lemmas.List.{length_push}
 use Rattle.std.proofs.lemmas.List.FromFn.{length-range_with_len}
 use Rattle.record_reader.specs.declared.faults.Kind.{Kind}
-use Rattle.record_reader.specs.declared.layouts.Picks.{Picks}
-use Rattle.record_reader.specs.declared.layouts.Picks.TheVariants.{Natural, Listed}
-use Rattle.sample_reader.specs.declared.layouts.Shape.{Shape}
+use Rattle.record_reader.specs.declared.picks.Picks.{Picks}
+use Rattle.record_reader.specs.declared.picks.Picks.TheVariants.{Natural, Listed}
+use Rattle.record_reader.specs.declared.layouts.Shape.{Shape}
 use Rattle.sample_reader.specs.CellLayouts.{block_layout, block_shape, width_in}
 use Rattle.sample_reader.specs.Kept.{AreWholeBlocks}
-use Rattle.sample_reader.specs.Layouts.{MayPick, field_fault, picked, read_in, text_of, with_fields}
-use Rattle.sample_reader.proofs.LayoutLemmas.{IsRead, and_then-ok, picked-many, read_in-ok, unless_ok, with_fault-ok, with_rows-keep, with_value-ok}
+use Rattle.record_reader.specs.Layouts.{MayPick, field_fault, picked, read_in, text_of, with_fields}
+use Rattle.record_reader.proofs.LayoutLemmas.{IsRead, and_then-ok, picked-many, read_in-ok, unless_ok, with_fault-ok, with_rows-keep, with_value-ok}
 
 picked-width : (shape : Shape) (picks : Picks) (header : List (List ℕ)) (rest : List (List (List ℕ))) (fields : List ℕ) → picked shape picks (length header) ≡ Ok fields
     → width_in picks (header ∷ rest) ≡ length fields

@@ -2,13 +2,13 @@
 use Rattle.std.proofs.Common.{◌≡◌, ℕ, ◌+◌, ◌≤◌, nat_lt, List, [], ◌∷◌, ◌++◌, length, Ok, refl, sym, ap, ◌∙◌, arith, zero-add}
 use Rattle.std.proofs.lemmas.Bool.Decides.{nat_tests}
 use Rattle.std.proofs.lemmas.List.{length_push}
-use Rattle.record_reader.specs.declared.layouts.Picks.{Picks}
+use Rattle.record_reader.specs.declared.picks.Picks.{Picks}
 use Rattle.sample_reader.specs.GroupLayout.{Subjects, different, group_layout, grouped, groups_in, group_shape, no_subjects, with_label, with_number}
 use Rattle.sample_reader.specs.Groups.{GroupData}
-use Rattle.sample_reader.specs.Layouts.{MayPick, field_fault, read_in, text_of, with_fields}
+use Rattle.record_reader.specs.Layouts.{MayPick, field_fault, read_in, text_of, with_fields}
 use Rattle.sample_reader.specs.Kept.{AreWhole}
 use Rattle.sample_reader.specs.Values.{label_in, value_in}
-use Rattle.sample_reader.proofs.LayoutLemmas.{IsRead, and_then-ok, picked-many, read_in-ok, unless_ok, with_fault-ok, with_rows-keep, with_value-ok}
+use Rattle.record_reader.proofs.LayoutLemmas.{IsRead, and_then-ok, picked-many, read_in-ok, unless_ok, with_fault-ok, with_rows-keep, with_value-ok}
 
 -- what is true of the subjects of so many rows
 record HaveRows (most rows : ℕ) (subjects : Subjects) : Type 0 where

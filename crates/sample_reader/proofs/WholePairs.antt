@@ -3,12 +3,12 @@ use Rattle.std.proofs.Common.{◌≡◌, ◌⊎◌, inl, inr, ℕ, zero, suc, �
 use Rattle.std.proofs.lemmas.Int.{ints}
 use Rattle.std.proofs.lemmas.Bool.Decides.{nat_tests}
 use Rattle.std.proofs.lemmas.List.{length_push}
-use Rattle.record_reader.specs.declared.layouts.Picks.{Picks}
+use Rattle.record_reader.specs.declared.picks.Picks.{Picks}
 use Rattle.sample_reader.specs.CellLayouts.{PairValues, no_pairs, pair_layout, pair_shape, second_less_first, with_pair_value}
 use Rattle.sample_reader.specs.Kept.{AreDifferences, AreInRange, AreWholePairs}
-use Rattle.sample_reader.specs.Layouts.{MayPick, field_fault, read_in, text_of, with_fields}
+use Rattle.record_reader.specs.Layouts.{MayPick, field_fault, read_in, text_of, with_fields}
 use Rattle.sample_reader.specs.Values.{value_in}
-use Rattle.sample_reader.proofs.LayoutLemmas.{IsRead, and_then-ok, picked-many, read_in-ok, with_fault-ok, with_rows-keep, with_value-ok}
+use Rattle.record_reader.proofs.LayoutLemmas.{IsRead, and_then-ok, picked-many, read_in-ok, with_fault-ok, with_rows-keep, with_value-ok}
 
 -- ---- the values
 

@@ -2,12 +2,12 @@
 use Rattle.std.specs.Prelude.{ℕ, ◌-◌, ◌==◌, ℤ, ◌-ℤ◌, List, [], ◌∷◌, ◌++◌, length, nat_lt, Result, if◌then◌else◌}
 use Rattle.record_reader.specs.declared.faults.Kind.{Kind}
 use Rattle.record_reader.specs.declared.faults.Kind.TheVariants.{FieldCount, TooManyColumns}
-use Rattle.record_reader.specs.declared.layouts.LayoutFault.{LayoutFault}
-use Rattle.record_reader.specs.declared.layouts.Picks.{Picks}
-use Rattle.record_reader.specs.declared.layouts.Picks.TheVariants.{Natural, Listed}
-use Rattle.sample_reader.specs.declared.TheConstants.{MOST_ROWS}
-use Rattle.sample_reader.specs.declared.layouts.Shape.{Shape}
-use Rattle.sample_reader.specs.Layouts.{Layout, read_in, with_value}
+use Rattle.record_reader.specs.declared.faults.LayoutFault.{LayoutFault}
+use Rattle.record_reader.specs.declared.picks.Picks.{Picks}
+use Rattle.record_reader.specs.declared.picks.Picks.TheVariants.{Natural, Listed}
+use Rattle.record_reader.specs.declared.TheConstants.{MOST_ROWS}
+use Rattle.record_reader.specs.declared.layouts.Shape.{Shape}
+use Rattle.record_reader.specs.Layouts.{Layout, read_in, with_value}
 use Rattle.sample_reader.specs.Values.{binary_in, value_in}
 
 -- ---- pairs

@@ -2,12 +2,12 @@
 use Rattle.std.specs.Prelude.{ℕ, ◌==◌, ℤ, List, [], ◌∷◌, ◌++◌, length, map, bytes_eq, nat_le, nat_lt, Result, Ok, Err, if◌then◌else◌}
 use Rattle.record_reader.specs.declared.faults.Kind.{Kind}
 use Rattle.record_reader.specs.declared.faults.Kind.TheVariants.{FieldCount, GroupTooMany}
-use Rattle.record_reader.specs.declared.layouts.LayoutFault.{LayoutFault}
-use Rattle.record_reader.specs.declared.layouts.Picks.{Picks}
-use Rattle.sample_reader.specs.declared.TheConstants.{MOST_ROWS}
-use Rattle.sample_reader.specs.declared.layouts.Shape.{Shape}
+use Rattle.record_reader.specs.declared.faults.LayoutFault.{LayoutFault}
+use Rattle.record_reader.specs.declared.picks.Picks.{Picks}
+use Rattle.record_reader.specs.declared.TheConstants.{MOST_ROWS}
+use Rattle.record_reader.specs.declared.layouts.Shape.{Shape}
 use Rattle.sample_reader.specs.Groups.{GroupData, first_appearances, number_among}
-use Rattle.sample_reader.specs.Layouts.{Layout, and_then, read_in, with_value}
+use Rattle.record_reader.specs.Layouts.{Layout, and_then, read_in, with_value}
 use Rattle.sample_reader.specs.Values.{label_in, value_in}
 
 -- Each subject's label, and each subject's value in units of 10^-18.

@@ -3,7 +3,7 @@ use Rattle.std.specs.Prelude.{◌≡◌, ◌⊎◌, ℕ, ◌*◌, ◌<◌, ◌�
 use Rattle.sample_reader.specs.CellLayouts.{PairValues}
 use Rattle.sample_reader.specs.GroupLayout.{Subjects, different}
 use Rattle.sample_reader.specs.Numbered.{IsNumbered}
-use Rattle.sample_reader.specs.declared.TheConstants.{MOST_ROWS}
+use Rattle.record_reader.specs.declared.TheConstants.{MOST_ROWS}
 
 -- each value is in the range of values
 abbrev pub AreInRange : List ℤ → Type 0

@@ -1,11 +1,9 @@
-pub mod Answers
 pub mod CellLayouts
 pub mod Cells
 pub mod Data
 pub mod GroupLayout
 pub mod Groups
 pub mod Kept
-pub mod Layouts
 pub mod Numbered
 pub mod Orders
 pub mod Values

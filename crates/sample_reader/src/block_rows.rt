@@ -1,18 +1,16 @@
 // The blocks of a file.
 ghost use Rattle.std.specs.Prelude.{◌≡◌, ◌^◌, ◌<◌, ◌-◌, [], ◌∷◌, ◌++◌, Ok, All, IfErr, IfOk, nat_abs};
-ghost use Rattle.sample_reader.specs.Answers.{IsFaultOf};
+ghost use Rattle.record_reader.specs.Answers.{IsFaultOf};
 ghost use Rattle.sample_reader.specs.CellLayouts.{binary_blocks_in, blocks_in, cells_in, width_in};
 ghost use Rattle.sample_reader.specs.Cells.{cell_in};
 ghost use Rattle.sample_reader.specs.Data.{block_data_of};
 ghost use Rattle.sample_reader.specs.Kept.{AreWholeBlocks};
-ghost use Rattle.sample_reader.specs.Layouts.{MayPick};
+ghost use Rattle.record_reader.specs.Layouts.{MayPick};
 ghost use Rattle.sample_reader.specs.Values.{IsBinary};
 
-use crate::MOST_ROWS;
 use crate::fields::{binary_in, value_in};
-use crate::layouts::{FieldFault, Layout, Shape, read_in};
 use crate::samples::Blocks;
-use record_reader::{Kind, LayoutFault, Picks, Rows};
+use record_reader::{FieldFault, Kind, Layout, LayoutFault, MOST_ROWS, Picks, Rows, Shape, read_in};
 use std::alloc::Global;
 use std::marker::Model;
 use weights::{Ints, NoMemory};

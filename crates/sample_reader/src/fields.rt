@@ -2,8 +2,7 @@
 ghost use Rattle.std.specs.Prelude.{◌≡◌, ◌^◌, ◌<◌, Err, IfErr, IfOk, Ok, nat_abs};
 ghost use Rattle.sample_reader.specs.Values.{binary_in, kind_of, label_in, value_in};
 
-use crate::trim::trim;
-use number_text::{NumberFault, read_value};
+use number_text::{NumberFault, read_value, trim};
 use record_reader::Kind;
 
 // The kind of a number text's fault.

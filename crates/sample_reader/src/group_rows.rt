@@ -1,17 +1,15 @@
 // The groups of a file.
 ghost use Rattle.std.specs.Prelude.{◌≡◌, ◌^◌, ◌<◌, ◌≤◌, [], Ok, IfErr, IfOk, length, nat_abs};
-ghost use Rattle.sample_reader.specs.Answers.{IsFaultOf, IsFieldAnswer};
+ghost use Rattle.record_reader.specs.Answers.{IsFaultOf, IsFieldAnswer};
 ghost use Rattle.sample_reader.specs.Data.{data_of};
 ghost use Rattle.sample_reader.specs.GroupLayout.{grouped, groups_in, no_subjects, with_label, with_number};
-ghost use Rattle.sample_reader.specs.Layouts.{MayPick};
+ghost use Rattle.record_reader.specs.Layouts.{MayPick};
 ghost use Rattle.sample_reader.specs.Kept.{AreWhole};
 
-use crate::MOST_ROWS;
 use crate::fields::{label_in, value_in};
 use crate::labels::Labels;
-use crate::layouts::{FieldFault, Layout, Shape, read_in};
 use crate::samples::{Groups, sizes_of};
-use record_reader::{Kind, LayoutFault, Picks, Rows};
+use record_reader::{FieldFault, Kind, Layout, LayoutFault, MOST_ROWS, Picks, Rows, Shape, read_in};
 use std::alloc::Global;
 use std::marker::Model;
 use weights::{Ints, NoMemory, Nums};

@@ -1,15 +1,13 @@
 // The pairs of a file.
 ghost use Rattle.std.specs.Prelude.{◌≡◌, ◌⊎◌, ◌-ℤ◌, ◌*◌, ◌^◌, ◌<◌, Ok, IfErr, IfOk, length, nat_abs};
-ghost use Rattle.sample_reader.specs.Answers.{IsFaultOf};
+ghost use Rattle.record_reader.specs.Answers.{IsFaultOf};
 ghost use Rattle.sample_reader.specs.CellLayouts.{differences, differences_in, differences_of, no_pairs, second_less_first, with_pair_value};
 ghost use Rattle.sample_reader.specs.Kept.{AreDifferences, AreInRange, AreWholePairs};
-ghost use Rattle.sample_reader.specs.Layouts.{MayPick};
+ghost use Rattle.record_reader.specs.Layouts.{MayPick};
 
-use crate::MOST_ROWS;
 use crate::fields::value_in;
-use crate::layouts::{FieldFault, Layout, Shape, read_in};
 use crate::samples::Pairs;
-use record_reader::{Kind, LayoutFault, Picks, Rows};
+use record_reader::{FieldFault, Kind, Layout, LayoutFault, MOST_ROWS, Picks, Rows, Shape, read_in};
 use std::alloc::Global;
 use std::marker::Model;
 use weights::{Ints, NoMemory};

@@ -1,7 +1,7 @@
 // Samples, and what is always true of them.
 ghost use Rattle.std.specs.Prelude.{◌≡◌, ◌≢◌, ◌<◌, ◌≤◌, ◌*◌, ◌^◌, nat_abs, length, All, AllPairs, IfOk};
 ghost use Rattle.weights.specs.Labellings.{counts_of};
-ghost use Rattle.sample_reader.specs.declared.TheConstants.{MOST_ROWS};
+ghost use Rattle.record_reader.specs.declared.TheConstants.{MOST_ROWS};
 
 use crate::labels::Labels;
 use std::alloc::Global;

@@ -1,5 +1,5 @@
 ghost use Rattle.std.specs.Prelude.{◌≢◌, ◌≤◌, IfOk};
-ghost use Rattle.sample_reader.specs.Layouts.{MayPick};
+ghost use Rattle.record_reader.specs.Layouts.{MayPick};
 
 use crate::{Labels, OrderFault, binary_blocks, blocks, groups, pairs, reorder};
 use record_reader::{DataFault, Kind, LayoutFault, Picks, records};

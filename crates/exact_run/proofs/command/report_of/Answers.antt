@@ -4,12 +4,12 @@ use Rattle.std.proofs.lemmas.Bool.{le-ltb}
 use Rattle.std.proofs.lemmas.Result.{err_from_is_err_and}
 use Rattle.outside.specs.declared.source.TheConstants.{LONGEST_FILE}
 use Rattle.record_reader.specs.Records.{records_of}
-use Rattle.record_reader.specs.declared.layouts.Picks.{Picks}
-use Rattle.record_reader.specs.declared.layouts.Picks.TheVariants.{Natural, Listed}
+use Rattle.record_reader.specs.declared.picks.Picks.{Picks}
+use Rattle.record_reader.specs.declared.picks.Picks.TheVariants.{Natural, Listed}
 use Rattle.sample_reader.specs.Data.{data_of}
 use Rattle.sample_reader.specs.GroupLayout.{groups_in}
 use Rattle.sample_reader.specs.Groups.{GroupData}
-use Rattle.sample_reader.specs.Layouts.{MayPick}
+use Rattle.record_reader.specs.Layouts.{MayPick}
 use Rattle.exact_run.specs.Outcome.{Reports, outcome_of_bytes, outcome_of_data}
 use Rattle.exact_run.specs.PooledSample.{rank_sum_test}
 use Rattle.exact_run.specs.Promises.{RefusesBytes}
