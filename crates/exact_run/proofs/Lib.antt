@@ -12,4 +12,5 @@ pub mod SettingsLemmas
 mod SettingsVectors
 pub mod SortedOnce
 pub mod TailWeights
+pub mod Telling
 mod Vectors

@@ -6,7 +6,7 @@ use Rattle.std.proofs.lemmas.Cmp.{on_total, then_total}
 use Rattle.std.proofs.lemmas.List.{map_more}
 use Rattle.std.proofs.lemmas.Map.Lookups.{CmpEqualImpliesEq, exact_pairs, exact_signed, exact_unsigned}
 use Rattle.exact_run.specs.Midranks.{doubled_midrank, midranks_among}
-use Rattle.exact_run.specs.PooledSample.{labels_of, subject, subject_cmp, subjects_of}
+use Rattle.exact_run.specs.PooledSample.{labels_of, subject, subject_cmp, paired_subjects}
 use Rattle.exact_run.specs.RankSum.{second_sum}
 use Rattle.exact_run.specs.declared.subjects.Subject.{Subject}
 
@@ -28,10 +28,10 @@ pub second_sum-more : (scores : List ℕ) (subjects : List Subject) (i : ℕ) (d
 second_sum-more scores subjects i d here there = rw (add-one, drop-cons scores i 0, drop-cons subjects i d) refl
 
 -- one more subject
-pub subjects_of-more : (values : List ℤ) (labels : List ℕ) (i : ℕ) → i < length values → i < length labels
-    → subjects_of (take (i + 1) values) (take (i + 1) labels) ≡ subjects_of (take i values) (take i labels) ++ record { value = get_or values i (pos 0); label = get_or labels i 0 } ∷ []
-unfolding subjects_of
-subjects_of-more [] labels i here there = absurd (omega arith)
-subjects_of-more (v ∷ values) [] i here there = absurd (omega arith)
-subjects_of-more (v ∷ values) (l ∷ labels) zero here there = refl
-subjects_of-more (v ∷ values) (l ∷ labels) (suc i) here there = rw (suc-add i 1) (ap (λ subjects. subject (v, l) ∷ subjects) (subjects_of-more values labels i (omega arith) (omega arith)))
+pub paired_subjects-more : (values : List ℤ) (labels : List ℕ) (i : ℕ) → i < length values → i < length labels
+    → paired_subjects (take (i + 1) values) (take (i + 1) labels) ≡ paired_subjects (take i values) (take i labels) ++ record { value = get_or values i (pos 0); label = get_or labels i 0 } ∷ []
+unfolding paired_subjects
+paired_subjects-more [] labels i here there = absurd (omega arith)
+paired_subjects-more (v ∷ values) [] i here there = absurd (omega arith)
+paired_subjects-more (v ∷ values) (l ∷ labels) zero here there = refl
+paired_subjects-more (v ∷ values) (l ∷ labels) (suc i) here there = rw (suc-add i 1) (ap (λ subjects. subject (v, l) ∷ subjects) (paired_subjects-more values labels i (omega arith) (omega arith)))

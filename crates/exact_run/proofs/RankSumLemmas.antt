@@ -22,7 +22,7 @@ use Rattle.record_reader.specs.declared.TheConstants.{MOST_ROWS}
 use Rattle.sample_reader.specs.declared.samples.Groups.{Groups}
 use Rattle.exact_run.specs.Midranks.{doubled_midrank, midranks_among, number_below, number_equal}
 use Rattle.exact_run.specs.Nodes.{AreFinal, all_weight, always, completions, one_where}
-use Rattle.exact_run.specs.PooledSample.{ascending_by, insert_by, pooled, rank_sum_test, scores_of, subject_cmp, subjects_of, values_of}
+use Rattle.exact_run.specs.PooledSample.{ascending_by, insert_by, pooled, rank_sum_test, scores_of, subject_cmp, paired_subjects, values_of}
 use Rattle.exact_run.specs.RankSum.{rank_sum_of, second_sum}
 use Rattle.exact_run.specs.Tails.{extreme_weight, gap, is_extreme_sum}
 use Rattle.exact_run.specs.declared.nodes.Node.{Node}
@@ -42,15 +42,15 @@ length-ascending_by : {X : Type 0} (cmp : X → X → Ordering) (xs : List X) �
 length-ascending_by cmp [] = refl
 length-ascending_by cmp (x ∷ xs) = length-insert_by cmp x (ascending_by cmp xs) ∙ ap suc (length-ascending_by cmp xs)
 
-length-subjects_of : (values : List ℤ) (labels : List ℕ) → length labels ≡ length values → length (subjects_of values labels) ≡ length values
-unfolding subjects_of
-length-subjects_of [] labels same = refl
-length-subjects_of (v ∷ values) [] same = absurd (omega arith)
-length-subjects_of (v ∷ values) (l ∷ labels) same = ap suc (length-subjects_of values labels (omega arith))
+length-paired_subjects : (values : List ℤ) (labels : List ℕ) → length labels ≡ length values → length (paired_subjects values labels) ≡ length values
+unfolding paired_subjects
+length-paired_subjects [] labels same = refl
+length-paired_subjects (v ∷ values) [] same = absurd (omega arith)
+length-paired_subjects (v ∷ values) (l ∷ labels) same = ap suc (length-paired_subjects values labels (omega arith))
 
 -- the pooled sample has every subject
 pub length-pooled : (groups : GroupData) → length groups.members ≡ length groups.values → length (pooled groups) ≡ length groups.values
-length-pooled groups same = length-ascending_by subject_cmp (subjects_of groups.values groups.members) ∙ length-subjects_of groups.values groups.members same
+length-pooled groups same = length-ascending_by subject_cmp (paired_subjects groups.values groups.members) ∙ length-paired_subjects groups.values groups.members same
 
 pub length-values_of : (subjects : List Subject) → length (values_of subjects) ≡ length subjects
 length-values_of subjects = simp length-map refl

@@ -6,7 +6,7 @@ use Rattle.weights.specs.declared.tails.Tail.{Tail}
 use Rattle.weights.specs.declared.tails.Tail.TheVariants.{Less, Greater, Two}
 use Rattle.sample_reader.specs.Groups.{GroupData, group_sizes}
 use Rattle.exact_run.specs.Report.{answer_lines, group_line, group_lines, line, printed, printed_byte, report_text, sum_lines, tail_line}
-use Rattle.exact_run.specs.Tails.{Answers}
+use Rattle.exact_run.specs.Tails.{IsAnswerOf}
 use Rattle.exact_run.specs.declared.rank_sum.Answer.{Answer}
 
 pub printed-none : (text : List ℕ) → text ≡ text ++ printed []
@@ -43,7 +43,7 @@ parts : (a b c d e f : List ℕ) → ((((a ++ b) ++ c) ++ d) ++ e) ++ f ≡ (a +
 parts a b c d e f = simp (append_assoc, append-nil)
 
 -- the pieces of a report are its text
-pub report-parts : (groups : GroupData) (test : ConditionalTest) (answer : Answer) → Answers test answer → test.scale ≡ 2
+pub report-parts : (groups : GroupData) (test : ConditionalTest) (answer : Answer) → IsAnswerOf test answer → test.scale ≡ 2
     → ((((line (codes "test ranksum") ++ group_lines (group_sizes groups) groups.labels) ++ sum_lines (pos answer.statistic) 2 answer.total) ++ tail_line Less answer.less answer.total)
     ++ tail_line Greater answer.greater answer.total)
     ++ tail_line Two answer.two answer.total

@@ -1,5 +1,5 @@
 -- What the options of accepted words say.
-use Rattle.std.proofs.Common.{◌≡◌, ◌≢◌, ◌≤◌, ℕ, All, AllPairs, Bool, true, false, List, [], ◌∷◌, ℤ, pos, negsuc, Option, Some, None, IfSome, arith, codes, cond, eqb, inl, inr, length, nat_le, option_and_then, option_map, refl, subst, unwrap_or}
+use Rattle.std.proofs.Common.{◌≡◌, ◌≢◌, ◌≤◌, ℕ, All, AllPairs, Bool, true, false, List, [], ◌∷◌, ℤ, pos, negsuc, Option, Some, None, IfSome, arith, codes, cond, eqb, inl, inr, length, nat_le, option_and_then, option_map, refl, subst, sym, unwrap_or}
 use Rattle.std.proofs.lemmas.Bool.Decides.{nat_tests}
 use Rattle.std.proofs.lemmas.Int.{ints}
 use Rattle.std.proofs.lemmas.List.Elements.{All-cons, All-nil}
@@ -9,7 +9,9 @@ use Rattle.std.specs.Str.{bytes_eq}
 use Rattle.number_text.specs.ListTexts.{IsWithin, fitting, is_comma, items_of, list_of}
 use Rattle.number_text.proofs.ListItems.{items_of-within}
 use Rattle.record_reader.specs.Records.{IsSeparator, comma, semicolon, tab}
-use Rattle.exact_run.specs.Settings.{AreColumns, Given, RankSumCommand, columns_of, first_value, is_equals_sign, meaning_of, none_given, rank_sum_of, separator_of, two_different, with_columns, with_option, with_options, with_separator}
+use Rattle.exact_run.specs.Settings.{AreColumns, AreUsable, columns_of, first_value, is_equals_sign, meaning_of, none_given, separator_in, separator_of, told_by, two_different, with_columns, with_option, with_options, with_separator}
+use Rattle.exact_run.specs.declared.settings.Options.{Options}
+use Rattle.exact_run.specs.declared.settings.Settings.{Settings}
 
 -- each number of a list that is given lies between the bounds
 list_of-within : (low high : ℤ) (room : ℕ) (text : List ℕ) (items : List ℤ) → list_of low high room text ≡ Some items → All (IsWithin low high) items
@@ -86,73 +88,69 @@ separator_of-IsSeparator word = by_tests (bytes_eq word (codes "comma")) (bytes_
     by_tests false false true = inr (inr refl)
     by_tests false false false = tt
 
--- what is given can be used
-record IsUsable (given : Given) : Type 0 where
-  columns : IfSome given.columns AreColumns
-  separator : IfSome given.separator IsSeparator
+-- ---- what is given can be used
 
-with_columns-IsUsable : (given more : Given) (list : List ℕ) → IsUsable given → with_columns given list ≡ Some more → IsUsable more
-with_columns-IsUsable given more list usable found = by_place given.columns (columns_of list) (columns_of-AreColumns list) found
+with_columns-AreUsable : (given more : Options) (list : List ℕ) → AreUsable given → with_columns given list ≡ Some more → AreUsable more
+with_columns-AreUsable given more list usable found = by_place given.columns (columns_of list) (columns_of-AreColumns list) found
   where
-    by_place : (before value : Option (List ℕ)) → IfSome value AreColumns → option_map (λ columns. record given { columns = Some columns }) (first_value before value) ≡ Some more → IsUsable more
+    by_place : (before value : Option (List ℕ)) → IfSome value AreColumns → option_map (λ columns. record given { columns = Some columns }) (first_value before value) ≡ Some more → AreUsable more
     by_place (Some before) value sound found = absurd cc
     by_place None None sound found = absurd cc
     by_place None (Some columns) sound found =
         let same : record given { columns = Some columns } ≡ more = cc in
-        subst IsUsable same (record { columns = sound; separator = usable.separator })
+        subst AreUsable same (record { columns = sound; separator = usable.separator })
 
-with_separator-IsUsable : (given more : Given) (word : List ℕ) → IsUsable given → with_separator given word ≡ Some more → IsUsable more
-with_separator-IsUsable given more word usable found = by_place given.separator (separator_of word) (separator_of-IsSeparator word) found
+with_separator-AreUsable : (given more : Options) (word : List ℕ) → AreUsable given → with_separator given word ≡ Some more → AreUsable more
+with_separator-AreUsable given more word usable found = by_place given.separator (separator_of word) (separator_of-IsSeparator word) found
   where
-    by_place : (before value : Option ℕ) → IfSome value IsSeparator → option_map (λ separator. record given { separator = Some separator }) (first_value before value) ≡ Some more → IsUsable more
+    by_place : (before value : Option ℕ) → IfSome value IsSeparator → option_map (λ separator. record given { separator = Some separator }) (first_value before value) ≡ Some more → AreUsable more
     by_place (Some before) value sound found = absurd cc
     by_place None None sound found = absurd cc
     by_place None (Some separator) sound found =
         let same : record given { separator = Some separator } ≡ more = cc in
-        subst IsUsable same (record { columns = usable.columns; separator = sound })
+        subst AreUsable same (record { columns = usable.columns; separator = sound })
 
-with_option-IsUsable : (given more : Given) (option : List ℕ) → IsUsable given → with_option given option ≡ Some more → IsUsable more
-with_option-IsUsable given more option usable found =
+with_option-AreUsable : (given more : Options) (option : List ℕ) → AreUsable given → with_option given option ≡ Some more → AreUsable more
+with_option-AreUsable given more option usable found =
     by_tests (list_any is_equals_sign option) (bytes_eq (before_first is_equals_sign option) (codes "--columns")) (bytes_eq (before_first is_equals_sign option) (codes "--separator")) found
   where
-    by_tests : (cut columns separator : Bool) → cond cut (cond columns (with_columns given (after_first is_equals_sign option)) (cond separator (with_separator given (after_first is_equals_sign option)) None)) None ≡ Some more → IsUsable more
+    by_tests : (cut columns separator : Bool) → cond cut (cond columns (with_columns given (after_first is_equals_sign option)) (cond separator (with_separator given (after_first is_equals_sign option)) None)) None ≡ Some more → AreUsable more
     by_tests false columns separator found = absurd cc
-    by_tests true true separator found = with_columns-IsUsable given more (after_first is_equals_sign option) usable found
-    by_tests true false true found = with_separator-IsUsable given more (after_first is_equals_sign option) usable found
+    by_tests true true separator found = with_columns-AreUsable given more (after_first is_equals_sign option) usable found
+    by_tests true false true found = with_separator-AreUsable given more (after_first is_equals_sign option) usable found
     by_tests true false false found = absurd cc
 
-with_options-IsUsable : (given more : Given) (options : List (List ℕ)) → IsUsable given → with_options given options ≡ Some more → IsUsable more
-with_options-IsUsable given more [] usable found =
+with_options-AreUsable : (given more : Options) (options : List (List ℕ)) → AreUsable given → with_options given options ≡ Some more → AreUsable more
+with_options-AreUsable given more [] usable found =
     let same : given ≡ more = cc in
-    subst IsUsable same usable
-with_options-IsUsable given more (option ∷ options) usable found =
-    by_first (with_option given option) (λ next answer. with_option-IsUsable given next option usable answer) (λ next. with_options-IsUsable next more options) found
+    subst AreUsable same usable
+with_options-AreUsable given more (option ∷ options) usable found =
+    by_first (with_option given option) (λ next answer. with_option-AreUsable given next option usable answer) (λ next. with_options-AreUsable next more options) found
   where
-    by_first : (first : Option Given) → ((next : Given) → first ≡ Some next → IsUsable next) → ((next : Given) → IsUsable next → with_options next options ≡ Some more → IsUsable more) → option_and_then (λ next. with_options next options) first ≡ Some more → IsUsable more
+    by_first : (first : Option Options) → ((next : Options) → first ≡ Some next → AreUsable next) → ((next : Options) → AreUsable next → with_options next options ≡ Some more → AreUsable more) → option_and_then (λ next. with_options next options) first ≡ Some more → AreUsable more
     by_first None usable_next rest found = absurd cc
     by_first (Some next) usable_next rest found = rest next (usable_next next refl) found
 
--- what an accepted command tells can be used
-pub record IsUsableCommand (command : RankSumCommand) : Type 0 where
-  pub columns : IfSome command.columns AreColumns
-  pub separator : IsSeparator command.separator
+meaning_of-AreUsable : (words : List (List ℕ)) (told : List ℕ × Options) → meaning_of words ≡ Some told → AreUsable told.1
+meaning_of-AreUsable [] told found = absurd cc
+meaning_of-AreUsable (test ∷ []) told found = absurd cc
+meaning_of-AreUsable (test ∷ file ∷ options) told found =
+    by_test (bytes_eq test (codes "ranksum")) (with_options none_given options) (λ given. with_options-AreUsable none_given given options (record { columns = tt; separator = tt })) found
+  where
+    by_test : (known : Bool) (all : Option Options) → ((given : Options) → all ≡ Some given → AreUsable given) → cond known (option_map (λ given. (file, given)) all) None ≡ Some told → AreUsable told.1
+    by_test false all usable found = absurd cc
+    by_test true None usable found = absurd cc
+    by_test true (Some given) usable found =
+        let same : (file, given) ≡ told = cc in
+        subst (λ (t : List ℕ × Options). AreUsable t.1) same (usable given refl)
 
-rank_sum_of-IsUsableCommand : (file : List ℕ) (given : Given) → IsUsable given → IsUsableCommand (rank_sum_of file given)
-rank_sum_of-IsUsableCommand file given usable = record { columns = usable.columns; separator = by_place given.separator usable.separator }
+pub read-AreUsable : (words : List (List ℕ)) (read : Option Settings) → option_map told_by read ≡ meaning_of words → IfSome read (λ settings. AreUsable settings.options)
+read-AreUsable words None found = tt
+read-AreUsable words (Some settings) found = meaning_of-AreUsable words (told_by settings) (sym found)
+
+pub separator_in-IsSeparator : (options : Options) → AreUsable options → IsSeparator (separator_in options)
+separator_in-IsSeparator options usable = by_place options.separator usable.separator
   where
     by_place : (place : Option ℕ) → IfSome place IsSeparator → IsSeparator (unwrap_or place comma)
     by_place None sound = inl refl
     by_place (Some separator) sound = sound
-
-pub meaning_of-IsUsableCommand : (words : List (List ℕ)) (command : RankSumCommand) → meaning_of words ≡ Some command → IsUsableCommand command
-meaning_of-IsUsableCommand [] command found = absurd cc
-meaning_of-IsUsableCommand (test ∷ []) command found = absurd cc
-meaning_of-IsUsableCommand (test ∷ file ∷ options) command found =
-    by_test (bytes_eq test (codes "ranksum")) (with_options none_given options) (λ given. with_options-IsUsable none_given given options (record { columns = tt; separator = tt })) found
-  where
-    by_test : (known : Bool) (all : Option Given) → ((given : Given) → all ≡ Some given → IsUsable given) → cond known (option_map (rank_sum_of file) all) None ≡ Some command → IsUsableCommand command
-    by_test false all usable found = absurd cc
-    by_test true None usable found = absurd cc
-    by_test true (Some given) usable found =
-        let same : rank_sum_of file given ≡ command = cc in
-        subst IsUsableCommand same (rank_sum_of-IsUsableCommand file given (usable given refl))

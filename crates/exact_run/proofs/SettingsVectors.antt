@@ -4,18 +4,18 @@ use Rattle.std.specs.Prelude.{codes}
 use Rattle.number_text.specs.ListTexts.{list_of}
 use Rattle.exact_run.specs.Settings.{meaning_of}
 
-file_alone : meaning_of (codes "ranksum" ∷ codes "f.csv" ∷ []) ≡ Some (record { file = codes "f.csv"; columns = None; separator = 44 })
+file_alone : meaning_of (codes "ranksum" ∷ codes "f.csv" ∷ []) ≡ Some (codes "f.csv", record { columns = None; separator = None })
 file_alone = refl
 
-both_options : meaning_of (codes "ranksum" ∷ codes "f.csv" ∷ codes "--separator=tab" ∷ codes "--columns=+1, 02" ∷ []) ≡ Some (record { file = codes "f.csv"; columns = Some (1 ∷ 2 ∷ []); separator = 9 })
+both_options : meaning_of (codes "ranksum" ∷ codes "f.csv" ∷ codes "--separator=tab" ∷ codes "--columns=+1, 02" ∷ []) ≡ Some (codes "f.csv", record { columns = Some (1 ∷ 2 ∷ []); separator = Some 9 })
 unfolding list_of
 both_options = refl
 
-columns_in_their_order : meaning_of (codes "ranksum" ∷ codes "f.csv" ∷ codes "--columns=1000,1" ∷ []) ≡ Some (record { file = codes "f.csv"; columns = Some (1000 ∷ 1 ∷ []); separator = 44 })
+columns_in_their_order : meaning_of (codes "ranksum" ∷ codes "f.csv" ∷ codes "--columns=1000,1" ∷ []) ≡ Some (codes "f.csv", record { columns = Some (1000 ∷ 1 ∷ []); separator = None })
 unfolding list_of
 columns_in_their_order = refl
 
-file_like_an_option : meaning_of (codes "ranksum" ∷ codes "--columns=1,2" ∷ []) ≡ Some (record { file = codes "--columns=1,2"; columns = None; separator = 44 })
+file_like_an_option : meaning_of (codes "ranksum" ∷ codes "--columns=1,2" ∷ []) ≡ Some (codes "--columns=1,2", record { columns = None; separator = None })
 file_like_an_option = refl
 
 same_column_twice : meaning_of (codes "ranksum" ∷ codes "f.csv" ∷ codes "--columns=2,2" ∷ []) ≡ None

@@ -10,7 +10,8 @@ use Rattle.record_reader.specs.declared.faults.LayoutFault.TheVariants as layout
 use Rattle.sample_reader.specs.GroupLayout.{groups_in}
 use Rattle.exact_run.specs.PooledSample.{rank_sum_test}
 use Rattle.exact_run.specs.Report.{report_text}
-use Rattle.exact_run.specs.Settings.{RankSumCommand, meaning_of, picks_of}
+use Rattle.exact_run.specs.Settings.{meaning_of, picks_in, separator_in}
+use Rattle.exact_run.specs.declared.settings.Options.{Options}
 use Rattle.exact_run.specs.declared.refusals.Refusal.{Refusal}
 use Rattle.exact_run.specs.declared.refusals.Refusal.TheVariants as refusal
 
@@ -30,14 +31,14 @@ outcome_of_data (Err (layout.At fault)) = Refuses (refusal.Data fault)
 outcome_of_data (Err layout.NoMemory) = Refuses refusal.NoMemory
 
 -- a file is refused for its length before its data; the data are two groups
-unfoldable pub outcome_of_bytes : RankSumCommand → List ℕ → Outcome
-outcome_of_bytes command bytes =
+unfoldable pub outcome_of_bytes : Options → List ℕ → Outcome
+outcome_of_bytes options bytes =
     if nat_lt LONGEST_FILE (length bytes) then Refuses refusal.TooLong
-    else outcome_of_data (groups_in 2 (picks_of command.columns) (records_of command.separator bytes))
+    else outcome_of_data (groups_in 2 (picks_in options) (records_of (separator_in options) bytes))
 
-abbrev pub outcome_of_command : Option RankSumCommand → (List ℕ → Option (List ℕ)) → Option Outcome
+abbrev pub outcome_of_command : Option (List ℕ × Options) → (List ℕ → Option (List ℕ)) → Option Outcome
 outcome_of_command None held = Some (Refuses refusal.CommandLine)
-outcome_of_command (Some command) held = option_map (outcome_of_bytes command) (held command.file)
+outcome_of_command (Some command) held = option_map (outcome_of_bytes command.1) (held command.0)
 
 -- the outcome of words and of a source, where the words alone decide it or the source tells what it holds
 abbrev pub outcome_of : List (List ℕ) → (List ℕ → Option (List ℕ)) → Option Outcome

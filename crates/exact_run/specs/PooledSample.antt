@@ -13,8 +13,8 @@ use Rattle.exact_run.specs.declared.subjects.Subject.{Subject}
 abbrev pub subject : ℤ × ℕ → Subject
 subject s = record { value = s.0; label = s.1 }
 
-unfoldable pub subjects_of : List ℤ → List ℕ → List Subject
-subjects_of values labels = map subject (zip values labels)
+unfoldable pub paired_subjects : List ℤ → List ℕ → List Subject
+paired_subjects values labels = map subject (zip values labels)
 
 -- by value, and those of one value by label
 abbrev pub subject_cmp : Subject → Subject → Ordering
@@ -32,7 +32,7 @@ ascending_by cmp (x ∷ xs) = insert_by cmp x (ascending_by cmp xs)
 
 -- the pooled sample in ascending order
 abbrev pub pooled : GroupData → List Subject
-pooled groups = ascending_by subject_cmp (subjects_of groups.values groups.members)
+pooled groups = ascending_by subject_cmp (paired_subjects groups.values groups.members)
 
 abbrev pub values_of : List Subject → List ℤ
 values_of subjects = map (λ s. s.value) subjects

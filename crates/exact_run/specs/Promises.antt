@@ -1,11 +1,11 @@
 -- What each status of a run says of the outcome, of the sinks and of the counts of faults.
-use Rattle.std.specs.Prelude.{◌≡◌, ◌≢◌, ◌<◌, ◌⊎◌, ℕ, List, Option, ⊤, IfSome, length}
+use Rattle.std.specs.Prelude.{◌≡◌, ◌≢◌, ◌<◌, ◌⊎◌, ℕ, List, Option, None, ⊤, IfSome, length}
 use Rattle.std.specs.Io.KnownBytes.{Appends}
 use Rattle.outside.specs.Faults.{AppendsPrefix, Rose}
 use Rattle.outside.specs.declared.source.TheConstants.{LONGEST_FILE}
 use Rattle.exact_run.specs.Outcome.{Outcome, Reports, Refuses, outcome_of_bytes}
 use Rattle.exact_run.specs.Refusals.{status_of}
-use Rattle.exact_run.specs.Settings.{RankSumCommand}
+use Rattle.exact_run.specs.declared.settings.Options.{Options}
 use Rattle.exact_run.specs.declared.refusals.Refusal.{Refusal}
 use Rattle.exact_run.specs.declared.refusals.Refusal.TheVariants as refusal
 use Rattle.exact_run.specs.declared.status.Status.{Status}
@@ -15,11 +15,6 @@ use Rattle.exact_run.specs.declared.status.Status.TheVariants as status
 abbrev pub ReportsWith : Outcome → (List ℕ → Type 0) → Type 0
 ReportsWith (Reports text) P = P text
 ReportsWith (Refuses cause) P = ⊥
-
--- the outcome is a refusal, of which this holds
-abbrev pub RefusesWith : Outcome → (Refusal → Type 0) → Type 0
-RefusesWith (Reports text) P = ⊥
-RefusesWith (Refuses cause) P = P cause
 
 -- where the outcome is known, it is a report, of which this holds
 abbrev pub IsReport : Option Outcome → (List ℕ → Type 0) → Type 0
@@ -48,15 +43,21 @@ pub record WritesLine (before after : Option (List ℕ)) (faults_before faults_a
   pub whole : (Rose faults_before faults_after → ⊥) → Appends before after text
   pub prefix : AppendsPrefix before after text
 
--- the refusal that a status tells: that of the outcome, or the status's own
-abbrev pub TellsRefusal : Status → Option Outcome → (Refusal → Type 0) → Type 0
-TellsRefusal status.Done known P = ⊤
-TellsRefusal status.Usage known P = IfSome known (λ outcome. RefusesWith outcome P)
-TellsRefusal status.BadData known P = IfSome known (λ outcome. RefusesWith outcome P)
-TellsRefusal status.TooWide known P = IfSome known (λ outcome. RefusesWith outcome P)
-TellsRefusal status.ReadFault known P = P refusal.ReadFault
-TellsRefusal status.WriteFault known P = P refusal.WriteFault
-TellsRefusal status.NoMemory known P = P refusal.NoMemory
+-- a status that words, data and test decide
+abbrev pub IsDecided : Status → Type 0
+IsDecided status.Usage = ⊤
+IsDecided status.BadData = ⊤
+IsDecided status.TooWide = ⊤
+IsDecided _ = ⊥
+
+-- some refusal of the status is told: that of the command line only where the words mean nothing, and that of the outcome
+-- where words, data and test decide the status and the outcome is known
+pub record TellsRefusal (answer : Status) (meaning : Option (List ℕ × Options)) (known : Option Outcome) (Told : Refusal → Type 0) : Type 0 where
+  pub cause : Refusal
+  pub of_status : status_of cause ≡ answer
+  pub told : Told cause
+  pub of_words : cause ≡ refusal.CommandLine → meaning ≡ None
+  pub of_outcome : IsDecided answer → IsRefused known cause
 
 -- a refusal before the first write has its cause in the outcome, or in the source's count of faults, or is want of memory
 abbrev pub IsCause : Option Outcome → ℕ → ℕ → Refusal → Type 0
@@ -87,12 +88,12 @@ IsReadRefusal held faults_before faults_after refusal.WriteFault = ⊥
 IsReadRefusal held faults_before faults_after refusal.NoMemory = ⊤
 
 -- the refusal of bytes is that of their outcome, or want of memory
-abbrev pub RefusesBytes : RankSumCommand → List ℕ → Refusal → Type 0
-RefusesBytes command bytes refusal.CommandLine = ⊥
-RefusesBytes command bytes refusal.Columns = outcome_of_bytes command bytes ≡ Refuses refusal.Columns
-RefusesBytes command bytes (refusal.Data fault) = outcome_of_bytes command bytes ≡ Refuses (refusal.Data fault)
-RefusesBytes command bytes refusal.TooLong = ⊥
-RefusesBytes command bytes refusal.TotalTooWide = outcome_of_bytes command bytes ≡ Refuses refusal.TotalTooWide
-RefusesBytes command bytes refusal.ReadFault = ⊥
-RefusesBytes command bytes refusal.WriteFault = ⊥
-RefusesBytes command bytes refusal.NoMemory = ⊤
+abbrev pub RefusesBytes : Options → List ℕ → Refusal → Type 0
+RefusesBytes options bytes refusal.CommandLine = ⊥
+RefusesBytes options bytes refusal.Columns = outcome_of_bytes options bytes ≡ Refuses refusal.Columns
+RefusesBytes options bytes (refusal.Data fault) = outcome_of_bytes options bytes ≡ Refuses (refusal.Data fault)
+RefusesBytes options bytes refusal.TooLong = ⊥
+RefusesBytes options bytes refusal.TotalTooWide = outcome_of_bytes options bytes ≡ Refuses refusal.TotalTooWide
+RefusesBytes options bytes refusal.ReadFault = ⊥
+RefusesBytes options bytes refusal.WriteFault = ⊥
+RefusesBytes options bytes refusal.NoMemory = ⊤

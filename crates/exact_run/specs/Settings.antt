@@ -1,28 +1,15 @@
 -- What the words after the program's name mean. They are TEST, then FILE, then options, and each option is `--NAME=VALUE`.
-use Rattle.std.specs.Prelude.{◌==◌, ◌≡◌, ◌≢◌, ◌≤◌, ℕ, All, AllPairs, Bool, List, [], ◌∷◌, ℤ, pos, Option, Some, None, bytes_eq, codes, length, option_and_then, option_map, unwrap_or, if◌then◌else◌}
+use Rattle.std.specs.Prelude.{◌==◌, ◌≡◌, ◌≢◌, ◌≤◌, ℕ, All, AllPairs, Bool, List, [], ◌∷◌, ℤ, pos, Option, Some, None, IfSome, bytes_eq, codes, length, option_and_then, option_map, unwrap_or, if◌then◌else◌}
 use Rattle.std.specs.List.{after_first, before_first, list_any}
 use Rattle.number_text.specs.ListTexts.{list_of}
-use Rattle.record_reader.specs.Records.{comma, semicolon, tab}
+use Rattle.record_reader.specs.Records.{IsSeparator, comma, semicolon, tab}
 use Rattle.record_reader.specs.declared.picks.Picks.{Picks}
 use Rattle.record_reader.specs.declared.picks.Picks.TheVariants.{Natural, Listed}
-use Rattle.exact_run.specs.declared.settings.Accepted.{Accepted}
 use Rattle.exact_run.specs.declared.settings.Options.{Options}
 use Rattle.exact_run.specs.declared.settings.Settings.{Settings}
 
--- What `ranksum` is told: the file, the numbers of the fields that are read, in this order, where they are picked, and the
--- byte between two fields.
-pub record RankSumCommand : Type 0 where
-  pub file : List ℕ
-  pub columns : Option (List ℕ)
-  pub separator : ℕ
-
--- what the options say, each where it is given
-pub record Given : Type 0 where
-  pub columns : Option (List ℕ)
-  pub separator : Option ℕ
-
 -- no option is given
-abbrev pub none_given : Given
+abbrev pub none_given : Options
 none_given = record { columns = None; separator = None }
 
 -- the two numbers, where they differ
@@ -48,17 +35,17 @@ first_value None value = value
 first_value (Some before) value = None
 
 -- `--columns=LIST` after what is given before
-abbrev pub with_columns : Given → List ℕ → Option Given
+abbrev pub with_columns : Options → List ℕ → Option Options
 with_columns given list =
     option_map (λ columns. record given { columns = Some columns }) (first_value given.columns (columns_of list))
 
 -- `--separator=WORD` after what is given before
-abbrev pub with_separator : Given → List ℕ → Option Given
+abbrev pub with_separator : Options → List ℕ → Option Options
 with_separator given word =
     option_map (λ separator. record given { separator = Some separator }) (first_value given.separator (separator_of word))
 
 -- the option of this NAME, with this VALUE, after what is given before
-abbrev pub with_named : Given → List ℕ → List ℕ → Option Given
+abbrev pub with_named : Options → List ℕ → List ℕ → Option Options
 with_named given name value =
     if bytes_eq name (codes "--columns") then with_columns given value
     else (if bytes_eq name (codes "--separator") then with_separator given value
@@ -69,31 +56,40 @@ abbrev pub is_equals_sign : ℕ → Bool
 is_equals_sign byte = byte == 61
 
 -- an option, which is cut at its first equals sign, after what is given before
-abbrev pub with_option : Given → List ℕ → Option Given
+abbrev pub with_option : Options → List ℕ → Option Options
 with_option given option =
     if list_any is_equals_sign option
     then with_named given (before_first is_equals_sign option) (after_first is_equals_sign option)
     else None
 
 -- the options, one after another
-abbrev pub with_options : Given → List (List ℕ) → Option Given
+abbrev pub with_options : Options → List (List ℕ) → Option Options
 with_options given [] = Some given
 with_options given (option ∷ options) = option_and_then (λ more. with_options more options) (with_option given option)
 
--- the command for a file: a comma stands between two fields where nothing else is said
-abbrev pub rank_sum_of : List ℕ → Given → RankSumCommand
-rank_sum_of file given = record {
-  file = file;
-  columns = given.columns;
-  separator = unwrap_or given.separator comma;
-}
-
--- The command that the words write, where they are accepted: TEST is `ranksum`, and FILE may be any word.
-abbrev pub meaning_of : List (List ℕ) → Option RankSumCommand
+-- FILE and what the options say, where the words are accepted: TEST is `ranksum`, and FILE may be any word
+abbrev pub meaning_of : List (List ℕ) → Option (List ℕ × Options)
 meaning_of [] = None
 meaning_of (test ∷ []) = None
 meaning_of (test ∷ file ∷ options) =
-    if bytes_eq test (codes "ranksum") then option_map (rank_sum_of file) (with_options none_given options) else None
+    if bytes_eq test (codes "ranksum") then option_map (λ given. (file, given)) (with_options none_given options) else None
+
+-- the byte between two fields: a comma where nothing else is said
+abbrev pub separator_in : Options → ℕ
+separator_in options = unwrap_or options.separator comma
+
+-- the fields that are picked: as they stand, where none are listed
+abbrev pub picks_of : Option (List ℕ) → Picks
+picks_of None = Natural
+picks_of (Some columns) = Listed columns
+
+-- the fields that are read, in this order: as they stand, where none are listed
+abbrev pub picks_in : Options → Picks
+picks_in options = picks_of options.columns
+
+-- what the settings tell
+abbrev pub told_by : Settings → List ℕ × Options
+told_by settings = (settings.file.now, settings.options)
 
 -- two different numbers of fields, from 1 to 1000
 pub record AreColumns (columns : List ℕ) : Type 0 where
@@ -102,32 +98,7 @@ pub record AreColumns (columns : List ℕ) : Type 0 where
   pub to_thousand : All (λ column. column ≤ 1000) columns
   pub distinct : AllPairs ◌≢◌ columns
 
--- the columns that are picked
-abbrev pub columns_in : Picks → Option (List ℕ)
-columns_in Natural = None
-columns_in (Listed columns) = Some columns
-
--- the command that the settings tell
-abbrev pub command_of : Settings → RankSumCommand
-command_of settings = record {
-  file = settings.file.now;
-  columns = columns_in settings.picks;
-  separator = settings.separator;
-}
-
--- what the options that were read say
-abbrev pub given_in : Options → Given
-given_in options = record { columns = options.columns; separator = options.separator }
-
--- the command of words that are accepted
-abbrev pub accepted_command : Accepted → RankSumCommand
-accepted_command accepted = record {
-  file = accepted.file.now;
-  columns = accepted.columns;
-  separator = accepted.separator;
-}
-
--- the fields that are picked: as they stand, where none are listed
-abbrev pub picks_of : Option (List ℕ) → Picks
-picks_of None = Natural
-picks_of (Some columns) = Listed columns
+-- options that can be used
+pub record AreUsable (options : Options) : Type 0 where
+  pub columns : IfSome options.columns AreColumns
+  pub separator : IfSome options.separator IsSeparator

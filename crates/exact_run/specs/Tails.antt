@@ -25,7 +25,7 @@ unfoldable pub extreme_weight : Compared → Tail → List Node → ℕ
 extreme_weight compared tail nodes = weighted (λ placed sum. one_where (is_extreme_sum compared tail) sum) nodes
 
 -- the answer gives the observed statistic, the total and the numerators of a test
-pub record Answers (test : ConditionalTest) (answer : Answer) : Type 0 where
+pub record IsAnswerOf (test : ConditionalTest) (answer : Answer) : Type 0 where
   pub statistic : observed_statistic test ≡ pos answer.statistic
   pub total : answer.total ≡ total test
   pub less : answer.less ≡ numerator test Less

@@ -1,18 +1,17 @@
 // The top call: it does all that the program does.
-ghost use Rattle.std.specs.Prelude.{◌≡◌, ◌≤◌, None, Err, length, map, IfOk, IfErr, IfSome, string_bytes};
+ghost use Rattle.std.specs.Prelude.{◌≡◌, ◌≢◌, ◌≤◌, ◌↔◌, None, Err, length, map, IfOk, IfErr, IfSome, string_bytes};
 ghost use Rattle.std.specs.Io.KnownBytes.{Appends};
 ghost use Rattle.outside.specs.Faults.{AppendsPrefix, Rose};
 ghost use Rattle.outside.specs.declared.source.TheConstants.{LONGEST_FILE};
-ghost use Rattle.record_reader.specs.Records.{IsSeparator};
 ghost use Rattle.exact_run.specs.Outcome.{outcome_of, outcome_of_bytes, Reports};
 ghost use Rattle.exact_run.specs.Promises.{ComesExactly, IsBeforeWriting, IsCause, IsCompleted, IsReadRefusal, IsReport, RefusesBytes, TellsRefusal, WritesLine};
 ghost use Rattle.exact_run.specs.Refusals.{refusal_line as line_of, status_of};
-ghost use Rattle.exact_run.specs.Settings.{AreColumns, columns_in, command_of, meaning_of};
+ghost use Rattle.exact_run.specs.Settings.{AreUsable, meaning_of};
 
 use crate::rank_sum::rank_sum;
 use crate::refusals::{Refusal, refusal_line};
 use crate::report::compose;
-use crate::settings::{Settings, SettingsFault, read};
+use crate::settings::{Options, read};
 use crate::status::Status;
 use outside::{ReadFail, Sink, Source, read_all, write_all};
 use record_reader::{LayoutFault, records};
@@ -35,15 +34,15 @@ fn read_file<S: Source>(alloc: Global, source: &mut S, file: &str) -> Result<Byt
 }
 
 // The report of a file's bytes, or the refusal.
-fn report_of(alloc: Global, settings: &Settings, bytes: &[u8]) -> Result<Bytes, Refusal>
+fn report_of(alloc: Global, options: &Options, bytes: &[u8]) -> Result<Bytes, Refusal>
     requires short { length bytes.now ≤ LONGEST_FILE }
-    requires separator { IsSeparator settings.now.separator }
-    requires columns { IfSome (columns_in settings.now.picks) AreColumns }
-    ensures report { IfOk result (λ text. outcome_of_bytes (command_of settings.now) bytes.now ≡ Reports text) }
-    ensures refused { IfErr result (λ cause. RefusesBytes (command_of settings.now) bytes.now cause) }
+    requires usable { AreUsable options.now }
+    ensures report { IfOk result (λ text. outcome_of_bytes options.now bytes.now ≡ Reports text) }
+    ensures refused { IfErr result (λ cause. RefusesBytes options.now bytes.now cause) }
 {
-    let rows = records(alloc, bytes, settings.separator)?;
-    let groups = match groups(alloc, &rows, &settings.picks, 2) {
+    let picks = options.picks(alloc)?;
+    let rows = records(alloc, bytes, options.separator())?;
+    let groups = match groups(alloc, &rows, &picks, 2) {
         Ok(groups) => groups,
         Err(LayoutFault::Columns) => return Err(Refusal::Columns),
         Err(LayoutFault::At(fault)) => return Err(Refusal::Data(fault)),
@@ -57,16 +56,14 @@ fn report_of(alloc: Global, settings: &Settings, bytes: &[u8]) -> Result<Bytes, 
 fn prepare<S: Source>(alloc: Global, words: &[String], source: &mut S) -> Result<Bytes, Refusal>
     ensures report { IfOk result (λ text. IfSome (outcome_of (map string_bytes words.now) (S.held source.old)) (λ outcome. outcome ≡ Reports text)) }
     ensures refused { IfErr result (λ cause. IsCause (outcome_of (map string_bytes words.now) (S.held source.old)) (S.faults source.old) (S.faults source.new) cause) }
-    ensures words { meaning_of (map string_bytes words.now) ≡ None → result ≡ Err Refusal.CommandLine }
+    ensures words { meaning_of (map string_bytes words.now) ≡ None ↔ result ≡ Err Refusal.CommandLine }
     ensures untouched { meaning_of (map string_bytes words.now) ≡ None → source.new ≡ source.old }
 {
-    let settings = match read(alloc, words) {
-        Ok(settings) => settings,
-        Err(SettingsFault::Form) => return Err(Refusal::CommandLine),
-        Err(SettingsFault::NoMemory) => return Err(Refusal::NoMemory),
+    let Some(settings) = read(words) else {
+        return Err(Refusal::CommandLine);
     };
     let bytes = read_file(alloc, source, settings.file)?;
-    report_of(alloc, &settings, bytes.as_slice())
+    report_of(alloc, &settings.options, bytes.as_slice())
 }
 
 // Tells the refusal, and answers its status.
@@ -103,9 +100,9 @@ pub fn run<S: Source, O: Sink, E: Sink>(
     ensures prefix { result ≡ Status.WriteFault → IsReport (outcome_of (map string_bytes words.now) (S.held source.old)) (AppendsPrefix (O.taken out.old) (O.taken out.new)) }
     ensures unchanged { IsBeforeWriting result → out.new ≡ out.old }
 
-    // A refusal is told by its line.
+    // Every refusal is told by its line, also where the source does not tell what it holds.
     ensures silent { result ≡ Status.Done → err.new ≡ err.old }
-    ensures line { TellsRefusal result (outcome_of (map string_bytes words.now) (S.held source.old)) (λ cause. WritesLine (E.taken err.old) (E.taken err.new) (E.faults err.old) (E.faults err.new) (line_of cause)) }
+    ensures line { result ≢ Status.Done → TellsRefusal result (meaning_of (map string_bytes words.now)) (outcome_of (map string_bytes words.now) (S.held source.old)) (λ cause. WritesLine (E.taken err.old) (E.taken err.new) (E.faults err.old) (E.faults err.new) (line_of cause)) }
 
     // Words that are refused are refused always, and touch no source.
     ensures words { meaning_of (map string_bytes words.now) ≡ None → result ≡ Status.Usage }

@@ -8,7 +8,7 @@ ghost use Rattle.sample_reader.specs.Data.{data_of};
 ghost use Rattle.record_reader.specs.declared.TheConstants.{MOST_ROWS};
 ghost use Rattle.exact_run.specs.PooledSample.{labels_of, rank_sum_test};
 ghost use Rattle.exact_run.specs.RankSum.{rank_sum_of};
-ghost use Rattle.exact_run.specs.Tails.{Answers, RefusesTest};
+ghost use Rattle.exact_run.specs.Tails.{IsAnswerOf, RefusesTest};
 ghost use Rattle.exact_run.specs.declared.midranks.TheConstants.{MOST_SCORE};
 
 use crate::midranks::doubled;
@@ -59,7 +59,7 @@ fn answer_for(
     requires size { size ≤ length scores.now }
     requires total { total ≡ number_of_labellings ((length scores.now - size) ∷ size ∷ []) }
     requires fits { total ≤ MAX }
-    ensures { IfOk result (Answers (rank_sum_of ((length scores.now - size) ∷ size ∷ []) scores.now (labels_of subjects.now))) }
+    ensures { IfOk result (IsAnswerOf (rank_sum_of ((length scores.now - size) ∷ size ∷ []) scores.now (labels_of subjects.now))) }
 {
     let nodes = final_nodes(alloc, scores, size)?;
     let compared = Compared {
@@ -81,7 +81,7 @@ fn answer_for(
 #[tactic(auto, using(crate::proofs::RankSumLemmas::bound_for))]
 pub fn rank_sum(alloc: Global, groups: &Groups) -> Result<Answer, Refusal>
     requires { length groups.now.labels ≡ 2 }
-    ensures answer { IfOk result (Answers (rank_sum_test (data_of groups.now))) }
+    ensures answer { IfOk result (IsAnswerOf (rank_sum_test (data_of groups.now))) }
     ensures fits { OnOk result (is_total_too_wide (rank_sum_test (data_of groups.now)) ≡ false) }
     ensures refused { IfErr result (RefusesTest (rank_sum_test (data_of groups.now))) }
     ensures bound { (rank_sum_test (data_of groups.now)).bound ≤ MAX }

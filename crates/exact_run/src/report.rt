@@ -4,7 +4,7 @@ ghost use Rattle.weights.specs.declared.TheConstants.{MAX};
 ghost use Rattle.sample_reader.specs.Data.{data_of};
 ghost use Rattle.exact_run.specs.PooledSample.{rank_sum_test};
 ghost use Rattle.exact_run.specs.Report.{group_line, group_lines, printed, printed_byte, report_text, sum_lines, tail_line, tail_name};
-ghost use Rattle.exact_run.specs.Tails.{Answers};
+ghost use Rattle.exact_run.specs.Tails.{IsAnswerOf};
 
 use crate::decimals::six_decimals;
 use crate::rank_sum::Answer;
@@ -107,7 +107,7 @@ fn push_sums(text: &mut Bytes, statistic: u64, scale: u64, total: u128) -> Resul
 
 /// The report of the rank sum test of two groups.
 pub fn compose(alloc: Global, groups: &Groups, answer: &Answer) -> Result<Bytes, NoMemory>
-    requires answer { Answers (rank_sum_test (data_of groups.now)) answer.now }
+    requires answer { IsAnswerOf (rank_sum_test (data_of groups.now)) answer.now }
     requires fits { answer.now.total ≤ MAX }
     ensures { IfOk result (λ text. text ≡ report_text (data_of groups.now) (rank_sum_test (data_of groups.now))) }
 {

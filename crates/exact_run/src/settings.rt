@@ -1,89 +1,61 @@
 // What the words after the program's name mean.
-ghost use Rattle.std.specs.Prelude.{◌≡◌, ◌↔◌, None, Some, IfOk, IfSome, IsErrOf, map, option_map, string_bytes};
-ghost use Rattle.record_reader.specs.Records.{IsSeparator};
-ghost use Rattle.exact_run.specs.Settings.{AreColumns, accepted_command, columns_in, columns_of, command_of, given_in, meaning_of, none_given, separator_of, with_options};
+ghost use Rattle.std.specs.Prelude.{◌≡◌, IfOk, IfSome, map, option_map, string_bytes};
+ghost use Rattle.exact_run.specs.Settings.{AreUsable, columns_of, meaning_of, none_given, picks_of, separator_of, told_by, with_options};
 
 use number_text::read_list;
 use record_reader::Picks;
 use std::alloc::Global;
-use thiserror::Error;
 use weights::{NoMemory, Nums};
 
+/// What the options say, each where it is given.
+#[derive(Clone, Copy)]
+pub struct Options {
+    /// The two numbers of the fields that are read, in their order.
+    pub columns: Option<[u64; 2]>,
+    /// The byte between two fields.
+    pub separator: Option<u8>,
+}
+
 /// What the words tell a run.
-#[derive(Drop)]
+#[derive(Clone, Copy)]
 pub struct Settings<'a> {
     /// The name of the file.
     pub file: &'a str,
-    /// The fields that are read, in their order.
-    pub picks: Picks,
-    /// The byte between two fields.
-    pub separator: u8,
-}
-
-/// Why there are no settings.
-#[derive(Clone, Copy, Debug, PartialEq, Eq, Error)]
-pub enum SettingsFault {
-    /// The words are refused.
-    #[error("the words are refused")]
-    Form,
-    /// Memory ran out.
-    #[error("no memory")]
-    NoMemory,
-}
-
-impl From<NoMemory> for SettingsFault {
-    ghost use Rattle.std.specs.Prelude.{◌≡◌};
-    ghost use Rattle.exact_run.specs.declared.settings.SettingsFault.TheVariants as fault;
-
-    ghost from_gives = { λ _ result. result ≡ fault.NoMemory };
-
-    fn from(_error: NoMemory) -> SettingsFault {
-        SettingsFault::NoMemory
-    }
-}
-
-// What the options say, each where it is given.
-#[derive(Clone, Copy)]
-struct Options {
-    columns: Option<[u64; 2]>,
-    separator: Option<u8>,
-}
-
-// A command that is accepted.
-#[derive(Clone, Copy)]
-struct Accepted<'a> {
-    file: &'a str,
-    columns: Option<[u64; 2]>,
-    separator: u8,
+    /// What the options say.
+    pub options: Options,
 }
 
 /// Reads the words after the program's name: `ranksum`, the name of a file, and options. An option is `--columns=LIST`, with two
 /// different numbers of fields from 1 to 1000, or `--separator=WORD`, with `comma`, `semicolon` or `tab`. Each is given once at
 /// most, in any order. The second word is the file's name whatever it is, also where it looks like an option.
 ///
-/// `Form` comes exactly where the words are refused, and no memory is taken then. `NoMemory` comes where there is no memory for
-/// the list of the picked fields.
-pub fn read(alloc: Global, words: &[String]) -> Result<Settings<'_>, SettingsFault>
-    ensures ok { IfOk result
-        (λ settings. meaning_of (map string_bytes words.now) ≡ Some (command_of settings)) }
-    ensures refused { IsErrOf result SettingsFault.Form
-        ↔ (meaning_of (map string_bytes words.now) ≡ None) }
-    ensures separator { IfOk result (λ settings. IsSeparator settings.separator) }
-    ensures columns { IfOk result (λ settings. IfSome (columns_in settings.picks) AreColumns) }
+/// None comes exactly where the words are refused. It takes no memory.
+pub fn read(words: &[String]) -> Option<Settings<'_>>
+    ensures meaning { option_map told_by result ≡ meaning_of (map string_bytes words.now) }
+    ensures usable { IfSome result (λ settings. AreUsable settings.options) }
 {
-    let Some(accepted) = read_command(words) else {
-        return Err(SettingsFault::Form);
+    accepted(words)
+}
+
+// What accepted words tell.
+fn accepted(words: &[String]) -> Option<Settings<'_>>
+    ensures { option_map told_by result ≡ meaning_of (map string_bytes words.now) }
+{
+    let [test, file, options @ ..] = words else {
+        return None;
     };
-    Ok(Settings {
-        file: accepted.file,
-        picks: picks_of(alloc, accepted.columns)?,
-        separator: accepted.separator,
+    if test.as_str() != "ranksum" {
+        return None;
+    }
+    Some(Settings {
+        file: file.as_str(),
+        options: read_options(options)?,
     })
 }
 
 // The fields that are picked, in memory of their own.
 fn picks_of(alloc: Global, columns: Option<[u64; 2]>) -> Result<Picks, NoMemory>
-    ensures { IfOk result (λ picks. columns_in picks ≡ columns) }
+    ensures { IfOk result (λ picks. picks ≡ picks_of columns) }
 {
     let Some(columns) = columns else {
         return Ok(Picks::Natural);
@@ -93,27 +65,9 @@ fn picks_of(alloc: Global, columns: Option<[u64; 2]>) -> Result<Picks, NoMemory>
     Ok(Picks::Listed(list))
 }
 
-// The command, where the words are accepted.
-fn read_command(words: &[String]) -> Option<Accepted<'_>>
-    ensures { option_map accepted_command result ≡ meaning_of (map string_bytes words.now) }
-{
-    let [test, file, options @ ..] = words else {
-        return None;
-    };
-    if test.as_str() != "ranksum" {
-        return None;
-    }
-    let options = read_options(options)?;
-    Some(Accepted {
-        file: file.as_str(),
-        columns: options.columns,
-        separator: options.separator.unwrap_or(b','),
-    })
-}
-
 // What the options say, where each is accepted.
 fn read_options(words: &[String]) -> Option<Options>
-    ensures { option_map given_in result ≡ with_options none_given (map string_bytes words.now) }
+    ensures { result ≡ with_options none_given (map string_bytes words.now) }
 {
     let mut options = Options {
         columns: None,
@@ -126,11 +80,25 @@ fn read_options(words: &[String]) -> Option<Options>
 }
 
 impl Options {
-    ghost use Rattle.exact_run.specs.Settings.{given_in, with_columns, with_option, with_separator};
+    ghost use Rattle.exact_run.specs.Settings.{picks_in, separator_in, with_columns, with_option, with_separator};
+
+    /// The fields that are read, in memory of their own.
+    pub fn picks(&self, alloc: Global) -> Result<Picks, NoMemory>
+        ensures { IfOk result (λ picks. picks ≡ picks_in self.now) }
+    {
+        picks_of(alloc, self.columns)
+    }
+
+    /// The byte between two fields: a comma where nothing else is said.
+    pub fn separator(&self) -> u8
+        ensures { result ≡ separator_in self.now }
+    {
+        self.separator.unwrap_or(b',')
+    }
 
     // These options and the one that a word is.
     fn with_option(self, word: &str) -> Option<Options>
-        ensures { option_map given_in result ≡ with_option (given_in self) word.now }
+        ensures { result ≡ with_option self word.now }
     {
         let (name, value) = word.split_once('=')?;
         if name == "--columns" {
@@ -144,7 +112,7 @@ impl Options {
 
     // These options and `--columns=LIST`.
     fn with_columns(self, list: &str) -> Option<Options>
-        ensures { option_map given_in result ≡ with_columns (given_in self) list.now }
+        ensures { result ≡ with_columns self list.now }
     {
         if self.columns.is_some() {
             return None;
@@ -157,7 +125,7 @@ impl Options {
 
     // These options and `--separator=WORD`.
     fn with_separator(self, word: &str) -> Option<Options>
-        ensures { option_map given_in result ≡ with_separator (given_in self) word.now }
+        ensures { result ≡ with_separator self word.now }
     {
         if self.separator.is_some() {
             return None;

@@ -6,11 +6,11 @@ ghost use Rattle.std.specs.Prelude.{◌≡◌};
 pub enum Status {
     /// The report was written whole.
     Done,
-    /// The words were refused.
+    /// The words were refused, or `--columns` does not fit the data.
     Usage,
     /// The file's data were refused.
     BadData,
-    /// 128 bits do not hold the answer.
+    /// The number of rearrangements passes 2^127 - 1.
     TooWide,
     /// A call to the source failed.
     ReadFault,

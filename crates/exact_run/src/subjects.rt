@@ -3,7 +3,7 @@ ghost use Rattle.std.specs.Prelude.{◌≡◌, ◌*◌, ◌≤◌, length, IfOk}
 ghost use Rattle.std.specs.List.{All};
 ghost use Rattle.sample_reader.specs.Data.{data_of};
 ghost use Rattle.record_reader.specs.declared.TheConstants.{MOST_ROWS};
-ghost use Rattle.exact_run.specs.PooledSample.{labels_of, pooled, subjects_of, values_of};
+ghost use Rattle.exact_run.specs.PooledSample.{labels_of, pooled, paired_subjects, values_of};
 ghost use Rattle.exact_run.specs.RankSum.{second_sum};
 
 use crate::midranks::MOST_SCORE;
@@ -25,7 +25,7 @@ fn subjects_in_order(
     labels: &[u64],
 ) -> Result<Vec<Subject>, NoMemory>
     requires { length labels.now ≡ length values.now }
-    ensures { IfOk result (λ subjects. subjects.items ≡ subjects_of values.now labels.now) }
+    ensures { IfOk result (λ subjects. subjects.items ≡ paired_subjects values.now labels.now) }
 {
     let mut subjects = Vec::new(alloc);
     for i in 0..values.len() {

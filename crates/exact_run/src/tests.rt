@@ -225,6 +225,36 @@ fn counts_up_to_the_limit(rt: HostRuntime) -> Result<(), AllocError> {
     )
 }
 
+// A file of so many rows of data: the last is in the group y, all others in x, and all values are 1.
+fn one_apart(alloc: Global, rows: usize) -> Result<Vec<u8>, AllocError> {
+    let mut text = Vec::from_slice(alloc, b"group,value\n")?;
+    for _row in 1..rows {
+        text.extend_from_slice(b"x,1\n")?;
+    }
+    text.extend_from_slice(b"y,1\n")?;
+    Ok(text)
+}
+
+#[test]
+fn takes_ten_thousand_rows(rt: HostRuntime) -> Result<(), AllocError> {
+    expect(
+        &rt,
+        rt.alloc(),
+        "ranksum f.csv",
+        &one_apart(rt.alloc(), 10_000)?,
+        Status::Done,
+        "test ranksum\ngroup 9999 x\ngroup 1 y\nstatistic 10001/2\ntotal 10000\nless 10000/10000 1.000000\ngreater 10000/10000 1.000000\ntwo 10000/10000 1.000000\n",
+    )?;
+    expect(
+        &rt,
+        rt.alloc(),
+        "ranksum f.csv",
+        &one_apart(rt.alloc(), 10_001)?,
+        Status::BadData,
+        "refused: row 10002: too many rows\n",
+    )
+}
+
 // Runs over six values with a source, an `out` and an `err` whose calls of these numbers fail.
 fn fail_at(
     rt: &impl Abort,

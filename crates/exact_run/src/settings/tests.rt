@@ -1,6 +1,5 @@
 // Worked command lines, each with a bar between two words.
-use super::{SettingsFault, read};
-use record_reader::Picks;
+use super::read;
 use std::alloc::{AllocError, Global};
 use std::test::Fail;
 
@@ -15,50 +14,28 @@ fn words_of(alloc: Global, line: &str) -> Result<Vec<String>, AllocError> {
 #[test]
 fn reads_command_lines(rt: HostRuntime) -> Result<(), Fail> {
     for (line, file, columns, separator) in [
-        ("ranksum|f.csv", "f.csv", [].as_slice(), b','),
-        (
-            "ranksum|f.csv|--columns=2,3",
-            "f.csv",
-            [2, 3].as_slice(),
-            b',',
-        ),
+        ("ranksum|f.csv", "f.csv", None, b','),
+        ("ranksum|f.csv|--columns=2,3", "f.csv", Some([2, 3]), b','),
         (
             "ranksum|f.csv|--columns=+1, 02",
             "f.csv",
-            [1, 2].as_slice(),
+            Some([1, 2]),
             b',',
         ),
-        (
-            "ranksum|f.csv|--separator=semicolon",
-            "f.csv",
-            [].as_slice(),
-            b';',
-        ),
+        ("ranksum|f.csv|--separator=semicolon", "f.csv", None, b';'),
         (
             "ranksum|f.csv|--separator=tab|--columns=1000,1",
             "f.csv",
-            [1000, 1].as_slice(),
+            Some([1000, 1]),
             b'\t',
         ),
-        (
-            "ranksum|--columns=1,2",
-            "--columns=1,2",
-            [].as_slice(),
-            b',',
-        ),
+        ("ranksum|--columns=1,2", "--columns=1,2", None, b','),
     ] {
         let words = words_of(rt.alloc(), line)?;
-        match read(rt.alloc(), words.as_slice()) {
-            Ok(settings) => {
-                assert_eq!(rt; settings.file, file, "at {line}");
-                assert_eq!(rt; settings.separator, separator, "at {line}");
-                match settings.picks {
-                    Picks::Natural => assert!(rt; columns.is_empty(), "at {line}"),
-                    Picks::Listed(list) => assert!(rt; list.as_slice() == columns, "at {line}"),
-                }
-            }
-            Err(_) => assert!(rt; false, "at {line}"),
-        }
+        let settings = read(&words).ok_or(line)?;
+        assert_eq!(rt; settings.file, file, "at {line}");
+        assert_eq!(rt; settings.options.columns, columns, "at {line}");
+        assert_eq!(rt; settings.options.separator(), separator, "at {line}");
     }
     Ok(())
 }
@@ -79,10 +56,8 @@ fn refuses_other_words(rt: HostRuntime) -> Result<(), Fail> {
         "ranksum|f.csv|--tail=less",
     ] {
         let words = words_of(rt.alloc(), line)?;
-        let fault = read(rt.alloc(), words.as_slice()).err();
-        assert!(rt; fault == Some(SettingsFault::Form), "at {line}");
+        assert!(rt; read(&words).is_none(), "at {line}");
     }
-    let fault = read(rt.alloc(), &[]).err();
-    assert!(rt; fault == Some(SettingsFault::Form));
+    assert!(rt; read(&[]).is_none());
     Ok(())
 }

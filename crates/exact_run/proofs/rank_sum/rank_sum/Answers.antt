@@ -4,7 +4,7 @@ use Rattle.sample_reader.specs.Data.{data_of}
 use Rattle.sample_reader.specs.Groups.{group_sizes}
 use Rattle.exact_run.specs.PooledSample.{labels_of, pooled, scores_of}
 use Rattle.exact_run.specs.RankSum.{rank_sum_of}
-use Rattle.exact_run.specs.Tails.{Answers}
+use Rattle.exact_run.specs.Tails.{IsAnswerOf}
 use Rattle.exact_run.proofs.RankSumLemmas.{fits-is, length-pooled, length-scores_of, length-values_of, two-sizes, wide-is}
 use Rattle.exact_run.proofs.rank_sum.rank_sum.Goals as goal
 
@@ -73,4 +73,4 @@ returns-clause-answer c =
     let long : length (scores_of (pooled (data_of groups))) ≡ length groups.members =
     length-scores_of (pooled (data_of groups)) ∙ length-pooled (data_of groups) groups.one_group_each ∙ sym groups.one_group_each in
     let given = rw (scores, sizes, long, c.deref-2.ensures.value, c.in_ok-subjects.ensures) at c.in_ok-answer_for.ensures in
-    subst (λ (counts : List ℕ). Answers (rank_sum_of counts (scores_of (pooled (data_of groups))) (labels_of (pooled (data_of groups)))) c.in_ok-answer_for.field-0) (sym two.0) given
+    subst (λ (counts : List ℕ). IsAnswerOf (rank_sum_of counts (scores_of (pooled (data_of groups))) (labels_of (pooled (data_of groups)))) c.in_ok-answer_for.field-0) (sym two.0) given

@@ -2,13 +2,13 @@ use Rattle.std.proofs.Common.{rules, FitsSigned, ◌≡◌, ◌<◌, ◌∙◌, 
 use Rattle.std.specs.Int.{w128}
 use Rattle.std.specs.Result.{is_ok}
 use Rattle.std.proofs.lemmas.Int.{to_z-of_z}
-use Rattle.exact_run.specs.PooledSample.{subjects_of}
+use Rattle.exact_run.specs.PooledSample.{paired_subjects}
 use Rattle.exact_run.specs.declared.subjects.Subject.{Subject}
-use Rattle.exact_run.proofs.PooledLemmas.{subjects_of-more}
+use Rattle.exact_run.proofs.PooledLemmas.{paired_subjects-more}
 use Rattle.exact_run.proofs.subjects.subjects_in_order.Goals as goal
 
 pub loop-i-init : goal.loop-i-init
-unfolding subjects_of
+unfolding paired_subjects
 loop-i-init c = c.new-subjects.ensures.items
 
 pub loop-i-preserved : goal.loop-i-preserved
@@ -19,4 +19,4 @@ loop-i-preserved c =
     let fits : FitsSigned w128 (get_or c.args.values.now c.loop-i.i (pos 0)) = search rules in
     let items = rw (good, to_z-of_z w128 (get_or c.args.values.now c.loop-i.i (pos 0)) fits) at c.push.ensures.items in
     items ∙ ap (λ (subjects : List Subject). subjects ++ record { value = get_or c.args.values.now c.loop-i.i (pos 0); label = get_or c.args.labels.now c.loop-i.i 0 } ∷ []) c.loop-i.invariant
-    ∙ sym (subjects_of-more c.args.values.now c.args.labels.now c.loop-i.i here there)
+    ∙ sym (paired_subjects-more c.args.values.now c.args.labels.now c.loop-i.i here there)
