@@ -3,8 +3,8 @@
 ghost use Rattle.std.specs.Prelude.{◌≡◌, ◌≤◌, IfSome};
 ghost use Rattle.number_text.specs.CountTexts.{count_of};
 
-use crate::digits::{capped_value, is_numeral};
 use crate::blanks::trim;
+use crate::digits::{capped_value, is_numeral};
 
 /// Reads a count: one digit or more, and no sign, whose value is at most `most`. Leading zeros are allowed, and spaces and
 /// tabs around the digits are ignored. `None` comes exactly where the text is not one.

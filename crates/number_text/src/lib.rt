@@ -3,19 +3,19 @@
 //! No call takes memory, and the work of each grows in proportion to the length of the text.
 #![tactic(auto)]
 
+mod blanks;
 mod count;
 mod digits;
 mod integer;
 mod list;
 mod numeral;
 mod significand;
-mod blanks;
 mod value;
 
+pub use blanks::trim;
 pub use count::read_count;
 pub use list::read_list;
 use thiserror::Error;
-pub use blanks::trim;
 pub use value::read_value;
 
 /// Why a text has no value. Where several faults hold, the first of this order is given.

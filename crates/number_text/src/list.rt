@@ -3,8 +3,8 @@
 ghost use Rattle.std.specs.Prelude.{◌≡◌, ◌≤◌, ◌++◌, All, IfSome, drop, length, option_map, take};
 ghost use Rattle.number_text.specs.ListTexts.{IsWithin, item_of, list_of};
 
-use crate::integer::split_sign;
 use crate::blanks::trim;
+use crate::integer::split_sign;
 
 /// Reads a list: one item or more, separated by commas. An item is an optional `+` or `-` and at least one digit; spaces and
 /// tabs around it are ignored.

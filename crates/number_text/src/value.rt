@@ -4,8 +4,8 @@ ghost use Rattle.std.specs.Prelude.{◌≡◌, ◌^◌, ◌<ℤ◌, IfOk, neg_�
 ghost use Rattle.number_text.specs.NumberTexts.{value_of};
 
 use crate::NumberFault;
-use crate::numeral::NumeralText;
 use crate::blanks::trim;
+use crate::numeral::NumeralText;
 
 /// Reads a value as its number of units of 10^-18. Spaces and tabs at both ends are ignored.
 ///

@@ -10,7 +10,9 @@ ghost use Rattle.sample_reader.specs.Values.{IsBinary};
 
 use crate::fields::{binary_in, value_in};
 use crate::samples::Blocks;
-use record_reader::{FieldFault, Kind, Layout, LayoutFault, MOST_ROWS, Picks, Rows, Shape, read_in};
+use record_reader::{
+    FieldFault, Kind, Layout, LayoutFault, MOST_ROWS, Picks, Rows, Shape, read_in,
+};
 use std::alloc::Global;
 use std::marker::Model;
 use weights::{Ints, NoMemory};

@@ -9,7 +9,9 @@ ghost use Rattle.sample_reader.specs.Kept.{AreWhole};
 use crate::fields::{label_in, value_in};
 use crate::labels::Labels;
 use crate::samples::{Groups, sizes_of};
-use record_reader::{FieldFault, Kind, Layout, LayoutFault, MOST_ROWS, Picks, Rows, Shape, read_in};
+use record_reader::{
+    FieldFault, Kind, Layout, LayoutFault, MOST_ROWS, Picks, Rows, Shape, read_in,
+};
 use std::alloc::Global;
 use std::marker::Model;
 use weights::{Ints, NoMemory, Nums};

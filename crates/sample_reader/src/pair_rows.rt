@@ -7,7 +7,9 @@ ghost use Rattle.record_reader.specs.Layouts.{MayPick};
 
 use crate::fields::value_in;
 use crate::samples::Pairs;
-use record_reader::{FieldFault, Kind, Layout, LayoutFault, MOST_ROWS, Picks, Rows, Shape, read_in};
+use record_reader::{
+    FieldFault, Kind, Layout, LayoutFault, MOST_ROWS, Picks, Rows, Shape, read_in,
+};
 use std::alloc::Global;
 use std::marker::Model;
 use weights::{Ints, NoMemory};
