@@ -10,7 +10,6 @@ pub mod ReportLemmas
 pub mod SecondSums
 pub mod SettingsLemmas
 mod SettingsVectors
-pub mod SortedOnce
 pub mod TailWeights
 pub mod Telling
 mod Vectors

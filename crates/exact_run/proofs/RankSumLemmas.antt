@@ -20,13 +20,14 @@ use Rattle.sample_reader.specs.Groups.{GroupData, group_sizes}
 use Rattle.sample_reader.specs.Data.{data_of}
 use Rattle.record_reader.specs.declared.TheConstants.{MOST_ROWS}
 use Rattle.sample_reader.specs.declared.samples.Groups.{Groups}
-use Rattle.exact_run.specs.Midranks.{doubled_midrank, midranks_among, number_below, number_equal}
+use Rattle.midranks.specs.Midranks.{doubled_midrank, midranks_among, number_below, number_equal}
 use Rattle.exact_run.specs.Nodes.{AreFinal, all_weight, always, completions, one_where}
-use Rattle.exact_run.specs.PooledSample.{ascending_by, insert_by, pooled, rank_sum_test, scores_of, subject_cmp, paired_subjects, values_of}
+use Rattle.sample_reader.specs.PooledSample.{ascending_by, insert_by, pooled, subject_cmp, paired_subjects, values_of}
+use Rattle.exact_run.specs.PooledRanks.{rank_sum_test, scores_of}
 use Rattle.exact_run.specs.RankSum.{rank_sum_of, second_sum}
 use Rattle.exact_run.specs.Tails.{extreme_weight, gap, is_extreme_sum}
 use Rattle.exact_run.specs.declared.nodes.Node.{Node}
-use Rattle.exact_run.specs.declared.subjects.Subject.{Subject}
+use Rattle.sample_reader.specs.declared.subjects.Subject.{Subject}
 use Rattle.exact_run.specs.declared.tails.Compared.{Compared}
 use Rattle.exact_run.proofs.Completions.{completions-always}
 

@@ -9,9 +9,10 @@ use Rattle.weights.specs.Conditional.{numerator, observed_statistic, total}
 use Rattle.weights.specs.declared.tails.Tail.TheVariants.{Less, Greater, Two}
 use Rattle.sample_reader.specs.Groups.{GroupData}
 use Rattle.exact_run.specs.Decimals.{six_decimals}
-use Rattle.exact_run.specs.Midranks.{doubled_midrank, doubled_midranks, midranks_among, number_below, number_equal}
+use Rattle.midranks.specs.Midranks.{doubled_midrank, doubled_midranks, midranks_among, number_below, number_equal}
 use Rattle.exact_run.specs.Outcome.{Refuses, Reports, outcome_of_bytes}
-use Rattle.exact_run.specs.PooledSample.{rank_sum_test, paired_subjects}
+use Rattle.sample_reader.specs.PooledSample.{paired_subjects}
+use Rattle.exact_run.specs.PooledRanks.{rank_sum_test}
 use Rattle.exact_run.specs.RankSum.{rank_sum_of}
 use Rattle.exact_run.specs.Report.{answer_lines, group_line, group_lines, line, printed, report_text, sum_lines, tail_line}
 use Rattle.exact_run.specs.Settings.{none_given}

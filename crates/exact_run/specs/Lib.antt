@@ -1,8 +1,7 @@
 pub mod Decimals
-pub mod Midranks
 pub mod Nodes
 pub mod Outcome
-pub mod PooledSample
+pub mod PooledRanks
 pub mod Promises
 pub mod RankSum
 pub mod Refusals

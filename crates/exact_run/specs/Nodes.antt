@@ -4,7 +4,7 @@ use Rattle.std.specs.List.{All, sum_by}
 use Rattle.weights.specs.Labellings.{labellings}
 use Rattle.exact_run.specs.RankSum.{second_sum}
 use Rattle.exact_run.specs.declared.nodes.Node.{Node}
-use Rattle.exact_run.specs.declared.midranks.TheConstants.{MOST_SCORE}
+use Rattle.exact_run.specs.declared.TheConstants.{MOST_SCORE}
 
 -- the sum over the nodes of their weight times a number that rests on what they hold
 abbrev pub term : (ℕ → ℕ → ℕ) → Node → ℕ

@@ -8,7 +8,7 @@ use Rattle.record_reader.specs.Records.{records_of}
 use Rattle.record_reader.specs.declared.faults.LayoutFault.{LayoutFault}
 use Rattle.record_reader.specs.declared.faults.LayoutFault.TheVariants as layout
 use Rattle.sample_reader.specs.GroupLayout.{groups_in}
-use Rattle.exact_run.specs.PooledSample.{rank_sum_test}
+use Rattle.exact_run.specs.PooledRanks.{rank_sum_test}
 use Rattle.exact_run.specs.Report.{report_text}
 use Rattle.exact_run.specs.Settings.{meaning_of, picks_in, separator_in}
 use Rattle.exact_run.specs.declared.settings.Options.{Options}

@@ -3,7 +3,6 @@
 
 mod command;
 mod decimals;
-mod midranks;
 mod nodes;
 mod rank_sum;
 mod refusals;
@@ -16,6 +15,9 @@ mod tails;
 
 pub use command::run;
 pub use status::Status;
+
+// No doubled midrank among 10,000 values passes this.
+const MOST_SCORE: u64 = 20_000;
 
 #[cfg(test)]
 mod tests;

@@ -3,7 +3,7 @@ ghost use Rattle.std.specs.Prelude.{◌≡◌, ◌+◌, ◌-◌, ◌*◌, ◌<�
 ghost use Rattle.std.specs.List.{All};
 ghost use Rattle.weights.specs.declared.TheConstants.{MAX};
 ghost use Rattle.record_reader.specs.declared.TheConstants.{MOST_ROWS};
-ghost use Rattle.exact_run.specs.declared.midranks.TheConstants.{MOST_SCORE};
+ghost use Rattle.exact_run.specs.declared.TheConstants.{MOST_SCORE};
 ghost use Rattle.exact_run.specs.Nodes.{AllWithin, AreFinal, IsChoice, IsFirst, IsMerged, IsStep, all_weight, always, completions, completions_from, first_choice, same_place, second_choice, weighted};
 
 use std::alloc::Global;

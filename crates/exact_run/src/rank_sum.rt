@@ -4,21 +4,23 @@ ghost use Rattle.std.specs.List.{All, sum};
 ghost use Rattle.weights.specs.Conditional.{is_total_too_wide};
 ghost use Rattle.weights.specs.Labellings.{number_of_labellings};
 ghost use Rattle.weights.specs.declared.TheConstants.{MAX};
+ghost use Rattle.midranks.specs.Midranks.{doubled_midranks};
 ghost use Rattle.sample_reader.specs.Data.{data_of};
 ghost use Rattle.record_reader.specs.declared.TheConstants.{MOST_ROWS};
-ghost use Rattle.exact_run.specs.PooledSample.{labels_of, rank_sum_test};
+ghost use Rattle.sample_reader.specs.PooledSample.{labels_of};
+ghost use Rattle.exact_run.specs.PooledRanks.{rank_sum_test};
 ghost use Rattle.exact_run.specs.RankSum.{rank_sum_of};
 ghost use Rattle.exact_run.specs.Tails.{IsAnswerOf, RefusesTest};
-ghost use Rattle.exact_run.specs.declared.midranks.TheConstants.{MOST_SCORE};
+ghost use Rattle.exact_run.specs.declared.TheConstants.{MOST_SCORE};
 
-use crate::midranks::doubled;
 use crate::nodes::final_nodes;
 use crate::refusals::Refusal;
-use crate::subjects::{Subject, observed_sum, pooled_subjects, values};
+use crate::subjects::observed_sum;
 use crate::tails::Compared;
-use sample_reader::Groups;
+use midranks::doubled;
+use sample_reader::{Groups, Subject, pooled_subjects, values};
 use std::alloc::Global;
-use weights::{NoMemory, Tail, multinomial};
+use weights::{NoMemory, Nums, Tail, multinomial};
 
 /// The answer of a rank sum test: the observed statistic, which is twice the rank sum, the number of
 /// rearrangements, and how many of them each tail has.
@@ -29,6 +31,15 @@ pub struct Answer {
     pub less: u128,
     pub greater: u128,
     pub two: u128,
+}
+
+// The doubled midranks of values, in their order.
+pub(crate) fn doubled_scores(alloc: Global, values: &[i128]) -> Result<Nums, NoMemory>
+    requires { length values.now ≤ MOST_ROWS }
+    ensures scores { IfOk result (λ scores. scores ≡ doubled_midranks values.now) }
+    ensures most { IfOk result (λ scores. All (λ score. score ≤ MOST_SCORE) scores) }
+{
+    doubled(alloc, values)
 }
 
 // The sum of scores.
@@ -88,7 +99,7 @@ pub fn rank_sum(alloc: Global, groups: &Groups) -> Result<Answer, Refusal>
 {
     let subjects = pooled_subjects(alloc, groups)?;
     let ordered = values(alloc, &subjects)?;
-    let scores = doubled(alloc, ordered.as_slice())?;
+    let scores = doubled_scores(alloc, ordered.as_slice())?;
     let Some(total) = multinomial(groups.sizes.as_slice()) else {
         return Err(Refusal::TotalTooWide);
     };

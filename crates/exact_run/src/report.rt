@@ -2,7 +2,7 @@
 ghost use Rattle.std.specs.Prelude.{◌≡◌, ◌<◌, ◌≤◌, ◌++◌, decimal, length, pos, IfOk, OnOk, OnErr};
 ghost use Rattle.weights.specs.declared.TheConstants.{MAX};
 ghost use Rattle.sample_reader.specs.Data.{data_of};
-ghost use Rattle.exact_run.specs.PooledSample.{rank_sum_test};
+ghost use Rattle.exact_run.specs.PooledRanks.{rank_sum_test};
 ghost use Rattle.exact_run.specs.Report.{group_line, group_lines, printed, printed_byte, report_text, sum_lines, tail_line, tail_name};
 ghost use Rattle.exact_run.specs.Tails.{IsAnswerOf};
 

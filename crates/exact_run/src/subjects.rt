@@ -1,65 +1,12 @@
-// The pooled sample of two groups.
-ghost use Rattle.std.specs.Prelude.{◌≡◌, ◌*◌, ◌≤◌, length, IfOk};
+// The observed rank sum.
+ghost use Rattle.std.specs.Prelude.{◌≡◌, ◌*◌, ◌≤◌, length};
 ghost use Rattle.std.specs.List.{All};
-ghost use Rattle.sample_reader.specs.Data.{data_of};
 ghost use Rattle.record_reader.specs.declared.TheConstants.{MOST_ROWS};
-ghost use Rattle.exact_run.specs.PooledSample.{labels_of, pooled, paired_subjects, values_of};
+ghost use Rattle.sample_reader.specs.PooledSample.{labels_of};
 ghost use Rattle.exact_run.specs.RankSum.{second_sum};
+ghost use Rattle.exact_run.specs.declared.TheConstants.{MOST_SCORE};
 
-use crate::midranks::MOST_SCORE;
-use sample_reader::Groups;
-use std::alloc::Global;
-use weights::{Ints, NoMemory};
-
-/// A subject: its value, in units of 10^-18, and its label.
-#[derive(Clone, Copy, Debug, PartialEq, Eq, PartialOrd, Ord)]
-pub struct Subject {
-    pub value: i128,
-    pub label: u64,
-}
-
-// The subjects in the order of the file.
-fn subjects_in_order(
-    alloc: Global,
-    values: &[i128],
-    labels: &[u64],
-) -> Result<Vec<Subject>, NoMemory>
-    requires { length labels.now ≡ length values.now }
-    ensures { IfOk result (λ subjects. subjects.items ≡ paired_subjects values.now labels.now) }
-{
-    let mut subjects = Vec::new(alloc);
-    for i in 0..values.len() {
-        subjects.push(Subject {
-            value: values[i],
-            label: labels[i],
-        })?;
-    }
-    Ok(subjects)
-}
-
-/// The subjects of both groups in ascending order.
-pub fn pooled_subjects(alloc: Global, groups: &Groups) -> Result<Vec<Subject>, NoMemory>
-    ensures { IfOk result (λ subjects. subjects.items ≡ pooled (data_of groups.now)) }
-{
-    let mut subjects = subjects_in_order(
-        alloc,
-        groups.values.as_slice(),
-        groups.members.as_slice(),
-    )?;
-    subjects.sort_unstable();
-    Ok(subjects)
-}
-
-/// The values of subjects, in their order.
-pub fn values(alloc: Global, subjects: &[Subject]) -> Result<Ints, NoMemory>
-    ensures { IfOk result (λ values. values ≡ values_of subjects.now) }
-{
-    let mut values = Ints::empty(alloc);
-    for subject in subjects {
-        values.push(subject.value)?;
-    }
-    Ok(values)
-}
+use sample_reader::Subject;
 
 /// The sum of the scores of the second sample.
 pub fn observed_sum(subjects: &[Subject], scores: &[u64]) -> u64

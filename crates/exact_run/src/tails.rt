@@ -4,7 +4,7 @@ ghost use Rattle.weights.specs.declared.TheConstants.{MAX};
 ghost use Rattle.record_reader.specs.declared.TheConstants.{MOST_ROWS};
 ghost use Rattle.exact_run.specs.Nodes.{AllWithin, all_weight};
 
-use crate::midranks::MOST_SCORE;
+use crate::MOST_SCORE;
 use crate::nodes::Node;
 use weights::Tail;
 

@@ -5,14 +5,12 @@ ghost use Rattle.weights.specs.Labellings.{number_of_labellings};
 ghost use Rattle.weights.specs.declared.TheConstants.{MAX};
 ghost use Rattle.record_reader.specs.declared.TheConstants.{MOST_ROWS};
 ghost use Rattle.exact_run.specs.RankSum.{second_sum};
-ghost use Rattle.exact_run.specs.declared.midranks.TheConstants.{MOST_SCORE};
+ghost use Rattle.exact_run.specs.declared.TheConstants.{MOST_SCORE};
 
-use crate::midranks::doubled;
-use crate::rank_sum::sum_of;
-use crate::subjects::{pooled_subjects, values};
+use crate::rank_sum::{doubled_scores, sum_of};
 use crate::tails::Compared;
 use enumerate::{Plain, first_labelling, next_labelling};
-use sample_reader::Groups;
+use sample_reader::{Groups, pooled_subjects, values};
 use std::alloc::Global;
 use weights::{Bytes, NoMemory, Nums, Tail, multinomial};
 
@@ -41,7 +39,7 @@ impl Walked {
         if ordered.len() > MOST_SUBJECTS {
             return Ok(None);
         }
-        let scores = doubled(alloc, ordered.as_slice())?;
+        let scores = doubled_scores(alloc, ordered.as_slice())?;
         let sizes = groups.sizes.copy()?;
         let [first, second] = *sizes.as_slice() else {
             return Ok(None);

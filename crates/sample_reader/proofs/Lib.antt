@@ -2,8 +2,10 @@ mod Appearances
 mod BinaryBlocks
 mod LayoutVectors
 mod OrderLemmas
+mod PooledLemmas
 mod Rearranged
 mod Sizes
+pub mod SortedOnce
 mod SubjectLemmas
 mod WholeBlocks
 mod WholeGroups

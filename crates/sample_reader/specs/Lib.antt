@@ -6,4 +6,5 @@ pub mod Groups
 pub mod Kept
 pub mod Numbered
 pub mod Orders
+pub mod PooledSample
 pub mod Values

@@ -1,4 +1,4 @@
-//! Samples read from the records of files: groups, pairs and blocks.
+//! Samples read from the records of files: groups, pairs and blocks; and the pooled sample of groups.
 #![tactic(auto)]
 
 mod block_rows;
@@ -8,6 +8,7 @@ mod labels;
 mod order;
 mod pair_rows;
 mod samples;
+mod subjects;
 
 pub use block_rows::{binary_blocks, blocks};
 pub use group_rows::groups;
@@ -15,6 +16,7 @@ pub use labels::Labels;
 pub use order::{OrderFault, reorder};
 pub use pair_rows::pairs;
 pub use samples::{Blocks, Groups, Pairs};
+pub use subjects::{Subject, pooled_subjects, values};
 
 #[cfg(test)]
 mod tests;

@@ -1,7 +1,9 @@
 ghost use Rattle.std.specs.Prelude.{◌≢◌, ◌≤◌, IfOk};
 ghost use Rattle.record_reader.specs.Layouts.{MayPick};
 
-use crate::{Labels, OrderFault, binary_blocks, blocks, groups, pairs, reorder};
+use crate::{
+    Labels, OrderFault, binary_blocks, blocks, groups, pairs, pooled_subjects, reorder, values,
+};
 use record_reader::{DataFault, Kind, LayoutFault, Picks, records};
 use std::alloc::Global;
 use std::test::Fail;
@@ -126,6 +128,27 @@ fn reorders_groups(rt: HostRuntime) -> Result<(), Fail> {
     assert!(rt; turned.sizes.as_slice() == [3, 3].as_slice());
     assert!(rt; turned.members.as_slice() == [1, 1, 1, 0, 0, 0].as_slice());
     assert!(rt; turned.values.as_slice() == groups.values.as_slice());
+    Ok(())
+}
+
+// In ascending order, and those of one value in the order of their groups.
+#[test]
+fn pools_the_groups(rt: HostRuntime) -> Result<(), Fail> {
+    let text = b"group,value\nx,2\ny,2\nx,-1\ny,1e-18\nx,2\n";
+    let rows = records(rt.alloc(), text, b',')?;
+    let groups = groups(rt.alloc(), &rows, &Picks::Natural, 2)?;
+    let subjects = pooled_subjects(rt.alloc(), &groups)?;
+    let ordered = values(rt.alloc(), &subjects)?;
+    assert_eq!(rt;
+        ordered.as_slice(),
+        [-ONE, 1, 2 * ONE, 2 * ONE, 2 * ONE].as_slice()
+    );
+    for (place, label) in [0, 1, 0, 0, 1].iter().enumerate() {
+        assert_eq!(rt;
+            subjects.get(place).map(|subject| subject.label),
+            Some(*label)
+        );
+    }
     Ok(())
 }
 

@@ -12,7 +12,7 @@ use Rattle.sample_reader.specs.GroupLayout.{groups_in}
 use Rattle.sample_reader.specs.Groups.{GroupData}
 use Rattle.record_reader.specs.Layouts.{MayPick}
 use Rattle.exact_run.specs.Outcome.{Reports, outcome_of_bytes, outcome_of_data}
-use Rattle.exact_run.specs.PooledSample.{rank_sum_test}
+use Rattle.exact_run.specs.PooledRanks.{rank_sum_test}
 use Rattle.exact_run.specs.Promises.{RefusesBytes}
 use Rattle.exact_run.specs.Settings.{AreColumns, AreUsable, picks_in, picks_of, separator_in}
 use Rattle.exact_run.specs.declared.settings.Options.{Options}

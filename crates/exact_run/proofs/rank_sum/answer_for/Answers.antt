@@ -1,6 +1,6 @@
 use Rattle.std.proofs.Common.{◌-◌, ◌*◌, [], ◌∷◌, length, pos, refl, sym, ◌∙◌, ap, arith}
 use Rattle.weights.specs.declared.tails.Tail.TheVariants.{Less, Greater, Two}
-use Rattle.exact_run.specs.PooledSample.{labels_of}
+use Rattle.sample_reader.specs.PooledSample.{labels_of}
 use Rattle.exact_run.specs.declared.tails.Compared.{Compared}
 use Rattle.exact_run.proofs.Completions.{completions-always}
 use Rattle.exact_run.proofs.RankSumLemmas.{extreme-final, final-weight, observed-is, total-is}

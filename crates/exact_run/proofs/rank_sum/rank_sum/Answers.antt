@@ -2,14 +2,15 @@ use Rattle.std.proofs.Common.{◌≡◌, ℕ, List, length, sym, ◌∙◌, ap, 
 use Rattle.weights.specs.Labellings.{number_of_labellings}
 use Rattle.sample_reader.specs.Data.{data_of}
 use Rattle.sample_reader.specs.Groups.{group_sizes}
-use Rattle.exact_run.specs.PooledSample.{labels_of, pooled, scores_of}
+use Rattle.sample_reader.specs.PooledSample.{labels_of, pooled}
+use Rattle.exact_run.specs.PooledRanks.{scores_of}
 use Rattle.exact_run.specs.RankSum.{rank_sum_of}
 use Rattle.exact_run.specs.Tails.{IsAnswerOf}
 use Rattle.exact_run.proofs.RankSumLemmas.{fits-is, length-pooled, length-scores_of, length-values_of, two-sizes, wide-is}
 use Rattle.exact_run.proofs.rank_sum.rank_sum.Goals as goal
 
-pub doubled-requires : goal.doubled-requires
-doubled-requires c =
+pub doubled_scores-requires : goal.doubled_scores-requires
+doubled_scores-requires c =
     let groups = c.args.groups.now in
     let pool = length-pooled (data_of groups) groups.one_group_each in
     let few = groups.few_enough in

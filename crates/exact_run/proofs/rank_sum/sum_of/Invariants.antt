@@ -1,6 +1,6 @@
 use Rattle.std.proofs.Common.{◌≡◌, ◌≤◌, ◌*◌, take}
 use Rattle.std.specs.List.{sum}
-use Rattle.exact_run.specs.declared.midranks.TheConstants.{MOST_SCORE}
+use Rattle.exact_run.specs.declared.TheConstants.{MOST_SCORE}
 use Rattle.exact_run.proofs.rank_sum.sum_of.Given as goal
 
 abbrev pub invariant-loop-score : goal.invariant-loop-score

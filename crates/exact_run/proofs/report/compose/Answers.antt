@@ -4,7 +4,8 @@ use Rattle.std.proofs.lemmas.List.FromFn.{length-range_with_len}
 use Rattle.weights.specs.declared.tails.Tail.TheVariants.{Less, Greater, Two}
 use Rattle.sample_reader.specs.Data.{data_of}
 use Rattle.sample_reader.specs.Groups.{group_sizes}
-use Rattle.exact_run.specs.PooledSample.{labels_of, pooled, rank_sum_test, scores_of}
+use Rattle.sample_reader.specs.PooledSample.{labels_of, pooled}
+use Rattle.exact_run.specs.PooledRanks.{rank_sum_test, scores_of}
 use Rattle.exact_run.proofs.RankSumLemmas.{numerator-le, scale-is, total-some}
 use Rattle.exact_run.proofs.ReportLemmas.{report-parts}
 use Rattle.exact_run.proofs.report.compose.Goals as goal

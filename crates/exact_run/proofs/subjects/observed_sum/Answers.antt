@@ -1,6 +1,6 @@
 use Rattle.std.proofs.Common.{◌≡◌, ◌≤◌, ◌<◌, true, false, arith, eq-eqb, ne_eqb, get_or, length, nat_eq, pos}
-use Rattle.exact_run.specs.declared.midranks.TheConstants.{MOST_SCORE}
-use Rattle.exact_run.specs.declared.subjects.Subject.{Subject}
+use Rattle.exact_run.specs.declared.TheConstants.{MOST_SCORE}
+use Rattle.sample_reader.specs.declared.subjects.Subject.{Subject}
 use Rattle.exact_run.proofs.PooledLemmas.{second_sum-more}
 use Rattle.exact_run.proofs.subjects.observed_sum.Goals as goal
 use Rattle.exact_run.proofs.subjects.observed_sum.Goals.{then-subjects-i-eq1, else-subjects-i-eq1}

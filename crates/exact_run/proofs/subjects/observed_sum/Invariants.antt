@@ -1,7 +1,7 @@
 use Rattle.std.proofs.Common.{◌≡◌, ◌≤◌, ◌+◌, ◌*◌, drop}
-use Rattle.exact_run.specs.PooledSample.{labels_of}
+use Rattle.sample_reader.specs.PooledSample.{labels_of}
 use Rattle.exact_run.specs.RankSum.{second_sum}
-use Rattle.exact_run.specs.declared.midranks.TheConstants.{MOST_SCORE}
+use Rattle.exact_run.specs.declared.TheConstants.{MOST_SCORE}
 use Rattle.exact_run.proofs.subjects.observed_sum.Given as goal
 
 abbrev pub invariant-loop-i : goal.invariant-loop-i

@@ -1,5 +1,5 @@
 use Rattle.std.proofs.Common.{◌≡◌, ◌≤◌, ◌<◌, true, false, arith, eq-eqb, ne_eqb, get_or, length, nat_eq}
-use Rattle.exact_run.specs.declared.midranks.TheConstants.{MOST_SCORE}
+use Rattle.exact_run.specs.declared.TheConstants.{MOST_SCORE}
 use Rattle.exact_run.proofs.SecondSums.{second_sum-end, second_sum-step}
 use Rattle.exact_run.proofs.walked.Walked.second_sum.Goals as goal
 use Rattle.exact_run.proofs.walked.Walked.second_sum.Goals.{then-labels-place-eq1, else-labels-place-eq1}

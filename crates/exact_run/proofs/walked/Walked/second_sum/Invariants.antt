@@ -1,6 +1,6 @@
 use Rattle.std.proofs.Common.{◌≡◌, ◌≤◌, ◌+◌, ◌*◌, drop}
 use Rattle.exact_run.specs.RankSum.{second_sum}
-use Rattle.exact_run.specs.declared.midranks.TheConstants.{MOST_SCORE}
+use Rattle.exact_run.specs.declared.TheConstants.{MOST_SCORE}
 use Rattle.exact_run.proofs.walked.Walked.second_sum.Given as goal
 
 abbrev pub invariant-loop-place : goal.invariant-loop-place

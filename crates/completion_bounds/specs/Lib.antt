@@ -1,0 +1,4 @@
+pub mod Boxes
+pub mod Fillings
+pub mod Pairings
+pub mod PairingSteps

@@ -1,0 +1,13 @@
+//! Bounds of what the completions of a partial rearrangement can come to: sums of products, sums
+//! of squares, and weights of tables. No call takes memory.
+#![tactic(auto)]
+
+mod boxes;
+mod fillings;
+mod pairings;
+#[cfg(test)]
+mod tests;
+
+pub use boxes::box_bounds;
+pub use fillings::weight_bounds;
+pub use pairings::{Later, Part, greatest_linear, least_linear};

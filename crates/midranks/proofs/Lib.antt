@@ -1,0 +1,5 @@
+pub mod TieLemmas
+pub mod OneGrouping
+pub mod Places
+mod Runs
+mod Vectors
