@@ -11,7 +11,9 @@ digit_at n k = 48 + (n / 10 ^ k) % 10
 
 -- a number of millionths below ten million, with a point before its last six digits
 abbrev pub decimals_of : ℕ → List ℕ
-decimals_of n = digit_at n 6 ∷ 46 ∷ digit_at n 5 ∷ digit_at n 4 ∷ digit_at n 3 ∷ digit_at n 2 ∷ digit_at n 1 ∷ digit_at n 0 ∷ []
+decimals_of n =
+    digit_at n 6 ∷ 46 ∷ digit_at n 5 ∷ digit_at n 4 ∷ digit_at n 3 ∷ digit_at n 2 ∷ digit_at n 1 ∷
+    digit_at n 0 ∷ []
 
 abbrev pub six_decimals : ℕ → ℕ → List ℕ
 six_decimals numerator denominator = decimals_of (millionths numerator denominator)

@@ -21,9 +21,12 @@ pub data Outcome : Type 0 where
 
 -- a test is refused where its total is too wide
 abbrev pub outcome_of_test : GroupData → ConditionalTest → Outcome
-outcome_of_test groups test = if is_total_too_wide test then Refuses refusal.TotalTooWide else Reports (report_text groups test)
+outcome_of_test groups test =
+    if is_total_too_wide test then Refuses refusal.TotalTooWide
+    else Reports (report_text groups test)
 
--- the outcome of a file's data, or of its first fault (of the two faults that a definition gives; the third is want of memory)
+-- the outcome of a file's data, or of its first fault (of the two faults that a definition gives;
+-- the third is want of memory)
 abbrev pub outcome_of_data : Result GroupData LayoutFault → Outcome
 outcome_of_data (Ok groups) = outcome_of_test groups (rank_sum_test groups)
 outcome_of_data (Err layout.Columns) = Refuses refusal.Columns
@@ -36,10 +39,12 @@ outcome_of_bytes options bytes =
     if nat_lt LONGEST_FILE (length bytes) then Refuses refusal.TooLong
     else outcome_of_data (groups_in 2 (picks_in options) (records_of (separator_in options) bytes))
 
-abbrev pub outcome_of_command : Option (List ℕ × Options) → (List ℕ → Option (List ℕ)) → Option Outcome
+abbrev pub outcome_of_command : Option (List ℕ × Options) → (List ℕ → Option (List ℕ))
+    → Option Outcome
 outcome_of_command None held = Some (Refuses refusal.CommandLine)
 outcome_of_command (Some command) held = option_map (outcome_of_bytes command.1) (held command.0)
 
--- the outcome of words and of a source, where the words alone decide it or the source tells what it holds
+-- the outcome of words and of a source, where the words alone decide it or the source tells what it
+-- holds
 abbrev pub outcome_of : List (List ℕ) → (List ℕ → Option (List ℕ)) → Option Outcome
 outcome_of words held = outcome_of_command (meaning_of words) held

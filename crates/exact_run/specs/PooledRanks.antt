@@ -13,4 +13,6 @@ scores_of subjects = doubled_midranks (values_of subjects)
 
 -- the rank sum test of the groups: the second sample is the group with the label 1
 abbrev pub rank_sum_test : GroupData → ConditionalTest
-rank_sum_test groups = let subjects = pooled groups in rank_sum_of (group_sizes groups) (scores_of subjects) (labels_of subjects)
+rank_sum_test groups =
+    let subjects = pooled groups in
+    rank_sum_of (group_sizes groups) (scores_of subjects) (labels_of subjects)

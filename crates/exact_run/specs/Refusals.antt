@@ -10,7 +10,9 @@ use Rattle.exact_run.specs.declared.status.Status.TheVariants as status
 
 -- where a fault of the data is, and what is wrong there
 abbrev pub fault_text : DataFault → List ℕ
-fault_text fault = place_text fault.row (if has_field fault.kind then Some fault.field else None) ++ codes ": " ++ kind_text fault.kind
+fault_text fault =
+    place_text fault.row (if has_field fault.kind then Some fault.field else None)
+    ++ codes ": " ++ kind_text fault.kind
 
 abbrev pub refusal_text : Refusal → List ℕ
 refusal_text refusal.CommandLine = codes "command line"

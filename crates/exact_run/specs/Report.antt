@@ -33,21 +33,27 @@ tail_name Two = codes "two"
 
 -- a tail's numerator over the total, and the quotient
 unfoldable pub tail_line : Tail → ℕ → ℕ → List ℕ
-tail_line tail count all = line (tail_name tail ++ codes " " ++ decimal count ++ codes "/" ++ decimal all ++ codes " " ++ six_decimals count all)
+tail_line tail count all =
+    line (tail_name tail ++ codes " " ++ decimal count ++ codes "/" ++ decimal all ++ codes " "
+    ++ six_decimals count all)
 
 -- the observed statistic over its scale, and the total
 unfoldable pub sum_lines : ℤ → ℕ → ℕ → List ℕ
 sum_lines statistic scale all =
-    line (codes "statistic " ++ signed_decimal statistic ++ codes "/" ++ decimal scale) ++ line (codes "total " ++ decimal all)
+    line (codes "statistic " ++ signed_decimal statistic ++ codes "/" ++ decimal scale)
+    ++ line (codes "total " ++ decimal all)
 
 -- these, and each tail
 unfoldable pub answer_lines : ConditionalTest → List Tail → List ℕ
 answer_lines test tails =
-    sum_lines (observed_statistic test) test.scale (total test) ++ flat_map (λ tail. tail_line tail (numerator test tail) (total test)) tails
+    sum_lines (observed_statistic test) test.scale (total test)
+    ++ flat_map (λ tail. tail_line tail (numerator test tail) (total test)) tails
 
 abbrev pub all_tails : List Tail
 all_tails = Less ∷ Greater ∷ Two ∷ []
 
 -- the report of the rank sum test
 unfoldable pub report_text : GroupData → ConditionalTest → List ℕ
-report_text groups test = line (codes "test ranksum") ++ group_lines (group_sizes groups) groups.labels ++ answer_lines test all_tails
+report_text groups test =
+    line (codes "test ranksum") ++ group_lines (group_sizes groups) groups.labels
+    ++ answer_lines test all_tails

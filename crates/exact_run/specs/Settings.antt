@@ -1,4 +1,5 @@
--- What the words after the program's name mean. They are TEST, then FILE, then options, and each option is `--NAME=VALUE`.
+-- What the words after the program's name mean. They are TEST, then FILE, then options, and each
+-- option is `--NAME=VALUE`.
 use Rattle.std.specs.Prelude.{◌==◌, ◌≡◌, ◌≢◌, ◌≤◌, ℕ, All, AllPairs, Bool, List, [], ◌∷◌, ℤ, pos, Option, Some, None, IfSome, bytes_eq, codes, length, option_and_then, option_map, unwrap_or, if◌then◌else◌}
 use Rattle.std.specs.List.{after_first, before_first, list_any}
 use Rattle.number_text.specs.ListTexts.{list_of}
@@ -14,7 +15,8 @@ none_given = record { columns = None; separator = None }
 
 -- the two numbers, where they differ
 abbrev pub two_different : List ℤ → Option (List ℕ)
-two_different (pos first ∷ pos second ∷ []) = if first == second then None else Some (first ∷ second ∷ [])
+two_different (pos first ∷ pos second ∷ []) =
+    if first == second then None else Some (first ∷ second ∷ [])
 two_different _ = None
 
 -- the columns that LIST picks: exactly two numbers from 1 to 1000, which differ
@@ -37,12 +39,14 @@ first_value (Some before) value = None
 -- `--columns=LIST` after what is given before
 abbrev pub with_columns : Options → List ℕ → Option Options
 with_columns given list =
-    option_map (λ columns. record given { columns = Some columns }) (first_value given.columns (columns_of list))
+    option_map (λ columns. record given { columns = Some columns })
+    (first_value given.columns (columns_of list))
 
 -- `--separator=WORD` after what is given before
 abbrev pub with_separator : Options → List ℕ → Option Options
 with_separator given word =
-    option_map (λ separator. record given { separator = Some separator }) (first_value given.separator (separator_of word))
+    option_map (λ separator. record given { separator = Some separator })
+    (first_value given.separator (separator_of word))
 
 -- the option of this NAME, with this VALUE, after what is given before
 abbrev pub with_named : Options → List ℕ → List ℕ → Option Options
@@ -65,14 +69,18 @@ with_option given option =
 -- the options, one after another
 abbrev pub with_options : Options → List (List ℕ) → Option Options
 with_options given [] = Some given
-with_options given (option ∷ options) = option_and_then (λ more. with_options more options) (with_option given option)
+with_options given (option ∷ options) =
+    option_and_then (λ more. with_options more options) (with_option given option)
 
--- FILE and what the options say, where the words are accepted: TEST is `ranksum`, and FILE may be any word
+-- FILE and what the options say, where the words are accepted: TEST is `ranksum`, and FILE may be
+-- any word
 abbrev pub meaning_of : List (List ℕ) → Option (List ℕ × Options)
 meaning_of [] = None
 meaning_of (test ∷ []) = None
 meaning_of (test ∷ file ∷ options) =
-    if bytes_eq test (codes "ranksum") then option_map (λ given. (file, given)) (with_options none_given options) else None
+    if bytes_eq test (codes "ranksum")
+    then option_map (λ given. (file, given)) (with_options none_given options)
+    else None
 
 -- the byte between two fields: a comma where nothing else is said
 abbrev pub separator_in : Options → ℕ

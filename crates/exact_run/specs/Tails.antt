@@ -18,11 +18,14 @@ gap a b = (a - b) + (b - a)
 abbrev pub is_extreme_sum : Compared → Tail → ℕ → Bool
 is_extreme_sum compared Less sum = nat_le sum compared.observed
 is_extreme_sum compared Greater sum = nat_le compared.observed sum
-is_extreme_sum compared Two sum = nat_le (gap (compared.subjects * compared.observed) compared.centre) (gap (compared.subjects * sum) compared.centre)
+is_extreme_sum compared Two sum =
+    nat_le (gap (compared.subjects * compared.observed) compared.centre)
+    (gap (compared.subjects * sum) compared.centre)
 
 -- the weight of the nodes whose sums are extreme
 unfoldable pub extreme_weight : Compared → Tail → List Node → ℕ
-extreme_weight compared tail nodes = weighted (λ placed sum. one_where (is_extreme_sum compared tail) sum) nodes
+extreme_weight compared tail nodes =
+    weighted (λ placed sum. one_where (is_extreme_sum compared tail) sum) nodes
 
 -- the answer gives the observed statistic, the total and the numerators of a test
 pub record IsAnswerOf (test : ConditionalTest) (answer : Answer) : Type 0 where

@@ -23,7 +23,8 @@ use weights::Bytes;
 fn read_file<S: Source>(alloc: Global, source: &mut S, file: &str) -> Result<Bytes, Refusal>
     ensures bytes { IfOk result (λ read. IfSome (S.held source.old file.now) (λ bytes. bytes ≡ read)) }
     ensures short { IfOk result (λ read. length read ≤ LONGEST_FILE) }
-    ensures refused { IfErr result (λ cause. IsReadRefusal (S.held source.old file.now) (S.faults source.old) (S.faults source.new) cause) }
+    ensures refused { let held = S.held source.old file.now in
+        IfErr result (IsReadRefusal held (S.faults source.old) (S.faults source.new)) }
 {
     match read_all(alloc, source, file) {
         Ok(bytes) => Ok(bytes),
@@ -54,8 +55,10 @@ fn report_of(alloc: Global, options: &Options, bytes: &[u8]) -> Result<Bytes, Re
 
 // The report that the words and the source ask for, or the refusal.
 fn prepare<S: Source>(alloc: Global, words: &[String], source: &mut S) -> Result<Bytes, Refusal>
-    ensures report { IfOk result (λ text. IfSome (outcome_of (map string_bytes words.now) (S.held source.old)) (λ outcome. outcome ≡ Reports text)) }
-    ensures refused { IfErr result (λ cause. IsCause (outcome_of (map string_bytes words.now) (S.held source.old)) (S.faults source.old) (S.faults source.new) cause) }
+    ensures report { let known = outcome_of (map string_bytes words.now) (S.held source.old) in
+        IfOk result (λ text. IfSome known (λ outcome. outcome ≡ Reports text)) }
+    ensures refused { let known = outcome_of (map string_bytes words.now) (S.held source.old) in
+        IfErr result (IsCause known (S.faults source.old) (S.faults source.new)) }
     ensures words { meaning_of (map string_bytes words.now) ≡ None ↔ result ≡ Err Refusal.CommandLine }
     ensures untouched { meaning_of (map string_bytes words.now) ≡ None → source.new ≡ source.old }
 {
@@ -69,7 +72,8 @@ fn prepare<S: Source>(alloc: Global, words: &[String], source: &mut S) -> Result
 // Tells the refusal, and answers its status.
 fn refuse<E: Sink>(refusal: Refusal, err: &mut E) -> Status
     ensures status { result ≡ status_of refusal }
-    ensures line { WritesLine (E.taken err.old) (E.taken err.new) (E.faults err.old) (E.faults err.new) (line_of refusal) }
+    ensures line { WritesLine (E.taken err.old) (E.taken err.new) (E.faults err.old) (E.faults err.new)
+        (line_of refusal) }
 {
     let _told = write_all(err, refusal_line(refusal).as_slice());
     refusal.status()
@@ -87,29 +91,40 @@ pub fn run<S: Source, O: Sink, E: Sink>(
     err: &mut E,
 ) -> Status
     // The headline: after Done `out` holds what it held before, and then the whole report.
-    ensures done { result ≡ Status.Done → IsReport (outcome_of (map string_bytes words.now) (S.held source.old)) (Appends (O.taken out.old) (O.taken out.new)) }
+    ensures done { let known = outcome_of (map string_bytes words.now) (S.held source.old) in
+        result ≡ Status.Done → IsReport known (Appends (O.taken out.old) (O.taken out.new)) }
 
     // Every other status comes with its own cause.
-    ensures usage { ComesExactly result Status.Usage (outcome_of (map string_bytes words.now) (S.held source.old)) }
-    ensures bad_data { ComesExactly result Status.BadData (outcome_of (map string_bytes words.now) (S.held source.old)) }
-    ensures too_wide { ComesExactly result Status.TooWide (outcome_of (map string_bytes words.now) (S.held source.old)) }
+    ensures usage { let known = outcome_of (map string_bytes words.now) (S.held source.old) in
+        ComesExactly result Status.Usage known }
+    ensures bad_data { let known = outcome_of (map string_bytes words.now) (S.held source.old) in
+        ComesExactly result Status.BadData known }
+    ensures too_wide { let known = outcome_of (map string_bytes words.now) (S.held source.old) in
+        ComesExactly result Status.TooWide known }
     ensures read_fault { result ≡ Status.ReadFault → Rose (S.faults source.old) (S.faults source.new) }
     ensures write_fault { result ≡ Status.WriteFault → Rose (O.faults out.old) (O.faults out.new) }
 
     // A report is whole or a counted prefix, and before the first write `out` is as it was.
-    ensures prefix { result ≡ Status.WriteFault → IsReport (outcome_of (map string_bytes words.now) (S.held source.old)) (AppendsPrefix (O.taken out.old) (O.taken out.new)) }
+    ensures prefix { let known = outcome_of (map string_bytes words.now) (S.held source.old) in
+        result ≡ Status.WriteFault
+        → IsReport known (AppendsPrefix (O.taken out.old) (O.taken out.new)) }
     ensures unchanged { IsBeforeWriting result → out.new ≡ out.old }
 
     // Every refusal is told by its line, also where the source does not tell what it holds.
     ensures silent { result ≡ Status.Done → err.new ≡ err.old }
-    ensures line { result ≢ Status.Done → TellsRefusal result (meaning_of (map string_bytes words.now)) (outcome_of (map string_bytes words.now) (S.held source.old)) (λ cause. WritesLine (E.taken err.old) (E.taken err.new) (E.faults err.old) (E.faults err.new) (line_of cause)) }
+    ensures line { let meaning = meaning_of (map string_bytes words.now) in
+        let known = outcome_of (map string_bytes words.now) (S.held source.old) in
+        let wrote = WritesLine (E.taken err.old) (E.taken err.new) (E.faults err.old) (E.faults err.new) in
+        result ≢ Status.Done → TellsRefusal result meaning known (λ cause. wrote (line_of cause)) }
 
     // Words that are refused are refused always, and touch no source.
     ensures words { meaning_of (map string_bytes words.now) ≡ None → result ≡ Status.Usage }
     ensures untouched { meaning_of (map string_bytes words.now) ≡ None → source.new ≡ source.old }
 
     // Where nothing is refused and no count rose, the report is written, or memory ran out.
-    ensures complete { IfSome (outcome_of (map string_bytes words.now) (S.held source.old)) (IsCompleted result (S.faults source.old) (S.faults source.new) (O.faults out.old) (O.faults out.new)) }
+    ensures complete { let known = outcome_of (map string_bytes words.now) (S.held source.old) in
+        let completed = IsCompleted result (S.faults source.old) (S.faults source.new) in
+        IfSome known (completed (O.faults out.old) (O.faults out.new)) }
 {
     match prepare(alloc, words, source) {
         Ok(report) => match write_all(out, report.as_slice()) {

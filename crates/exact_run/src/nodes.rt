@@ -1,4 +1,5 @@
-// The sums that the second sample can reach, one subject after another, each with the number of ways to reach it.
+// The sums that the second sample can reach, one subject after another, each with the number of
+// ways to reach it.
 ghost use Rattle.std.specs.Prelude.{◌≡◌, ◌+◌, ◌-◌, ◌*◌, ◌<◌, ◌≤◌, ℕ, length, slice_index, IfOk};
 ghost use Rattle.std.specs.List.{All};
 ghost use Rattle.weights.specs.declared.TheConstants.{MAX};
@@ -95,7 +96,8 @@ fn into_first(
     requires rows { length scores.now ≤ MOST_ROWS }
     requires size { size ≤ MOST_ROWS }
     requires within { AllWithin size (length scores.now) nodes.now }
-    ensures { IfOk result (λ next. IsChoice (first_choice size (length scores.now - 1)) size (length scores.now - 1) nodes.now next.items) }
+    ensures { let left = length scores.now - 1 in
+        IfOk result (λ next. IsChoice (first_choice size left) size left nodes.now next.items) }
 {
     let left = (scores.len() as u64).saturating_sub(1);
     let mut next = Vec::new(alloc);
@@ -118,7 +120,9 @@ fn into_second(
     requires score { slice_index scores.now 0 ≤ MOST_SCORE }
     requires size { size ≤ MOST_ROWS }
     requires within { AllWithin size (length scores.now) nodes.now }
-    ensures { IfOk result (λ next. IsChoice (second_choice size (slice_index scores.now 0)) size (length scores.now - 1) nodes.now next.items) }
+    ensures { let left = length scores.now - 1 in
+        let choice = second_choice size (slice_index scores.now 0) in
+        IfOk result (λ next. IsChoice choice size left nodes.now next.items) }
 {
     let score = scores[0];
     let mut next = Vec::new(alloc);

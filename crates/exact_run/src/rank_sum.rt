@@ -70,7 +70,8 @@ fn answer_for(
     requires size { size ≤ length scores.now }
     requires total { total ≡ number_of_labellings ((length scores.now - size) ∷ size ∷ []) }
     requires fits { total ≤ MAX }
-    ensures { IfOk result (IsAnswerOf (rank_sum_of ((length scores.now - size) ∷ size ∷ []) scores.now (labels_of subjects.now))) }
+    ensures { let sizes = (length scores.now - size) ∷ size ∷ [] in
+        IfOk result (IsAnswerOf (rank_sum_of sizes scores.now (labels_of subjects.now))) }
 {
     let nodes = final_nodes(alloc, scores, size)?;
     let compared = Compared {

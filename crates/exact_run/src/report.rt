@@ -109,7 +109,8 @@ fn push_sums(text: &mut Bytes, statistic: u64, scale: u64, total: u128) -> Resul
 pub fn compose(alloc: Global, groups: &Groups, answer: &Answer) -> Result<Bytes, NoMemory>
     requires answer { IsAnswerOf (rank_sum_test (data_of groups.now)) answer.now }
     requires fits { answer.now.total ≤ MAX }
-    ensures { IfOk result (λ text. text ≡ report_text (data_of groups.now) (rank_sum_test (data_of groups.now))) }
+    ensures { IfOk result (λ text. text
+        ≡ report_text (data_of groups.now) (rank_sum_test (data_of groups.now))) }
 {
     let mut text = Bytes::empty(alloc);
     text.append(b"test ranksum\n")?;

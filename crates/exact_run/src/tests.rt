@@ -225,7 +225,8 @@ fn counts_up_to_the_limit(rt: HostRuntime) -> Result<(), AllocError> {
     )
 }
 
-// A file of so many rows of data: the last is in the group y, all others in x, and all values are 1.
+// A file of so many rows of data: the last is in the group y, all others in x, and all values are
+// 1.
 fn one_apart(alloc: Global, rows: usize) -> Result<Vec<u8>, AllocError> {
     let mut text = Vec::from_slice(alloc, b"group,value\n")?;
     for _row in 1..rows {

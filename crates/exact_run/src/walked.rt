@@ -1,4 +1,5 @@
-// The walk through every labelling of two samples, one after another. The merged list is compared with it.
+// The walk through every labelling of two samples, one after another. The merged list is compared
+// with it.
 ghost use Rattle.std.specs.Prelude.{◌≡◌, ◌*◌, ◌≤◌, length, slice_index};
 ghost use Rattle.std.specs.List.{All};
 ghost use Rattle.weights.specs.Labellings.{number_of_labellings};

@@ -4,7 +4,8 @@ use Rattle.std.specs.List.{list_any}
 use Rattle.outside.specs.Faults.{last_count}
 use Rattle.outside.specs.declared.source.Failed.{Failed}
 
--- what it took, how many bytes it has room for, the most that a write takes, and the numbers of the writes that fail;
+-- what it took, how many bytes it has room for, the most that a write takes, and the numbers of the
+-- writes that fail;
 -- the number of the last write, and the count of faults
 pub record Taken : Type 0 where
   pub bytes : List ℕ
@@ -33,14 +34,17 @@ abbrev pub after_fault : Taken → Taken
 after_fault t = record t { calls = next_write t; faults = min (t.faults + 1) last_count }
 
 abbrev pub after_write : Taken → List ℕ → Taken
-after_write t piece = record t { calls = next_write t; bytes = t.bytes ++ take (count_taken t (length piece)) piece }
+after_write t piece =
+    record t { calls = next_write t; bytes = t.bytes ++ take (count_taken t (length piece)) piece }
 
 -- a write takes the first bytes of the piece
 abbrev pub Takes : Taken → Taken → Result ℕ Failed → List ℕ → Type 0
-Takes old new result piece = (result ≡ Ok (count_taken old (length piece))) × (new ≡ after_write old piece)
+Takes old new result piece =
+    (result ≡ Ok (count_taken old (length piece))) × (new ≡ after_write old piece)
 
 -- one write of a piece
 pub record WritesOnce (old new : Taken) (result : Result ℕ Failed) (piece : List ℕ) : Type 0 where
   pub empty : length piece ≡ 0 → (result ≡ Ok 0) × (new ≡ old)
-  pub fails : 0 < length piece → is_failing old (length piece) ≡ true → IsErr result × (new ≡ after_fault old)
+  pub fails : 0 < length piece → is_failing old (length piece) ≡ true
+      → IsErr result × (new ≡ after_fault old)
   pub takes : 0 < length piece → is_failing old (length piece) ≡ false → Takes old new result piece

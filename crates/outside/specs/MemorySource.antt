@@ -4,8 +4,8 @@ use Rattle.std.specs.List.{list_any}
 use Rattle.outside.specs.Faults.{last_count}
 use Rattle.outside.specs.declared.source.Failed.{Failed}
 
--- its bytes, the most that a read gives, and the numbers of the calls that fail; whether it was started, how many
--- bytes were given since, the number of the last call, and the count of faults
+-- its bytes, the most that a read gives, and the numbers of the calls that fail; whether it was
+-- started, how many bytes were given since, the number of the last call, and the count of faults
 pub record Held : Type 0 where
   pub bytes : List ℕ
   pub step : ℕ
@@ -49,10 +49,12 @@ IsIdle old new result = (result ≡ Ok 0) × (new ≡ old)
 -- a read into so many places gives the next bytes
 abbrev pub Gives : Held → Held → Result ℕ Failed → ℕ → Type 0
 Gives old new result places =
-    (result ≡ Ok (count_given old places)) × (new ≡ record (counted old) { given = old.given + count_given old places })
+    (result ≡ Ok (count_given old places))
+    × (new ≡ record (counted old) { given = old.given + count_given old places })
 
 -- one read, which finds some bytes in the buffer and leaves others
-pub record ReadsOnce (old new : Held) (result : Result ℕ Failed) (before after : List ℕ) : Type 0 where
+pub record ReadsOnce (old new : Held) (result : Result ℕ Failed)
+    (before after : List ℕ) : Type 0 where
   pub idle : old.is_started ≡ false → IsIdle old new result
   pub fails : old.is_started ≡ true → is_failing old ≡ true → IsErr result × (new ≡ counted old)
   pub gives : old.is_started ≡ true → is_failing old ≡ false → Gives old new result (length before)

@@ -1,4 +1,5 @@
-// The files and the writers of the host. Each call passes one call on and counts its errors; nothing is told of content.
+// The files and the writers of the host. Each call passes one call on and counts its errors;
+// nothing is told of content.
 ghost use Rattle.std.specs.Prelude.{◌≡◌};
 
 use crate::fault_count::FaultCount;

@@ -29,7 +29,14 @@ impl Model for MemorySink {
 
     ghost Value = { Taken };
 
-    ghost view = { λ a. record { bytes = a.bytes.items; room = a.room; step = a.step; fail = a.fail.items; calls = a.calls; faults = a.faults.count } };
+    ghost view = { λ a. record {
+      bytes = a.bytes.items;
+      room = a.room;
+      step = a.step;
+      fail = a.fail.items;
+      calls = a.calls;
+      faults = a.faults.count;
+    } };
 
     ghost invariant = { λ a. (1 ≤ a.step) × (a.room ≤ vec_capacity a.bytes) × (vec_len a.bytes ≤ a.room) };
 }
@@ -40,7 +47,14 @@ impl MemorySink {
     /// on; one fails where its number is in `fail`, or where its bytes would pass the room.
     pub fn new(taken: Vec<u8>, step: usize, fail: Vec<u64>) -> MemorySink
         requires { 1 ≤ step }
-        ensures { result ≡ record { bytes = taken.items; room = vec_capacity taken; step = step; fail = fail.items; calls = 0; faults = 0 } }
+        ensures { result ≡ record {
+          bytes = taken.items;
+          room = vec_capacity taken;
+          step = step;
+          fail = fail.items;
+          calls = 0;
+          faults = 0;
+        } }
     {
         let room = taken.capacity();
         MemorySink {

@@ -26,7 +26,15 @@ impl Model for MemorySource {
 
     ghost Value = { Held };
 
-    ghost view = { λ a. record { bytes = a.bytes.items; step = a.step; fail = a.fail.items; is_started = a.is_started; given = a.given; calls = a.calls; faults = a.faults.count } };
+    ghost view = { λ a. record {
+      bytes = a.bytes.items;
+      step = a.step;
+      fail = a.fail.items;
+      is_started = a.is_started;
+      given = a.given;
+      calls = a.calls;
+      faults = a.faults.count;
+    } };
 
     ghost invariant = { λ a. (1 ≤ a.step) × (a.given ≤ length a.bytes.items) };
 }
@@ -36,7 +44,15 @@ impl MemorySource {
     /// and each later start or read is the next call; the calls with the numbers in `fail` fail.
     pub fn new(bytes: Vec<u8>, step: usize, fail: Vec<u64>) -> MemorySource
         requires { 1 ≤ step }
-        ensures { result ≡ record { bytes = bytes.items; step = step; fail = fail.items; is_started = false; given = 0; calls = 0; faults = 0 } }
+        ensures { result ≡ record {
+          bytes = bytes.items;
+          step = step;
+          fail = fail.items;
+          is_started = false;
+          given = 0;
+          calls = 0;
+          faults = 0;
+        } }
     {
         MemorySource {
             bytes,

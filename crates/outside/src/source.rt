@@ -76,7 +76,8 @@ impl From<NoMemory> for ReadFail {
 pub fn read_all<S: Source>(alloc: Global, source: &mut S, name: &str) -> Result<Bytes, ReadFail>
     ensures bytes { IfOk result (λ read. IfSome (S.held source.old name.now) (λ bytes. read ≡ bytes)) }
     ensures short { IfOk result (λ read. length read ≤ LONGEST_FILE) }
-    ensures long { IsErrOf result ReadFail.TooLong → IfSome (S.held source.old name.now) (λ bytes. LONGEST_FILE < length bytes) }
+    ensures long { IsErrOf result ReadFail.TooLong
+        → IfSome (S.held source.old name.now) (λ bytes. LONGEST_FILE < length bytes) }
     ensures fault { IsErrOf result ReadFail.ReadFault → Rose (S.faults source.old) (S.faults source.new) }
     ensures counts { S.faults source.old ≤ S.faults source.new }
     ensures keeps { (n : List ℕ) → S.held source.new n ≡ S.held source.old n }

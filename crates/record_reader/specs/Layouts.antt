@@ -1,6 +1,7 @@
 -- The data of a file in a layout, or the first fault of the file.
 --
--- A file is a list of rows, a row is a list of fields, and a field is a list of bytes. The first row is the header, of which
+-- A file is a list of rows, a row is a list of fields, and a field is a list of bytes. The first
+-- row is the header, of which
 -- only the width counts. Rows and fields have numbers from 1, so the first row of data is row 2.
 use Rattle.std.specs.Prelude.{ℕ, ◌+◌, ◌-◌, ◌≤◌, ◌≢◌, ⊤, Bool, nat_lt, ◌==◌, List, [], ◌∷◌, length, All, AllPairs, slice_index_or, Result, Ok, Err, if◌then◌else◌}
 use Rattle.std.specs.List.{list_any, range_with_len}
@@ -13,12 +14,14 @@ use Rattle.record_reader.specs.declared.picks.Picks.{Picks}
 use Rattle.record_reader.specs.declared.picks.Picks.TheVariants.{Natural, Listed}
 use Rattle.record_reader.specs.declared.layouts.Shape.{Shape}
 
--- A layout: its shape, and how the fields of its rows are read, one after the other. What is known so far is a value of the type S.
+-- A layout: its shape, and how the fields of its rows are read, one after the other. What is known
+-- so far is a value of the type S.
 pub record Layout (S : Type 0) : Type 0 where
   pub shape : Shape
   -- what is known before the first field
   pub start : S
-  -- what is known after a field, by its place among the picked fields of its row, from 0, and its text; or what is wrong with it
+  -- what is known after a field, by its place among the picked fields of its row, from 0, and its
+  -- text; or what is wrong with it
   pub with_field : ℕ → List ℕ → S → Result S Kind
   -- whether what is known after the last row is enough
   pub is_enough : S → Bool
@@ -80,33 +83,40 @@ picked shape Natural width =
     if nat_lt width shape.narrowest then Err (row_fault 1 FieldCount)
     else if nat_lt shape.widest width then Err (row_fault 1 shape.too_wide)
     else Ok (range_with_len 1 width)
-picked shape (Listed fields) width = if list_any (λ field. nat_lt width field) fields then Err Columns else Ok fields
+picked shape (Listed fields) width =
+    if list_any (λ field. nat_lt width field) fields then Err Columns else Ok fields
 
 -- ---- the rows
 
 -- what is known after these picked fields of a row, of which the first has this place
-abbrev pub with_fields : {S : Type 0} → Layout S → ℕ → List (List ℕ) → ℕ → List ℕ → S → Result S LayoutFault
+abbrev pub with_fields : {S : Type 0} → Layout S → ℕ → List (List ℕ) → ℕ → List ℕ → S
+    → Result S LayoutFault
 with_fields layout number row place [] so_far = Ok so_far
 with_fields layout number row place (field ∷ fields) so_far =
     and_then (with_fields layout number row (place + 1) fields)
     (with_fault (field_fault number field) (layout.with_field place (text_of row field) so_far))
 
--- what is known after a row: it is not one too many, it is as wide as the header, and then its picked fields are read
-abbrev pub with_row : {S : Type 0} → Layout S → ℕ → List ℕ → ℕ → List (List ℕ) → S → Result S LayoutFault
+-- what is known after a row: it is not one too many, it is as wide as the header, and then its
+-- picked fields are read
+abbrev pub with_row : {S : Type 0} → Layout S → ℕ → List ℕ → ℕ → List (List ℕ) → S
+    → Result S LayoutFault
 with_row layout width fields number row so_far =
     if nat_lt (layout.shape.most_rows + 1) number then Err (row_fault number TooManyRows)
     else if length row == width then with_fields layout number row 0 fields so_far
     else Err (row_fault number FieldCount)
 
 -- what is known after these rows, of which the first has this number
-abbrev pub with_rows : {S : Type 0} → Layout S → ℕ → List ℕ → ℕ → List (List (List ℕ)) → S → Result S LayoutFault
+abbrev pub with_rows : {S : Type 0} → Layout S → ℕ → List ℕ → ℕ → List (List (List ℕ)) → S
+    → Result S LayoutFault
 with_rows layout width fields number [] so_far = Ok so_far
 with_rows layout width fields number (row ∷ rows) so_far =
-    and_then (with_rows layout width fields (number + 1) rows) (with_row layout width fields number row so_far)
+    and_then (with_rows layout width fields (number + 1) rows)
+    (with_row layout width fields number row so_far)
 
 -- what is known after all rows, where it is enough; the last row has this number
 abbrev pub if_enough : {S : Type 0} → Layout S → ℕ → S → Result S LayoutFault
-if_enough layout last so_far = if layout.is_enough so_far then Ok so_far else Err (row_fault last EndsEarly)
+if_enough layout last so_far =
+    if layout.is_enough so_far then Ok so_far else Err (row_fault last EndsEarly)
 
 -- ---- the file
 
@@ -116,4 +126,5 @@ read_in layout picks [] = Err (row_fault 1 NoHeader)
 read_in layout picks (header ∷ rows) =
     let width = length header in
     let of_rows = λ (fields : List ℕ). with_rows layout width fields 2 rows layout.start in
-    and_then (if_enough layout (length rows + 1)) (and_then of_rows (picked layout.shape picks width))
+    and_then (if_enough layout (length rows + 1))
+    (and_then of_rows (picked layout.shape picks width))

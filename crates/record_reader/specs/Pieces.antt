@@ -1,7 +1,8 @@
 -- A list that is cut into pieces.
 use Rattle.std.specs.Prelude.{◌≡◌, ◌≤◌, ◌-◌, ℕ, List, [], ◌∷◌, take, drop}
 
--- the pieces of a list: the first goes from the start to the first end, and each other one from there to its own
+-- the pieces of a list: the first goes from the start to the first end, and each other one from
+-- there to its own
 unfoldable pub pieces : {X : Type 0} → ℕ → List ℕ → List X → List (List X)
 pieces start [] items = []
 pieces start (end ∷ ends) items = take (end - start) (drop start items) ∷ pieces end ends items

@@ -26,7 +26,8 @@ config_of separator = record default_config { delimiter = separator }
 abbrev pub records_of : ℕ → List ℕ → List (List (List ℕ))
 records_of separator bytes = records (config_of separator) (strip_bom bytes)
 
--- an error that may end the reading of bytes as records of any length: want of memory, or an error of the source
+-- an error that may end the reading of bytes as records of any length: want of memory, or an error
+-- of the source
 abbrev pub MayEnd : ErrorKind → Type 0
 MayEnd (kind.Io error) = ⊤
 MayEnd kind.OutOfMemory = ⊤

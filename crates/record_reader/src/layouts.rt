@@ -148,7 +148,8 @@ fn with_fields<S: Drop, L: Layout<S>>(
     requires from_one { 1 ≤ number }
     requires in_file { number ≤ length rows.now }
     requires in_row { AreFields (length (row_of rows.now number)) fields.now }
-    ensures { IsAnswer (with_fields (L.meaning layout.now) number (row_of rows.now number) 0 fields.now so_far) result }
+    ensures { let row = row_of rows.now number in
+        IsAnswer (with_fields (L.meaning layout.now) number row 0 fields.now so_far) result }
 {
     for (place, field) in fields.iter().enumerate() {
         let text = rows.field(number - 1, *field as usize - 1);
@@ -171,7 +172,9 @@ fn with_row<S: Drop, L: Layout<S>>(
     requires from_one { 1 ≤ number }
     requires in_file { number ≤ length rows.now }
     requires in_header { AreFields (length (row_of rows.now 1)) fields.now }
-    ensures { IsAnswer (with_row (L.meaning layout.now) (length (row_of rows.now 1)) fields.now number (row_of rows.now number) so_far) result }
+    ensures { let row = row_of rows.now number in
+        let width = length (row_of rows.now 1) in
+        IsAnswer (with_row (L.meaning layout.now) width fields.now number row so_far) result }
 {
     if number as u64 - 1 > layout.shape().most_rows {
         return Err(row_fault(number, Kind::TooManyRows));
@@ -191,7 +194,8 @@ pub fn read_in<S: Drop, L: Layout<S>>(
     rows: &Rows,
     picks: &Picks,
 ) -> Result<S, LayoutFault>
-    requires { let shape = (L.meaning layout.now).shape in MayPick shape.narrowest shape.widest picks.now }
+    requires { let shape = (L.meaning layout.now).shape in
+        MayPick shape.narrowest shape.widest picks.now }
     ensures { IsAnswer (read_in (L.meaning layout.now) picks.now rows.now) result }
 {
     if rows.len() == 0 {

@@ -12,7 +12,8 @@ use Rattle.sample_reader.specs.Values.{binary_in, value_in}
 
 -- ---- pairs
 
--- The first value of each pair, and the second one; there are no second ones where a row has a single value.
+-- The first value of each pair, and the second one; there are no second ones where a row has a
+-- single value.
 pub record PairValues : Type 0 where
   pub first : List ℤ
   pub second : List ℤ
@@ -68,7 +69,8 @@ block_layout cell_in = record {
   is_enough = λ cells. nat_lt 0 (length cells);
 }
 
--- How many blocks and treatments there are, and the cells by blocks, each with one cell for each treatment.
+-- How many blocks and treatments there are, and the cells by blocks, each with one cell for each
+-- treatment.
 pub record BlockData : Type 0 where
   pub blocks : ℕ
   pub treatments : ℕ
@@ -82,11 +84,14 @@ width_in Natural (header ∷ rows) = length header
 
 -- the cells of the rows below a header
 abbrev pub blocked : Picks → List (List (List ℕ)) → List ℤ → BlockData
-blocked picks rows cells = record { blocks = length rows - 1; treatments = width_in picks rows; cells = cells }
+blocked picks rows cells =
+    record { blocks = length rows - 1; treatments = width_in picks rows; cells = cells }
 
 -- the blocks of a file whose cells are read like this, or its first fault
-abbrev pub cells_in : (List ℕ → Result ℤ Kind) → Picks → List (List (List ℕ)) → Result BlockData LayoutFault
-cells_in cell_in picks rows = with_value (blocked picks rows) (read_in (block_layout cell_in) picks rows)
+abbrev pub cells_in : (List ℕ → Result ℤ Kind) → Picks → List (List (List ℕ))
+    → Result BlockData LayoutFault
+cells_in cell_in picks rows =
+    with_value (blocked picks rows) (read_in (block_layout cell_in) picks rows)
 
 abbrev pub blocks_in : Picks → List (List (List ℕ)) → Result BlockData LayoutFault
 blocks_in = cells_in value_in

@@ -8,4 +8,5 @@ abbrev pub data_of : Groups → GroupData
 data_of groups = record { labels = groups.labels; members = groups.members; values = groups.values }
 
 abbrev pub block_data_of : Blocks → BlockData
-block_data_of blocks = record { blocks = blocks.blocks; treatments = blocks.treatments; cells = blocks.cells }
+block_data_of blocks =
+    record { blocks = blocks.blocks; treatments = blocks.treatments; cells = blocks.cells }

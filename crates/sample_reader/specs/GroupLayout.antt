@@ -26,16 +26,19 @@ different labels = first_appearances bytes_eq labels
 abbrev pub with_label : ℕ → Subjects → List ℕ → Result Subjects Kind
 with_label most subjects label =
     let labels = subjects.labels ++ label ∷ [] in
-    if nat_lt most (length (different labels)) then Err GroupTooMany else Ok (record { labels = labels; values = subjects.values })
+    if nat_lt most (length (different labels)) then Err GroupTooMany
+    else Ok (record { labels = labels; values = subjects.values })
 
 -- the subjects with one value more
 abbrev pub with_number : Subjects → ℤ → Subjects
-with_number subjects value = record { labels = subjects.labels; values = subjects.values ++ value ∷ [] }
+with_number subjects value =
+    record { labels = subjects.labels; values = subjects.values ++ value ∷ [] }
 
 -- the subjects after a field: the first one of a row is a label, and the second a value
 abbrev pub with_subject_field : ℕ → ℕ → List ℕ → Subjects → Result Subjects Kind
 with_subject_field most place text subjects =
-    if place == 0 then and_then (with_label most subjects) (label_in text) else with_value (with_number subjects) (value_in text)
+    if place == 0 then and_then (with_label most subjects) (label_in text)
+    else with_value (with_number subjects) (value_in text)
 
 abbrev pub group_shape : Shape
 group_shape = record { narrowest = 2; widest = 2; too_wide = FieldCount; most_rows = MOST_ROWS }

@@ -3,7 +3,8 @@ use Rattle.std.specs.Prelude.{ℕ, ℤ, List, length, [], ◌∷◌, ◌++◌, �
 use Rattle.std.specs.List.{filter, position_or_len}
 use Rattle.weights.specs.Labellings.{counts_of}
 
--- The labels in the order in which they first appear, the number of each subject's label, from 0, and each subject's value in units of 10^-18.
+-- The labels in the order in which they first appear, the number of each subject's label, from 0,
+-- and each subject's value in units of 10^-18.
 pub record GroupData : Type 0 where
   pub labels : List (List ℕ)
   pub members : List ℕ
@@ -24,4 +25,5 @@ number_among same items x = position_or_len (λ y. same y x) items
 
 -- the items, with this one at their end where it is not among them
 abbrev pub with_item : {X : Type 0} → (X → X → Bool) → List X → X → List X
-with_item same items x = if number_among same items x == length items then items ++ x ∷ [] else items
+with_item same items x =
+    if number_among same items x == length items then items ++ x ∷ [] else items

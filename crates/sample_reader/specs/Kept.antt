@@ -29,7 +29,8 @@ pub record AreWholeBlocks (blocks treatments : ℕ) (cells : List ℤ) : Type 0 
 
 -- the subjects that have the labels of these numbers, and these values
 abbrev pub subjects_of : List (List ℕ) → List ℕ → List ℤ → Subjects
-subjects_of labels members values = record { labels = map (λ member. slice_index_or labels member []) members; values = values }
+subjects_of labels members values =
+    record { labels = map (λ member. slice_index_or labels member []) members; values = values }
 
 -- Labels, numbers of labels and values that subjects have so far.
 pub record AreKept (labels : List (List ℕ)) (members : List ℕ) (values : List ℤ) : Type 0 where

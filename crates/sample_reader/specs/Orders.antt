@@ -6,6 +6,7 @@ use Rattle.sample_reader.specs.Groups.{GroupData, number_among}
 abbrev pub reordered : List (List ℕ) → GroupData → GroupData
 reordered order groups = record {
   labels = order;
-  members = map (λ member. number_among bytes_eq order (slice_index_or groups.labels member [])) groups.members;
+  members = map (λ member. number_among bytes_eq order
+      (slice_index_or groups.labels member [])) groups.members;
   values = groups.values;
 }

@@ -138,7 +138,8 @@ fn width_in(picks: &Picks, rows: &Rows) -> usize
 // The blocks of a file whose cells are these.
 fn blocks_of(alloc: Global, cell: Cell, rows: &Rows, picks: &Picks) -> Result<Blocks, LayoutFault>
     requires { MayPick 2 8 picks.now }
-    ensures ok { IfOk result (λ blocks. cells_in (cell_in cell) picks.now rows.now ≡ Ok (block_data_of blocks)) }
+    ensures ok { IfOk result (λ blocks. cells_in (cell_in cell) picks.now rows.now
+        ≡ Ok (block_data_of blocks)) }
     ensures fault { IfErr result (IsFaultOf (cells_in (cell_in cell) picks.now rows.now)) }
 {
     let cells = read_in(alloc, &BlockLayout { cell }, rows, picks)?;
