@@ -1,4 +1,5 @@
--- Average ranks at ties, doubled so that they are whole (Hollander and Wolfe, Nonparametric Statistical Methods).
+-- Average ranks at ties, doubled so that they are whole (Hollander and Wolfe, Nonparametric
+-- Statistical Methods).
 use Rattle.std.specs.Prelude.{ℕ, ℤ, ◌+◌, ◌*◌, List, map, int_lt}
 use Rattle.std.specs.List.{count_by}
 use Rattle.std.specs.Ordering.{int_eq}

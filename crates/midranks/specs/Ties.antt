@@ -9,7 +9,8 @@ abbrev pub with_one_more : ℤ → List Tie → List Tie
 with_one_more v [] = record { value = v; count = 1 } ∷ []
 with_one_more v (t ∷ ts) =
     if int_lt v t.value then record { value = v; count = 1 } ∷ t ∷ ts
-    else (if int_eq v t.value then record { value = v; count = t.count + 1 } ∷ ts else t ∷ with_one_more v ts)
+    else (if int_eq v t.value then record { value = v; count = t.count + 1 } ∷ ts
+    else t ∷ with_one_more v ts)
 
 -- the tie groups of values: each value is counted in its turn
 unfoldable pub tie_groups : List ℤ → List Tie

@@ -11,11 +11,13 @@ use weights::{List, NoMemory};
 /// A tie group: a value, in the unit of its list, and how often it occurs there.
 #[derive(Clone, Copy, Debug, PartialEq, Eq)]
 pub struct Tie {
+    /// The value that the group shares.
     pub value: i128,
+    /// How many values there are in the group, 1 or more where it is one of a list.
     pub count: u64,
 }
 
-/// A list of tie groups.
+/// A list of tie groups. Those of a list of values ascend by value.
 pub type Ties = List<Tie>;
 
 // The runs of equal values of an ascending list.
@@ -36,7 +38,8 @@ fn runs(alloc: Global, sorted: &[i128]) -> Result<Ties, NoMemory>
     Ok(ties)
 }
 
-/// The distinct values in ascending order, each with how often it occurs.
+/// The distinct values in ascending order, each with how often it occurs: one sort of a copy of the
+/// values, and one pass.
 pub fn tie_groups(alloc: Global, values: &[i128]) -> Result<Ties, NoMemory>
     ensures { IfOk result (λ ties. ties ≡ tie_groups values.now) }
 {
@@ -45,7 +48,7 @@ pub fn tie_groups(alloc: Global, values: &[i128]) -> Result<Ties, NoMemory>
     runs(alloc, sorted.as_slice())
 }
 
-/// The index of the group of a value, found by halving.
+/// The index of the group of a value among groups that ascend, found by halving.
 pub fn group_of(ties: &[Tie], value: i128) -> usize
     requires ascending { IsAscending ties.now }
     requires member { Any (λ tie. tie.value ≡ value) ties.now }
