@@ -1,0 +1,6 @@
+mod MultipleLemmas
+mod AverageLemmas
+mod PlaceSums
+mod RawLemmas
+mod Answering
+mod Vectors

@@ -1,0 +1,32 @@
+-- Scores on the way.
+use Rattle.std.specs.Prelude.{◌≡◌, ⊤, ℕ, ℤ, pos, ◌*◌, ◌/◌, ◌%◌, ◌<◌, ◌≤◌, nat_abs, nat_eq, Bool, List, [], ◌∷◌, map, take, drop, Result, Ok, Err}
+use Rattle.std.specs.List.{sum}
+use Rattle.midranks.specs.declared.ties.Tie.{Tie}
+use Rattle.scores.specs.Scores.{absolute_sum, averaged}
+use Rattle.scores.specs.declared.kinds.ScoreFault.{ScoreFault}
+use Rattle.scores.specs.declared.kinds.ScoreFault.TheVariants.{TooWide, NoMemory}
+use Rattle.scores.specs.declared.kinds.Scored.{Scored}
+use Rattle.weights.specs.declared.TheConstants.{MAX}
+
+-- these scores over this scale, or the refusal of a sum that is too wide
+abbrev pub IsScoredAs : List ℤ → ℕ → Result Scored ScoreFault → Type 0
+IsScoredAs scores scale (Ok s) =
+    (s.list ≡ scores) × (s.scale ≡ scale) × (s.sum ≡ absolute_sum scores)
+    × (absolute_sum scores ≤ MAX)
+IsScoredAs scores scale (Err TooWide) = MAX < absolute_sum scores
+IsScoredAs scores scale (Err NoMemory) = ⊤
+
+-- scores by the scores of places
+abbrev pub averaged_scores : List ℕ → List ℤ → List ℤ
+averaged_scores places values = map (λ v. pos (averaged places values v)) values
+
+-- group by group, the mean of the next place scores, times a multiple
+abbrev pub group_scores : ℕ → List Tie → List ℕ → List ℕ
+group_scores multiple [] places = []
+group_scores multiple (t ∷ ts) places =
+    (sum (take t.count places) * (multiple / t.count))
+    ∷ group_scores multiple ts (drop t.count places)
+
+-- a value is a multiple of a number
+abbrev pub is_multiple_of : ℕ → ℤ → Bool
+is_multiple_of unit v = nat_eq (nat_abs v % unit) 0

@@ -1,0 +1,17 @@
+//! Scores of values: what each value of a list counts for in a test, as whole numbers over one
+//! scale.
+#![tactic(auto)]
+
+mod averages;
+mod kinds;
+mod multiples;
+mod places;
+mod ranks;
+mod raw;
+mod scores;
+mod sums;
+#[cfg(test)]
+mod tests;
+
+pub use kinds::{ScoreFault, ScoreKind, Scored};
+pub use scores::scored;
