@@ -1,0 +1,5 @@
+pub mod Puts
+pub mod Spots
+pub mod Tables
+pub mod NodeLists
+pub mod Pools

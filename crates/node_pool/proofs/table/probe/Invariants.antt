@@ -1,0 +1,16 @@
+use Rattle.std.proofs.Common.{◌≡◌, ◌≢◌, ℕ, ◌-◌, ◌<◌, length, get_or}
+use Rattle.node_pool.specs.TableSteps.{spot, key_at}
+use Rattle.node_pool.proofs.table.probe.Given as goal
+
+-- every slot passed was full, and held another key
+abbrev pub invariant-loop-slot : goal.invariant-loop-slot
+invariant-loop-slot l = record {
+  here : l.slot ≡ spot (length l.buckets) l.home l.steps;
+  within : l.slot < length l.buckets;
+  near : l.steps < length l.buckets;
+  full : (e : ℕ) → e < l.steps → 0 < get_or l.buckets (spot (length l.buckets) l.home e) 0;
+  missed : (e : ℕ) → e < l.steps → key_at l.width l.keys (get_or l.buckets (spot (length l.buckets) l.home e) 0 - 1) ≢ l.key;
+}
+
+abbrev pub decreases-loop-slot : goal.decreases-loop-slot
+decreases-loop-slot l = length l.buckets - l.steps

@@ -1,0 +1,12 @@
+//! The keys of one stage, each with a weight, in a map that takes memory only where it is asked to.
+#![tactic(auto)]
+
+mod hashes;
+mod list;
+mod pool;
+mod table;
+#[cfg(test)]
+mod tests;
+
+pub use list::NodeList;
+pub use pool::NodePool;

@@ -1,0 +1,288 @@
+// A finite map from keys to weights, with room that was asked for before.
+ghost use Rattle.std.specs.Prelude.{◌≡◌, ◌+◌, ◌-◌, ◌*◌, ◌^◌, ◌<◌, ◌≤◌, [], ◌∷◌, ◌++◌, false, length};
+ghost use Rattle.std.specs.Prelude.{vec_len, vec_capacity, IfOk, IfSome, OnOk, OnErr};
+ghost use Rattle.std.specs.Prelude.{slice_index_or, if◌then◌else◌};
+ghost use Rattle.std.specs.List.{IsDistinct};
+ghost use Rattle.node_pool.specs.Nodes.{Node, key_eq, keys, is_held, weight_in};
+ghost use Rattle.node_pool.specs.Pool.{Pool, IsMerge, IsPlaced};
+ghost use Rattle.node_pool.specs.PoolSteps.{put, IsSizeFor};
+
+use crate::hashes::home_of;
+use crate::table::{clear_buckets, key_at, probe, rehash};
+use std::alloc::Global;
+use std::marker::Model;
+use weights::{Count, NoMemory};
+
+/// A finite map from keys, lists of `width` numbers, to weights, and a number, spare: how many new
+/// keys can be added before memory is needed. Only [`NodePool::new`] and [`NodePool::reserve`] take
+/// memory.
+///
+/// The keys lie flat in one row, beside their weights. Buckets name their places, by open addressing
+/// with linear steps: a power of two, at most half full. A list of the slots in use makes emptying
+/// cheap.
+#[derive(Drop)]
+pub struct NodePool<C: Count> {
+    alloc: Global,
+    width: usize,
+    row: Vec<i128>,
+    weights: Vec<C>,
+    slots: Vec<u32>,
+    buckets: Vec<u32>,
+    spare: usize,
+}
+
+impl<C: Count> Model for NodePool<C> {
+    ghost use Rattle.std.specs.Prelude.{map, vec_capacity};
+    ghost use Rattle.node_pool.specs.Pool.{Pool};
+    ghost use Rattle.node_pool.specs.PoolSteps.{IsPool, nodes_of};
+
+    ghost Value = { Pool };
+
+    ghost view = { λ p. record {
+      width = p.width;
+      nodes = nodes_of p.width p.row.items (map C.number p.weights.items);
+      spare = p.spare;
+    } };
+
+    ghost invariant = { λ p. let weights = map C.number p.weights.items in
+        IsPool p.width p.row.items weights p.slots.items p.buckets.items p.spare
+        (vec_capacity p.row) (vec_capacity p.weights) (vec_capacity p.slots) };
+}
+
+// How many buckets a new pool has.
+const FEWEST: usize = 16;
+
+// The greatest number of keys.
+const MOST: usize = 1 << 31;
+
+// Adds an item to a list that has room.
+#[inline(always)]
+fn push_within<T: Drop>(items: &mut Vec<T>, item: T)
+    requires { vec_len items.old < vec_capacity items.old }
+    ensures items { items.new.items ≡ items.old.items ++ item ∷ [] }
+    ensures room { vec_capacity items.old ≤ vec_capacity items.new }
+{
+    match items.push(item) {
+        Ok(()) => {}
+        Err(_) => unreachable!(),
+    }
+}
+
+// Adds a key to a row that has room.
+#[inline(always)]
+fn append_within(row: &mut Vec<i128>, key: &[i128])
+    requires { vec_len row.old + length key.now ≤ vec_capacity row.old }
+    ensures items { row.new.items ≡ row.old.items ++ key.now }
+    ensures room { vec_capacity row.old ≤ vec_capacity row.new }
+{
+    match row.extend_from_slice(key) {
+        Ok(()) => {}
+        Err(_) => unreachable!(),
+    }
+}
+
+// The sum of two counts, which is within the limit.
+#[inline(always)]
+fn sum<C: Count>(a: C, b: C) -> C
+    requires { C.number a + C.number b ≤ C.LIMIT }
+    ensures { C.number result ≡ C.number a + C.number b }
+{
+    match a.checked_add(b) {
+        Some(sum) => sum,
+        None => unreachable!(),
+    }
+}
+
+// The least doubling of the buckets that is at most half full with this many keys and this many
+// more. None for more than the buckets can name.
+fn size_for(least: usize, count: usize, more: usize) -> Option<usize>
+    requires some { 1 ≤ least }
+    requires half { 2 * count ≤ least }
+    requires small { least ≤ 2 ^ 32 }
+    ensures { IfSome result (IsSizeFor least (count + more)) }
+{
+    if more > MOST - count {
+        return None;
+    }
+    let mut size = least;
+    while size < 2 * (count + more) {
+        if size > MOST {
+            return None;
+        }
+        size *= 2;
+    }
+    Some(size)
+}
+
+impl<C: Count> NodePool<C> {
+    /// No keys, for keys of this many numbers, at most 16, with spare 0. Where they have none, there
+    /// is one key at most.
+    pub fn new(alloc: Global, width: usize) -> Result<NodePool<C>, NoMemory>
+        requires { width ≤ 16 }
+        ensures { IfOk result (λ pool. pool ≡ record { width = width; nodes = []; spare = 0 }) }
+    {
+        let buckets = vec![in alloc; 0u32; FEWEST]?;
+        Ok(NodePool {
+            alloc,
+            width,
+            row: Vec::new(alloc),
+            weights: Vec::new(alloc),
+            slots: Vec::new(alloc),
+            buckets,
+            spare: 0,
+        })
+    }
+
+    /// How many keys there are. Each stands at one place.
+    #[inline(always)]
+    pub fn len(&self) -> usize
+        ensures count { result ≡ length self.now.nodes }
+        ensures apart { IsDistinct key_eq (keys self.now.nodes) }
+    {
+        self.slots.len()
+    }
+
+    /// The key at a place.
+    #[inline(always)]
+    pub fn key(&self, i: usize) -> &[i128]
+        requires { i < length self.now.nodes }
+        ensures key { (d : Node) → result.now ≡ (slice_index_or self.now.nodes i d).key }
+        ensures wide { length result.now ≡ self.now.width }
+    {
+        key_at(self.width, &self.row, i)
+    }
+
+    /// The weight at a place.
+    #[inline(always)]
+    pub fn weight(&self, i: usize) -> C
+        requires { i < length self.now.nodes }
+        ensures { (d : Node) → C.number result ≡ (slice_index_or self.now.nodes i d).weight }
+    {
+        self.weights[i]
+    }
+
+    /// How many keys can be added before memory is needed.
+    #[inline(always)]
+    pub fn spare(&self) -> usize
+        ensures { result ≡ self.now.spare }
+    {
+        self.spare
+    }
+
+    /// Makes spare at least this, and no less than it was. A refusal leaves the map and spare as
+    /// they were. The room at least doubles where it grows.
+    #[inline(always)]
+    pub fn reserve(&mut self, more: usize) -> Result<(), NoMemory>
+        ensures width { self.new.width ≡ self.old.width }
+        ensures nodes { self.new.nodes ≡ self.old.nodes }
+        ensures kept { self.old.spare ≤ self.new.spare }
+        ensures ok { OnOk result (more ≤ self.new.spare) }
+        ensures err { OnErr result (self.new.spare ≡ self.old.spare) }
+    {
+        if more <= self.spare {
+            Ok(())
+        } else {
+            self.grow(more)
+        }
+    }
+
+    // Makes room where there is too little. The buckets are changed last, so that a refusal leaves
+    // all as it was.
+    #[inline(never)]
+    fn grow(&mut self, more: usize) -> Result<(), NoMemory>
+        ensures width { self.new.width ≡ self.old.width }
+        ensures nodes { self.new.nodes ≡ self.old.nodes }
+        ensures kept { self.old.spare ≤ self.new.spare }
+        ensures ok { OnOk result (more ≤ self.new.spare) }
+        ensures err { OnErr result (self.new.spare ≡ self.old.spare) }
+    {
+        let count = self.slots.len();
+        let size = match size_for(self.buckets.len(), count, more) {
+            Some(size) => size,
+            None => return Err(NoMemory),
+        };
+        let spare = size / 2 - count;
+        self.row.reserve(spare * self.width)?;
+        self.weights.reserve(spare)?;
+        self.slots.reserve(spare)?;
+        let mut buckets = vec![in self.alloc; 0u32; size]?;
+        rehash(self.width, &self.row, &mut self.slots, &mut buckets);
+        self.buckets = buckets;
+        self.spare = spare;
+        Ok(())
+    }
+
+    // Adds a weight to a key's, and answers the key's place: a new key stands at the end.
+    #[inline(always)]
+    fn put(&mut self, key: &[i128], weight: C) -> usize
+        requires wide { length key.now ≡ self.old.width }
+        requires room { is_held self.old.nodes key.now ≡ false → 1 ≤ self.old.spare }
+        requires fits { weight_in self.old.nodes key.now + C.number weight ≤ C.LIMIT }
+        ensures width { self.new.width ≡ self.old.width }
+        ensures nodes { self.new.nodes ≡ put key.now (C.number weight) self.old.nodes }
+        ensures spare { let held = is_held self.old.nodes key.now in
+            self.new.spare ≡ (if held then self.old.spare else self.old.spare - 1) }
+        ensures within { result < length self.new.nodes }
+        ensures place { (d : Node) → (slice_index_or self.new.nodes result d).key ≡ key.now }
+        ensures distinct { IsDistinct key_eq (keys self.old.nodes) }
+    {
+        let home = home_of(self.buckets.len(), key);
+        let slot = probe(self.width, &self.row, &self.slots, &self.buckets, home, key);
+        let entry = self.buckets[slot] as usize;
+        if entry == 0 {
+            let count = self.slots.len();
+            self.buckets[slot] = count as u32 + 1;
+            push_within(&mut self.slots, slot as u32);
+            append_within(&mut self.row, key);
+            push_within(&mut self.weights, weight);
+            self.spare -= 1;
+            count
+        } else {
+            let i = entry - 1;
+            self.weights[i] = sum(self.weights[i], weight);
+            i
+        }
+    }
+
+    /// Adds a weight to a key's, which is 0 where the key is not held. A new key lowers spare by 1.
+    #[inline(always)]
+    pub fn add(&mut self, key: &[i128], weight: C)
+        requires wide { length key.now ≡ self.old.width }
+        requires room { is_held self.old.nodes key.now ≡ false → 1 ≤ self.old.spare }
+        requires fits { weight_in self.old.nodes key.now + C.number weight ≤ C.LIMIT }
+        ensures width { self.new.width ≡ self.old.width }
+        ensures merged { IsMerge self.old.nodes key.now (C.number weight) self.new.nodes }
+        ensures spare { let held = is_held self.old.nodes key.now in
+            self.new.spare ≡ (if held then self.old.spare else self.old.spare - 1) }
+    {
+        let _place = self.put(key, weight);
+    }
+
+    /// The same, and answers the key's place. A held key keeps its place until the pool is emptied.
+    #[inline(always)]
+    pub fn enter(&mut self, key: &[i128], weight: C) -> usize
+        requires wide { length key.now ≡ self.old.width }
+        requires room { is_held self.old.nodes key.now ≡ false → 1 ≤ self.old.spare }
+        requires fits { weight_in self.old.nodes key.now + C.number weight ≤ C.LIMIT }
+        ensures width { self.new.width ≡ self.old.width }
+        ensures merged { IsMerge self.old.nodes key.now (C.number weight) self.new.nodes }
+        ensures spare { let held = is_held self.old.nodes key.now in
+            self.new.spare ≡ (if held then self.old.spare else self.old.spare - 1) }
+        ensures placed { IsPlaced self.old.nodes key.now self.new.nodes result }
+    {
+        self.put(key, weight)
+    }
+
+    /// Empties the map, in steps that its length bounds, and makes its room spare.
+    pub fn clear(&mut self)
+        ensures width { self.new.width ≡ self.old.width }
+        ensures nodes { self.new.nodes ≡ [] }
+        ensures spare { length self.old.nodes + self.old.spare ≤ self.new.spare }
+    {
+        clear_buckets(&self.slots, &mut self.buckets);
+        self.spare += self.slots.len();
+        self.slots.clear();
+        self.row.clear();
+        self.weights.clear();
+    }
+}

@@ -1,0 +1,127 @@
+// Where keys stand in buckets.
+ghost use Rattle.std.specs.Prelude.{◌≡◌, ◌≢◌, ℕ, ◌+◌, ◌-◌, ◌*◌, ◌^◌, ◌<◌, ◌≤◌, ◌↔◌, IsTrue, length, slice_index, if◌then◌else◌, ◌==◌};
+ghost use Rattle.std.specs.List.{count_by};
+ghost use Rattle.node_pool.specs.HashSteps.{home_of};
+ghost use Rattle.node_pool.specs.TableSteps.{IsTable, IsWalk, key_at, is_full, AllEmpty};
+
+use crate::hashes::home_of;
+
+// Whether two keys are equal.
+#[inline(always)]
+pub fn same_key(a: &[i128], b: &[i128]) -> bool
+    requires { length a.now ≡ length b.now }
+    ensures { IsTrue result ↔ (a.now ≡ b.now) }
+{
+    a == b
+}
+
+// The slot behind a slot, where the first one follows the last.
+#[inline(always)]
+fn next_slot(size: usize, slot: usize) -> usize
+    requires { slot < size }
+    ensures value { result ≡ (if slot + 1 == size then 0 else slot + 1) }
+    ensures within { result < size }
+{
+    if slot + 1 == size { 0 } else { slot + 1 }
+}
+
+// The slot that names a key's place, or else the empty slot where the search for it ends.
+#[inline(always)]
+pub fn probe(
+    width: usize,
+    keys: &[i128],
+    slots: &[u32],
+    buckets: &[u32],
+    home: usize,
+    key: &[i128],
+) -> usize
+    requires table { IsTable width (length slots.now) keys.now slots.now buckets.now }
+    requires room { length slots.now < length buckets.now }
+    requires home { home ≡ home_of (length buckets.now) key.now }
+    requires within { home < length buckets.now }
+    requires long { length keys.now ≡ length slots.now * width }
+    requires wide { length key.now ≡ width }
+    ensures within { result < length buckets.now }
+    ensures walk { IsWalk buckets.now home result }
+    ensures held { 0 < slice_index buckets.now result
+        → key_at width keys.now (slice_index buckets.now result - 1) ≡ key.now }
+    ensures free { slice_index buckets.now result ≡ 0
+        → (i : ℕ) → i < length slots.now → key_at width keys.now i ≢ key.now }
+{
+    let mut slot = home;
+    let mut steps = 0usize;
+    while buckets[slot] != 0 {
+        let start = (buckets[slot] as usize - 1) * width;
+        if same_key(&keys[start..start + width], key) {
+            return slot;
+        }
+        slot = next_slot(buckets.len(), slot);
+        steps += 1;
+    }
+    slot
+}
+
+// The empty slot where the search for a key that is not held ends.
+#[inline(always)]
+fn free_slot(buckets: &[u32], home: usize) -> usize
+    requires within { home < length buckets.now }
+    requires room { count_by is_full buckets.now < length buckets.now }
+    ensures within { result < length buckets.now }
+    ensures walk { IsWalk buckets.now home result }
+    ensures free { slice_index buckets.now result ≡ 0 }
+{
+    let mut slot = home;
+    let mut steps = 0usize;
+    while buckets[slot] != 0 {
+        slot = next_slot(buckets.len(), slot);
+        steps += 1;
+    }
+    slot
+}
+
+// Enters every key into empty buckets.
+pub fn rehash(width: usize, keys: &[i128], slots: &mut [u32], buckets: &mut [u32])
+    requires empty { AllEmpty buckets.old }
+    requires room { length slots.old < length buckets.old }
+    requires small { length buckets.old ≤ 2 ^ 32 }
+    requires long { length keys.now ≡ length slots.old * width }
+    ensures table { IsTable width (length slots.new) keys.now slots.new buckets.new }
+{
+    for i in 0..slots.len() {
+        let start = i * width;
+        let home = home_of(buckets.len(), &keys[start..start + width]);
+        let slot = free_slot(buckets, home);
+        buckets[slot] = i as u32 + 1;
+        slots[i] = slot as u32;
+    }
+}
+
+// Empties the buckets.
+pub fn clear_buckets(slots: &[u32], buckets: &mut [u32])
+    requires back { (s : ℕ) → s < length buckets.old → 0 < slice_index buckets.old s
+        → (slice_index buckets.old s ≤ length slots.now)
+        × (slice_index slots.now (slice_index buckets.old s - 1) ≡ s) }
+    requires within { (i : ℕ) → i < length slots.now
+        → slice_index slots.now i < length buckets.old }
+    ensures { AllEmpty buckets.new }
+{
+    if slots.len() < buckets.len() / 8 {
+        for slot in slots {
+            buckets[*slot as usize] = 0;
+        }
+    } else {
+        for bucket in buckets.iter_mut() {
+            *bucket = 0;
+        }
+    }
+}
+
+// The key at a place of a row.
+#[inline(always)]
+pub fn key_at(width: usize, row: &[i128], i: usize) -> &[i128]
+    requires { i * width + width ≤ length row.now }
+    ensures { result.now ≡ key_at width row.now i }
+{
+    let start = i * width;
+    &row[start..start + width]
+}

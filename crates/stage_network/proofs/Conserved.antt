@@ -1,0 +1,95 @@
+-- What a stage keeps: the summed weight of the extreme completions is what was closed and what is still open.
+use Rattle.std.proofs.Common.{◌≡◌, ◌≢◌, ℕ, ◌+◌, ◌*◌, ◌<◌, ◌≤◌, List, [], ◌∷◌, ◌++◌, map, Bool, true, false, cond, refl, sym, ◌∙◌, ap, arith}
+use Rattle.std.specs.Prelude.{ℤ}
+use Rattle.std.specs.List.{sum_by, flat_map, filter, AllByRecursion, Contains}
+use Rattle.std.proofs.lemmas.List.Sums.{sum_by-cons}
+use Rattle.std.proofs.lemmas.List.Elements.{recursion_from_All, All-contains_itself}
+use Rattle.std.proofs.Math.Nat.{mul_assoc}
+use Rattle.weights.specs.declared.tails.Tail.{Tail}
+use Rattle.stage_network.specs.declared.stages.Verdict.{Verdict}
+use Rattle.stage_network.specs.declared.stages.Verdict.TheVariants.{Inside, Outside, Undecided}
+use Rattle.node_pool.specs.Nodes.{Node, weighted}
+use Rattle.stage_network.specs.Completions.{is_inside, is_extreme, total_weight, extreme_weight, completions, path_weight}
+use Rattle.stage_network.specs.Laws.{IsLawful}
+use Rattle.stage_network.specs.Network.{Network, IsReached}
+use Rattle.stage_network.specs.NodeSteps.{successor, successors, closed_part, closed_weight, AllReached}
+use Rattle.stage_network.specs.Opened.{is_open, is_undecided}
+use Rattle.stage_network.proofs.Steps.{sum_by-same, sum_by-scaled, sum_by-map, sum_by-flat_map, filter_all, filter_none, total_weight-step, extreme_weight-step, reached-next}
+
+-- one node's successors carry its sum to the next stage
+pub weighted-successors : (n : Network) (g : ℕ) (here later : List ℤ → ℕ) → ((k : List ℤ) → here k ≡ sum_by (λ c. n.weight g k c * later (n.next g k c)) (n.choices g k)) → (a : Node) → weighted later (successors n g a) ≡ a.weight * here a.key
+weighted-successors n g here later step a =
+    sum_by-map (λ b. b.weight * later b.key) (successor n g a) (n.choices g a.key)
+    ∙ sum_by-same (λ c. (a.weight * n.weight g a.key c) * later (n.next g a.key c)) (λ c. a.weight * (n.weight g a.key c * later (n.next g a.key c))) (λ c. mul_assoc a.weight (n.weight g a.key c) (later (n.next g a.key c))) (n.choices g a.key)
+    ∙ sum_by-scaled a.weight (λ c. n.weight g a.key c * later (n.next g a.key c)) (n.choices g a.key)
+    ∙ ap (λ m. a.weight * m) (sym (step a.key))
+
+pub sum_by-filter : {X : Type 0} (f : X → ℕ) (p : X → Bool) (xs : List X) → sum_by f (filter p xs) ≡ sum_by (λ x. cond (p x) (f x) 0) xs
+sum_by-filter f p [] = refl
+sum_by-filter f p (x ∷ xs) = rw (sum_by-cons (λ x. cond (p x) (f x) 0) x xs) (elim (p x) as (λ b. sum_by f (cond b (x ∷ filter p xs) (filter p xs)) ≡ cond b (f x) 0 + sum_by (λ x. cond (p x) (f x) 0) xs) [
+  | true ↦ rw (sum_by-cons f x (filter p xs), sum_by-filter f p xs) refl
+  | false ↦ rw (sum_by-filter f p xs) (omega arith)
+])
+
+-- what is open, at this stage
+abbrev pub open_part : Network → Tail → ℕ → (List ℤ → ℕ) → Node → ℕ
+open_part n t g here a = cond (is_open n t g a.key) (a.weight * here a.key) 0
+
+-- a verdict's word on the sums
+inside-sum : (n : Network) → IsLawful n → (t : Tail) (g : ℕ) (k : List ℤ) → IsReached n g k → g ≤ n.count → n.verdict t g k ≡ Inside → extreme_weight n t g k ≡ total_weight n g k
+unfolding total_weight extreme_weight
+inside-sum n l t g k r h v = ap (sum_by (path_weight n g k)) (filter_all (is_extreme n t g k) (completions n g k) (l.inside t g k r h v))
+
+outside-sum : (n : Network) → IsLawful n → (t : Tail) (g : ℕ) (k : List ℤ) → IsReached n g k → g ≤ n.count → n.verdict t g k ≡ Outside → extreme_weight n t g k ≡ 0
+unfolding extreme_weight
+outside-sum n l t g k r h v = ap (sum_by (path_weight n g k)) (filter_none (is_extreme n t g k) (completions n g k) (l.outside t g k r h v))
+
+-- by the verdict at a node
+by_verdict : (v : Verdict) (w e total : ℕ) → (v ≡ Inside → e ≡ total) → (v ≡ Outside → e ≡ 0) → w * e ≡ cond (is_inside v) (w * total) 0 + cond (is_undecided v) (w * e) 0
+by_verdict Inside w e total i o = rw (i refl) (omega arith)
+by_verdict Outside w e total i o = rw (o refl) (omega arith)
+by_verdict Undecided w e total i o = omega arith
+
+at_most : (v : Verdict) (m : ℕ) → cond (is_inside v) m 0 + cond (is_undecided v) m 0 ≤ m
+at_most Inside m = omega arith
+at_most Outside m = omega arith
+at_most Undecided m = omega arith
+
+pub split-extreme : (n : Network) → IsLawful n → (t : Tail) (g : ℕ) → g ≤ n.count → (nodes : List Node) → AllReached n g nodes → weighted (extreme_weight n t g) nodes ≡ closed_weight n t g nodes + sum_by (open_part n t g (extreme_weight n t g)) nodes
+split-extreme n l t g h [] r = omega arith
+split-extreme n l t g h (a ∷ nodes) r =
+    let here : a.weight * extreme_weight n t g a.key ≡ closed_part n t g a + open_part n t g (extreme_weight n t g) a =
+    by_verdict (n.verdict t g a.key) a.weight (extreme_weight n t g a.key) (total_weight n g a.key) (inside-sum n l t g a.key r.0 h) (outside-sum n l t g a.key r.0 h) in
+    rw (sum_by-cons (λ a. a.weight * extreme_weight n t g a.key) a nodes, sum_by-cons (closed_part n t g) a nodes, sum_by-cons (open_part n t g (extreme_weight n t g)) a nodes)
+    (omega (arith, here, split-extreme n l t g h nodes r.1))
+
+pub split-total : (n : Network) (t : Tail) (g : ℕ) (nodes : List Node) → closed_weight n t g nodes + sum_by (open_part n t g (total_weight n g)) nodes ≤ weighted (total_weight n g) nodes
+split-total n t g [] = omega arith
+split-total n t g (a ∷ nodes) =
+    let here : closed_part n t g a + open_part n t g (total_weight n g) a ≤ a.weight * total_weight n g a.key = at_most (n.verdict t g a.key) (a.weight * total_weight n g a.key) in
+    rw (sum_by-cons (λ a. a.weight * total_weight n g a.key) a nodes, sum_by-cons (closed_part n t g) a nodes, sum_by-cons (open_part n t g (total_weight n g)) a nodes)
+    (omega (arith, here, split-total n t g nodes))
+
+-- the next stage's keys are reached
+pub all_append : {X : Type 0} (P : X → Type 0) (xs ys : List X) → AllByRecursion P xs → AllByRecursion P ys → AllByRecursion P (xs ++ ys)
+all_append P [] ys a b = b
+all_append P (x ∷ xs) ys a b = (a.0, all_append P xs ys a.1 b)
+
+pub all_map : {X Y : Type 0} (P : Y → Type 0) (f : X → Y) (xs : List X) → AllByRecursion (λ x. P (f x)) xs → AllByRecursion P (map f xs)
+all_map P f [] a = tt
+all_map P f (x ∷ xs) a = (a.0, all_map P f xs a.1)
+
+pub all_weaker : {X : Type 0} (P Q : X → Type 0) → ((x : X) → P x → Q x) → (xs : List X) → AllByRecursion P xs → AllByRecursion Q xs
+all_weaker P Q w [] a = tt
+all_weaker P Q w (x ∷ xs) a = (w x a.0, all_weaker P Q w xs a.1)
+
+pub successors-reached : (n : Network) (g : ℕ) → g < n.count → (a : Node) → IsReached n g a.key → AllReached n (g + 1) (successors n g a)
+successors-reached n g h a r =
+    all_map (λ b. IsReached n (g + 1) b.key) (successor n g a) (n.choices g a.key)
+    (all_weaker (Contains (n.choices g a.key)) (λ c. IsReached n (g + 1) (n.next g a.key c)) (λ c allowed. reached-next n g a.key c r h allowed) (n.choices g a.key)
+    (recursion_from_All _ _ (All-contains_itself (n.choices g a.key))))
+
+pub not_undecided : (v : Verdict) → v ≢ Undecided → is_undecided v ≡ false
+not_undecided Inside h = refl
+not_undecided Outside h = refl
+not_undecided Undecided h = absurd (h refl)

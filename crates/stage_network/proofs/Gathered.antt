@@ -1,0 +1,223 @@
+-- Rooms filled one after another: the nodes of the next stage.
+use Rattle.std.proofs.Common.{◌≡◌, ◌≢◌, ℕ, zero, suc, ◌+◌, ◌-◌, ◌*◌, ◌<◌, ◌≤◌, List, [], ◌∷◌, ◌++◌, length, map, take, get_or, Bool, true, false, cond, ◌&&◌, ◌||◌, refl, sym, ◌∙◌, ap, arith, subst, nat_eq, nat_lt}
+use Rattle.std.specs.Prelude.{ℤ}
+use Rattle.std.specs.List.{sum_by, flat_map, filter, IsDistinct, AllByRecursion, Contains}
+use Rattle.std.specs.Set.{is_member}
+use Rattle.std.proofs.lemmas.List.{length-append}
+use Rattle.std.proofs.lemmas.List.Sums.{sum_by-cons, sum_by-append, length-filter}
+use Rattle.std.proofs.lemmas.Map.Made.{is_member-filter}
+use Rattle.std.proofs.lemmas.Map.Keys.{IsDistinct-head, IsDistinct-tail, IsDistinct-cons}
+use Rattle.weights.specs.declared.tails.Tail.{Tail}
+use Rattle.node_pool.specs.Nodes.{Node, key_eq, keys, weighted}
+use Rattle.stage_network.specs.Completions.{total_weight, extreme_weight}
+use Rattle.stage_network.specs.Laws.{IsLawful}
+use Rattle.stage_network.specs.Network.{Network, IsReached}
+use Rattle.stage_network.specs.NodeSteps.{successor, closed_weight, AllReached, AllHeavy, AreNodes}
+use Rattle.stage_network.specs.Opened.{is_open}
+use Rattle.stage_network.proofs.Steps.{sum_by-flat_map, sum_by-same, filter_all, filter_none, reached-next}
+use Rattle.stage_network.specs.WaySteps.{Way, segment, way_nodes, spread_out, bucket, firsts, IsFine, AllFine}
+use Rattle.node_pool.proofs.Puts.{same_key, key_equiv, unlike, alike}
+use Rattle.stage_network.proofs.Conserved.{sum_by-filter, split-extreme, split-total, open_part, all_append, all_map}
+use Rattle.stage_network.proofs.OpenKeys.{list_any-append, map-append, distinct_filter, member-holds, all_of_members, all_filter}
+use Rattle.stage_network.proofs.Stepping.{reached_at}
+use Rattle.stage_network.proofs.Roomwise.{sum_by-add, all_segment, heavy_at, heavy-arc}
+
+-- the arcs to the rooms below one more
+three : (a t x : ℕ) → cond (nat_lt a (t + 1)) x 0 ≡ cond (nat_lt a t) x 0 + cond (nat_eq a t) x 0
+three a t x = grind arith
+
+below_is : (a t : ℕ) → a < t → nat_lt a t ≡ true
+below_is a t h = grind arith
+
+not_below : (a : ℕ) → nat_lt a 0 ≡ false
+not_below a = grind arith
+
+is_below : (a t : ℕ) → nat_lt a t ≡ true → a < t
+is_below a t e = grind arith
+
+is_same : (a t : ℕ) → nat_eq a t ≡ true → a ≡ t
+is_same a t e = grind arith
+
+firsts-sum : (h : Way → ℕ) (t : ℕ) (ways : List Way) → sum_by h (firsts (t + 1) ways) ≡ sum_by h (firsts t ways) + sum_by h (bucket t ways)
+firsts-sum h t ways =
+    sum_by-filter h (λ a. nat_lt a.target (t + 1)) ways
+    ∙ sum_by-same _ (λ a. cond (nat_lt a.target t) (h a) 0 + cond (nat_eq a.target t) (h a) 0) (λ a. three a.target t (h a)) ways
+    ∙ sum_by-add (λ a. cond (nat_lt a.target t) (h a) 0) (λ a. cond (nat_eq a.target t) (h a) 0) ways
+    ∙ ap (λ m. m + sum_by (λ a. cond (nat_eq a.target t) (h a) 0) ways) (sym (sum_by-filter h (λ a. nat_lt a.target t) ways))
+    ∙ ap (λ m. sum_by h (firsts t ways) + m) (sym (sum_by-filter h (λ a. nat_eq a.target t) ways))
+
+pub firsts-more : (n : Network) (g : ℕ) (nodes : List Node) (f : List ℤ → ℕ) (t : ℕ) (ways : List Way) → weighted f (spread_out n g nodes (firsts (t + 1) ways)) ≡ weighted f (spread_out n g nodes (firsts t ways)) + weighted f (spread_out n g nodes (bucket t ways))
+firsts-more n g nodes f t ways =
+    let part = λ (ws : List Way). sum_by-flat_map (λ (b : Node). b.weight * f b.key) (way_nodes n g nodes) ws in
+    omega (arith, part (firsts (t + 1) ways), part (firsts t ways), part (bucket t ways), firsts-sum (λ a. weighted f (way_nodes n g nodes a)) t ways)
+
+pub firsts-le : (n : Network) (g : ℕ) (nodes : List Node) (f : List ℤ → ℕ) (t : ℕ) (ways : List Way) → weighted f (spread_out n g nodes (firsts t ways)) ≤ weighted f (spread_out n g nodes ways)
+firsts-le n g nodes f t ways =
+    let part = λ (ws : List Way). sum_by-flat_map (λ (b : Node). b.weight * f b.key) (way_nodes n g nodes) ws in
+    omega (arith, part (firsts t ways), part ways, fewer (λ a. weighted f (way_nodes n g nodes a)) t ways)
+  where
+    fewer : (h : Way → ℕ) (t : ℕ) (ways : List Way) → sum_by h (firsts t ways) ≤ sum_by h ways
+    fewer h t [] = omega arith
+    fewer h t (a ∷ ways) = elim (nat_lt a.target t) as (λ b. sum_by h (cond b (a ∷ firsts t ways) (firsts t ways)) ≤ sum_by h (a ∷ ways)) [
+      | true ↦ omega (arith, sum_by-cons h a (firsts t ways), sum_by-cons h a ways, fewer h t ways)
+      | false ↦ omega (arith, sum_by-cons h a ways, fewer h t ways)
+    ]
+
+pub firsts-all : (n : Network) (g width : ℕ) (nodes rooms : List Node) (ways : List Way) → AllFine n g width nodes rooms ways → firsts (length rooms) ways ≡ ways
+firsts-all n g width nodes rooms [] a = refl
+firsts-all n g width nodes rooms (w ∷ ways) a = rw (below_is w.target (length rooms) a.0.target) (ap (λ ws. w ∷ ws) (firsts-all n g width nodes rooms ways a.1))
+
+pub firsts-none : (ways : List Way) → firsts 0 ways ≡ []
+firsts-none [] = refl
+firsts-none (w ∷ ways) = rw (not_below w.target) (firsts-none ways)
+
+-- which keys heavy nodes have is told by their sums
+abbrev ind : List ℤ → List ℤ → ℕ
+ind q k = cond (key_eq q k) 1 0
+
+some_is : (m : ℕ) → 1 ≤ m → nat_lt 0 m ≡ true
+some_is m h = grind arith
+
+member-weighs : (q : List ℤ) (nodes : List Node) → AllHeavy nodes → is_member key_eq (keys nodes) q ≡ nat_lt 0 (weighted (ind q) nodes)
+member-weighs q [] a = refl
+member-weighs q (b ∷ nodes) a =
+    rw (sum_by-cons (λ (c : Node). c.weight * ind q c.key) b nodes) (elim (key_eq q b.key) as (λ t. (t || is_member key_eq (keys nodes) q) ≡ nat_lt 0 (b.weight * cond t 1 0 + weighted (ind q) nodes)) [
+      | true ↦ sym (some_is (b.weight * 1 + weighted (ind q) nodes) (omega (arith, a.0)))
+      | false ↦ member-weighs q nodes a.1 ∙ ap (nat_lt 0) (let e : weighted (ind q) nodes ≡ b.weight * 0 + weighted (ind q) nodes = omega arith in e)
+    ])
+
+pub same-members : (xs ys : List Node) → AllHeavy xs → AllHeavy ys → ((f : List ℤ → ℕ) → weighted f xs ≡ weighted f ys) → (q : List ℤ) → is_member key_eq (keys xs) q ≡ is_member key_eq (keys ys) q
+same-members xs ys a b told q = member-weighs q xs a ∙ ap (nat_lt 0) (told (ind q)) ∙ sym (member-weighs q ys b)
+
+some_of : (a b : ℕ) → nat_lt 0 (a + b) ≡ (nat_lt 0 a || nat_lt 0 b)
+some_of zero b = ap (nat_lt 0) (let e : 0 + b ≡ b = omega arith in e)
+some_of (suc a) b = rw (some_is (suc a + b) (omega arith), some_is (suc a) (omega arith)) refl
+
+pub members-add : (xs ys zs : List Node) → AllHeavy xs → AllHeavy ys → AllHeavy zs → ((f : List ℤ → ℕ) → weighted f zs ≡ weighted f xs + weighted f ys) → (q : List ℤ) → is_member key_eq (keys zs) q ≡ (is_member key_eq (keys xs) q || is_member key_eq (keys ys) q)
+members-add xs ys zs a b c told q =
+    member-weighs q zs c ∙ ap (nat_lt 0) (told (ind q)) ∙ some_of (weighted (ind q) xs) (weighted (ind q) ys)
+    ∙ ap (λ t. t || nat_lt 0 (weighted (ind q) ys)) (sym (member-weighs q xs a)) ∙ ap (λ t. is_member key_eq (keys xs) q || t) (sym (member-weighs q ys b))
+
+-- what holds of each node that fine arcs lead to
+module _ (n : Network) (g width : ℕ) (nodes rooms : List Node) where
+  pub fine_filter : (p : Way → Bool) (ways : List Way) → AllFine n g width nodes rooms ways → AllByRecursion (λ a. IsFine n g width nodes rooms a × (p a ≡ true)) (filter p ways)
+  fine_filter p [] a = tt
+  fine_filter p (w ∷ ways) a = elim (p w) as (λ b. p w ≡ b → AllByRecursion (λ a. IsFine n g width nodes rooms a × (p a ≡ true)) (cond b (w ∷ filter p ways) (filter p ways))) [
+    | true ↦ λ e. ((a.0, e), fine_filter p ways a.1)
+    | false ↦ λ e. fine_filter p ways a.1
+  ] refl
+
+  pub spread-all : (P : Node → Type 0) (Q : Way → Type 0) → ((a : Way) → Q a → (i : ℕ) (d : Node) → a.start ≤ i → i < a.end → P (successor n g (get_or nodes i d) a.choice)) → (ways : List Way) → AllByRecursion Q ways → AllByRecursion P (spread_out n g nodes ways)
+  spread-all P Q h [] a = tt
+  spread-all P Q h (w ∷ ways) a = all_append P (way_nodes n g nodes w) (spread_out n g nodes ways)
+      (all_map P (λ b. successor n g b w.choice) (segment w.start w.end nodes) (all_segment (λ b. P (successor n g b w.choice)) w.start w.end nodes (h w a.0)))
+      (spread-all P Q h ways a.1)
+
+module _ (n : Network) (g width : ℕ) (nodes rooms : List Node) (here : AreNodes n g nodes) where
+  pub spread-heavy : (p : Way → Bool) (ways : List Way) → AllFine n g width nodes rooms ways → AllHeavy (spread_out n g nodes (filter p ways))
+  spread-heavy p ways a = spread-all n g width nodes rooms (λ (b : Node). 1 ≤ b.weight) (λ a. IsFine n g width nodes rooms a × (p a ≡ true))
+      (λ w f i d h k. heavy-arc _ _ (heavy_at nodes i d here.heavy (omega (arith, k, f.0.chosen.last))) (here.lawful.weighty g (get_or nodes i d).key w.choice (reached_at n g nodes i d here.reached (omega (arith, k, f.0.chosen.last))) (f.0.chosen.allowed i d h k)))
+      (filter p ways) (fine_filter n g width nodes rooms p ways a)
+
+  pub spread-reached : (p : Way → Bool) (ways : List Way) → AllFine n g width nodes rooms ways → AllReached n (g + 1) (spread_out n g nodes (filter p ways))
+  spread-reached p ways a = spread-all n g width nodes rooms (λ (b : Node). IsReached n (g + 1) b.key) (λ a. IsFine n g width nodes rooms a × (p a ≡ true))
+      (λ w f i d h k. reached-next n g (get_or nodes i d).key w.choice (reached_at n g nodes i d here.reached (omega (arith, k, f.0.chosen.last))) here.before (f.0.chosen.allowed i d h k))
+      (filter p ways) (fine_filter n g width nodes rooms p ways a)
+
+  pub spread-here : (e : Node) (t : ℕ) (ways : List Way) → AllFine n g width nodes rooms ways → AllByRecursion (λ (b : Node). take width b.key ≡ (get_or rooms t e).key) (spread_out n g nodes (bucket t ways))
+  spread-here e t ways a = spread-all n g width nodes rooms (λ (b : Node). take width b.key ≡ (get_or rooms t e).key) (λ a. IsFine n g width nodes rooms a × (nat_eq a.target t ≡ true))
+      (λ w f i d h k. f.0.room i d e h k ∙ ap (λ t. (get_or rooms t e).key) (is_same w.target t f.1))
+      (bucket t ways) (fine_filter n g width nodes rooms (λ a. nat_eq a.target t) ways a)
+
+  pub spread-before : (e : Node) (t : ℕ) (ways : List Way) → AllFine n g width nodes rooms ways → AllByRecursion (λ (b : Node). (j : ℕ) × (j < t) × (take width b.key ≡ (get_or rooms j e).key)) (spread_out n g nodes (firsts t ways))
+  spread-before e t ways a = spread-all n g width nodes rooms (λ (b : Node). (j : ℕ) × (j < t) × (take width b.key ≡ (get_or rooms j e).key)) (λ a. IsFine n g width nodes rooms a × (nat_lt a.target t ≡ true))
+      (λ w f i d h k. (w.target, is_below w.target t f.1, f.0.room i d e h k))
+      (firsts t ways) (fine_filter n g width nodes rooms (λ a. nat_lt a.target t) ways a)
+
+-- rooms apart
+apart_at : (x : List ℤ) (rooms : List Node) (t : ℕ) (e : Node) → AllByRecursion (λ y. key_eq x y ≡ false) (keys rooms) → t < length rooms → key_eq x (get_or rooms t e).key ≡ false
+apart_at x [] t e a h = absurd (omega arith)
+apart_at x (b ∷ rooms) zero e a h = a.0
+apart_at x (b ∷ rooms) (suc t) e a h = apart_at x rooms t e a.1 (omega (arith, h))
+
+pub rooms-apart : (rooms : List Node) (j t : ℕ) (e : Node) → IsDistinct key_eq (keys rooms) → j < t → t < length rooms → key_eq (get_or rooms j e).key (get_or rooms t e).key ≡ false
+rooms-apart [] j t e d h k = absurd (omega (arith, k))
+rooms-apart (b ∷ rooms) j zero e d h k = absurd (omega (arith, h))
+rooms-apart (b ∷ rooms) zero (suc t) e d h k = apart_at b.key rooms t e (IsDistinct-head key_eq b.key (keys rooms) d) (omega (arith, k))
+rooms-apart (b ∷ rooms) (suc j) (suc t) e d h k = rooms-apart rooms j t e (IsDistinct-tail key_eq b.key (keys rooms) d) (omega (arith, h)) (omega (arith, k))
+
+all_append_keys : (P : List ℤ → Type 0) (xs ys : List (List ℤ)) → AllByRecursion P xs → AllByRecursion P ys → AllByRecursion P (xs ++ ys)
+all_append_keys P xs ys a b = all_append P xs ys a b
+
+distinct-append : (xs ys : List (List ℤ)) → IsDistinct key_eq xs → IsDistinct key_eq ys → AllByRecursion (λ x. AllByRecursion (λ y. key_eq x y ≡ false) ys) xs → IsDistinct key_eq (xs ++ ys)
+distinct-append [] ys a b c = b
+distinct-append (x ∷ xs) ys a b c = IsDistinct-cons key_eq x (xs ++ ys) (all_append_keys (λ y. key_eq x y ≡ false) xs ys (IsDistinct-head key_eq x xs a) c.0) (distinct-append xs ys (IsDistinct-tail key_eq x xs a) b c.1)
+
+pub keys-filter : (p : List ℤ → Bool) (nodes : List Node) → keys (filter (λ a. p a.key) nodes) ≡ filter p (keys nodes)
+keys-filter p [] = refl
+keys-filter p (b ∷ nodes) = elim (p b.key) as (λ t. keys (cond t (b ∷ filter (λ a. p a.key) nodes) (filter (λ a. p a.key) nodes)) ≡ cond t (b.key ∷ filter p (keys nodes)) (filter p (keys nodes))) [
+  | true ↦ ap (λ ks. b.key ∷ ks) (keys-filter p nodes)
+  | false ↦ keys-filter p nodes
+]
+
+and_or : (a b c : Bool) → ((a && c) || (b && c)) ≡ ((a || b) && c)
+and_or true true true = refl
+and_or true true false = refl
+and_or true false true = refl
+and_or true false false = refl
+and_or false true c = refl
+and_or false false c = refl
+
+pub kept-members : (p : List ℤ → Bool) (kept work before more : List Node) → ((q : List ℤ) → is_member key_eq (keys kept) q ≡ (is_member key_eq (keys before) q && p q)) → ((q : List ℤ) → is_member key_eq (keys more) q ≡ (is_member key_eq (keys before) q || is_member key_eq (keys work) q)) → (q : List ℤ) → is_member key_eq (keys (kept ++ filter (λ a. p a.key) work)) q ≡ (is_member key_eq (keys more) q && p q)
+kept-members p kept work before more was now q =
+    ap (λ ks. is_member key_eq ks q) (map-append (λ (b : Node). b.key) kept (filter (λ a. p a.key) work) ∙ ap (λ ks. keys kept ++ ks) (keys-filter p work))
+    ∙ list_any-append (key_eq q) (keys kept) (filter p (keys work))
+    ∙ ap (λ b. b || is_member key_eq (filter p (keys work)) q) (was q)
+    ∙ ap (λ b. (is_member key_eq (keys before) q && p q) || b) (is_member-filter key_equiv p q (λ x e. ap p (same_key q x e)) (keys work))
+    ∙ and_or (is_member key_eq (keys before) q) (is_member key_eq (keys work) q) (p q)
+    ∙ ap (λ b. b && p q) (sym (now q))
+
+-- what is open and what is closed of a room
+pub kept-extreme : (n : Network) → IsLawful n → (t : Tail) (g : ℕ) → g ≤ n.count → (kept work : List Node) → AllReached n g work → closed_weight n t g work + weighted (extreme_weight n t g) (kept ++ filter (λ a. is_open n t g a.key) work) ≡ weighted (extreme_weight n t g) kept + weighted (extreme_weight n t g) work
+kept-extreme n l t g h kept work r =
+    let f = λ (a : Node). a.weight * extreme_weight n t g a.key in
+    omega (arith, sum_by-append f kept (filter (λ a. is_open n t g a.key) work), sum_by-filter f (λ a. is_open n t g a.key) work, split-extreme n l t g h work r)
+
+pub kept-total : (n : Network) (t : Tail) (g : ℕ) (kept work : List Node) → closed_weight n t g work + weighted (total_weight n g) (kept ++ filter (λ a. is_open n t g a.key) work) ≤ weighted (total_weight n g) kept + weighted (total_weight n g) work
+kept-total n t g kept work =
+    let f = λ (a : Node). a.weight * total_weight n g a.key in
+    omega (arith, sum_by-append f kept (filter (λ a. is_open n t g a.key) work), sum_by-filter f (λ a. is_open n t g a.key) work, split-total n t g work)
+
+all_keys : (A : List ℤ → Type 0) (nodes : List Node) → AllByRecursion (λ (a : Node). A a.key) nodes → AllByRecursion A (keys nodes)
+all_keys A [] h = tt
+all_keys A (b ∷ nodes) h = (h.0, all_keys A nodes h.1)
+
+all_pairs : (A B : List ℤ → Type 0) → ((x y : List ℤ) → A x → B y → key_eq x y ≡ false) → (xs ys : List (List ℤ)) → AllByRecursion A xs → AllByRecursion B ys → AllByRecursion (λ x. AllByRecursion (λ y. key_eq x y ≡ false) ys) xs
+all_pairs A B h [] ys a b = tt
+all_pairs A B h (x ∷ xs) ys a b = (row ys b, all_pairs A B h xs ys a.1 b)
+  where
+    row : (ys : List (List ℤ)) → AllByRecursion B ys → AllByRecursion (λ y. key_eq x y ≡ false) ys
+    row [] b = tt
+    row (y ∷ ys) b = (h x y a.0 b.0, row ys b.1)
+
+pub kept-apart : (p : List ℤ → Bool) (kept work : List Node) (A B : List ℤ → Type 0) → ((x y : List ℤ) → A x → B y → key_eq x y ≡ false) → IsDistinct key_eq (keys kept) → IsDistinct key_eq (keys work) → AllByRecursion (λ (a : Node). A a.key) kept → AllByRecursion (λ (a : Node). B a.key) work → IsDistinct key_eq (keys (kept ++ filter (λ a. p a.key) work))
+kept-apart p kept work A B h d e a b =
+    let is : keys (kept ++ filter (λ a. p a.key) work) ≡ keys kept ++ filter p (keys work) = map-append (λ (b : Node). b.key) kept (filter (λ a. p a.key) work) ∙ ap (λ ks. keys kept ++ ks) (keys-filter p work) in
+    subst (IsDistinct key_eq) (sym is) (distinct-append (keys kept) (filter p (keys work)) d (distinct_filter p (keys work) e) (all_pairs A B h (keys kept) (filter p (keys work)) (all_keys A kept a) (all_filter B p (keys work) (all_keys B work b))))
+
+and_left : (a b : Bool) → (a && b) ≡ true → a ≡ true
+and_left true b e = refl
+and_left false b e = e
+
+pub kept-from : (A : List ℤ → Type 0) (p : List ℤ → Bool) (kept before : List Node) → AllByRecursion (λ (a : Node). A a.key) before → ((q : List ℤ) → is_member key_eq (keys kept) q ≡ (is_member key_eq (keys before) q && p q)) → AllByRecursion (λ (a : Node). A a.key) kept
+kept-from A p kept before a was = all_of_members A kept (λ q m. member-holds A before q a (and_left (is_member key_eq (keys before) q) (p q) (sym (was q) ∙ m)))
+
+pub clash : (width : ℕ) (rooms : List Node) (t : ℕ) (e : Node) → IsDistinct key_eq (keys rooms) → t < length rooms → (x y : List ℤ) → (j : ℕ) × (j < t) × (take width x ≡ (get_or rooms j e).key) → take width y ≡ (get_or rooms t e).key → key_eq x y ≡ false
+clash width rooms t e d low x y a b = unlike x y (λ same.
+    let one : (get_or rooms a.0 e).key ≡ (get_or rooms t e).key = sym a.2 ∙ ap (take width) same ∙ b in
+    let yes : key_eq (get_or rooms a.0 e).key (get_or rooms t e).key ≡ true = alike _ _ one in
+    let no : key_eq (get_or rooms a.0 e).key (get_or rooms t e).key ≡ false = rooms-apart rooms a.0 t e d a.1 low in
+    cc)
+
+pub kept-heavy : (p : List ℤ → Bool) (kept work : List Node) → AllHeavy kept → AllHeavy work → AllHeavy (kept ++ filter (λ a. p a.key) work)
+kept-heavy p kept work a b = all_append (λ (c : Node). 1 ≤ c.weight) kept (filter (λ a. p a.key) work) a (all_filter (λ (c : Node). 1 ≤ c.weight) (λ a. p a.key) work b)

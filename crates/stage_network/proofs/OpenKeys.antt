@@ -1,0 +1,132 @@
+-- Nodes whose keys are those reached through open keys, each once: how many are open, and where they lead.
+use Rattle.std.proofs.Common.{◌≡◌, ℕ, ◌+◌, List, [], ◌∷◌, ◌++◌, map, Bool, true, false, cond, ◌&&◌, ◌||◌, refl, sym, ◌∙◌, ap, subst, add-one, length}
+use Rattle.std.specs.Prelude.{ℤ}
+use Rattle.std.specs.List.{flat_map, filter, list_any, IsDistinct, AllByRecursion, Contains, Any}
+use Rattle.std.specs.Cmp.{IsEquivalence, eq_by_cmp_equiv}
+use Rattle.std.specs.Set.{is_member, distinct_count}
+use Rattle.std.proofs.lemmas.Cmp.{lists_total, int_cmp_total}
+use Rattle.std.proofs.lemmas.List.{length-map}
+use Rattle.std.proofs.lemmas.List.Sums.{length-filter}
+use Rattle.std.proofs.lemmas.List.Folds.{Any-from_list_any, list_any-from_Any}
+use Rattle.std.proofs.lemmas.Map.Made.{is_member-filter, length-from_keys}
+use Rattle.std.proofs.lemmas.Map.Keys.{IsDistinct-head, IsDistinct-tail, IsDistinct-cons}
+use Rattle.std.proofs.lemmas.Map.Views.{Contains-from_any, list_any-from_Contains}
+use Rattle.weights.specs.declared.tails.Tail.{Tail}
+use Rattle.node_pool.specs.Nodes.{Node, key_eq, keys}
+use Rattle.stage_network.specs.Network.{Network}
+use Rattle.stage_network.specs.NodeSteps.{successor, successors}
+use Rattle.stage_network.proofs.NodeSums.{opened_to}
+use Rattle.stage_network.specs.Opened.{is_open, reached_openly, opened_below}
+use Rattle.stage_network.proofs.Steps.{sum_by-map}
+use Rattle.node_pool.proofs.Puts.{same_key, key_equiv}
+
+-- a filter keeps keys apart
+pub all_filter : {X : Type 0} (P : X → Type 0) (p : X → Bool) (xs : List X) → AllByRecursion P xs → AllByRecursion P (filter p xs)
+all_filter P p [] a = tt
+all_filter P p (x ∷ xs) a = elim (p x) as (λ b. AllByRecursion P (cond b (x ∷ filter p xs) (filter p xs))) [ true ↦ (a.0, all_filter P p xs a.1) | false ↦ all_filter P p xs a.1 ]
+
+pub distinct_filter : (p : List ℤ → Bool) (ks : List (List ℤ)) → IsDistinct key_eq ks → IsDistinct key_eq (filter p ks)
+distinct_filter p [] d = d
+distinct_filter p (k ∷ ks) d =
+    elim (p k) as (λ b. IsDistinct key_eq (cond b (k ∷ filter p ks) (filter p ks))) [
+      | true ↦ IsDistinct-cons key_eq k (filter p ks) (all_filter (λ y. key_eq k y ≡ false) p ks (IsDistinct-head key_eq k ks d)) (distinct_filter p ks (IsDistinct-tail key_eq k ks d))
+      | false ↦ distinct_filter p ks (IsDistinct-tail key_eq k ks d)
+    ]
+
+-- lists with the same members lead to the same members
+same_bool : (a b : Bool) → (a ≡ true → b ≡ true) → (b ≡ true → a ≡ true) → a ≡ b
+same_bool true b f h = sym (f refl)
+same_bool false true f h = h refl
+same_bool false false f h = refl
+
+any_member : (p : List ℤ → Bool) (ks js : List (List ℤ)) → ((q : List ℤ) → is_member key_eq ks q ≡ is_member key_eq js q) → list_any p ks ≡ true → list_any p js ≡ true
+any_member p ks js same h =
+    let found : Any (λ k. p k ≡ true) ks = Any-from_list_any p ks h in
+    let here : is_member key_eq ks found.1 ≡ true = list_any-from_Contains key_equiv found.1 ks (found.0, found.2, found.3) in
+    let there : Contains js found.1 = Contains-from_any same_key found.1 js (sym (same found.1) ∙ here) in
+    list_any-from_Any p js (there.0, found.1, there.1, there.2, found.4)
+
+pub list_any-append : {X : Type 0} (p : X → Bool) (xs ys : List X) → list_any p (xs ++ ys) ≡ (list_any p xs || list_any p ys)
+list_any-append p [] ys = refl
+list_any-append p (x ∷ xs) ys = elim (p x) as (λ b. (b || list_any p (xs ++ ys)) ≡ ((b || list_any p xs) || list_any p ys)) [ true ↦ refl | false ↦ list_any-append p xs ys ]
+
+list_any-flat_map : {X Y : Type 0} (p : Y → Bool) (f : X → List Y) (xs : List X) → list_any p (flat_map f xs) ≡ list_any (λ x. list_any p (f x)) xs
+list_any-flat_map p f [] = refl
+list_any-flat_map p f (x ∷ xs) = list_any-append p (f x) (flat_map f xs) ∙ ap (λ b. list_any p (f x) || b) (list_any-flat_map p f xs)
+
+flat_map-members : (f : List ℤ → List (List ℤ)) (ks js : List (List ℤ)) → ((q : List ℤ) → is_member key_eq ks q ≡ is_member key_eq js q) → (q : List ℤ) → is_member key_eq (flat_map f ks) q ≡ is_member key_eq (flat_map f js) q
+flat_map-members f ks js same q =
+    list_any-flat_map (key_eq q) f ks
+    ∙ same_bool _ _ (any_member (λ k. list_any (key_eq q) (f k)) ks js same) (any_member (λ k. list_any (key_eq q) (f k)) js ks (λ r. sym (same r)))
+    ∙ sym (list_any-flat_map (key_eq q) f js)
+
+pub map-append : {X Y : Type 0} (f : X → Y) (xs ys : List X) → map f (xs ++ ys) ≡ map f xs ++ map f ys
+map-append f [] ys = refl
+map-append f (x ∷ xs) ys = ap (λ zs. f x ∷ zs) (map-append f xs ys)
+
+map-map : {X Y Z : Type 0} (f : Y → Z) (h : X → Y) (xs : List X) → map f (map h xs) ≡ map (λ x. f (h x)) xs
+map-map f h [] = refl
+map-map f h (x ∷ xs) = ap (λ zs. f (h x) ∷ zs) (map-map f h xs)
+
+keys-opened_to : (n : Network) (t : Tail) (g : ℕ) (nodes : List Node) → keys (opened_to n t g nodes) ≡ flat_map (λ k. map (n.next g k) (n.choices g k)) (filter (is_open n t g) (keys nodes))
+keys-opened_to n t g [] = refl
+keys-opened_to n t g (a ∷ nodes) =
+    elim (is_open n t g a.key) as (λ b. keys (flat_map (successors n g) (cond b (a ∷ filter (λ a. is_open n t g a.key) nodes) (filter (λ a. is_open n t g a.key) nodes))) ≡ flat_map (λ k. map (n.next g k) (n.choices g k)) (cond b (a.key ∷ filter (is_open n t g) (keys nodes)) (filter (is_open n t g) (keys nodes)))) [
+      | true ↦ map-append (λ (b : Node). b.key) (successors n g a) (opened_to n t g nodes)
+          ∙ ap (λ ks. ks ++ keys (opened_to n t g nodes)) (map-map (λ (b : Node). b.key) (successor n g a) (n.choices g a.key))
+          ∙ ap (λ ks. map (n.next g a.key) (n.choices g a.key) ++ ks) (keys-opened_to n t g nodes)
+      | false ↦ keys-opened_to n t g nodes
+    ]
+
+pub opened_below-next : (n : Network) (t : Tail) (g : ℕ) → opened_below n t (g + 1) ≡ opened_below n t g + distinct_count key_eq (filter (is_open n t g) (reached_openly n t g))
+opened_below-next n t g = rw add-one refl
+
+-- what holds of the nodes' keys holds of keys that are among them
+or_true : (b : Bool) → (b || true) ≡ true
+or_true true = refl
+or_true false = refl
+
+pub member-holds : (P : List ℤ → Type 0) (nodes : List Node) (q : List ℤ) → AllByRecursion (λ a. P a.key) nodes → is_member key_eq (keys nodes) q ≡ true → P q
+member-holds P [] q a m = cc
+member-holds P (b ∷ nodes) q a m =
+    elim (key_eq q b.key) as (λ t. key_eq q b.key ≡ t → (t || is_member key_eq (keys nodes) q) ≡ true → P q) [
+      | true ↦ λ e m'. subst P (sym (same_key q b.key e)) a.0
+      | false ↦ λ e m'. member-holds P nodes q a.1 m'
+    ] refl m
+
+pub all_of_members : (P : List ℤ → Type 0) (merged : List Node) → ((q : List ℤ) → is_member key_eq (keys merged) q ≡ true → P q) → AllByRecursion (λ a. P a.key) merged
+all_of_members P [] h = tt
+all_of_members P (a ∷ merged) h = (
+  h a.key (ap (λ b. b || is_member key_eq (keys merged) a.key) (key_equiv.refl a.key)),
+  all_of_members P merged (λ q m. h q (ap (λ b. key_eq q a.key || b) m ∙ or_true (key_eq q a.key))),
+)
+
+pub same-holds : (P : List ℤ → Type 0) (nodes merged : List Node) → AllByRecursion (λ a. P a.key) nodes → ((q : List ℤ) → is_member key_eq (keys merged) q ≡ is_member key_eq (keys nodes) q) → AllByRecursion (λ a. P a.key) merged
+same-holds P nodes merged a same = all_of_members P merged (λ q m. member-holds P nodes q a (sym (same q) ∙ m))
+
+pub one_distinct : (k : List ℤ) → IsDistinct key_eq (k ∷ [])
+unfolding IsDistinct
+one_distinct k = (tt, tt)
+
+-- the same of the open nodes alone
+and_twice : (a b : Bool) → ((a && b) && b) ≡ (a && b)
+and_twice true true = refl
+and_twice true false = refl
+and_twice false b = refl
+
+pub and_right : (a b : Bool) → (a && b) ≡ true → b ≡ true
+and_right true b e = e
+and_right false true e = refl
+and_right false false e = e
+
+pub openly-members : (n : Network) (t : Tail) (g : ℕ) (nodes : List Node) → ((q : List ℤ) → is_member key_eq (keys nodes) q ≡ (is_member key_eq (reached_openly n t g) q && is_open n t g q)) → (q : List ℤ) → is_member key_eq (keys (opened_to n t g nodes)) q ≡ is_member key_eq (reached_openly n t (g + 1)) q
+openly-members n t g nodes was q =
+    rw add-one (ap (λ ks. is_member key_eq ks q) (keys-opened_to n t g nodes)
+    ∙ flat_map-members (λ k. map (n.next g k) (n.choices g k)) (filter (is_open n t g) (keys nodes)) (filter (is_open n t g) (reached_openly n t g))
+    (λ q. is_member-filter key_equiv (is_open n t g) q (λ x e. ap (is_open n t g) (same_key q x e)) (keys nodes) ∙ ap (λ b. b && is_open n t g q) (was q) ∙ and_twice (is_member key_eq (reached_openly n t g) q) (is_open n t g q)
+    ∙ sym (is_member-filter key_equiv (is_open n t g) q (λ x e. ap (is_open n t g) (same_key q x e)) (reached_openly n t g))) q)
+
+pub openly-counted : (n : Network) (t : Tail) (g : ℕ) (nodes : List Node) → IsDistinct key_eq (keys nodes) → ((q : List ℤ) → is_member key_eq (keys nodes) q ≡ (is_member key_eq (reached_openly n t g) q && is_open n t g q)) → length nodes ≡ distinct_count key_eq (filter (is_open n t g) (reached_openly n t g))
+openly-counted n t g nodes apart was =
+    sym (length-map nodes (λ (a : Node). a.key))
+    ∙ length-from_keys key_equiv (keys nodes) (filter (is_open n t g) (reached_openly n t g)) apart (λ q. was q ∙ sym (is_member-filter key_equiv (is_open n t g) q (λ x e. ap (is_open n t g) (same_key q x e)) (reached_openly n t g)))

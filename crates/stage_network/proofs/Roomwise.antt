@@ -1,0 +1,307 @@
+-- Room by room: what one more node, arc or room changes.
+use Rattle.std.proofs.Common.{◌≡◌, ◌≢◌, ℕ, zero, suc, ◌+◌, ◌-◌, ◌*◌, ◌<◌, ◌≤◌, ◌^◌, List, [], ◌∷◌, ◌++◌, length, map, take, drop, get_or, Bool, true, false, cond, ◌||◌, refl, sym, ◌∙◌, ap, arith, subst, add-one, append_assoc, append-nil, nat_eq, inl, inr, ◌⊎◌}
+use Rattle.std.proofs.lemmas.Bool.{cases_eq}
+use Rattle.stage_network.proofs.WayLists.{not_eq}
+use Rattle.std.specs.Prelude.{ℤ}
+use Rattle.std.specs.List.{sum_by, flat_map, filter, Contains, AllByRecursion}
+use Rattle.node_pool.specs.Pool.{IsMerge, IsPlaced}
+use Rattle.node_pool.proofs.Puts.{alike, unlike, same_key}
+use Rattle.stage_network.proofs.OpenKeys.{member-holds}
+use Rattle.std.proofs.lemmas.List.{take-append-drop, take-append-le}
+use Rattle.std.specs.List.{IsDistinct}
+use Rattle.node_pool.specs.Nodes.{Node, node, key_eq, keys, is_held, weighted, weight_in}
+use Rattle.stage_network.specs.Network.{Network, IsReached}
+use Rattle.stage_network.specs.NodeSteps.{AllReached, AllHeavy, successor, successors}
+use Rattle.stage_network.specs.Opened.{is_open}
+use Rattle.stage_network.specs.Rooms.{AreRoommates, IsRoomed}
+use Rattle.stage_network.proofs.Steps.{sum_by-map, sum_by-flat_map, sum_by-same}
+use Rattle.stage_network.specs.WaySteps.{IsRun, Way, segment, way_nodes, spread_out, bucket, lift, IsFine, AllFine}
+use Rattle.std.proofs.lemmas.Map.Keys.{IsDistinct-head, IsDistinct-tail, IsDistinct-cons}
+use Rattle.std.proofs.lemmas.List.{length_push, get_or_default, length-drop, length-take-le, take_all, get_or-take, get_or-drop}
+use Rattle.std.proofs.lemmas.List.Sums.{sum_by-cons, sum_by_more, sum_by-take-le, sum_by-append}
+use Rattle.std.proofs.lemmas.List.Elements.{filter_more, filter-append}
+use Rattle.std.proofs.lemmas.List.Concat.{flat_map-append}
+use Rattle.weights.specs.declared.tails.Tail.{Tail}
+use Rattle.stage_network.proofs.Stepping.{reached_at}
+
+-- an open node more
+module _ (n : Network) (t : Tail) (g : ℕ) (nodes : List Node) (i : ℕ) (low : i < length nodes) (d : Node) (k : List ℤ) (w : ℕ) (key : k ≡ (get_or nodes i d).key) (weight : w ≡ (get_or nodes i d).weight) where
+  is_node : node k w ≡ get_or nodes i (node k w)
+  is_node = rw (key, weight) (get_or_default nodes i d (get_or nodes i d) low)
+
+  pub kept-next : (kept kept' old : List Node) → kept ≡ old ++ filter (λ a. is_open n t g a.key) (take i nodes) → kept' ≡ kept ++ cond (is_open n t g k) (node k w ∷ []) [] → kept' ≡ old ++ filter (λ a. is_open n t g a.key) (take (i + 1) nodes)
+  kept-next kept kept' old before step =
+      step ∙ ap (λ ns. ns ++ cond (is_open n t g k) (node k w ∷ []) []) before
+      ∙ append_assoc old (filter (λ a. is_open n t g a.key) (take i nodes)) (cond (is_open n t g k) (node k w ∷ []) [])
+      ∙ ap (λ ns. old ++ ns) (sym (filter_more (λ b. is_open n t g b.key) nodes i (node k w) low ∙ ap (λ b. filter (λ b. is_open n t g b.key) (take i nodes) ++ cond (is_open n t g b.key) (b ∷ []) []) (sym is_node)))
+
+-- heavy nodes
+pub heavy_at : (nodes : List Node) (i : ℕ) (d : Node) → AllHeavy nodes → i < length nodes → 1 ≤ (get_or nodes i d).weight
+heavy_at [] i d a h = absurd (omega arith)
+heavy_at (b ∷ nodes) zero d a h = a.0
+heavy_at (b ∷ nodes) (suc i) d a h = heavy_at nodes i d a.1 (omega (arith, h))
+
+-- segments
+pub length-segment : (s e : ℕ) (nodes : List Node) → s ≤ e → e ≤ length nodes → length (segment s e nodes) ≡ e - s
+length-segment s e nodes h k = length-take-le (e - s) (drop s nodes) (omega (arith, length-drop s nodes, h, k))
+
+pub segment-at : (s e i : ℕ) (nodes : List Node) (d : Node) → s ≤ i → i < e → e ≤ length nodes → get_or (segment s e nodes) (i - s) d ≡ get_or nodes i d
+segment-at s e i nodes d h k l =
+    let on : s + (i - s) ≡ i = omega (arith, h) in
+    get_or-take (e - s) (drop s nodes) (i - s) d (omega (arith, h, k)) ∙ get_or-drop s nodes (i - s) d ∙ ap (λ j. get_or nodes j d) on
+
+-- the nodes that an arc leads to, one more
+module _ (n : Network) (g : ℕ) (c : List ℕ) (f : List ℤ → ℕ) (nodes : List Node) (s e i : ℕ) (d : Node) (h : s ≤ i) (k : i < e) (l : e ≤ length nodes) where
+  part : Node → ℕ
+  part b = (b.weight * n.weight g b.key c) * f (n.next g b.key c)
+
+  as_sum : (xs : List Node) → weighted f (map (λ b. successor n g b c) xs) ≡ sum_by part xs
+  unfolding part
+  as_sum xs = sum_by-map (λ (b : Node). b.weight * f b.key) (λ b. successor n g b c) xs
+
+  pub pour-more : weighted f (map (λ b. successor n g b c) (take ((i + 1) - s) (segment s e nodes))) ≡ weighted f (map (λ b. successor n g b c) (take (i - s) (segment s e nodes))) + ((get_or nodes i d).weight * n.weight g (get_or nodes i d).key c) * f (n.next g (get_or nodes i d).key c)
+  unfolding part
+  pour-more =
+      let on : (i + 1) - s ≡ (i - s) + 1 = omega (arith, h) in
+      let below : i - s < length (segment s e nodes) = omega (arith, length-segment s e nodes (omega (arith, h, k)) l, h, k) in
+      rw on (as_sum (take ((i - s) + 1) (segment s e nodes)) ∙ sum_by_more part (segment s e nodes) (i - s) d below
+      ∙ ap (λ b. sum_by part (take (i - s) (segment s e nodes)) + part b) (segment-at s e i nodes d h k l)
+      ∙ ap (λ m. m + part (get_or nodes i d)) (sym (as_sum (take (i - s) (segment s e nodes)))))
+
+  pub pour-fits : weighted f (map (λ b. successor n g b c) (take (i - s) (segment s e nodes))) + ((get_or nodes i d).weight * n.weight g (get_or nodes i d).key c) * f (n.next g (get_or nodes i d).key c) ≤ weighted f (map (λ b. successor n g b c) (segment s e nodes))
+  unfolding part
+  pour-fits = omega (arith, pour-more, as_sum (take ((i + 1) - s) (segment s e nodes)), as_sum (segment s e nodes), sum_by-take-le part (segment s e nodes) ((i + 1) - s))
+
+-- sums exchanged
+pub sum_by-add : {X : Type 0} (f h : X → ℕ) (xs : List X) → sum_by (λ x. f x + h x) xs ≡ sum_by f xs + sum_by h xs
+sum_by-add f h [] = omega arith
+sum_by-add f h (x ∷ xs) = rw (sum_by-cons (λ x. f x + h x) x xs, sum_by-cons f x xs, sum_by-cons h x xs, sum_by-add f h xs) (omega arith)
+
+sum_by-none : {X : Type 0} (xs : List X) → sum_by (λ (x : X). 0) xs ≡ 0
+sum_by-none [] = refl
+sum_by-none (x ∷ xs) = rw (sum_by-cons (λ x. 0) x xs) (omega (arith, sum_by-none xs))
+
+pub by_choices : (n : Network) (g : ℕ) (f : List ℤ → ℕ) (cs : List (List ℕ)) (seg : List Node) → AllByRecursion (λ (b : Node). n.choices g b.key ≡ cs) seg → sum_by (λ c. weighted f (map (λ b. successor n g b c) seg)) cs ≡ weighted f (flat_map (successors n g) seg)
+by_choices n g f cs [] a = sum_by-none cs
+by_choices n g f cs (b ∷ seg) a =
+    sum_by-same _ (λ c. (b.weight * n.weight g b.key c) * f (n.next g b.key c) + weighted f (map (λ b. successor n g b c) seg)) (λ c. sum_by-cons (λ (b : Node). b.weight * f b.key) (successor n g b c) (map (λ b. successor n g b c) seg)) cs
+    ∙ sum_by-add (λ c. (b.weight * n.weight g b.key c) * f (n.next g b.key c)) (λ c. weighted f (map (λ b. successor n g b c) seg)) cs
+    ∙ ap (λ m. m + sum_by (λ c. weighted f (map (λ b. successor n g b c) seg)) cs) (sym (sum_by-map (λ (b : Node). b.weight * f b.key) (successor n g b) cs))
+    ∙ ap (λ m. weighted f (map (successor n g b) cs) + m) (by_choices n g f cs seg a.1)
+    ∙ ap (λ xs. weighted f (map (successor n g b) xs) + weighted f (flat_map (successors n g) seg)) (sym a.0)
+    ∙ sym (sum_by-append (λ (b : Node). b.weight * f b.key) (successors n g b) (flat_map (successors n g) seg))
+
+all_take : (P : Node → Type 0) (xs : List Node) (m : ℕ) → ((i : ℕ) (d : Node) → i < m → i < length xs → P (get_or xs i d)) → AllByRecursion P (take m xs)
+all_take P xs zero h = tt
+all_take P [] (suc m) h = tt
+all_take P (x ∷ xs) (suc m) h = (h 0 x (omega arith) (omega arith), all_take P xs m (λ i d a b. h (suc i) d (omega (arith, a)) (omega (arith, b))))
+
+pub all_segment : (P : Node → Type 0) (s e : ℕ) (nodes : List Node) → ((i : ℕ) (d : Node) → s ≤ i → i < e → P (get_or nodes i d)) → AllByRecursion P (segment s e nodes)
+all_segment P s e nodes h = all_take P (drop s nodes) (e - s) (λ i d a b. subst P (sym (get_or-drop s nodes i d)) (h (s + i) d (omega arith) (omega (arith, a))))
+
+-- one more arc
+pub spread-push : (n : Network) (g : ℕ) (nodes : List Node) (f : List ℤ → ℕ) (ways : List Way) (w : Way) → weighted f (spread_out n g nodes (ways ++ w ∷ [])) ≡ weighted f (spread_out n g nodes ways) + weighted f (way_nodes n g nodes w)
+spread-push n g nodes f ways w =
+    ap (weighted f) (flat_map-append (way_nodes n g nodes) ways (w ∷ []))
+    ∙ sum_by-append (λ (b : Node). b.weight * f b.key) (spread_out n g nodes ways) (way_nodes n g nodes w ++ [])
+    ∙ ap (λ xs. weighted f (spread_out n g nodes ways) + weighted f xs) (append-nil (way_nodes n g nodes w))
+
+pub fine-push : (n : Network) (g width : ℕ) (nodes rooms : List Node) (ways : List Way) (w : Way) → AllFine n g width nodes rooms ways → IsFine n g width nodes rooms w → AllFine n g width nodes rooms (ways ++ w ∷ [])
+fine-push n g width nodes rooms [] w a h = (h, tt)
+fine-push n g width nodes rooms (v ∷ ways) w a h = (a.0, fine-push n g width nodes rooms ways w a.1 h)
+
+pub fine-kept : (n : Network) (g width : ℕ) (nodes rooms rooms' : List Node) → ((i : ℕ) (d : Node) → i < length rooms → (get_or rooms' i d).key ≡ (get_or rooms i d).key) → length rooms ≤ length rooms' → (ways : List Way) → AllFine n g width nodes rooms ways → AllFine n g width nodes rooms' ways
+fine-kept n g width nodes rooms rooms' kept more [] a = tt
+fine-kept n g width nodes rooms rooms' kept more (w ∷ ways) a = (
+  record {
+    chosen = a.0.chosen;
+    run = a.0.run;
+    target = omega (arith, a.0.target, more);
+    room = λ i d e h k. a.0.room i d e h k ∙ sym (kept w.target e a.0.target);
+  },
+  fine-kept n g width nodes rooms rooms' kept more ways a.1,
+)
+
+pub placed-more : (old : List Node) (k : List ℤ) (new : List Node) (i : ℕ) → IsPlaced old k new i → length old ≤ length new
+placed-more old k new i p = by (nat_eq i (length old)) p.count
+  where
+    by : (b : Bool) → length new ≡ cond b (length old + 1) (length old) → length old ≤ length new
+    by true e = omega arith
+    by false e = omega arith
+
+pub fine_way : (n : Network) (g width : ℕ) (nodes rooms : List Node) (s e t w : ℕ) (c : List ℕ) (k next : List ℤ) → IsRoomed n width → AllReached n g nodes → s < e → e ≤ length nodes → IsRun width nodes s e → t < length rooms → IsReached n g k → ((d : Node) → k ≡ (get_or nodes s d).key) → Contains (n.choices g k) c → w ≡ n.weight g k c → next ≡ n.next g k c → ((d : Node) → (get_or rooms t d).key ≡ take width next) → IsFine n g width nodes rooms (record { start = s; end = e; choice = c; weight = w; target = t })
+fine_way n g width nodes rooms s e t w c k next roomed reached order last run target here key allowed weight is place =
+    let mates : (i : ℕ) (d : Node) → s ≤ i → i < e → AreRoommates n width g (get_or nodes i d).key k = λ i d h j. record {
+      first = reached_at n g nodes i d reached (omega (arith, j, last));
+      second = here;
+      same = run i d h j ∙ sym (ap (take width) (key d));
+    } in
+    record {
+      chosen = record {
+        order = order;
+        last = last;
+        allowed = λ i d h j. subst (λ cs. Contains cs c) (sym (roomed.choices g (get_or nodes i d).key k (mates i d h j))) allowed;
+        weighs = λ i d h j. roomed.weight g (get_or nodes i d).key k c (mates i d h j) allowed ∙ sym weight;
+      };
+      run = run;
+      target = target;
+      room = λ i d e' h j. roomed.next g (get_or nodes i d).key k c (mates i d h j) allowed ∙ ap (take width) (sym is) ∙ sym (place e');
+    }
+
+nat_eq-same : (m : ℕ) → nat_eq m m ≡ true
+nat_eq-same m = grind arith
+
+pub heavy-arc : (a b : ℕ) → 1 ≤ a → 1 ≤ b → 1 ≤ a * b
+heavy-arc a b h k = grind arith
+
+-- the arcs to one room, from the last to the first
+bucket-last : (t : ℕ) (ways : List Way) (i : ℕ) (d : Way) → i < length ways → (get_or ways i d).target ≡ t → bucket t (take (i + 1) ways) ≡ bucket t (take i ways) ++ get_or ways i d ∷ []
+bucket-last t ways i d low e =
+    let yes : nat_eq (get_or ways i d).target t ≡ true = rw e (nat_eq-same t) in
+    filter_more (λ a. nat_eq a.target t) ways i d low ∙ ap (λ b. bucket t (take i ways) ++ cond b (get_or ways i d ∷ []) []) yes
+
+pub fill-step : (n : Network) (g : ℕ) (nodes : List Node) (f : List ℤ → ℕ) (t : ℕ) (ways : List Way) (i place : ℕ) (d : Way) → i < length ways → (get_or ways i d).target ≡ t → place ≡ i + 1 → weighted f (spread_out n g nodes (bucket t (take place ways))) ≡ weighted f (spread_out n g nodes (bucket t (take i ways))) + weighted f (way_nodes n g nodes (get_or ways i d))
+fill-step n g nodes f t ways i place d low e is =
+    rw is (ap (λ ws. weighted f (spread_out n g nodes ws)) (bucket-last t ways i d low e) ∙ spread-push n g nodes f (bucket t (take i ways)) (get_or ways i d))
+
+pub all_at : {X : Type 0} (P : X → Type 0) (xs : List X) (i : ℕ) (d : X) → AllByRecursion P xs → i < length xs → P (get_or xs i d)
+all_at P [] i d a h = absurd (omega arith)
+all_at P (x ∷ xs) zero d a h = a.0
+all_at P (x ∷ xs) (suc i) d a h = all_at P xs i d a.1 (omega (arith, h))
+
+-- the nodes of one room more
+take-none : (m : ℕ) → take {A = Node} m [] ≡ []
+take-none zero = refl
+take-none (suc m) = refl
+
+take-add : (xs : List Node) (s m : ℕ) → take (s + m) xs ≡ take s xs ++ take m (drop s xs)
+take-add xs zero m = let e : 0 + m ≡ m = omega arith in ap (λ j. take j xs) e
+take-add [] (suc s) m = take-none (suc s + m) ∙ sym (take-none m)
+take-add (x ∷ xs) (suc s) m = let e : suc s + m ≡ suc (s + m) = omega arith in rw e (ap (λ ys. x ∷ ys) (take-add xs s m))
+
+pub list-more : (n : Network) (g : ℕ) (f : List ℤ → ℕ) (nodes : List Node) (s e : ℕ) → s ≤ e → weighted f (flat_map (successors n g) (take e nodes)) ≡ weighted f (flat_map (successors n g) (take s nodes)) + weighted f (flat_map (successors n g) (segment s e nodes))
+list-more n g f nodes s e h =
+    let on : s + (e - s) ≡ e = omega (arith, h) in
+    ap (λ j. weighted f (flat_map (successors n g) (take j nodes))) (sym on)
+    ∙ ap (λ xs. weighted f (flat_map (successors n g) xs)) (take-add nodes s (e - s))
+    ∙ ap (weighted f) (flat_map-append (successors n g) (take s nodes) (segment s e nodes))
+    ∙ sum_by-append (λ (b : Node). b.weight * f b.key) (flat_map (successors n g) (take s nodes)) (flat_map (successors n g) (segment s e nodes))
+
+-- partials behind a room
+pub lift-weighted : (f : List ℤ → ℕ) (r : List ℤ) (nodes : List Node) → weighted f (lift r nodes) ≡ weighted (λ k. f (r ++ k)) nodes
+lift-weighted f r nodes = sum_by-map (λ (a : Node). a.weight * f a.key) (λ (a : Node). node (r ++ a.key) a.weight) nodes
+
+pub lift-whole : (width : ℕ) (r next : List ℤ) → take width next ≡ r → r ++ drop width next ≡ next
+lift-whole width r next e = rw (← e) (take-append-drop width next)
+
+pub lift-heavy : (r : List ℤ) (nodes : List Node) → AllHeavy nodes → AllHeavy (lift r nodes)
+lift-heavy r [] a = tt
+lift-heavy r (b ∷ nodes) a = (a.0, lift-heavy r nodes a.1)
+
+pub lift-length : (r : List ℤ) (nodes : List Node) → length (lift r nodes) ≡ length nodes
+lift-length r [] = refl
+lift-length r (b ∷ nodes) = ap suc (lift-length r nodes)
+
+pub lift-at : (r : List ℤ) (nodes : List Node) (i : ℕ) (d e : Node) → i < length nodes → get_or (lift r nodes) i d ≡ node (r ++ (get_or nodes i e).key) (get_or nodes i e).weight
+lift-at r [] i d e h = absurd (omega arith)
+lift-at r (b ∷ nodes) zero d e h = refl
+lift-at r (b ∷ nodes) (suc i) d e h = lift-at r nodes i d e (omega (arith, h))
+
+same_behind : (r j k : List ℤ) → r ++ j ≡ r ++ k → j ≡ k
+same_behind [] j k e = e
+same_behind (x ∷ r) j k e = same_behind r j k (ap (drop 1) e)
+
+lift-apart : (r j : List ℤ) (nodes : List Node) → AllByRecursion (λ y. key_eq j y ≡ false) (keys nodes) → AllByRecursion (λ y. key_eq (r ++ j) y ≡ false) (keys (lift r nodes))
+lift-apart r j [] a = tt
+lift-apart r j (b ∷ nodes) a =
+    (unlike (r ++ j) (r ++ b.key) (λ e. let yes : key_eq j b.key ≡ true = alike j b.key (same_behind r j b.key e) in let no : key_eq j b.key ≡ false = a.0 in cc), lift-apart r j nodes a.1)
+
+pub lift-distinct : (r : List ℤ) (nodes : List Node) → IsDistinct key_eq (keys nodes) → IsDistinct key_eq (keys (lift r nodes))
+lift-distinct r [] d = d
+lift-distinct r (b ∷ nodes) d = IsDistinct-cons key_eq (r ++ b.key) (keys (lift r nodes)) (lift-apart r b.key nodes (IsDistinct-head key_eq b.key (keys nodes) d)) (lift-distinct r nodes (IsDistinct-tail key_eq b.key (keys nodes) d))
+
+pub whole-key : (width : ℕ) (r p k : List ℤ) → r ≡ take width k → p ≡ drop width k → r ++ p ≡ k
+whole-key width r p k e h = rw (e, h) (take-append-drop width k)
+
+pub front-room : (width : ℕ) (r k : List ℤ) → length r ≡ width → take width (r ++ k) ≡ r
+front-room width r k e = take-append-le width r k (omega (arith, e)) ∙ take_all width r (omega (arith, e))
+
+-- partials of nodes that are all of one room
+pub whole-weighted : (width : ℕ) (r : List ℤ) (f : List ℤ → ℕ) (nodes : List Node) → AllByRecursion (λ (b : Node). take width b.key ≡ r) nodes → weighted (λ k. f (r ++ drop width k)) nodes ≡ weighted f nodes
+whole-weighted width r f [] a = refl
+whole-weighted width r f (b ∷ nodes) a =
+    let here : f (r ++ drop width b.key) ≡ f b.key = ap f (lift-whole width r b.key a.0) in
+    rw (sum_by-cons (λ (c : Node). c.weight * f (r ++ drop width c.key)) b nodes, sum_by-cons (λ (c : Node). c.weight * f c.key) b nodes, here, whole-weighted width r f nodes a.1) refl
+
+-- a weight that is merged in keeps the nodes heavy
+heavy-in : (k : List ℤ) (nodes : List Node) → AllHeavy nodes → is_held nodes k ≡ true → 1 ≤ weight_in nodes k
+heavy-in k [] a m = cc
+heavy-in k (b ∷ nodes) a m = elim (key_eq b.key k) as (λ t. key_eq b.key k ≡ t → 1 ≤ cond t b.weight (weight_in nodes k)) [
+  | true ↦ λ e. a.0
+  | false ↦ λ e.
+      let other : key_eq k b.key ≡ false = unlike k b.key (λ same. let yes : key_eq b.key k ≡ true = alike b.key k (sym same) in cc) in
+      heavy-in k nodes a.1 (ap (λ t. t || is_held nodes k) (sym other) ∙ m)
+] refl
+
+heavy-of : (nodes : List Node) → IsDistinct key_eq (keys nodes) → ((k : List ℤ) → is_held nodes k ≡ true → 1 ≤ weight_in nodes k) → AllHeavy nodes
+heavy-of [] d h = tt
+heavy-of (b ∷ nodes) d h =
+    let here : key_eq b.key b.key ≡ true = alike b.key b.key refl in (
+      subst (λ t. 1 ≤ cond t b.weight (weight_in nodes b.key)) here (h b.key (ap (λ t. t || is_held nodes b.key) here)),
+      heavy-of nodes (IsDistinct-tail key_eq b.key (keys nodes) d) (λ k m.
+          let apart : key_eq b.key k ≡ false = member-holds (λ j. key_eq b.key j ≡ false) nodes k (all_keys_back nodes (IsDistinct-head key_eq b.key (keys nodes) d)) m in
+          subst (λ t. 1 ≤ cond t b.weight (weight_in nodes k)) apart (h k (ap (λ t. key_eq k b.key || t) m ∙ or_true (key_eq k b.key)))),
+    )
+  where
+    or_true : (t : Bool) → (t || true) ≡ true
+    or_true true = refl
+    or_true false = refl
+
+    all_keys_back : (xs : List Node) → AllByRecursion (λ j. key_eq b.key j ≡ false) (keys xs) → AllByRecursion (λ (a : Node). key_eq b.key a.key ≡ false) xs
+    all_keys_back [] a = tt
+    all_keys_back (x ∷ xs) a = (a.0, all_keys_back xs a.1)
+
+pub heavy-merge : (old : List Node) (k : List ℤ) (w : ℕ) (new : List Node) → IsMerge old k w new → 1 ≤ w → AllHeavy old → AllHeavy new
+heavy-merge old k w new m h a = heavy-of new m.distinct (λ j held. elim (key_eq j k) as (λ t. key_eq j k ≡ t → 1 ≤ weight_in new j) [
+  | true ↦ λ e. rw (same_key j k e) (omega (arith, m.here, h))
+  | false ↦ λ e. rw (m.others j (λ same. let yes : key_eq j k ≡ true = alike j k same in cc)) (heavy-in j old a (ap (λ t. t || is_held old j) (sym e) ∙ sym (m.members j) ∙ held))
+] refl)
+
+-- one node more
+pub take-next : (xs : List Node) (i : ℕ) (a : Node) → i < length xs → a ≡ get_or xs i a → take (i + 1) xs ≡ take i xs ++ a ∷ []
+take-next xs i a h e = rw add-one (by xs i h e)
+  where
+    by : (xs : List Node) (i : ℕ) → i < length xs → a ≡ get_or xs i a → take (suc i) xs ≡ take i xs ++ a ∷ []
+    by [] i h e = absurd (omega arith)
+    by (x ∷ xs) zero h e = rw e refl
+    by (x ∷ xs) (suc i) h e = ap (λ ys. x ∷ ys) (by xs i (omega (arith, h)) e)
+
+pub lift-rooms : (width : ℕ) (r : List ℤ) (nodes : List Node) → length r ≡ width → AllByRecursion (λ (a : Node). take width a.key ≡ r) (lift r nodes)
+lift-rooms width r [] e = tt
+lift-rooms width r (b ∷ nodes) e = (front-room width r b.key e, lift-rooms width r nodes e)
+
+-- what is merged into nothing stands alone
+merge_alone : (k : List ℤ) (w : ℕ) (new : List Node) → IsMerge [] k w new → (j : List ℤ) → is_held new j ≡ true → j ≡ k
+merge_alone k w new m j held = same_key j k (or_none (key_eq j k) (sym (m.members j) ∙ held))
+  where
+    or_none : (b : Bool) → (b || false) ≡ true → b ≡ true
+    or_none true e = refl
+    or_none false e = e
+
+pub merge_first : (k : List ℤ) (w : ℕ) (new : List Node) → IsMerge [] k w new → new ≡ node k w ∷ []
+merge_first k w [] m = let yes : key_eq k k ≡ true = alike k k refl in let no : false ≡ (key_eq k k || false) = m.members k in let clash : false ≡ (true || false) = no ∙ ap (λ t. t || false) yes in cc
+merge_first k w (a ∷ []) m =
+    let key : a.key ≡ k = merge_alone k w (a ∷ []) m a.key (ap (λ t. t || false) (alike a.key a.key refl)) in
+    let here : cond (key_eq a.key k) a.weight 0 ≡ 0 + w = m.here in
+    let weight : a.weight ≡ 0 + w = sym (ap (λ t. cond t a.weight 0) (alike a.key k key)) ∙ here in
+    ap (λ x. node x a.weight ∷ []) key ∙ ap (λ x. node k x ∷ []) (let e : a.weight ≡ w = omega (arith, weight) in e)
+merge_first k w (a ∷ b ∷ rest) m =
+    let first : a.key ≡ k = merge_alone k w (a ∷ b ∷ rest) m a.key (ap (λ t. t || is_held (b ∷ rest) a.key) (alike a.key a.key refl)) in
+    let second : b.key ≡ k = merge_alone k w (a ∷ b ∷ rest) m b.key (ap (λ t. key_eq b.key a.key || (t || is_held rest b.key)) (alike b.key b.key refl) ∙ or_true (key_eq b.key a.key)) in
+    let no : key_eq a.key b.key ≡ false = (IsDistinct-head key_eq a.key (keys (b ∷ rest)) m.distinct).0 in
+    let yes : key_eq a.key b.key ≡ true = alike a.key b.key (first ∙ sym second) in
+    cc
+  where
+    or_true : (t : Bool) → (t || true) ≡ true
+    or_true true = refl
+    or_true false = refl

@@ -1,0 +1,20 @@
+use Rattle.std.proofs.Common.{◌≡◌, ◌<◌, ◌≤◌, ◌+◌, ◌-◌, ◌*◌, ◌++◌, ◌∷◌, ℕ, List, [], length, take, drop, get_or, ap, sym, ◌∙◌, subst, arith}
+use Rattle.std.proofs.lemmas.List.{get_or_read}
+use Rattle.std.specs.Prelude.{ℤ}
+use Rattle.node_pool.specs.Nodes.{Node, NodeRow, node}
+use Rattle.node_pool.specs.TableSteps.{key_at}
+use Rattle.stage_network.specs.StageSteps.{Housed, whole_nodes}
+use Rattle.stage_network.proofs.Housing.{count-whole, whole-partial}
+use Rattle.stage_network.proofs.nodes.StageNodes.partial.Goals as goal
+
+pub key-requires : goal.key-requires
+key-requires g c =
+    let p = c.self.inside in
+    let low : c.args.i < length p.homes.items = omega (arith, c.requires, ap (λ (h : Housed). length h.nodes) c.self.view_is, count-whole _ _ _ _ _ c.self.invariant) in
+    omega (arith, low, c.self.invariant.each)
+
+pub returns-clause-partial : goal.returns-clause-partial
+returns-clause-partial g c = λ d.
+    let p = c.self.inside in
+    let low : c.args.i < length p.homes.items = omega (arith, c.requires, ap (λ (h : Housed). length h.nodes) c.self.view_is, count-whole _ _ _ _ _ c.self.invariant) in
+    c.key.ensures.key d ∙ sym (whole-partial _ _ _ _ _ c.self.invariant c.args.i d low) ∙ ap (λ (h : Housed). drop h.room_width (get_or h.nodes c.args.i d).key) c.self.view_is

@@ -1,0 +1,20 @@
+use Rattle.std.proofs.Common.{◌≡◌, ◌<◌, ◌≤◌, ◌+◌, ◌-◌, ◌*◌, ◌++◌, ◌∷◌, ℕ, List, [], length, take, drop, get_or, ap, sym, ◌∙◌, subst, arith}
+use Rattle.std.proofs.lemmas.List.{get_or_read}
+use Rattle.std.specs.Prelude.{ℤ}
+use Rattle.node_pool.specs.Nodes.{Node, NodeRow, node}
+use Rattle.node_pool.specs.TableSteps.{key_at}
+use Rattle.stage_network.specs.StageSteps.{Housed, whole_nodes}
+use Rattle.stage_network.proofs.Housing.{count-whole, whole-weight}
+use Rattle.stage_network.proofs.nodes.StageNodes.weight.Goals as goal
+
+pub weight-requires : goal.weight-requires
+weight-requires g c =
+    let p = c.self.inside in
+    let low : c.args.i < length p.homes.items = omega (arith, c.requires, ap (λ (h : Housed). length h.nodes) c.self.view_is, count-whole _ _ _ _ _ c.self.invariant) in
+    omega (arith, low, c.self.invariant.each)
+
+pub returns : goal.returns
+returns g c = λ d.
+    let p = c.self.inside in
+    let low : c.args.i < length p.homes.items = omega (arith, c.requires, ap (λ (h : Housed). length h.nodes) c.self.view_is, count-whole _ _ _ _ _ c.self.invariant) in
+    c.weight.ensures d ∙ sym (whole-weight _ _ _ _ _ c.self.invariant c.args.i d low) ∙ ap (λ (h : Housed). (get_or h.nodes c.args.i d).weight) c.self.view_is

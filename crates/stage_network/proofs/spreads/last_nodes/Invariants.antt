@@ -1,0 +1,44 @@
+use Rattle.std.proofs.Common.{◌≡◌, ◌<◌, ◌≤◌, ◌+◌, ◌-◌, ◌*◌, ◌++◌, ◌∷◌, ◌&&◌, ℕ, List, [], Bool, suc, length, get_or, take, drop, map, cond, ap, sym, subst, ◌∙◌, arith, rules, refl, add-one, nat_eq, nat_lt}
+use Rattle.std.specs.Prelude.{ℤ}
+use Rattle.std.specs.List.{Contains, AllByRecursion, IsDistinct, sum_by, flat_map, filter}
+use Rattle.std.proofs.lemmas.List.{take_all, length-append, length-take-le}
+use Rattle.std.proofs.lemmas.List.Elements.{All-contains_itself, recursion_from_All}
+use Rattle.std.proofs.lemmas.List.Sums.{sum_by-cons}
+use Rattle.node_pool.specs.Nodes.{Node, node, weighted, key_eq, keys, is_held, weight_in}
+use Rattle.node_pool.proofs.Puts.{weight_in-le, none_distinct}
+use Rattle.stage_network.specs.StageSteps.{Housed}
+use Rattle.stage_network.specs.Network.{Network, IsReached, pending}
+use Rattle.stage_network.specs.Completions.{total_weight, extreme_weight, is_inside}
+use Rattle.stage_network.specs.Laws.{IsLawful}
+use Rattle.stage_network.specs.Opened.{is_open, reached_openly, opened_below}
+use Rattle.stage_network.specs.Rooms.{AreRoommates, IsWay}
+use Rattle.stage_network.specs.NodeSteps.{successor, successors, all_successors, AllReached, AllHeavy, AreNodes, closed_weight, inside_weight, open_nodes}
+use Rattle.stage_network.specs.WaySteps.{Way, WayList, AreWays, IsFine, AllFine, IsRun, IsPlace, segment, chosen, way_nodes, spread_out, bucket, firsts, lift}
+use Rattle.stage_network.proofs.Stepping.{reached_at}
+use Rattle.stage_network.specs.Completions.{ending_weight}
+use Rattle.stage_network.proofs.ToCome.{to_come}
+use Rattle.stage_network.proofs.spreads.last_nodes.Given as goal
+
+-- the nodes still hold every completion, by the key that it ends at
+abbrev pub invariant-loop-stage : goal.invariant-loop-stage
+invariant-loop-stage g l =
+    let n : Network = g.S.Stages.network l.stages in
+    record {
+      told : (p : List ℤ → Bool) → weighted (to_come n p l.stage) l.here.nodes ≡ ending_weight n p;
+      fits : weighted (total_weight n l.stage) l.here.nodes ≤ total_weight n 0 n.first;
+      reached : AllReached n l.stage l.here.nodes;
+      heavy : AllHeavy l.here.nodes;
+      end : l.count ≡ n.count;
+      here : l.here.room_width ≡ l.width;
+      here_wide : l.here.width ≡ n.width;
+      ahead : l.ahead.room_width ≡ l.width;
+      ahead_wide : l.ahead.width ≡ n.width;
+      work : l.width + l.work.width ≡ n.width;
+      rooms : l.rooms.width ≡ l.width;
+      ways : l.ways.width ≡ n.choice_width;
+      key : length l.key ≡ n.width;
+      choice : length l.choice ≡ n.choice_width;
+      next_key : length l.next_key ≡ n.width;
+      step : length l.step ≡ g.S.Roomed.step_width l.stages;
+      next : length l.next ≡ l.work.width;
+    }

@@ -1,0 +1,68 @@
+-- A network that follows a test: its completions end at what the test measures of its
+-- rearrangements; and the answer of a test.
+use Rattle.std.specs.Prelude.{◌≡◌, ℕ, ℤ, Bool, true, filter, Option, Some, None, if◌then◌else◌}
+use Rattle.std.specs.List.{sum_by}
+use Rattle.weights.specs.declared.tails.Tail.{Tail}
+use Rattle.weights.specs.declared.tails.Tail.TheVariants.{Less, Greater, Two}
+use Rattle.weights.specs.declared.tails.Tails.{Tails}
+use Rattle.weights.specs.Conditional.{ConditionalTest, numerator, observed_statistic, total}
+use Rattle.weights.specs.Rules.{measured, rule_of}
+use Rattle.stage_network.specs.Network.{Network}
+use Rattle.stage_network.specs.Completions.{value_weights}
+use Rattle.stage_network.specs.Judged.{HasIntervals}
+use Rattle.stage_network.specs.Opened.{opened_below}
+use Rattle.stage_network.specs.declared.sums.TailSum.{TailSum}
+use Rattle.stage_network.specs.declared.answers.Answer.{Answer}
+use Rattle.stage_network.specs.declared.answers.Way.{Way}
+use Rattle.stage_network.specs.declared.answers.Way.TheVariants as way
+
+-- the summed weight of the rearrangements whose measure for a tail passes
+abbrev pub measured_weight : ConditionalTest → Tail → (ℤ → Bool) → ℕ
+measured_weight test tail p =
+    sum_by test.weight (filter (λ r. p (measured test tail r)) test.reference)
+
+-- that of the rearrangements whose statistic passes
+abbrev pub statistic_sums : ConditionalTest → (ℤ → Bool) → ℕ
+statistic_sums test p = sum_by test.weight (filter (λ r. p (test.statistic r)) test.reference)
+
+-- the verdicts are those of the tail's rule over intervals, and as much weight ends at values that
+-- pass as rearrangements have a measure that does
+pub record Follows (test : ConditionalTest) (tail : Tail) (n : Network) : Type 0 where
+  pub intervals : HasIntervals n tail (rule_of test tail)
+  pub ends : (p : ℤ → Bool) → value_weights n p ≡ measured_weight test tail p
+
+-- the tails that are asked
+abbrev pub asks : Tails → Tail → Bool
+asks tails Less = tails.less
+asks tails Greater = tails.greater
+asks tails Two = tails.two
+
+abbrev pub HasTails : ConditionalTest → Tails → Type 0
+HasTails test tails = (tail : Tail) → asks tails tail ≡ true → test.has_tail tail ≡ true
+
+-- how many open keys the network of each tail has
+abbrev pub open_keys : (Tail → Network) → Tail → ℕ
+open_keys network tail = opened_below (network tail) tail (network tail).count
+
+-- how many of them are counted on a way
+abbrev pub counted_by : Way → ℕ → ℕ
+counted_by way.Network opened = opened
+counted_by way.Plain opened = 0
+
+abbrev pub tail_of : ConditionalTest → (Tail → ℕ) → Tail → Way → TailSum
+tail_of test opened tail by =
+    record { sum = numerator test tail; opened = counted_by by (opened tail) }
+
+abbrev pub asked_tail : Bool → TailSum → Option TailSum
+asked_tail asked sum = if asked then Some sum else None
+
+-- the answer of a test that has so many open keys for each tail
+abbrev pub answer_of : ConditionalTest → (Tail → ℕ) → Tails → Way → Answer
+answer_of test opened tails by = record {
+  statistic = observed_statistic test;
+  scale = test.scale;
+  total = total test;
+  less = asked_tail tails.less (tail_of test opened Less by);
+  greater = asked_tail tails.greater (tail_of test opened Greater by);
+  two = asked_tail tails.two (tail_of test opened Two by);
+}

@@ -1,0 +1,51 @@
+-- Nodes of a stage: where they lead, and what is decided of them.
+use Rattle.std.specs.Prelude.{◌≡◌, ℕ, ℤ, ◌*◌, ◌≤◌, ◌<◌, List, [], ◌∷◌, map, filter, cond}
+use Rattle.std.specs.List.{flat_map, sum_by, count_by, AllByRecursion}
+use Rattle.weights.specs.declared.tails.Tail.{Tail}
+use Rattle.node_pool.specs.Nodes.{Node}
+use Rattle.stage_network.specs.Network.{Network, IsReached}
+use Rattle.stage_network.specs.Completions.{is_inside, total_weight}
+use Rattle.stage_network.specs.Laws.{IsLawful}
+use Rattle.stage_network.specs.Opened.{is_open}
+
+-- the node that a choice reaches from a node of stage g
+abbrev pub successor : Network → ℕ → Node → List ℕ → Node
+successor n g a c = record { key = n.next g a.key c; weight = a.weight * n.weight g a.key c }
+
+-- those that all its choices reach
+abbrev pub successors : Network → ℕ → Node → List Node
+successors n g a = map (successor n g a) (n.choices g a.key)
+
+-- those of many nodes
+abbrev pub all_successors : Network → ℕ → List Node → List Node
+all_successors n g nodes = flat_map (successors n g) nodes
+
+-- the open ones
+abbrev pub open_nodes : Network → Tail → ℕ → List Node → List Node
+open_nodes n t g nodes = filter (λ a. is_open n t g a.key) nodes
+
+-- what a node adds to the sum, and all nodes of a stage
+abbrev pub closed_part : Network → Tail → ℕ → Node → ℕ
+closed_part n t g a = cond (is_inside (n.verdict t g a.key)) (a.weight * total_weight n g a.key) 0
+
+abbrev pub closed_weight : Network → Tail → ℕ → List Node → ℕ
+closed_weight n t g nodes = sum_by (closed_part n t g) nodes
+
+-- the weight of the nodes whose completions are all extreme
+abbrev pub inside_weight : Network → Tail → ℕ → List Node → ℕ
+inside_weight n t g nodes = sum_by (λ a. cond (is_inside (n.verdict t g a.key)) a.weight 0) nodes
+
+-- each node's key is reached at stage g
+abbrev pub AllReached : Network → ℕ → List Node → Type 0
+AllReached n g nodes = AllByRecursion (λ a. IsReached n g a.key) nodes
+
+-- each node weighs at least 1
+abbrev pub AllHeavy : List Node → Type 0
+AllHeavy nodes = AllByRecursion (λ (a : Node). 1 ≤ a.weight) nodes
+
+-- nodes of a stage before the last, from which the next one is filled
+pub record AreNodes (n : Network) (g : ℕ) (nodes : List Node) : Type 0 where
+  pub lawful : IsLawful n
+  pub before : g < n.count
+  pub reached : AllReached n g nodes
+  pub heavy : AllHeavy nodes

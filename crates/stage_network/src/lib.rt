@@ -1,0 +1,43 @@
+//! Sums over the completions of a network of stages, and the answer of a test by it.
+#![tactic(auto)]
+
+mod additive;
+mod additive_stages;
+mod answers;
+mod arcs;
+mod held;
+mod keys;
+mod lines;
+mod nodes;
+mod one_of;
+mod prepared;
+mod rooms;
+mod settling;
+mod spreads;
+mod stages;
+mod sums;
+#[cfg(test)]
+mod tests;
+mod verdicts;
+mod ways;
+mod whole;
+mod widths;
+#[cfg(test)]
+mod worked_blocks;
+#[cfg(test)]
+mod worked_ranks;
+
+pub use additive::{Additive, SumValue};
+pub use additive_stages::AdditiveStages;
+pub use answers::{Answer, Way};
+pub use held::Held;
+pub use lines::Spread;
+pub use one_of::OneOf;
+pub use prepared::{Prepared, answer, distribution, plain_spread};
+pub use spreads::{spread, spread_by_rooms};
+pub use stages::{Roomed, Stages, Verdict};
+pub use sums::{TailSum, tail_sum, tail_sum_by_rooms};
+pub use verdicts::{Interval, Judge};
+pub use weights::{Line, PrepareFault, WideOf};
+pub use whole::Whole;
+pub use widths::{Width, width_of};

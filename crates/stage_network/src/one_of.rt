@@ -1,0 +1,135 @@
+// One of two kinds of networks.
+
+use crate::stages::{Roomed, Stages, Verdict};
+use weights::Tail;
+
+/// A network of one kind or of another, for tests whose tails have different networks.
+#[derive(Drop)]
+pub enum OneOf<A: Stages, B: Stages> {
+    /// Of the one kind.
+    First(A),
+    /// Of the other.
+    Second(B),
+}
+
+impl<A: Stages, B: Stages> Stages for OneOf<A, B> {
+    ghost use Rattle.stage_network.specs.OneOf.{of_either};
+
+    ghost network = { of_either A.network B.network };
+
+    fn stages(&self) -> usize {
+        match self {
+            OneOf::First(a) => a.stages(),
+            OneOf::Second(b) => b.stages(),
+        }
+    }
+
+    fn width(&self) -> usize {
+        match self {
+            OneOf::First(a) => a.width(),
+            OneOf::Second(b) => b.width(),
+        }
+    }
+
+    fn choice_width(&self) -> usize {
+        match self {
+            OneOf::First(a) => a.choice_width(),
+            OneOf::Second(b) => b.choice_width(),
+        }
+    }
+
+    fn first_key(&self, key: &mut [i128]) {
+        match self {
+            OneOf::First(a) => a.first_key(key),
+            OneOf::Second(b) => b.first_key(key),
+        }
+    }
+
+    fn first_choice(&self, stage: usize, key: &[i128], choice: &mut [u64]) -> bool {
+        match self {
+            OneOf::First(a) => a.first_choice(stage, key, choice),
+            OneOf::Second(b) => b.first_choice(stage, key, choice),
+        }
+    }
+
+    fn next_choice(&self, stage: usize, key: &[i128], choice: &mut [u64]) -> bool {
+        match self {
+            OneOf::First(a) => a.next_choice(stage, key, choice),
+            OneOf::Second(b) => b.next_choice(stage, key, choice),
+        }
+    }
+
+    fn apply(&self, stage: usize, key: &[i128], choice: &[u64], next: &mut [i128]) -> u128 {
+        match self {
+            OneOf::First(a) => a.apply(stage, key, choice, next),
+            OneOf::Second(b) => b.apply(stage, key, choice, next),
+        }
+    }
+
+    fn rest(&self, stage: usize, key: &[i128]) -> u128 {
+        match self {
+            OneOf::First(a) => a.rest(stage, key),
+            OneOf::Second(b) => b.rest(stage, key),
+        }
+    }
+
+    fn verdict(&self, stage: usize, key: &[i128], tail: Tail) -> Verdict {
+        match self {
+            OneOf::First(a) => a.verdict(stage, key, tail),
+            OneOf::Second(b) => b.verdict(stage, key, tail),
+        }
+    }
+
+    fn value(&self, key: &[i128]) -> i128 {
+        match self {
+            OneOf::First(a) => a.value(key),
+            OneOf::Second(b) => b.value(key),
+        }
+    }
+}
+
+impl<A: Roomed, B: Roomed> Roomed for OneOf<A, B> {
+    ghost use Rattle.stage_network.specs.OneOf.{of_either};
+
+    ghost room_width = { of_either A.room_width B.room_width };
+
+    ghost step_width = { of_either A.step_width B.step_width };
+
+    ghost step_of = { of_either A.step_of B.step_of };
+
+    fn room_width(&self) -> usize {
+        match self {
+            OneOf::First(a) => a.room_width(),
+            OneOf::Second(b) => b.room_width(),
+        }
+    }
+
+    fn step_width(&self) -> usize {
+        match self {
+            OneOf::First(a) => a.step_width(),
+            OneOf::Second(b) => b.step_width(),
+        }
+    }
+
+    fn step(&self, stage: usize, room: &[i128], choice: &[u64], step: &mut [i128]) {
+        match self {
+            OneOf::First(a) => a.step(stage, room, choice, step),
+            OneOf::Second(b) => b.step(stage, room, choice, step),
+        }
+    }
+
+    fn advance(
+        &self,
+        stage: usize,
+        room: &[i128],
+        choice: &[u64],
+        step: &[i128],
+        partial: &[i128],
+        next: &mut [i128],
+    ) {
+        match self {
+            OneOf::First(a) => a.advance(stage, room, choice, step, partial, next),
+            OneOf::Second(b) => b.advance(stage, room, choice, step, partial, next),
+        }
+    }
+}

@@ -1,0 +1,173 @@
+// The answer of a prepared test, by its network or by the plain walk.
+ghost use Rattle.std.specs.Prelude.{◌≡◌, ◌≤◌, true, IfOk};
+ghost use Rattle.weights.specs.Conditional.{distribution, total};
+ghost use Rattle.weights.specs.Frames.{IsFrameOf, IsShown, RulesFit, first_tail};
+ghost use Rattle.weights.specs.declared.tails.Tail.{Tail};
+ghost use Rattle.stage_network.specs.Network.{Network};
+ghost use Rattle.stage_network.specs.Lines.{IsSpreadOf};
+ghost use Rattle.stage_network.specs.Follows.{Follows, HasTails, answer_of, asked_tail, open_keys, statistic_sums, tail_of};
+
+use crate::answers::{Answer, Way};
+use crate::lines::Spread;
+use crate::spreads::spread_by_rooms;
+use crate::stages::Roomed;
+use crate::sums::{TailSum, tail_sum_by_rooms};
+use enumerate::{Plain, plain_tail};
+use std::alloc::Global;
+use weights::{Frame, NoMemory, Tail, Tails};
+
+/// A test whose data are checked: all that is needed to answer it by both ways.
+pub trait Prepared: Plain {
+    /// Its networks.
+    type Built: Roomed + Drop;
+
+    /// The network of each tail.
+    ghost network: { Self → Tail → Network };
+
+    /// What is said of the test beside its tails. The rules of the tails compute no number of a
+    /// rearrangement that passes a limit, and the total is at least 1.
+    fn frame(&self) -> Frame
+        ensures frame { IsFrameOf (Self.test self.now) result }
+        ensures fits { RulesFit (Self.test self.now) }
+        ensures some { 1 ≤ total (Self.test self.now) };
+
+    /// Whether the test has a tail.
+    fn has_tail(&self, tail: Tail) -> bool
+        ensures has { result ≡ (Self.test self.now).has_tail tail }
+        ensures shown { IsShown (Self.test self.now) };
+
+    /// The network of a tail that the test has. Its completions end at what the tail's rule
+    /// measures of the rearrangements.
+    fn stages_of(&self, alloc: Global, tail: Tail) -> Result<Self::Built, NoMemory>
+        requires { (Self.test self.now).has_tail tail ≡ true }
+        ensures built { let n = network self.now tail in
+            IfOk result (λ built. Self.Built.Stages.network built ≡ n) }
+        ensures follows { Follows (Self.test self.now) tail (network self.now tail) };
+}
+
+fn by_network<P: Prepared>(alloc: Global, problem: &P, tail: Tail) -> Result<TailSum, NoMemory>
+    requires { (P.test problem.now).has_tail tail ≡ true }
+    ensures { let opened = open_keys (P.network problem.now) in
+        IfOk result (λ sum. sum ≡ tail_of (P.test problem.now) opened tail Way.Network) }
+{
+    let stages = problem.stages_of(alloc, tail)?;
+    let sum = tail_sum_by_rooms(alloc, &stages, tail)?;
+    Ok(sum)
+}
+
+fn by_walk<P: Prepared>(alloc: Global, problem: &P, tail: Tail) -> Result<TailSum, NoMemory>
+    requires { (P.test problem.now).has_tail tail ≡ true }
+    ensures { let opened = open_keys (P.network problem.now) in
+        IfOk result (λ sum. sum ≡ tail_of (P.test problem.now) opened tail Way.Plain) }
+{
+    let sum = plain_tail(alloc, problem, tail)?;
+    Ok(TailSum { sum, opened: 0 })
+}
+
+// One tail, where it is asked.
+fn tail_answer<P: Prepared>(
+    alloc: Global,
+    problem: &P,
+    asked: bool,
+    tail: Tail,
+    way: Way,
+) -> Result<Option<TailSum>, NoMemory>
+    requires { asked ≡ true → (P.test problem.now).has_tail tail ≡ true }
+    ensures { let opened = open_keys (P.network problem.now) in
+        let sum = tail_of (P.test problem.now) opened tail way in
+        IfOk result (λ found. found ≡ asked_tail asked sum) }
+{
+    if !asked {
+        return Ok(None);
+    }
+    let sum = match way {
+        Way::Network => by_network(alloc, problem, tail)?,
+        Way::Plain => by_walk(alloc, problem, tail)?,
+    };
+    Ok(Some(sum))
+}
+
+/// The answer of a test for tails that it has, which may be none: the observed statistic, its
+/// scale, the total and each asked tail's numerator, exactly by the definitions of the test, by
+/// either way. The open keys that are counted are those of the test's networks.
+pub fn answer<P: Prepared>(
+    alloc: Global,
+    problem: &P,
+    tails: Tails,
+    way: Way,
+) -> Result<Answer, NoMemory>
+    requires { HasTails (P.test problem.now) tails }
+    ensures answer { let opened = open_keys (P.network problem.now) in
+        IfOk result (λ answer. answer ≡ answer_of (P.test problem.now) opened tails way) }
+    ensures some { IfOk result (λ answer. 1 ≤ answer.total) }
+{
+    let frame = problem.frame();
+    let less = tail_answer(alloc, problem, tails.less, Tail::Less, way)?;
+    let greater = tail_answer(alloc, problem, tails.greater, Tail::Greater, way)?;
+    let two = tail_answer(alloc, problem, tails.two, Tail::Two, way)?;
+    Ok(Answer {
+        statistic: frame.statistic,
+        scale: frame.scale,
+        total: frame.total,
+        less,
+        greater,
+        two,
+    })
+}
+
+// The first of the tails that a test has.
+fn first_tail<P: Prepared>(problem: &P) -> Tail
+    ensures first { result ≡ first_tail (P.test problem.now) }
+    ensures shown { IsShown (P.test problem.now) }
+{
+    if problem.has_tail(Tail::Less) {
+        Tail::Less
+    } else if problem.has_tail(Tail::Greater) {
+        Tail::Greater
+    } else {
+        Tail::Two
+    }
+}
+
+fn spread_by_network<P: Prepared>(alloc: Global, problem: &P) -> Result<Spread, NoMemory>
+    ensures { IfOk result (λ spread. spread ≡ distribution (P.test problem.now)) }
+{
+    let stages = problem.stages_of(alloc, first_tail(problem))?;
+    let found = spread_by_rooms(alloc, &stages)?;
+    Ok(found)
+}
+
+/// The statistics of all members of a test's reference set by strictly ascending value, each with
+/// its summed weight, found by a walk through the members.
+pub fn plain_spread<P: Plain>(alloc: Global, problem: &P) -> Result<Spread, NoMemory>
+    ensures { IfOk result (IsSpreadOf (statistic_sums (P.test problem.now))) }
+{
+    let mut labels = problem.first(alloc)?;
+    let mut spread = Spread::empty(alloc);
+    loop {
+        let weight = problem.weight(labels.as_slice());
+        spread.add(problem.value(labels.as_slice()), weight)?;
+        if !problem.next(&mut labels) {
+            return Ok(spread);
+        }
+    }
+}
+
+fn spread_by_walk<P: Prepared>(alloc: Global, problem: &P) -> Result<Spread, NoMemory>
+    ensures { IfOk result (λ spread. spread ≡ distribution (P.test problem.now)) }
+{
+    let _tail = first_tail(problem);
+    let found = plain_spread(alloc, problem)?;
+    Ok(found)
+}
+
+/// The distribution of a test: each value that its statistic takes, by strictly ascending value,
+/// with the summed weight of the rearrangements that have it, by either way.
+pub fn distribution<P: Prepared>(alloc: Global, problem: &P, way: Way) -> Result<Spread, NoMemory>
+    ensures { IfOk result (λ spread. spread ≡ distribution (P.test problem.now)) }
+{
+    match way {
+        Way::Network => spread_by_network(alloc, problem),
+        Way::Plain => spread_by_walk(alloc, problem),
+    }
+}

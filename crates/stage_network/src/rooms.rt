@@ -1,0 +1,249 @@
+// From the nodes of one stage to those of the next, room by room: the arcs are listed once per room
+// and choice, and then one room of the next stage is filled at a time.
+ghost use Rattle.std.specs.Prelude.{◌≡◌, ℕ, ℤ, ◌+◌, ◌-◌, ◌*◌, ◌<◌, ◌≤◌, List, [], length};
+ghost use Rattle.std.specs.Prelude.{take, drop, OnOk, IfOk, slice_index_or};
+ghost use Rattle.weights.specs.declared.TheConstants.{MAX};
+ghost use Rattle.node_pool.specs.Nodes.{Node, weighted};
+ghost use Rattle.node_pool.specs.Pool.{IsPlaced};
+ghost use Rattle.stage_network.specs.Rooms.{IsRoomed};
+ghost use Rattle.stage_network.specs.NodeSteps.{AreNodes, AllHeavy, all_successors};
+ghost use Rattle.stage_network.specs.WaySteps.{AreWays, IsRun, IsChoiceOf};
+ghost use Rattle.stage_network.specs.WaySteps.{segment, chosen, spread_out, bucket, lift};
+
+use crate::keys::{front, write_front, write_key};
+use crate::nodes::StageNodes;
+use crate::stages::Roomed;
+use crate::ways::Ways;
+use node_pool::NodePool;
+use weights::{Count, Narrow, NoMemory};
+
+// Names a room, and answers its place.
+#[inline(always)]
+fn place(rooms: &mut NodePool<Narrow>, room: &[i128]) -> Result<usize, NoMemory>
+    requires wide { length room.now ≡ rooms.old.width }
+    requires light { weighted (λ k. 1) rooms.old.nodes ≡ 0 }
+    ensures width { OnOk result (rooms.new.width ≡ rooms.old.width) }
+    ensures light { OnOk result (weighted (λ k. 1) rooms.new.nodes ≡ 0) }
+    ensures placed { IfOk result (IsPlaced rooms.old.nodes room.now rooms.new.nodes) }
+{
+    rooms.reserve(1)?;
+    match Narrow::of(0) {
+        Some(none) => Ok(rooms.enter(room, none)),
+        None => unreachable!(),
+    }
+}
+
+// Adds the arcs of the nodes of one room.
+fn add_ways<C: Count, S: Roomed>(
+    stages: &S,
+    stage: usize,
+    nodes: &StageNodes<C>,
+    start: usize,
+    end: usize,
+    width: usize,
+    key: &mut [i128],
+    choice: &mut [u64],
+    next: &mut [i128],
+    rooms: &mut NodePool<Narrow>,
+    ways: &mut Ways,
+) -> Result<(), NoMemory>
+    requires nodes { AreNodes (S.Stages.network stages.now) stage nodes.now.nodes }
+    requires roomed { IsRoomed (S.Stages.network stages.now) width }
+    requires some { start < end }
+    requires within { end ≤ length nodes.now.nodes }
+    requires run { IsRun width nodes.now.nodes start end }
+    requires here { nodes.now.room_width ≡ width }
+    requires key { length key.old ≡ nodes.now.width }
+    requires choice { length choice.old ≡ (S.Stages.network stages.now).choice_width }
+    requires next { length next.old ≡ (S.Stages.network stages.now).width }
+    requires wide { rooms.old.width ≡ width }
+    requires light { weighted (λ k. 1) rooms.old.nodes ≡ 0 }
+    requires ways { let n = S.Stages.network stages.now in
+        AreWays n stage width nodes.now.nodes rooms.old.nodes ways.old }
+    ensures wide { OnOk result (rooms.new.width ≡ width) }
+    ensures light { OnOk result (weighted (λ k. 1) rooms.new.nodes ≡ 0) }
+    ensures ways { let n = S.Stages.network stages.now in
+        OnOk result (AreWays n stage width nodes.now.nodes rooms.new.nodes ways.new) }
+    ensures told { let n = S.Stages.network stages.now in
+        OnOk result ((f : List ℤ → ℕ)
+        → weighted f (spread_out n stage nodes.now.nodes ways.new.ways)
+        ≡ weighted f (spread_out n stage nodes.now.nodes ways.old.ways)
+        + weighted f (all_successors n stage (segment start end nodes.now.nodes))) }
+{
+    write_key(nodes.room(start), nodes.partial(start), key);
+    let mut more = stages.first_choice(stage, key, choice);
+    while more {
+        let weight = stages.apply(stage, key, choice, next);
+        let target = place(rooms, front(next, width))?;
+        ways.push(start, end, weight, choice, target)?;
+        more = stages.next_choice(stage, key, choice);
+    }
+    Ok(())
+}
+
+/// Lists the arcs of a stage, and the rooms that they lead to.
+pub fn list_ways<C: Count, S: Roomed>(
+    stages: &S,
+    stage: usize,
+    nodes: &StageNodes<C>,
+    width: usize,
+    key: &mut [i128],
+    choice: &mut [u64],
+    next: &mut [i128],
+    rooms: &mut NodePool<Narrow>,
+    ways: &mut Ways,
+) -> Result<(), NoMemory>
+    requires nodes { AreNodes (S.Stages.network stages.now) stage nodes.now.nodes }
+    requires roomed { IsRoomed (S.Stages.network stages.now) width }
+    requires here { nodes.now.room_width ≡ width }
+    requires key { length key.old ≡ nodes.now.width }
+    requires choice { length choice.old ≡ (S.Stages.network stages.now).choice_width }
+    requires next { length next.old ≡ (S.Stages.network stages.now).width }
+    requires wide { rooms.old.width ≡ width }
+    requires no_rooms { rooms.old.nodes ≡ [] }
+    requires deep { ways.old.width ≡ (S.Stages.network stages.now).choice_width }
+    requires no_ways { ways.old.ways ≡ [] }
+    requires none { ways.old.rooms ≡ 0 }
+    ensures wide { OnOk result (rooms.new.width ≡ width) }
+    ensures ways { let n = S.Stages.network stages.now in
+        OnOk result (AreWays n stage width nodes.now.nodes rooms.new.nodes ways.new) }
+    ensures told { let n = S.Stages.network stages.now in
+        OnOk result ((f : List ℤ → ℕ)
+        → weighted f (spread_out n stage nodes.now.nodes ways.new.ways)
+        ≡ weighted f (all_successors n stage nodes.now.nodes)) }
+{
+    let mut start = 0usize;
+    while start < nodes.len() {
+        let end = nodes.run_end(start);
+        add_ways(
+            stages, stage, nodes, start, end, width, key, choice, next, rooms, ways,
+        )?;
+        start = end;
+    }
+    Ok(())
+}
+
+// A count times an arc's weight.
+#[inline(always)]
+fn scaled<C: Count>(weight: C, arc: u128) -> C
+    requires limit { C.number weight * arc ≤ C.LIMIT }
+    requires fits { C.number weight * arc ≤ MAX }
+    ensures { C.number result ≡ C.number weight * arc }
+{
+    match C::of(weight.value() * arc) {
+        Some(product) => product,
+        None => unreachable!(),
+    }
+}
+
+// Adds the partials that a choice reaches from the nodes of one room.
+#[inline(always)]
+fn pour<C: Count, S: Roomed>(
+    stages: &S,
+    stage: usize,
+    nodes: &StageNodes<C>,
+    start: usize,
+    end: usize,
+    weight: u128,
+    room: &[i128],
+    choice: &[u64],
+    step: &[i128],
+    next: &mut [i128],
+    into: &mut NodePool<C>,
+) -> Result<(), NoMemory>
+    requires nodes { AreNodes (S.Stages.network stages.now) stage nodes.now.nodes }
+    requires here { nodes.now.room_width ≡ S.room_width stages.now }
+    requires chosen { let n = S.Stages.network stages.now in
+        IsChoiceOf n stage nodes.now.nodes start end choice.now weight }
+    requires run { IsRun (S.room_width stages.now) nodes.now.nodes start end }
+    requires room { (d : Node)
+        → room.now ≡ take (S.room_width stages.now) (slice_index_or nodes.now.nodes start d).key }
+    requires width { length room.now ≡ S.room_width stages.now }
+    requires choice { length choice.now ≡ (S.Stages.network stages.now).choice_width }
+    requires step { step.now ≡ S.step_of stages.now stage room.now choice.now }
+    requires next { length next.old ≡ into.old.width }
+    requires wide { S.room_width stages.now + into.old.width ≡ (S.Stages.network stages.now).width }
+    requires limit { let n = S.Stages.network stages.now in
+        weighted (λ k. 1) into.old.nodes
+        + weighted (λ k. 1) (chosen n stage choice.now (segment start end nodes.now.nodes))
+        ≤ C.LIMIT }
+    requires fits { let n = S.Stages.network stages.now in
+        weighted (λ k. 1) (chosen n stage choice.now (segment start end nodes.now.nodes)) ≤ MAX }
+    ensures wide { OnOk result (into.new.width ≡ into.old.width) }
+    ensures next { OnOk result (length next.new ≡ length next.old) }
+    ensures heavy { OnOk result (AllHeavy into.old.nodes → AllHeavy into.new.nodes) }
+    ensures told { let n = S.Stages.network stages.now in
+        OnOk result ((f : List ℤ → ℕ)
+        → weighted f into.new.nodes
+        ≡ weighted f into.old.nodes
+        + weighted (λ k. f (drop (S.room_width stages.now) k))
+        (chosen n stage choice.now (segment start end nodes.now.nodes))) }
+{
+    for i in start..end {
+        stages.advance(stage, room, choice, step, nodes.partial(i), next);
+        into.reserve(1)?;
+        into.add(next, scaled(nodes.weight(i), weight));
+    }
+    Ok(())
+}
+
+/// Fills a room of the next stage with the partials of all nodes that lead there, and writes the
+/// room in front of the key.
+pub fn fill<C: Count, S: Roomed>(
+    stages: &S,
+    stage: usize,
+    nodes: &StageNodes<C>,
+    width: usize,
+    rooms: &NodePool<Narrow>,
+    ways: &Ways,
+    target: usize,
+    key: &mut [i128],
+    step: &mut [i128],
+    next: &mut [i128],
+    into: &mut NodePool<C>,
+) -> Result<(), NoMemory>
+    requires nodes { AreNodes (S.Stages.network stages.now) stage nodes.now.nodes }
+    requires roomed { IsRoomed (S.Stages.network stages.now) (S.room_width stages.now) }
+    requires width { width ≡ S.room_width stages.now }
+    requires here { nodes.now.room_width ≡ width }
+    requires small { rooms.now.width ≡ width }
+    requires ways { let n = S.Stages.network stages.now in
+        AreWays n stage width nodes.now.nodes rooms.now.nodes ways.now }
+    requires target { target < length rooms.now.nodes }
+    requires key { length key.old ≡ (S.Stages.network stages.now).width }
+    requires step { length step.old ≡ S.step_width stages.now }
+    requires next { length next.old ≡ into.old.width }
+    requires wide { width + into.old.width ≡ (S.Stages.network stages.now).width }
+    requires empty { into.old.nodes ≡ [] }
+    requires limit { let n = S.Stages.network stages.now in
+        weighted (λ k. 1) (spread_out n stage nodes.now.nodes (bucket target ways.now.ways))
+        ≤ C.LIMIT }
+    requires fits { let n = S.Stages.network stages.now in
+        weighted (λ k. 1) (spread_out n stage nodes.now.nodes (bucket target ways.now.ways)) ≤ MAX }
+    ensures wide { OnOk result (into.new.width ≡ into.old.width) }
+    ensures key { OnOk result (length key.new ≡ length key.old) }
+    ensures step { OnOk result (length step.new ≡ length step.old) }
+    ensures next { OnOk result (length next.new ≡ length next.old) }
+    ensures room { OnOk result ((d : Node)
+        → take width key.new ≡ (slice_index_or rooms.now.nodes target d).key) }
+    ensures heavy { OnOk result (AllHeavy into.new.nodes) }
+    ensures told { let n = S.Stages.network stages.now in
+        OnOk result ((f : List ℤ → ℕ)
+        → weighted f (lift (take width key.new) into.new.nodes)
+        ≡ weighted f (spread_out n stage nodes.now.nodes (bucket target ways.now.ways))) }
+{
+    write_front(rooms.key(target), key);
+    let mut place = ways.first(target);
+    while place != 0 {
+        let i = place - 1;
+        let arc = ways.arc(i);
+        let room = nodes.room(arc.start);
+        let choice = ways.choice(i);
+        stages.step(stage, room, choice, step);
+        pour(
+            stages, stage, nodes, arc.start, arc.end, arc.weight, room, choice, step, next, into,
+        )?;
+        place = arc.next;
+    }
+    Ok(())
+}
