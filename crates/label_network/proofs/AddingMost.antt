@@ -1,0 +1,122 @@
+-- One row after another adds its step times the greatest of the later scores.
+use Rattle.std.proofs.Common.{◌≡◌, ℕ, zero, suc, ◌+◌, ◌-◌, ◌*◌, ◌<◌, ◌≤◌, ◌^◌, List, [], ◌∷◌, length, get_or, drop, ◌∙◌, ap, subst, arith, add-one, drop-cons, drop_of_length-le, ◌⊎◌}
+use Rattle.std.specs.Prelude.{ℤ, pos, ◌+ℤ◌, ◌-ℤ◌, ◌*ℤ◌, unsigned_abs}
+use Rattle.std.specs.List.{sum}
+use Rattle.std.proofs.Math.Nat.{mul-le-mul_left}
+use Rattle.std.proofs.lemmas.Int.{ints, unsigned_abs-mul}
+use Rattle.std.proofs.lemmas.List.Sums.{sum_by-drop_more, sum_by-take-drop}
+use Rattle.label_network.specs.LaterSums.{total_score, greatest_sum, absolute_sum}
+use Rattle.label_network.specs.Linear.{greatest_steps, greatest_added}
+use Rattle.label_network.specs.LinearSteps.{reach, whole_reach, HasTails, IsAddingMost}
+use Rattle.label_network.proofs.Absolute.{greatest-size, total-size, size-plus}
+
+same-le : (n : ℕ) → n ≤ n
+same-le n = omega arith
+
+spread : (a b c : ℕ) → (a + b) * c ≡ a * c + b * c
+spread a b c = omega arith
+
+less-none : (u : ℤ) → u -ℤ pos 0 ≡ u
+less-none u = omega (arith, ints)
+
+pub first-small : (us : List ℤ) (later : List ℤ) (t : ℤ) → t ≡ total_score later → whole_reach us * absolute_sum later < 2 ^ 127 → unsigned_abs (get_or us 0 (pos 0) -ℤ pos 0) * unsigned_abs t < 2 ^ 127
+first-small [] later t e h = omega arith
+first-small (u ∷ us) later t e h =
+    let one : unsigned_abs t ≤ absolute_sum later = rw e (total-size later) in
+    let two : unsigned_abs u * unsigned_abs t ≤ unsigned_abs u * absolute_sum later = mul-le-mul_left (unsigned_abs u) one in
+    rw (less-none u) (omega (arith, two, h, spread (unsigned_abs u) (reach u us) (absolute_sum later)))
+
+pub first-adding : (us : List ℤ) (ms : List ℕ) (later : List ℤ) (left : ℕ) (t s : ℤ) → length us ≡ length ms → 0 < length us → left ≡ sum ms → t ≡ total_score later → s ≡ pos 0 +ℤ ((get_or us 0 (pos 0) -ℤ pos 0) *ℤ t) → IsAddingMost us ms later 1 left s
+first-adding [] ms later left t s l h e f g = absurd (omega (arith, h))
+first-adding (u ∷ us) [] later left t s l h e f g = absurd (omega (arith, l))
+first-adding (u ∷ us) (m ∷ ms) later left t s l h e f g =
+    let value : s ≡ u *ℤ total_score later = g ∙ rw (less-none u, f) (plain (u *ℤ total_score later)) in
+    let size : unsigned_abs s ≡ unsigned_abs u * unsigned_abs (total_score later) = ap unsigned_abs value ∙ unsigned_abs-mul u (total_score later) in
+    let most : unsigned_abs u * unsigned_abs (total_score later) ≤ unsigned_abs u * absolute_sum later = mul-le-mul_left (unsigned_abs u) (total-size later) in
+    record {
+      counted = e;
+      adding = ap (λ a. a +ℤ greatest_steps u us ms later) value;
+      small = omega (arith, size, most, spread (unsigned_abs u) (reach u us) (absolute_sum later));
+    }
+  where
+    plain : (a : ℤ) → pos 0 +ℤ a ≡ a
+    plain a = omega (arith, ints)
+
+-- the steps from a row on are among all
+reach-at : (k : ℕ) (u : ℤ) (us : List ℤ) → reach (get_or (u ∷ us) k (pos 0)) (drop (suc k) (u ∷ us)) ≤ reach u us
+reach-at zero u us = omega arith
+reach-at (suc k) u [] = omega arith
+reach-at (suc k) u (w ∷ us) = omega (arith, reach-at k w us)
+
+reach-part : (k : ℕ) (us : List ℤ) → reach (get_or us k (pos 0)) (drop (suc k) us) ≤ whole_reach us
+reach-part k [] = omega arith
+reach-part k (u ∷ us) = omega (arith, reach-at k u us)
+
+module _ (us : List ℤ) (ms : List ℕ) (later : List ℤ) (i : ℕ) (some : 1 ≤ i) (before : i < length us) (level : length us ≡ length ms) where
+  rows-split : drop i us ≡ get_or us i (pos 0) ∷ drop (i + 1) us
+  rows-split = rw add-one (drop-cons us i (pos 0) before)
+
+  sizes-split : drop i ms ≡ get_or ms i 0 ∷ drop (i + 1) ms
+  sizes-split = rw add-one (drop-cons ms i 0 (omega (arith, before, level)))
+
+  reach-split : reach (get_or us (i - 1) (pos 0)) (drop i us) ≡ unsigned_abs (get_or us i (pos 0) -ℤ get_or us (i - 1) (pos 0)) + reach (get_or us i (pos 0)) (drop (i + 1) us)
+  reach-split = ap (reach (get_or us (i - 1) (pos 0))) rows-split
+
+  pub next-step : whole_reach us < 2 ^ 127 → unsigned_abs (get_or us i (pos 0) -ℤ get_or us (i - 1) (pos 0)) < 2 ^ 127
+  next-step h =
+      let here : suc (i - 1) ≡ i = omega (arith, some) in
+      let part : reach (get_or us (i - 1) (pos 0)) (drop i us) ≤ whole_reach us = subst (λ n. reach (get_or us (i - 1) (pos 0)) (drop n us) ≤ whole_reach us) here (reach-part (i - 1) us) in
+      omega (arith, part, reach-split, h)
+
+  module _ (left : ℕ) (s : ℤ) (a : IsAddingMost us ms later i left s) where
+    pub next-left : left - get_or ms (i - 1) 0 ≡ sum (drop i ms)
+    next-left =
+        let more : sum (drop (i - 1) ms) ≡ get_or ms (i - 1) 0 + sum (drop ((i - 1) + 1) ms) = sum_by-drop_more (λ v. v) ms (i - 1) 0 (omega (arith, some, before, level)) in
+        let here : (i - 1) + 1 ≡ i = omega (arith, some) in
+        let same : sum (drop ((i - 1) + 1) ms) ≡ sum (drop i ms) = ap (λ n. sum (drop n ms)) here in
+        omega (arith, a.counted, more, same)
+
+    pub next-less : get_or ms (i - 1) 0 ≤ left
+    next-less =
+        let more : sum (drop (i - 1) ms) ≡ get_or ms (i - 1) 0 + sum (drop ((i - 1) + 1) ms) = sum_by-drop_more (λ v. v) ms (i - 1) 0 (omega (arith, some, before, level)) in
+        omega (arith, a.counted, more)
+
+    pub next-few : sum ms ≡ length later → left - get_or ms (i - 1) 0 ≤ length later
+    next-few e = omega (arith, next-left, e, sum_by-take-drop (λ v. v) ms i)
+
+    pub next-held : (width : ℕ) → HasTails width ms later → (length later ≤ (left - get_or ms (i - 1) 0) + (width - 1)) ⊎ (left - get_or ms (i - 1) 0 < width)
+    next-held width h = rw (next-left) (h.held i)
+
+    sizes : unsigned_abs s + (unsigned_abs (get_or us i (pos 0) -ℤ get_or us (i - 1) (pos 0)) * absolute_sum later + reach (get_or us i (pos 0)) (drop (i + 1) us) * absolute_sum later) ≤ whole_reach us * absolute_sum later
+    sizes = omega (arith, a.small, ap (λ n. n * absolute_sum later) reach-split, spread (unsigned_abs (get_or us i (pos 0) -ℤ get_or us (i - 1) (pos 0))) (reach (get_or us i (pos 0)) (drop (i + 1) us)) (absolute_sum later))
+
+    product : (j : ℕ) (v : ℤ) → v ≡ greatest_sum j later → unsigned_abs (get_or us i (pos 0) -ℤ get_or us (i - 1) (pos 0)) * unsigned_abs v ≤ unsigned_abs (get_or us i (pos 0) -ℤ get_or us (i - 1) (pos 0)) * absolute_sum later
+    product j v e = mul-le-mul_left (unsigned_abs (get_or us i (pos 0) -ℤ get_or us (i - 1) (pos 0))) (rw e (greatest-size j later))
+
+    pub next-small : (j : ℕ) (v : ℤ) → v ≡ greatest_sum j later → whole_reach us * absolute_sum later < 2 ^ 127 → unsigned_abs s + unsigned_abs (get_or us i (pos 0) -ℤ get_or us (i - 1) (pos 0)) * unsigned_abs v < 2 ^ 127
+    next-small j v e h = omega (arith, sizes, product j v e, h)
+
+    pub next-adding : (v s' : ℤ) → v ≡ greatest_sum (left - get_or ms (i - 1) 0) later → s' ≡ s +ℤ ((get_or us i (pos 0) -ℤ get_or us (i - 1) (pos 0)) *ℤ v) → IsAddingMost us ms later (i + 1) (left - get_or ms (i - 1) 0) s'
+    next-adding v s' e f =
+        let back : (i + 1) - 1 ≡ i = omega arith in
+        let steps : greatest_steps (get_or us (i - 1) (pos 0)) (drop i us) (drop i ms) later ≡ ((get_or us i (pos 0) -ℤ get_or us (i - 1) (pos 0)) *ℤ greatest_sum (sum (get_or ms i 0 ∷ drop (i + 1) ms)) later) +ℤ greatest_steps (get_or us i (pos 0)) (drop (i + 1) us) (drop (i + 1) ms) later = ap (λ ws. greatest_steps (get_or us (i - 1) (pos 0)) ws (drop i ms) later) rows-split ∙ ap (λ ns. greatest_steps (get_or us (i - 1) (pos 0)) (get_or us i (pos 0) ∷ drop (i + 1) us) ns later) sizes-split in
+        let least : v ≡ greatest_sum (sum (get_or ms i 0 ∷ drop (i + 1) ms)) later = e ∙ ap (λ n. greatest_sum n later) (next-left ∙ ap sum sizes-split) in
+        let times : (get_or us i (pos 0) -ℤ get_or us (i - 1) (pos 0)) *ℤ v ≡ (get_or us i (pos 0) -ℤ get_or us (i - 1) (pos 0)) *ℤ greatest_sum (sum (get_or ms i 0 ∷ drop (i + 1) ms)) later = ap (λ n. (get_or us i (pos 0) -ℤ get_or us (i - 1) (pos 0)) *ℤ n) least in
+        let size : unsigned_abs s' ≤ unsigned_abs s + unsigned_abs ((get_or us i (pos 0) -ℤ get_or us (i - 1) (pos 0)) *ℤ v) = rw f (size-plus s ((get_or us i (pos 0) -ℤ get_or us (i - 1) (pos 0)) *ℤ v)) in
+        let times_size = unsigned_abs-mul (get_or us i (pos 0) -ℤ get_or us (i - 1) (pos 0)) v in
+        record {
+          counted = rw back next-left;
+          adding = rw back (last _ _ _ _ _ _ a.adding steps times f);
+          small = rw back (omega (arith, sizes, size, times_size, product (left - get_or ms (i - 1) 0) v e));
+        }
+      where
+        last : (s s' q p r all : ℤ) {t : ℤ} → s +ℤ t ≡ all → t ≡ q +ℤ r → p ≡ q → s' ≡ s +ℤ p → s' +ℤ r ≡ all
+        last s s' q p r all {t} a b c d = omega (arith, ints, a, b, c, d)
+
+pub last-adding : (us : List ℤ) (ms : List ℕ) (later : List ℤ) (i left : ℕ) (s : ℤ) → length us ≤ i → IsAddingMost us ms later i left s → s ≡ greatest_added us ms later
+last-adding us ms later i left s h a =
+    let none : drop i us ≡ [] = drop_of_length-le us {i = i} h in
+    plain s _ _ a.adding (ap (λ ws. greatest_steps (get_or us (i - 1) (pos 0)) ws (drop i ms) later) none)
+  where
+    plain : (s t all : ℤ) → s +ℤ t ≡ all → t ≡ pos 0 → s ≡ all
+    plain s t all e f = omega (arith, ints, e, f)

@@ -1,0 +1,44 @@
+-- The later scores from one column to the next.
+use Rattle.std.proofs.Common.{◌≡◌, ℕ, suc, ◌+◌, ◌<◌, List, [], ◌∷◌, ◌++◌, length, drop, true, refl, ap, arith, get_or, add-one, drop-cons, length-append, nat_le, drop_of_length-le}
+use Rattle.std.specs.Prelude.{ℤ, pos, replicate, slice_index, slice_index_or}
+use Rattle.std.specs.List.{sum}
+use Rattle.std.proofs.lemmas.List.{length-replicate, length-drop}
+use Rattle.std.proofs.lemmas.List.Sums.{sum_by-cons, sum_by-drop_more}
+use Rattle.weights.specs.Grouped.{fits}
+use Rattle.weights.proofs.Sized.{first_and}
+use Rattle.label_network.specs.LaterSums.{subjects, later_scores}
+use Rattle.label_network.specs.Meanings.{Meaning}
+use Rattle.label_network.proofs.Narrowing.{IsLeft}
+
+pub length-subjects : (ss : List ℤ) (cs : List ℕ) → length ss ≡ length cs → length (subjects ss cs) ≡ sum cs
+length-subjects [] [] e = refl
+length-subjects [] (c ∷ cs) e = absurd (omega (arith, e))
+length-subjects (s ∷ ss) [] e = absurd (omega (arith, e))
+length-subjects (s ∷ ss) (c ∷ cs) e = omega (arith, length-append (replicate c s) (subjects ss cs), length-replicate c s, length-subjects ss cs (omega (arith, e)), sum_by-cons (λ v. v) c cs)
+
+pub fits-length : (r s : List ℕ) → fits r s ≡ true → length r ≡ length s
+fits-length [] [] h = refl
+fits-length [] (s ∷ ss) h = absurd (cc h)
+fits-length (r ∷ rs) [] h = absurd (cc h)
+fits-length (r ∷ rs) (s ∷ ss) h = ap suc (fits-length rs ss (first_and (nat_le r s) (fits rs ss) h).1)
+
+module _ (scores : List ℤ) (columns : List ℕ) where
+  pub later-next : (g : ℕ) → g < length columns → length scores ≡ length columns → later_scores scores columns g ≡ replicate (slice_index columns g) (slice_index_or scores g (pos 0)) ++ later_scores scores columns (g + 1)
+  later-next g h e =
+      let ss : drop g scores ≡ slice_index_or scores g (pos 0) ∷ drop (g + 1) scores = rw add-one (drop-cons scores g (pos 0) (omega (arith, h, e))) in
+      let cs : drop g columns ≡ slice_index columns g ∷ drop (g + 1) columns = rw add-one (drop-cons columns g 0 h) in
+      rw (ss, cs) refl
+
+  pub later-end : length scores ≡ length columns → later_scores scores columns (length columns) ≡ []
+  later-end e =
+      let ss : drop (length columns) scores ≡ [] = drop_of_length-le scores {i = length columns} (omega (arith, e)) in
+      rw ss refl
+
+  pub later-length : (g : ℕ) → length scores ≡ length columns → length (later_scores scores columns g) ≡ sum (drop g columns)
+  later-length g e = length-subjects (drop g scores) (drop g columns) (omega (arith, e, length-drop {A = ℤ}, length-drop {A = ℕ}))
+
+-- what remains is what the column takes and the later subjects
+pub sizes-next : (m : Meaning) (scores : List ℤ) (g : ℕ) (r : List ℕ) → length scores ≡ length m.columns → g < length m.columns → IsLeft m g r → sum r ≡ slice_index m.columns g + length (later_scores scores m.columns (g + 1))
+sizes-next m scores g r e h l =
+    let more : sum (drop g m.columns) ≡ get_or m.columns g 0 + sum (drop (g + 1) m.columns) = sum_by-drop_more (λ v. v) m.columns g 0 h in
+    omega (arith, later-length scores m.columns (g + 1) e, more, l.whole)

@@ -1,0 +1,182 @@
+-- The interval of a sum of products narrows along each choice.
+use Rattle.std.proofs.Common.{◌≡◌, ℕ, zero, suc, ◌+◌, ◌-◌, ◌≤◌, List, [], ◌∷◌, ◌++◌, length, true, refl, sym, ◌∙◌, ap, arith, nat_le}
+use Rattle.std.specs.Prelude.{ℤ, pos, negsuc, ◌+ℤ◌, ◌-ℤ◌, ◌*ℤ◌, ◌≤ℤ◌, replicate}
+use Rattle.std.specs.List.{sum}
+use Rattle.std.proofs.Math.IntN.{*ℤ_comm, zero-*ℤ, *ℤ-zero}
+use Rattle.std.proofs.lemmas.Bool.{leb-true}
+use Rattle.std.proofs.lemmas.Int.{ints}
+use Rattle.std.proofs.lemmas.List.Sums.{sum_by-cons}
+use Rattle.weights.specs.Grouped.{fits, minus}
+use Rattle.weights.proofs.Sized.{sum-minus, first_and}
+use Rattle.label_network.specs.LaterSums.{total_score, least_sum, greatest_sum}
+use Rattle.label_network.specs.Linear.{RowsClimb, row_sum, Climbs, least_steps, greatest_steps, least_added, greatest_added}
+use Rattle.label_network.proofs.LaterArcs.{least-arc, greatest-arc, more-times}
+use Rattle.completion_bounds.proofs.Products.{distribute, distribute_left}
+
+-- products of three, each with one of the factors moved
+pub scale : (d a b : ℤ) → pos 0 ≤ℤ d → a ≤ℤ b → (d *ℤ a) ≤ℤ (d *ℤ b)
+scale (negsuc d) a b h e = absurd (omega (arith, ints, h))
+scale (pos zero) a b h e = rw (zero-*ℤ a, zero-*ℤ b) (omega (arith, ints))
+scale (pos (suc d)) a b h e = rw (more-times d a, more-times d b) (omega (arith, ints, e, scale (pos d) a b (omega (arith, ints)) e))
+
+assoc-pos : (k : ℕ) (d v : ℤ) → (pos k *ℤ d) *ℤ v ≡ pos k *ℤ (d *ℤ v)
+assoc-pos zero d v = rw (zero-*ℤ d, zero-*ℤ v, zero-*ℤ (d *ℤ v)) refl
+assoc-pos (suc k) d v = rw (more-times k d, more-times k (d *ℤ v), distribute_left (pos k *ℤ d) d v, assoc-pos k d v) refl
+
+-- the scores of the rows taken, step by step
+abbrev row_steps : ℤ → List ℤ → List ℕ → ℤ
+row_steps u [] xs = pos 0
+row_steps u (w ∷ us) [] = pos 0
+row_steps u (w ∷ us) (x ∷ xs) = (pos (sum (x ∷ xs)) *ℤ (w -ℤ u)) +ℤ row_steps w us xs
+
+row-steps : (u : ℤ) (us : List ℤ) (xs : List ℕ) → length us ≡ length xs → row_sum us xs ≡ (pos (sum xs) *ℤ u) +ℤ row_steps u us xs
+row-steps u [] [] e = rw (zero-*ℤ u) refl
+row-steps u [] (x ∷ xs) e = absurd (omega (arith, e))
+row-steps u (w ∷ us) [] e = absurd (omega (arith, e))
+row-steps u (w ∷ us) (x ∷ xs) e =
+    let whole : pos (sum (x ∷ xs)) ≡ pos x +ℤ pos (sum xs) = ap pos (sum_by-cons (λ v. v) x xs) in
+    let both : pos (sum (x ∷ xs)) *ℤ w ≡ (pos x *ℤ w) +ℤ (pos (sum xs) *ℤ w) = ap (λ n. n *ℤ w) whole ∙ distribute_left (pos x) (pos (sum xs)) w in
+    let apart : pos (sum (x ∷ xs)) *ℤ ((w -ℤ u) +ℤ u) ≡ (pos (sum (x ∷ xs)) *ℤ (w -ℤ u)) +ℤ (pos (sum (x ∷ xs)) *ℤ u) = distribute (pos (sum (x ∷ xs))) (w -ℤ u) u in
+    let back : (w -ℤ u) +ℤ u ≡ w = omega (arith, ints) in
+    let again : pos (sum (x ∷ xs)) *ℤ w ≡ (pos (sum (x ∷ xs)) *ℤ (w -ℤ u)) +ℤ (pos (sum (x ∷ xs)) *ℤ u) = ap (λ n. pos (sum (x ∷ xs)) *ℤ n) (sym back) ∙ apart in
+    joined (pos x *ℤ w) (row_sum us xs) (pos (sum xs) *ℤ w) (row_steps w us xs) (pos (sum (x ∷ xs)) *ℤ w) (pos (sum (x ∷ xs)) *ℤ (w -ℤ u)) (pos (sum (x ∷ xs)) *ℤ u) (row-steps w us xs (omega (arith, e))) both again
+  where
+    joined : (a s b t c d f : ℤ) → s ≡ b +ℤ t → c ≡ a +ℤ b → c ≡ d +ℤ f → a +ℤ s ≡ f +ℤ (d +ℤ t)
+    joined a s b t c d f i j k = omega (arith, ints, i, j, k)
+
+-- one step: a least sum times the step, before and after
+one-least : (d v a b : ℤ) (k : ℕ) → pos 0 ≤ℤ d → a ≤ℤ ((pos k *ℤ v) +ℤ b) → (d *ℤ a) ≤ℤ (((pos k *ℤ d) *ℤ v) +ℤ (d *ℤ b))
+one-least d v a b k h e =
+    let moved : d *ℤ (pos k *ℤ v) ≡ (pos k *ℤ d) *ℤ v = *ℤ_comm d (pos k *ℤ v) ∙ assoc-pos k v d ∙ ap (λ n. pos k *ℤ n) (*ℤ_comm v d) ∙ sym (assoc-pos k d v) in
+    let apart : d *ℤ ((pos k *ℤ v) +ℤ b) ≡ (d *ℤ (pos k *ℤ v)) +ℤ (d *ℤ b) = distribute d (pos k *ℤ v) b in
+    omega (arith, ints, scale d a ((pos k *ℤ v) +ℤ b) h e, moved, apart)
+
+one-greatest : (d v a b : ℤ) (k : ℕ) → pos 0 ≤ℤ d → ((pos k *ℤ v) +ℤ b) ≤ℤ a → (((pos k *ℤ d) *ℤ v) +ℤ (d *ℤ b)) ≤ℤ (d *ℤ a)
+one-greatest d v a b k h e =
+    let moved : d *ℤ (pos k *ℤ v) ≡ (pos k *ℤ d) *ℤ v = *ℤ_comm d (pos k *ℤ v) ∙ assoc-pos k v d ∙ ap (λ n. pos k *ℤ n) (*ℤ_comm v d) ∙ sym (assoc-pos k d v) in
+    let apart : d *ℤ ((pos k *ℤ v) +ℤ b) ≡ (d *ℤ (pos k *ℤ v)) +ℤ (d *ℤ b) = distribute d (pos k *ℤ v) b in
+    omega (arith, ints, scale d ((pos k *ℤ v) +ℤ b) a h e, moved, apart)
+
+sums-minus : (r x : List ℕ) → fits x r ≡ true → sum (minus r x) ≡ sum r - sum x
+sums-minus r x f = omega (arith, sum-minus r x f)
+
+least-steps : (u : ℤ) (us : List ℤ) (r x : List ℕ) (c : ℕ) (v : ℤ) (later : List ℤ) → Climbs u us → fits x r ≡ true → sum x ≤ c → sum r ≤ sum x + length later → least_steps u us r (replicate c v ++ later) ≤ℤ ((row_steps u us x *ℤ v) +ℤ least_steps u us (minus r x) later)
+least-steps u [] r x c v later a f h l = rw (zero-*ℤ v) (omega (arith, ints))
+least-steps u (w ∷ us) [] [] c v later a f h l = rw (zero-*ℤ v) (omega (arith, ints))
+least-steps u (w ∷ us) [] (b ∷ x) c v later a f h l = absurd (cc f)
+least-steps u (w ∷ us) (m ∷ ms) [] c v later a f h l = absurd (cc f)
+least-steps u (w ∷ us) (m ∷ ms) (b ∷ x) c v later a f h l =
+    let both = first_and (nat_le b m) (fits x ms) f in
+    let most : b ≤ m = leb-true b m both.0 in
+    let xs : sum (b ∷ x) ≡ b + sum x = sum_by-cons (λ v. v) b x in
+    let rs : sum (m ∷ ms) ≡ m + sum ms = sum_by-cons (λ v. v) m ms in
+    let less : sum ((m - b) ∷ minus ms x) ≡ sum (m ∷ ms) - sum (b ∷ x) = sums-minus (m ∷ ms) (b ∷ x) f in
+    let part : sum (b ∷ x) + sum ((m - b) ∷ minus ms x) ≡ sum (m ∷ ms) = sum-minus (m ∷ ms) (b ∷ x) f in
+    let arc : least_sum (sum (m ∷ ms)) (replicate c v ++ later) ≤ℤ ((pos (sum (b ∷ x)) *ℤ v) +ℤ least_sum (sum ((m - b) ∷ minus ms x)) later) = rw less (least-arc c (sum (b ∷ x)) (sum (m ∷ ms)) v later h (omega (arith, part)) (omega (arith, l))) in
+    let here = one-least (w -ℤ u) v _ _ (sum (b ∷ x)) (omega (arith, ints, a.0)) arc in
+    let rest = least-steps w us ms x c v later a.1 both.1 (omega (arith, xs, h)) (omega (arith, xs, rs, l, most)) in
+    let apart = distribute_left (pos (sum (b ∷ x)) *ℤ (w -ℤ u)) (row_steps w us x) v in
+    omega (arith, ints, here, rest, apart)
+
+greatest-steps : (u : ℤ) (us : List ℤ) (r x : List ℕ) (c : ℕ) (v : ℤ) (later : List ℤ) → Climbs u us → fits x r ≡ true → sum x ≤ c → sum r ≤ sum x + length later → ((row_steps u us x *ℤ v) +ℤ greatest_steps u us (minus r x) later) ≤ℤ greatest_steps u us r (replicate c v ++ later)
+greatest-steps u [] r x c v later a f h l = rw (zero-*ℤ v) (omega (arith, ints))
+greatest-steps u (w ∷ us) [] [] c v later a f h l = rw (zero-*ℤ v) (omega (arith, ints))
+greatest-steps u (w ∷ us) [] (b ∷ x) c v later a f h l = absurd (cc f)
+greatest-steps u (w ∷ us) (m ∷ ms) [] c v later a f h l = absurd (cc f)
+greatest-steps u (w ∷ us) (m ∷ ms) (b ∷ x) c v later a f h l =
+    let both = first_and (nat_le b m) (fits x ms) f in
+    let most : b ≤ m = leb-true b m both.0 in
+    let xs : sum (b ∷ x) ≡ b + sum x = sum_by-cons (λ v. v) b x in
+    let rs : sum (m ∷ ms) ≡ m + sum ms = sum_by-cons (λ v. v) m ms in
+    let less : sum ((m - b) ∷ minus ms x) ≡ sum (m ∷ ms) - sum (b ∷ x) = sums-minus (m ∷ ms) (b ∷ x) f in
+    let part : sum (b ∷ x) + sum ((m - b) ∷ minus ms x) ≡ sum (m ∷ ms) = sum-minus (m ∷ ms) (b ∷ x) f in
+    let arc : ((pos (sum (b ∷ x)) *ℤ v) +ℤ greatest_sum (sum ((m - b) ∷ minus ms x)) later) ≤ℤ greatest_sum (sum (m ∷ ms)) (replicate c v ++ later) = rw less (greatest-arc c (sum (b ∷ x)) (sum (m ∷ ms)) v later h (omega (arith, part)) (omega (arith, l))) in
+    let here = one-greatest (w -ℤ u) v _ _ (sum (b ∷ x)) (omega (arith, ints, a.0)) arc in
+    let rest = greatest-steps w us ms x c v later a.1 both.1 (omega (arith, xs, h)) (omega (arith, xs, rs, l, most)) in
+    let apart = distribute_left (pos (sum (b ∷ x)) *ℤ (w -ℤ u)) (row_steps w us x) v in
+    omega (arith, ints, here, rest, apart)
+
+pub total-block : (c : ℕ) (v : ℤ) (later : List ℤ) → total_score (replicate c v ++ later) ≡ (pos c *ℤ v) +ℤ total_score later
+total-block zero v later = rw (zero-*ℤ v) (plain (total_score later))
+  where
+    plain : (t : ℤ) → t ≡ pos 0 +ℤ t
+    plain t = omega (arith, ints)
+total-block (suc c) v later = rw (more-times c v) (ap (λ t. v +ℤ t) (total-block c v later) ∙ grouped v (pos c *ℤ v) (total_score later))
+  where
+    grouped : (a b t : ℤ) → a +ℤ (b +ℤ t) ≡ (b +ℤ a) +ℤ t
+    grouped a b t = omega (arith, ints)
+
+-- all that the choice adds is in the first row's score and the steps
+taken-sum : (u : ℤ) (us : List ℤ) (b : ℕ) (x : List ℕ) (c : ℕ) (v : ℤ) (later : List ℤ) → length us ≡ length x → sum (b ∷ x) ≡ c → (v *ℤ row_sum (u ∷ us) (b ∷ x)) +ℤ (u *ℤ total_score later) ≡ (row_steps u us x *ℤ v) +ℤ (u *ℤ total_score (replicate c v ++ later))
+taken-sum u us b x c v later l e =
+    let whole : pos c ≡ pos b +ℤ pos (sum x) = ap pos (sym e ∙ sum_by-cons (λ v. v) b x) in
+    let both : pos c *ℤ u ≡ (pos b *ℤ u) +ℤ (pos (sum x) *ℤ u) = ap (λ n. n *ℤ u) whole ∙ distribute_left (pos b) (pos (sum x)) u in
+    let row : row_sum (u ∷ us) (b ∷ x) ≡ (pos c *ℤ u) +ℤ row_steps u us x = joined (pos b *ℤ u) (row_sum us x) (pos (sum x) *ℤ u) (row_steps u us x) (pos c *ℤ u) (row-steps u us x l) both in
+    let one : v *ℤ row_sum (u ∷ us) (b ∷ x) ≡ ((pos c *ℤ u) *ℤ v) +ℤ (row_steps u us x *ℤ v) = ap (λ n. v *ℤ n) row ∙ *ℤ_comm v ((pos c *ℤ u) +ℤ row_steps u us x) ∙ distribute_left (pos c *ℤ u) (row_steps u us x) v in
+    let two : u *ℤ total_score (replicate c v ++ later) ≡ (u *ℤ (pos c *ℤ v)) +ℤ (u *ℤ total_score later) = ap (λ n. u *ℤ n) (total-block c v later) ∙ distribute u (pos c *ℤ v) (total_score later) in
+    let moved : u *ℤ (pos c *ℤ v) ≡ (pos c *ℤ u) *ℤ v = *ℤ_comm u (pos c *ℤ v) ∙ assoc-pos c v u ∙ ap (λ n. pos c *ℤ n) (*ℤ_comm v u) ∙ sym (assoc-pos c u v) in
+    last _ _ _ _ _ _ one two moved
+  where
+    joined : (a s b t c : ℤ) → s ≡ b +ℤ t → c ≡ a +ℤ b → a +ℤ s ≡ c +ℤ t
+    joined a s b t c i j = omega (arith, ints, i, j)
+
+    last : (r k s t m y : ℤ) → r ≡ k +ℤ s → t ≡ m +ℤ y → m ≡ k → r +ℤ y ≡ s +ℤ t
+    last r k s t m y i j n = omega (arith, ints, i, j, n)
+
+pub least-added : (us : List ℤ) (r x : List ℕ) (c : ℕ) (v : ℤ) (later : List ℤ) → RowsClimb us → length us ≡ length r → length x ≡ length r → fits x r ≡ true → sum x ≡ c → sum r ≡ c + length later → least_added us r (replicate c v ++ later) ≤ℤ ((v *ℤ row_sum us x) +ℤ least_added us (minus r x) later)
+least-added [] r x c v later a l k f e s = rw (*ℤ-zero v) (omega (arith, ints))
+least-added (u ∷ us) [] x c v later a l k f e s = absurd (omega (arith, l))
+least-added (u ∷ us) (m ∷ ms) [] c v later a l k f e s = absurd (omega (arith, k))
+least-added (u ∷ us) (m ∷ ms) (b ∷ x) c v later a l k f e s =
+    let both = first_and (nat_le b m) (fits x ms) f in
+    let most : b ≤ m = leb-true b m both.0 in
+    let xs : sum (b ∷ x) ≡ b + sum x = sum_by-cons (λ v. v) b x in
+    let rs : sum (m ∷ ms) ≡ m + sum ms = sum_by-cons (λ v. v) m ms in
+    let steps = least-steps u us ms x c v later a both.1 (omega (arith, xs, e)) (omega (arith, xs, rs, s, e, most)) in
+    let taken = taken-sum u us b x c v later (omega (arith, l, k)) e in
+    omega (arith, ints, steps, taken)
+
+pub greatest-added : (us : List ℤ) (r x : List ℕ) (c : ℕ) (v : ℤ) (later : List ℤ) → RowsClimb us → length us ≡ length r → length x ≡ length r → fits x r ≡ true → sum x ≡ c → sum r ≡ c + length later → ((v *ℤ row_sum us x) +ℤ greatest_added us (minus r x) later) ≤ℤ greatest_added us r (replicate c v ++ later)
+greatest-added [] r x c v later a l k f e s = rw (*ℤ-zero v) (omega (arith, ints))
+greatest-added (u ∷ us) [] x c v later a l k f e s = absurd (omega (arith, l))
+greatest-added (u ∷ us) (m ∷ ms) [] c v later a l k f e s = absurd (omega (arith, k))
+greatest-added (u ∷ us) (m ∷ ms) (b ∷ x) c v later a l k f e s =
+    let both = first_and (nat_le b m) (fits x ms) f in
+    let most : b ≤ m = leb-true b m both.0 in
+    let xs : sum (b ∷ x) ≡ b + sum x = sum_by-cons (λ v. v) b x in
+    let rs : sum (m ∷ ms) ≡ m + sum ms = sum_by-cons (λ v. v) m ms in
+    let steps = greatest-steps u us ms x c v later a both.1 (omega (arith, xs, e)) (omega (arith, xs, rs, s, e, most)) in
+    let taken = taken-sum u us b x c v later (omega (arith, l, k)) e in
+    omega (arith, ints, steps, taken)
+
+-- nothing is added where no scores are left
+pub least-none : (j : ℕ) → least_sum j [] ≡ pos 0
+least-none zero = refl
+least-none (suc j) = refl
+
+pub greatest-none : (j : ℕ) → greatest_sum j [] ≡ pos 0
+greatest-none zero = refl
+greatest-none (suc j) = refl
+
+zero-plus : (t : ℤ) → pos 0 +ℤ t ≡ t
+zero-plus t = omega (arith, ints)
+
+least-steps-none : (u : ℤ) (us : List ℤ) (ms : List ℕ) → least_steps u us ms [] ≡ pos 0
+least-steps-none u [] ms = refl
+least-steps-none u (w ∷ us) [] = refl
+least-steps-none u (w ∷ us) (m ∷ ms) = rw (least-none (sum (m ∷ ms)), *ℤ-zero (w -ℤ u), least-steps-none w us ms) refl
+
+greatest-steps-none : (u : ℤ) (us : List ℤ) (ms : List ℕ) → greatest_steps u us ms [] ≡ pos 0
+greatest-steps-none u [] ms = refl
+greatest-steps-none u (w ∷ us) [] = refl
+greatest-steps-none u (w ∷ us) (m ∷ ms) = rw (greatest-none (sum (m ∷ ms)), *ℤ-zero (w -ℤ u), greatest-steps-none w us ms) refl
+
+pub least-added-none : (us : List ℤ) (ms : List ℕ) → least_added us ms [] ≡ pos 0
+least-added-none [] ms = refl
+least-added-none (u ∷ us) [] = refl
+least-added-none (u ∷ us) (m ∷ ms) = rw (*ℤ-zero u, least-steps-none u us ms) refl
+
+pub greatest-added-none : (us : List ℤ) (ms : List ℕ) → greatest_added us ms [] ≡ pos 0
+greatest-added-none [] ms = refl
+greatest-added-none (u ∷ us) [] = refl
+greatest-added-none (u ∷ us) (m ∷ ms) = rw (*ℤ-zero u, greatest-steps-none u us ms) refl

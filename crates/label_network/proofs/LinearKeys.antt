@@ -1,0 +1,168 @@
+-- What the measure of sums of products knows at each of its keys.
+use Rattle.std.proofs.Common.{◌≡◌, ℕ, zero, suc, ◌+◌, ◌-◌, ◌*◌, ◌^◌, ◌<◌, ◌≤◌, ◌⊎◌, List, [], ◌∷◌, length, get_or, set, take, drop, refl, sym, ◌∙◌, ap, subst, arith, inl, inr}
+use Rattle.std.specs.Prelude.{ℤ, ◌+ℤ◌, unsigned_abs, slice_index}
+use Rattle.std.specs.List.{sum, Contains}
+use Rattle.std.proofs.Math.Nat.{mul-le-mul, mul-le-mul_left}
+use Rattle.std.proofs.lemmas.Bool.{cases_lt}
+use Rattle.std.proofs.lemmas.List.Sums.{sum_by-take-drop, sum_by-drop_more}
+use Rattle.weights.specs.declared.TheConstants.{MAX}
+use Rattle.weights.specs.declared.tails.Tail.{Tail}
+use Rattle.weights.specs.declared.rules.Rule.{Rule}
+use Rattle.weights.specs.Rules.{RuleFits}
+use Rattle.weights.proofs.ChoiceLists.{IsChoice}
+use Rattle.completion_bounds.specs.Pairings.{greatest_score}
+use Rattle.label_network.specs.Meanings.{Meaning, AreReached, IsPlace, IsEnd, allowed, sizes_in}
+use Rattle.label_network.specs.LaterSums.{absolute_sum, later_scores}
+use Rattle.label_network.specs.Linear.{row_sum, least_added, greatest_added, score_of, picked, order_of, ordered, ordered_scores, so_far, linear_low, linear_high, column_sum, linear_meaning, greatest_sizes}
+use Rattle.label_network.specs.LinearSteps.{whole_reach, HasTails, ArePlaces, IsLinearMeasure}
+use Rattle.label_network.proofs.Sizes.{sizes-of_pos}
+use Rattle.label_network.proofs.Narrowing.{IsLeft, chosen}
+use Rattle.label_network.proofs.Ascending.{ascending, order-inside}
+use Rattle.label_network.proofs.Rearranging.{picked-fits, picked_scores-length}
+use Rattle.label_network.proofs.Enough.{tails-enough}
+use Rattle.label_network.proofs.LinearSizes.{picked-within, reach-within, row-size}
+use Rattle.label_network.proofs.Absolute.{sizes-block}
+use Rattle.label_network.proofs.Stages.{sizes-some}
+use Rattle.label_network.proofs.Later.{later-next}
+use Rattle.label_network.proofs.LinearNarrows.{IsPartial, reached_left, reached_partial, rows-level, ordered-whole, low-small, high-small, low-rule, high-rule, choice-level, column-small}
+
+pub one_item : {X : Type 0} (xs : List X) (x : X) → length xs ≡ 1 → set xs 0 x ≡ x ∷ []
+one_item [] x e = absurd (omega (arith, e))
+one_item (y ∷ []) x e = refl
+one_item (y ∷ z ∷ ys) x e = absurd (omega (arith, e))
+
+sizes-long : (zs : List ℤ) → length (sizes_in zs) ≡ length zs
+sizes-long [] = refl
+sizes-long (z ∷ zs) = ap suc (sizes-long zs)
+
+pub reached-stage : (m : Meaning) (g : ℕ) (r : List ℕ) (p : List ℤ) → AreReached m g r p → g ≤ length m.columns
+reached-stage m zero r p a = omega arith
+reached-stage m (suc g) r p (s, q, c, a, before, o, e, f) = omega (arith, before)
+
+module _ (us : List ℤ) (rows : List ℕ) (scores : List ℤ) (columns : List ℕ) (width : ℕ) (order : List ℕ) (ordered_us : List ℤ) (rule : Rule) (h : IsLinearMeasure us rows scores columns width order ordered_us rule) (tail : Tail) where
+  pub ordered-level_is : length ordered_us ≡ length order
+  ordered-level_is = ap length h.ordered_is ∙ picked_scores-length (order_of us) us ∙ ap length (sym h.order_is)
+
+  reach-small : whole_reach ordered_us ≤ 3 * greatest_score us
+  reach-small = subst (λ vs. whole_reach vs ≤ 3 * greatest_score us) (sym h.ordered_is) (reach-within (ordered_scores us) (greatest_score us) (ascending us) (picked-within (order_of us) us))
+
+  pub steps-fit : whole_reach ordered_us < 2 ^ 127
+  steps-fit = omega (arith, reach-small, h.linear.scores_fit)
+
+  module _ (g : ℕ) (f p : List ℤ) (a : IsPlace (linear_meaning us rows scores columns tail rule) g f p) where
+    left : IsLeft (linear_meaning us rows scores columns tail rule) g (sizes_in f)
+    left = reached_left us rows scores columns tail rule h.linear g (sizes_in f) p a.reached
+
+    pub partial_is : IsPartial us scores columns g (sizes_in f) p
+    partial_is = reached_partial us rows scores columns tail rule h.linear g (sizes_in f) p a.reached
+
+    pub one-number : length p ≡ 1
+    one-number = partial_is.one
+
+    pub within-stages : g ≤ length columns
+    within-stages = reached-stage (linear_meaning us rows scores columns tail rule) g (sizes_in f) p a.reached
+
+    sizes-few : sum (sizes_in f) < 2 ^ 64
+    sizes-few = omega (arith, left.whole, h.linear.level, h.linear.units, sum_by-take-drop (λ v. v) columns g)
+
+    rows-long : length f ≡ length us
+    rows-long = sym (sizes-long f) ∙ rows-level us rows scores columns tail rule h.linear g (sizes_in f) left
+
+    pub places : ArePlaces order f
+    places = record {
+      inside = λ i l. subst (λ js. get_or js i 0 < length f) (sym h.order_is) (omega (arith, rows-long, order-inside us i (omega (arith, l, ap length h.order_is))));
+      sizes = sizes-of_pos (sizes_in f) sizes-few f a.whole;
+    }
+
+    pub whole : sum (picked order (sizes_in f)) ≡ length (later_scores scores columns g)
+    whole = ap (λ js. sum (picked js (sizes_in f))) h.order_is ∙ ordered-whole us rows scores columns tail rule h.linear g (sizes_in f) left
+
+    parted : (k : ℕ) → (sum (drop k (picked order rows)) ≤ width - 1) ⊎ (sum (take k (picked order rows)) ≤ width - 1)
+    parted k = by (cases_lt (width - 1) (sum (drop k (picked order rows))))
+      where
+        by : (width - 1 < sum (drop k (picked order rows))) ⊎ (sum (drop k (picked order rows)) ≤ width - 1) → (sum (drop k (picked order rows)) ≤ width - 1) ⊎ (sum (take k (picked order rows)) ≤ width - 1)
+        by (inl many) = inr (h.enough.each k many)
+        by (inr few) = inl few
+
+    pub tails : 1 ≤ width → HasTails width (picked order (sizes_in f)) (later_scores scores columns g)
+    tails some =
+        let back : (width - 1) + 1 ≡ width = omega (arith, some) in
+        subst (λ n. HasTails n (picked order (sizes_in f)) (later_scores scores columns g)) back
+        (tails-enough (width - 1) (picked order rows) (picked order (sizes_in f)) (later_scores scores columns g) parted (picked-fits order rows (sizes_in f) left.within) whole)
+
+    later-within : absolute_sum (later_scores scores columns g) ≤ absolute_sum (later_scores scores columns 0)
+    later-within = sizes-some g scores columns
+
+    pub added-fits : whole_reach ordered_us * absolute_sum (later_scores scores columns g) < 2 ^ 127
+    added-fits =
+        let one : whole_reach ordered_us * absolute_sum (later_scores scores columns g) ≤ (3 * greatest_score us) * absolute_sum (later_scores scores columns 0) = mul-le-mul reach-small later-within in
+        let two : (3 * greatest_score us) * absolute_sum (later_scores scores columns 0) ≡ 3 * (greatest_score us * absolute_sum (later_scores scores columns 0)) = grouped (greatest_score us) (absolute_sum (later_scores scores columns 0)) in
+        omega (arith, one, two, h.linear.sums_fit)
+      where
+        grouped : (m s : ℕ) → (3 * m) * s ≡ 3 * (m * s)
+        grouped m s = omega arith
+
+    least_is : least_added ordered_us (picked order (sizes_in f)) (later_scores scores columns g) ≡ least_added (ordered_scores us) (ordered us (sizes_in f)) (later_scores scores columns g)
+    least_is = rw (h.ordered_is, h.order_is) refl
+
+    greatest_is : greatest_added ordered_us (picked order (sizes_in f)) (later_scores scores columns g) ≡ greatest_added (ordered_scores us) (ordered us (sizes_in f)) (later_scores scores columns g)
+    greatest_is = rw (h.ordered_is, h.order_is) refl
+
+    sums-within : greatest_sizes us scores columns ≤ MAX
+    sums-within = omega (arith, h.linear.sums_fit)
+
+    pub low-fits : unsigned_abs (so_far p) + unsigned_abs (least_added ordered_us (picked order (sizes_in f)) (later_scores scores columns g)) ≤ MAX
+    low-fits = rw least_is (omega (arith, sums-within, low-small us rows scores columns tail rule h.linear g (sizes_in f) left p partial_is))
+
+    pub high-fits : unsigned_abs (so_far p) + unsigned_abs (greatest_added ordered_us (picked order (sizes_in f)) (later_scores scores columns g)) ≤ MAX
+    high-fits = rw greatest_is (omega (arith, sums-within, high-small us rows scores columns tail rule h.linear g (sizes_in f) left p partial_is))
+
+    pub low-is : so_far p +ℤ least_added ordered_us (picked order (sizes_in f)) (later_scores scores columns g) ≡ linear_low us scores columns g (sizes_in f) p
+    low-is = ap (λ t. so_far p +ℤ t) least_is
+
+    pub high-is : so_far p +ℤ greatest_added ordered_us (picked order (sizes_in f)) (later_scores scores columns g) ≡ linear_high us scores columns g (sizes_in f) p
+    high-is = ap (λ t. so_far p +ℤ t) greatest_is
+
+    pub low-rule_fits : RuleFits rule (linear_low us scores columns g (sizes_in f) p)
+    low-rule_fits = low-rule us rows scores columns tail rule h.linear g (sizes_in f) left p partial_is
+
+    pub high-rule_fits : RuleFits rule (linear_high us scores columns g (sizes_in f) p)
+    high-rule_fits = high-rule us rows scores columns tail rule h.linear g (sizes_in f) left p partial_is
+
+    -- a choice there
+    module _ (before : g < length columns) (x : List ℕ) (o : Contains (allowed (linear_meaning us rows scores columns tail rule) g (sizes_in f)) x) where
+      choice : IsChoice (slice_index columns g) (sizes_in f) x
+      choice = chosen (slice_index columns g) (sizes_in f) x o
+
+      pub choice-long : length x ≡ length us
+      choice-long = choice-level us rows scores columns tail rule h.linear g (sizes_in f) x before left choice
+
+      pub choice-whole : sum x ≡ slice_index columns g
+      choice-whole = choice.whole
+
+      pub arc-fits : unsigned_abs (so_far p) + unsigned_abs (column_sum us scores g x) ≤ MAX
+      arc-fits = omega (arith, sums-within, partial_is.small, column-small us rows scores columns tail rule h.linear g (sizes_in f) x before left choice)
+
+  pub end-one : (p : List ℤ) → IsEnd (linear_meaning us rows scores columns tail rule) p → length p ≡ 1
+  end-one p e = (reached_partial us rows scores columns tail rule h.linear (length columns) e.sizes p e.reached).one
+
+  -- of a column and counts of so many subjects
+  module _ (g : ℕ) (before : g < length columns) (x : List ℕ) (whole : sum x ≡ slice_index columns g) where
+    pub rows-fit : greatest_score us * sum x ≤ MAX
+    rows-fit =
+        let part : sum x ≤ sum rows = omega (arith, whole, h.linear.level, sum_by-take-drop (λ v. v) columns g, sum_by-drop_more (λ v. v) columns g 0 before) in
+        omega (arith, mul-le-mul_left (greatest_score us) part, h.linear.rows_fit)
+
+    pub column-fits : unsigned_abs (score_of scores g) * unsigned_abs (row_sum us x) ≤ MAX
+    column-fits =
+        let most : unsigned_abs (score_of scores g) * unsigned_abs (row_sum us x) ≤ unsigned_abs (score_of scores g) * (greatest_score us * slice_index columns g) = mul-le-mul_left (unsigned_abs (score_of scores g)) (rw (← whole) (row-size us x (greatest_score us) (same (greatest_score us)))) in
+        let split : absolute_sum (later_scores scores columns g) ≡ slice_index columns g * unsigned_abs (score_of scores g) + absolute_sum (later_scores scores columns (g + 1)) = ap absolute_sum (later-next scores columns g before h.linear.long) ∙ sizes-block (slice_index columns g) (score_of scores g) (later_scores scores columns (g + 1)) in
+        let all : greatest_score us * absolute_sum (later_scores scores columns g) ≡ unsigned_abs (score_of scores g) * (greatest_score us * slice_index columns g) + greatest_score us * absolute_sum (later_scores scores columns (g + 1)) = ap (λ n. greatest_score us * n) split ∙ apart (greatest_score us) (slice_index columns g) (unsigned_abs (score_of scores g)) (absolute_sum (later_scores scores columns (g + 1))) in
+        let part : greatest_score us * absolute_sum (later_scores scores columns g) ≤ greatest_score us * absolute_sum (later_scores scores columns 0) = mul-le-mul_left (greatest_score us) (sizes-some g scores columns) in
+        omega (arith, most, all, part, h.linear.sums_fit)
+      where
+        same : (n : ℕ) → n ≤ n
+        same n = omega arith
+
+        apart : (m c v s : ℕ) → m * (c * v + s) ≡ v * (m * c) + m * s
+        apart m c v s = omega arith

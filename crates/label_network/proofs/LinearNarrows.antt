@@ -1,0 +1,140 @@
+-- The interval of a sum of products narrows along every choice, and nothing in it passes a limit.
+use Rattle.std.proofs.Common.{◌≡◌, ℕ, ◌+◌, ◌*◌, ◌<◌, ◌≤◌, List, [], ◌∷◌, length, refl, sym, ◌∙◌, ap, arith}
+use Rattle.std.specs.Prelude.{ℤ, pos, ◌+ℤ◌, ◌*ℤ◌, ◌≤ℤ◌, unsigned_abs, slice_index}
+use Rattle.std.specs.List.{sum}
+use Rattle.std.proofs.Math.Nat.{mul-le-mul_left}
+use Rattle.std.proofs.lemmas.Int.{ints, unsigned_abs-mul}
+use Rattle.weights.specs.declared.tails.Tail.{Tail}
+use Rattle.weights.specs.declared.rules.Rule.{Rule}
+use Rattle.weights.specs.Rules.{RuleFits}
+use Rattle.weights.specs.Grouped.{minus}
+use Rattle.weights.proofs.ChoiceLists.{IsChoice}
+use Rattle.completion_bounds.specs.Pairings.{greatest_score}
+use Rattle.label_network.specs.Meanings.{AreReached, IsMeasure}
+use Rattle.label_network.specs.LaterSums.{absolute_sum, later_scores}
+use Rattle.label_network.specs.Linear.{row_sum, least_added, greatest_added, score_of, order_of, ordered, ordered_scores, so_far, linear_low, linear_high, column_sum, linear_meaning, greatest_sizes, IsLinear}
+use Rattle.label_network.proofs.Absolute.{size-plus, sizes-block}
+use Rattle.label_network.proofs.Ascending.{ascending, each-once}
+use Rattle.label_network.proofs.Rearranging.{picked-minus, picked-fits, picked-sum, picked-row, picked-length, picked_scores-length}
+use Rattle.label_network.proofs.LinearArcs.{least-added, greatest-added, least-added-none, greatest-added-none}
+use Rattle.label_network.proofs.Later.{fits-length, later-length, later-next, later-end, sizes-next}
+use Rattle.label_network.proofs.LinearSizes.{row-size, picked-within, least-added-size, greatest-added-size}
+use Rattle.label_network.proofs.Narrowing.{IsLeft, IsNarrowing, reached-left, reached-kept, measured}
+
+-- the partial is one number, no more than the products so far
+pub record IsPartial (us scores : List ℤ) (columns : List ℕ) (g : ℕ) (r : List ℕ) (p : List ℤ) : Type 0 where
+  pub one : length p ≡ 1
+  pub small : unsigned_abs (so_far p) + greatest_score us * absolute_sum (later_scores scores columns g) ≤ greatest_sizes us scores columns
+
+plus-zero : (t : ℤ) → t +ℤ pos 0 ≡ t
+plus-zero t = omega (arith, ints)
+
+module _ (us : List ℤ) (rows : List ℕ) (scores : List ℤ) (columns : List ℕ) (tail : Tail) (rule : Rule) (h : IsLinear us rows scores columns rule) where
+  -- the sizes that remain, in the order of the rows
+  module _ (g : ℕ) (r : List ℕ) (l : IsLeft (linear_meaning us rows scores columns tail rule) g r) where
+    pub rows-level : length r ≡ length us
+    rows-level = fits-length r rows l.within ∙ sym h.wide
+
+    pub ordered-level : length (ordered_scores us) ≡ length (ordered us r)
+    ordered-level = picked_scores-length (order_of us) us ∙ sym (picked-length (order_of us) r)
+
+    pub ordered-sum : sum (ordered us r) ≡ sum r
+    ordered-sum = picked-sum (length us) (order_of us) r (each-once us) rows-level
+
+    pub ordered-whole : sum (ordered us r) ≡ length (later_scores scores columns g)
+    ordered-whole = ordered-sum ∙ sym l.whole ∙ sym (later-length scores columns g h.long)
+
+    -- what can be added is small
+    pub least-small : unsigned_abs (least_added (ordered_scores us) (ordered us r) (later_scores scores columns g)) ≤ greatest_score us * absolute_sum (later_scores scores columns g)
+    least-small = least-added-size (ordered_scores us) (ordered us r) (later_scores scores columns g) (greatest_score us) ordered-level ordered-whole (picked-within (order_of us) us)
+
+    pub greatest-small : unsigned_abs (greatest_added (ordered_scores us) (ordered us r) (later_scores scores columns g)) ≤ greatest_score us * absolute_sum (later_scores scores columns g)
+    greatest-small = greatest-added-size (ordered_scores us) (ordered us r) (later_scores scores columns g) (greatest_score us) ordered-level ordered-whole (picked-within (order_of us) us)
+
+    module _ (p : List ℤ) (k : IsPartial us scores columns g r p) where
+      pub low-small : unsigned_abs (so_far p) + unsigned_abs (least_added (ordered_scores us) (ordered us r) (later_scores scores columns g)) ≤ greatest_sizes us scores columns
+      low-small = omega (arith, k.small, least-small)
+
+      pub high-small : unsigned_abs (so_far p) + unsigned_abs (greatest_added (ordered_scores us) (ordered us r) (later_scores scores columns g)) ≤ greatest_sizes us scores columns
+      high-small = omega (arith, k.small, greatest-small)
+
+      pub low-rule : RuleFits rule (linear_low us scores columns g r p)
+      low-rule = h.rule_fits (linear_low us scores columns g r p) (omega (arith, low-small, size-plus (so_far p) (least_added (ordered_scores us) (ordered us r) (later_scores scores columns g))))
+
+      pub high-rule : RuleFits rule (linear_high us scores columns g r p)
+      high-rule = h.rule_fits (linear_high us scores columns g r p) (omega (arith, high-small, size-plus (so_far p) (greatest_added (ordered_scores us) (ordered us r) (later_scores scores columns g))))
+
+  -- a choice for a column
+  module _ (g : ℕ) (r x : List ℕ) (before : g < length columns) (l : IsLeft (linear_meaning us rows scores columns tail rule) g r) (c : IsChoice (slice_index columns g) r x) where
+    arc-sizes : sum (ordered us r) ≡ slice_index columns g + length (later_scores scores columns (g + 1))
+    arc-sizes = ordered-sum g r l ∙ sizes-next (linear_meaning us rows scores columns tail rule) scores g r h.long before l
+
+    pub choice-level : length x ≡ length us
+    choice-level = c.long ∙ rows-level g r l
+
+    choice-sum : sum (ordered us x) ≡ slice_index columns g
+    choice-sum = picked-sum (length us) (order_of us) x (each-once us) choice-level ∙ c.whole
+
+    choice-ordered : length (ordered us x) ≡ length (ordered us r)
+    choice-ordered = picked-length (order_of us) x ∙ sym (picked-length (order_of us) r)
+
+    row-ordered : row_sum (ordered_scores us) (ordered us x) ≡ row_sum us x
+    row-ordered = picked-row (order_of us) us x (each-once us) choice-level
+
+    column-ordered : score_of scores g *ℤ row_sum (ordered_scores us) (ordered us x) ≡ column_sum us scores g x
+    column-ordered = ap (λ t. score_of scores g *ℤ t) row-ordered
+
+    pub rising : (p : List ℤ) → linear_low us scores columns g r p ≤ℤ linear_low us scores columns (g + 1) (minus r x) ((so_far p +ℤ column_sum us scores g x) ∷ [])
+    rising p =
+        let arc = least-added (ordered_scores us) (ordered us r) (ordered us x) (slice_index columns g) (score_of scores g) (later_scores scores columns (g + 1)) (ascending us) (ordered-level g r l) choice-ordered (picked-fits (order_of us) r x c.fitting) choice-sum arc-sizes in
+        rw (later-next scores columns g before h.long, picked-minus (order_of us) r x c.fitting) (omega (arith, ints, arc, column-ordered))
+
+    pub falling : (p : List ℤ) → linear_high us scores columns (g + 1) (minus r x) ((so_far p +ℤ column_sum us scores g x) ∷ []) ≤ℤ linear_high us scores columns g r p
+    falling p =
+        let arc = greatest-added (ordered_scores us) (ordered us r) (ordered us x) (slice_index columns g) (score_of scores g) (later_scores scores columns (g + 1)) (ascending us) (ordered-level g r l) choice-ordered (picked-fits (order_of us) r x c.fitting) choice-sum arc-sizes in
+        rw (later-next scores columns g before h.long, picked-minus (order_of us) r x c.fitting) (omega (arith, ints, arc, column-ordered))
+
+    -- what it adds
+    pub row-small : unsigned_abs (row_sum us x) ≤ greatest_score us * slice_index columns g
+    row-small = rw (← c.whole) (row-size us x (greatest_score us) (least (greatest_score us)))
+      where
+        least : (n : ℕ) → n ≤ n
+        least n = omega arith
+
+    pub column-small : unsigned_abs (column_sum us scores g x) + greatest_score us * absolute_sum (later_scores scores columns (g + 1)) ≤ greatest_score us * absolute_sum (later_scores scores columns g)
+    column-small =
+        let times : unsigned_abs (column_sum us scores g x) ≡ unsigned_abs (score_of scores g) * unsigned_abs (row_sum us x) = unsigned_abs-mul (score_of scores g) (row_sum us x) in
+        let most : unsigned_abs (score_of scores g) * unsigned_abs (row_sum us x) ≤ unsigned_abs (score_of scores g) * (greatest_score us * slice_index columns g) = mul-le-mul_left (unsigned_abs (score_of scores g)) row-small in
+        let split : absolute_sum (later_scores scores columns g) ≡ slice_index columns g * unsigned_abs (score_of scores g) + absolute_sum (later_scores scores columns (g + 1)) = ap absolute_sum (later-next scores columns g before h.long) ∙ sizes-block (slice_index columns g) (score_of scores g) (later_scores scores columns (g + 1)) in
+        let all : greatest_score us * absolute_sum (later_scores scores columns g) ≡ unsigned_abs (score_of scores g) * (greatest_score us * slice_index columns g) + greatest_score us * absolute_sum (later_scores scores columns (g + 1)) = ap (λ n. greatest_score us * n) split ∙ apart (greatest_score us) (slice_index columns g) (unsigned_abs (score_of scores g)) (absolute_sum (later_scores scores columns (g + 1))) in
+        omega (arith, times, most, all)
+      where
+        apart : (m c v s : ℕ) → m * (c * v + s) ≡ v * (m * c) + m * s
+        apart m c v s = omega arith
+
+    pub keeping : (p : List ℤ) → IsPartial us scores columns g r p → IsPartial us scores columns (g + 1) (minus r x) ((so_far p +ℤ column_sum us scores g x) ∷ [])
+    keeping p k = record {
+      one = refl;
+      small = omega (arith, k.small, column-small, size-plus (so_far p) (column_sum us scores g x));
+    }
+
+  pub linear_narrowing : IsNarrowing (linear_meaning us rows scores columns tail rule) (IsPartial us scores columns)
+  linear_narrowing = record {
+    keeps = λ g r x p before l c k. keeping g r x before l c p k;
+    rises = λ g r x p before l c k. rising g r x before l c p;
+    falls = λ g r x p before l c k. falling g r x before l c p;
+    low_end = λ r p l k. rw (later-end scores columns h.long, least-added-none (ordered_scores us) (ordered us r)) (plus-zero (so_far p));
+    high_end = λ r p l k. rw (later-end scores columns h.long, greatest-added-none (ordered_scores us) (ordered us r)) (plus-zero (so_far p));
+  }
+
+  first-partial : IsPartial us scores columns 0 rows (pos 0 ∷ [])
+  first-partial = record { one = refl; small = omega arith }
+
+  pub linear_measure : IsMeasure (linear_meaning us rows scores columns tail rule)
+  linear_measure = measured (linear_meaning us rows scores columns tail rule) h.level (IsPartial us scores columns) linear_narrowing first-partial (omega (arith, h.units)) (λ g r p k. k.one)
+
+  pub reached_partial : (g : ℕ) (r : List ℕ) (p : List ℤ) → AreReached (linear_meaning us rows scores columns tail rule) g r p → IsPartial us scores columns g r p
+  reached_partial g r p a = reached-kept (linear_meaning us rows scores columns tail rule) h.level (IsPartial us scores columns) linear_narrowing first-partial g r p a
+
+  pub reached_left : (g : ℕ) (r : List ℕ) (p : List ℤ) → AreReached (linear_meaning us rows scores columns tail rule) g r p → IsLeft (linear_meaning us rows scores columns tail rule) g r
+  reached_left g r p a = reached-left (linear_meaning us rows scores columns tail rule) h.level g r p a

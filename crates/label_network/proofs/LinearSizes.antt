@@ -1,0 +1,107 @@
+-- Sums of products are no greater than the greatest row score times the summed column scores.
+use Rattle.std.proofs.Common.{◌≡◌, ℕ, zero, suc, ◌+◌, ◌*◌, ◌≤◌, List, [], ◌∷◌, ◌++◌, length, Bool, true, false, cond, refl, ◌∙◌, ap, arith}
+use Rattle.std.specs.Prelude.{ℤ, pos, ◌+ℤ◌, ◌*ℤ◌, ◌≤ℤ◌, int_le, unsigned_abs, replicate, reverse}
+use Rattle.std.specs.List.{sum}
+use Rattle.std.proofs.Math.Nat.{mul-le-mul, mul-le-mul_left}
+use Rattle.std.proofs.lemmas.Int.{ints, unsigned_abs-mul}
+use Rattle.std.proofs.lemmas.List.{reverse-append}
+use Rattle.std.proofs.lemmas.List.Sums.{sum_by-cons}
+use Rattle.completion_bounds.specs.Pairings.{paired, greatest_score}
+use Rattle.label_network.specs.LaterSums.{absolute_sum, subjects}
+use Rattle.label_network.specs.Linear.{row_sum, Climbs, RowsClimb, score_of, picked_scores, least_added, greatest_added}
+use Rattle.label_network.specs.LinearSteps.{reach, whole_reach}
+use Rattle.label_network.proofs.Absolute.{size-plus}
+use Rattle.label_network.proofs.Sorting.{place_up, sort_up}
+use Rattle.label_network.proofs.LeastPairing.{least_pairing_is, greatest_pairing_is}
+
+same : (n : ℕ) → n ≤ n
+same n = omega arith
+
+pub score-within : (us : List ℤ) (i : ℕ) → unsigned_abs (score_of us i) ≤ greatest_score us
+score-within [] i = omega arith
+score-within (u ∷ us) zero = omega arith
+score-within (u ∷ us) (suc i) = omega (arith, score-within us i)
+
+pub picked-within : (order : List ℕ) (us : List ℤ) → greatest_score (picked_scores order us) ≤ greatest_score us
+picked-within [] us = omega arith
+picked-within (i ∷ order) us = omega (arith, score-within us i, picked-within order us)
+
+more : (x m y : ℕ) → (x + y) * m ≡ x * m + y * m
+more x m y = omega arith
+
+-- what a choice adds
+pub row-size : (us : List ℤ) (xs : List ℕ) (m : ℕ) → greatest_score us ≤ m → unsigned_abs (row_sum us xs) ≤ m * sum xs
+row-size [] xs m h = omega arith
+row-size (u ∷ us) [] m h = omega arith
+row-size (u ∷ us) (x ∷ xs) m h =
+    let one : unsigned_abs (pos x *ℤ u) ≡ x * unsigned_abs u = unsigned_abs-mul (pos x) u in
+    let two : x * unsigned_abs u ≤ x * m = mul-le-mul_left x (omega (arith, h)) in
+    let all : m * sum (x ∷ xs) ≡ m * x + m * sum xs = ap (λ n. m * n) (sum_by-cons (λ v. v) x xs) ∙ apart m x (sum xs) in
+    let turn : x * m ≡ m * x = turned x m in
+    omega (arith, one, two, all, turn, size-plus (pos x *ℤ u) (row_sum us xs), row-size us xs m (omega (arith, h)))
+  where
+    apart : (m x y : ℕ) → m * (x + y) ≡ m * x + m * y
+    apart m x y = omega arith
+
+    turned : (x m : ℕ) → x * m ≡ m * x
+    turned x m = omega arith
+
+-- the steps of ascending scores
+climbed : (u : ℤ) (us : List ℤ) (m : ℕ) → Climbs u us → unsigned_abs u ≤ m → greatest_score us ≤ m → (pos (reach u us) +ℤ u) ≤ℤ pos m
+climbed u [] m c h g = omega (arith, ints, h)
+climbed u (w ∷ us) m c h g =
+    let rest = climbed w us m c.1 (omega (arith, g)) (omega (arith, g)) in
+    omega (arith, ints, rest, c.0)
+
+pub reach-within : (us : List ℤ) (m : ℕ) → RowsClimb us → greatest_score us ≤ m → whole_reach us ≤ 3 * m
+reach-within [] m c h = omega arith
+reach-within (u ∷ us) m c h = omega (arith, ints, climbed u us m c (omega (arith, h)) (omega (arith, h)), h)
+
+-- and pairings
+paired-size : (xs ys : List ℤ) (m : ℕ) → greatest_score xs ≤ m → unsigned_abs (paired xs ys) ≤ m * absolute_sum ys
+paired-size [] ys m h = omega arith
+paired-size (x ∷ xs) [] m h = omega arith
+paired-size (x ∷ xs) (y ∷ ys) m h =
+    let one : unsigned_abs (x *ℤ y) ≡ unsigned_abs x * unsigned_abs y = unsigned_abs-mul x y in
+    let two : unsigned_abs x * unsigned_abs y ≤ m * unsigned_abs y = mul-le-mul (omega (arith, h)) (same (unsigned_abs y)) in
+    let all : m * (unsigned_abs y + absolute_sum ys) ≡ m * unsigned_abs y + m * absolute_sum ys = apart m (unsigned_abs y) (absolute_sum ys) in
+    omega (arith, one, two, all, size-plus (x *ℤ y) (paired xs ys), paired-size xs ys m (omega (arith, h)))
+  where
+    apart : (m x y : ℕ) → m * (x + y) ≡ m * x + m * y
+    apart m x y = omega arith
+
+units-within : (c : ℕ) (s : ℤ) (xs : List ℤ) (m : ℕ) → unsigned_abs s ≤ m → greatest_score xs ≤ m → greatest_score (replicate c s ++ xs) ≤ m
+units-within zero s xs m h g = g
+units-within (suc c) s xs m h g = omega (arith, h, units-within c s xs m h g)
+
+subjects-within : (us : List ℤ) (ms : List ℕ) (m : ℕ) → greatest_score us ≤ m → greatest_score (subjects us ms) ≤ m
+subjects-within [] ms m h = omega arith
+subjects-within (u ∷ us) [] m h = omega arith
+subjects-within (u ∷ us) (c ∷ ms) m h = units-within c u (subjects us ms) m (omega (arith, h)) (subjects-within us ms m (omega (arith, h)))
+
+absolute-append : (xs ys : List ℤ) → absolute_sum (xs ++ ys) ≡ absolute_sum xs + absolute_sum ys
+absolute-append [] ys = omega arith
+absolute-append (x ∷ xs) ys = omega (arith, absolute-append xs ys)
+
+absolute-turned : (xs : List ℤ) → absolute_sum (reverse xs) ≡ absolute_sum xs
+absolute-turned [] = refl
+absolute-turned (x ∷ xs) = ap absolute_sum (reverse-append (x ∷ []) xs) ∙ absolute-append (reverse xs) (x ∷ []) ∙ omega (arith, absolute-turned xs)
+
+absolute-place : (x : ℤ) (ys : List ℤ) → absolute_sum (place_up x ys) ≡ unsigned_abs x + absolute_sum ys
+absolute-place x [] = refl
+absolute-place x (y ∷ ys) = by (int_le x y) (absolute-place x ys)
+  where
+    by : (b : Bool) → absolute_sum (place_up x ys) ≡ unsigned_abs x + absolute_sum ys → absolute_sum (cond b (x ∷ y ∷ ys) (y ∷ place_up x ys)) ≡ unsigned_abs x + (unsigned_abs y + absolute_sum ys)
+    by true e = refl
+    by false e = omega (arith, e)
+
+absolute-sorted : (xs : List ℤ) → absolute_sum (sort_up xs) ≡ absolute_sum xs
+absolute-sorted [] = refl
+absolute-sorted (x ∷ xs) = absolute-place x (sort_up xs) ∙ ap (λ n. unsigned_abs x + n) (absolute-sorted xs)
+
+module _ (us : List ℤ) (ms : List ℕ) (later : List ℤ) (m : ℕ) (level : length us ≡ length ms) (whole : sum ms ≡ length later) (h : greatest_score us ≤ m) where
+  pub least-added-size : unsigned_abs (least_added us ms later) ≤ m * absolute_sum later
+  least-added-size = rw (least_pairing_is us ms later level whole, ← absolute-sorted later, ← absolute-turned (sort_up later)) (paired-size (subjects us ms) (reverse (sort_up later)) m (subjects-within us ms m h))
+
+  pub greatest-added-size : unsigned_abs (greatest_added us ms later) ≤ m * absolute_sum later
+  greatest-added-size = rw (greatest_pairing_is us ms later level whole, ← absolute-sorted later) (paired-size (subjects us ms) (sort_up later) m (subjects-within us ms m h))

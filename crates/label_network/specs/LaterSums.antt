@@ -1,0 +1,39 @@
+-- The scores of the subjects that are still to come, and the least and the greatest sum of some.
+use Rattle.std.specs.Prelude.{ℕ, zero, suc, ◌+◌, ℤ, pos, ◌+ℤ◌, List, [], ◌∷◌, ◌++◌, length, drop, replicate, unsigned_abs, nat_lt, if◌then◌else◌}
+use Rattle.std.specs.Int.{int_min, int_max}
+
+abbrev pub total_score : List ℤ → ℤ
+total_score [] = pos 0
+total_score (x ∷ xs) = x +ℤ total_score xs
+
+-- the summed absolute scores
+abbrev pub absolute_sum : List ℤ → ℕ
+absolute_sum [] = 0
+absolute_sum (x ∷ xs) = unsigned_abs x + absolute_sum xs
+
+-- each score as often as it has units
+abbrev pub subjects : List ℤ → List ℕ → List ℤ
+subjects [] counts = []
+subjects (s ∷ scores) [] = []
+subjects (s ∷ scores) (c ∷ counts) = replicate c s ++ subjects scores counts
+
+-- the scores of the subjects from a column on
+abbrev pub later_scores : List ℤ → List ℕ → ℕ → List ℤ
+later_scores scores columns g = subjects (drop g scores) (drop g columns)
+
+-- the least sum of j of the scores, or of all where there are no more: each score is taken, or
+-- passed over while enough are left
+abbrev pub least_sum : ℕ → List ℤ → ℤ
+least_sum zero xs = pos 0
+least_sum (suc j) [] = pos 0
+least_sum (suc j) (x ∷ xs) =
+    let taken = x +ℤ least_sum j xs in
+    if nat_lt j (length xs) then int_min taken (least_sum (suc j) xs) else taken
+
+-- the greatest
+abbrev pub greatest_sum : ℕ → List ℤ → ℤ
+greatest_sum zero xs = pos 0
+greatest_sum (suc j) [] = pos 0
+greatest_sum (suc j) (x ∷ xs) =
+    let taken = x +ℤ greatest_sum j xs in
+    if nat_lt j (length xs) then int_max taken (greatest_sum (suc j) xs) else taken

@@ -1,0 +1,10 @@
+pub mod Meanings
+pub mod ChoiceOrder
+pub mod LabelNetwork
+pub mod Endings
+pub mod LaterSums
+pub mod LaterTables
+pub mod Linear
+pub mod LabelSteps
+pub mod LaterSteps
+pub mod LinearSteps

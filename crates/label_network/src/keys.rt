@@ -1,0 +1,134 @@
+// The sizes in a key: read, written, taken from, and what is chosen and counted of them.
+ghost use Rattle.std.specs.Prelude.{◌≡◌, ◌+◌, ◌-◌, ◌^◌, ◌<◌, ◌≤◌, [], ◌∷◌, length, map, take, drop, nat_abs, pos, true, if◌then◌else◌};
+ghost use Rattle.std.specs.List.{sum, Contains};
+ghost use Rattle.weights.specs.Grouped.{choices, fits, minus};
+ghost use Rattle.weights.specs.Labellings.{number_of_labellings};
+ghost use Rattle.weights.specs.declared.TheConstants.{MAX};
+ghost use Rattle.label_network.specs.ChoiceOrder.{later_choices};
+ghost use Rattle.label_network.specs.LabelSteps.{AreSizes, IsHeld, IsSize, least};
+ghost use Rattle.label_network.specs.Meanings.{sizes_in};
+
+use crate::choice_order::{first_counts, next_counts, total_of};
+use crate::ways::Ways;
+
+#[inline(always)]
+pub fn front(key: &[i128], rows: usize) -> &[i128]
+    requires { rows ≤ length key.now }
+    ensures { result.now ≡ take rows key.now }
+{
+    &key[..rows]
+}
+
+#[inline(always)]
+pub fn back(key: &[i128], rows: usize) -> &[i128]
+    requires { rows ≤ length key.now }
+    ensures { result.now ≡ drop rows key.now }
+{
+    &key[rows..]
+}
+
+#[inline(always)]
+fn size_in(number: i128) -> u64
+    requires { IsSize number }
+    ensures { result ≡ nat_abs number }
+{
+    number as u64
+}
+
+fn read_sizes(front: &[i128], sizes: &mut [u64])
+    requires sizes { AreSizes front.now }
+    requires room { length sizes.old ≡ length front.now }
+    ensures { sizes.new ≡ sizes_in front.now }
+{
+    for i in 0..front.len() {
+        sizes[i] = size_in(front[i]);
+    }
+}
+
+pub fn write_sizes(sizes: &[u64], front: &mut [i128])
+    requires { length front.old ≡ length sizes.now }
+    ensures { front.new ≡ map pos sizes.now }
+{
+    for i in 0..sizes.len() {
+        front[i] = sizes[i] as i128;
+    }
+}
+
+#[inline(always)]
+fn less(size: i128, count: u64) -> i128
+    requires size { IsSize size }
+    requires fewer { count ≤ nat_abs size }
+    ensures { result ≡ pos (nat_abs size - count) }
+{
+    size - count as i128
+}
+
+// Writes the sizes that remain after a choice.
+pub fn take_away(front: &[i128], choice: &[u64], left: &mut [i128])
+    requires sizes { AreSizes front.now }
+    requires fitting { fits choice.now (sizes_in front.now) ≡ true }
+    requires room { length left.old ≡ length front.now }
+    ensures { left.new ≡ map pos (minus (sizes_in front.now) choice.now) }
+{
+    for i in 0..front.len() {
+        left[i] = less(front[i], choice[i]);
+    }
+}
+
+pub fn first_in(column: u64, front: &[i128], choice: &mut [u64])
+    requires few { length front.now ≤ 8 }
+    requires sizes { AreSizes front.now }
+    requires small { sum (sizes_in front.now) < 2 ^ 64 }
+    requires enough { column ≤ sum (sizes_in front.now) }
+    requires room { length choice.old ≡ length front.now }
+    ensures { choice.new ≡ least column (sizes_in front.now) }
+{
+    let mut numbers = [0u64; 8];
+    let sizes = &mut numbers[..front.len()];
+    read_sizes(front, sizes);
+    first_counts(column, sizes, choice);
+}
+
+pub fn next_in(column: u64, front: &[i128], choice: &mut [u64]) -> bool
+    requires few { length front.now ≤ 8 }
+    requires sizes { AreSizes front.now }
+    requires small { sum (sizes_in front.now) < 2 ^ 64 }
+    requires allowed { Contains (choices column (sizes_in front.now)) choice.old }
+    ensures { let rest = later_choices column (sizes_in front.now) choice.new in
+        later_choices column (sizes_in front.now) choice.old
+        ≡ (if result then choice.new ∷ rest else []) }
+{
+    let mut numbers = [0u64; 8];
+    let sizes = &mut numbers[..front.len()];
+    read_sizes(front, sizes);
+    next_counts(column, sizes, choice)
+}
+
+// How many labellings there are of the sizes that remain.
+pub fn rest_in(ways: &Ways, front: &[i128]) -> u128
+    requires few { length front.now ≤ 8 }
+    requires sizes { AreSizes front.now }
+    requires small { sum (sizes_in front.now) < 2 ^ 64 }
+    requires held { IsHeld ways.now.width (sizes_in front.now) }
+    requires fits { number_of_labellings (sizes_in front.now) ≤ MAX }
+    ensures { result ≡ number_of_labellings (sizes_in front.now) }
+{
+    let mut numbers = [0u64; 8];
+    let sizes = &mut numbers[..front.len()];
+    read_sizes(front, sizes);
+    ways.labellings(sizes, total_of(sizes))
+}
+
+// In how many ways a column's subjects are labelled by a choice: one subject in one way.
+pub fn weight_in(ways: &Ways, column: u64, choice: &[u64]) -> u128
+    requires whole { column ≡ sum choice.now }
+    requires held { IsHeld ways.now.width choice.now }
+    requires fits { number_of_labellings choice.now ≤ MAX }
+    ensures { result ≡ number_of_labellings choice.now }
+{
+    if column == 1 {
+        1
+    } else {
+        ways.labellings(choice, column)
+    }
+}

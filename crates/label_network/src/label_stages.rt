@@ -1,0 +1,159 @@
+// The network of a measure.
+ghost use Rattle.std.specs.Prelude.{◌≡◌, IfOk, length};
+ghost use Rattle.label_network.specs.LabelNetwork.{IsMargin, label_network};
+ghost use Rattle.label_network.specs.Meanings.{sizes_in};
+
+use crate::keys::{back, first_in, front, next_in, rest_in, take_away, weight_in, write_sizes};
+use crate::measure::Measure;
+use crate::ways::Ways;
+use stage_network::{Roomed, Stages, Verdict};
+use std::alloc::Global;
+use std::marker::Model;
+use weights::{NoMemory, Tail};
+
+/// The network of a measure: a stage is a column, and a choice says how many of its subjects get
+/// each label. A key has the sizes that remain, its room, and then the measure's partial. It is seen
+/// as the measure.
+#[derive(Drop)]
+pub struct LabelStages<M: Measure> {
+    columns: Vec<u64>,
+    rows: Vec<u64>,
+    slots: usize,
+    ways: Ways,
+    measure: M,
+}
+
+impl<M: Measure> Model for LabelStages<M> {
+    ghost use Rattle.label_network.specs.LabelSteps.{IsStaged};
+
+    ghost Value = { M };
+
+    ghost view = { λ s. s.measure };
+
+    ghost invariant = { λ s.
+        IsStaged (M.meaning s.measure) s.columns.items s.rows.items s.slots s.ways.width };
+}
+
+impl<M: Measure> LabelStages<M> {
+    /// The network of a measure with these columns (how many subjects each has) and rows (how many
+    /// subjects get each label). There are 2 to 8 rows, at most 16 of rows and slots, and at most
+    /// [`MAX`](weights::MAX) labellings. A refusal drops the measure.
+    pub fn new(
+        alloc: Global,
+        columns: &[u64],
+        rows: &[u64],
+        measure: M,
+    ) -> Result<LabelStages<M>, NoMemory>
+    where
+        M: Drop,
+        requires { IsMargin (M.meaning measure) columns.now rows.now }
+        ensures { IfOk result (λ stages. stages ≡ measure) }
+    {
+        let slots = measure.slots();
+        let ways = Ways::for_rows(alloc, rows)?;
+        let columns = Vec::from_slice(alloc, columns)?;
+        let rows = Vec::from_slice(alloc, rows)?;
+        Ok(LabelStages {
+            columns,
+            rows,
+            slots,
+            ways,
+            measure,
+        })
+    }
+}
+
+impl<M: Measure> Stages for LabelStages<M> {
+    ghost network = { λ m. label_network (M.meaning m) };
+
+    fn stages(&self) -> usize {
+        self.columns.len()
+    }
+
+    fn width(&self) -> usize {
+        self.rows.len() + self.slots
+    }
+
+    fn choice_width(&self) -> usize {
+        self.rows.len()
+    }
+
+    fn first_key(&self, key: &mut [i128]) {
+        let rows = self.rows.len();
+        write_sizes(&self.rows, &mut key[..rows]);
+        self.measure.first(&mut key[rows..]);
+    }
+
+    fn first_choice(&self, stage: usize, key: &[i128], choice: &mut [u64]) -> bool {
+        if stage >= self.columns.len() {
+            return false;
+        }
+        first_in(self.columns[stage], front(key, self.rows.len()), choice);
+        true
+    }
+
+    fn next_choice(&self, stage: usize, key: &[i128], choice: &mut [u64]) -> bool {
+        next_in(self.columns[stage], front(key, self.rows.len()), choice)
+    }
+
+    fn apply(&self, stage: usize, key: &[i128], choice: &[u64], next: &mut [i128]) -> u128 {
+        let rows = self.rows.len();
+        let sizes = front(key, rows);
+        let partial = back(key, rows);
+        take_away(sizes, choice, &mut next[..rows]);
+        self.measure
+            .advance(stage, sizes, choice, partial, &mut next[rows..]);
+        weight_in(&self.ways, self.columns[stage], choice)
+    }
+
+    fn rest(&self, _stage: usize, key: &[i128]) -> u128 {
+        rest_in(&self.ways, front(key, self.rows.len()))
+    }
+
+    #[inline(always)]
+    fn verdict(&self, stage: usize, key: &[i128], tail: Tail) -> Verdict {
+        let rows = self.rows.len();
+        self.measure
+            .verdict(stage, front(key, rows), back(key, rows), tail)
+    }
+
+    fn value(&self, key: &[i128]) -> i128 {
+        self.measure.value(back(key, self.rows.len()))
+    }
+}
+
+impl<M: Measure> Roomed for LabelStages<M> {
+    ghost use Rattle.label_network.specs.Meanings.{sizes_in};
+
+    ghost room_width = { λ m. length (M.meaning m).rows };
+
+    ghost step_width = { λ m. (M.meaning m).step_width };
+
+    ghost step_of = { λ m g room choice. (M.meaning m).step g (sizes_in room) choice };
+
+    fn room_width(&self) -> usize {
+        self.rows.len()
+    }
+
+    fn step_width(&self) -> usize {
+        self.measure.step_width()
+    }
+
+    fn step(&self, stage: usize, room: &[i128], choice: &[u64], step: &mut [i128]) {
+        self.measure.step(stage, room, choice, step);
+    }
+
+    #[inline(always)]
+    fn advance(
+        &self,
+        stage: usize,
+        room: &[i128],
+        choice: &[u64],
+        step: &[i128],
+        partial: &[i128],
+        next: &mut [i128],
+    ) {
+        self.measure
+            .follow(stage, room, choice, step, partial, next);
+    }
+}

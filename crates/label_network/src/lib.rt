@@ -1,0 +1,19 @@
+//! Labels over columns: tied subjects are taken together, and how many of them get each label is
+//! chosen column by column.
+#![tactic(auto)]
+
+mod added;
+mod choice_order;
+mod keys;
+mod label_stages;
+mod later_scores;
+mod linear;
+mod measure;
+#[cfg(test)]
+mod tests;
+mod ways;
+
+pub use label_stages::LabelStages;
+pub use later_scores::LaterScores;
+pub use linear::LinearMeasure;
+pub use measure::Measure;

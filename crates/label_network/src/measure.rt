@@ -1,0 +1,84 @@
+// What a statistic of labellings offers to the network of its columns.
+ghost use Rattle.std.specs.Prelude.{◌≡◌, List, length};
+ghost use Rattle.stage_network.specs.Judged.{judged};
+ghost use Rattle.label_network.specs.Meanings.{Meaning, IsMeasure, IsPlace, IsMove, IsStep, IsEnd, sizes_in};
+
+use stage_network::Verdict;
+use weights::Tail;
+
+/// A statistic of labellings, counted by columns. Before each column it has a partial, of a fixed
+/// number of numbers; a column's choice (how many of its subjects get each label) leads to the next
+/// one, and the partial after the last column has a value. Sizes are how many of each label remain
+/// to be given; like the numbers of a key they are passed as i128.
+///
+/// What leads a partial on is split: a `step` is made once for a choice at the sizes that remain,
+/// and each partial that stands with these sizes follows it.
+pub trait Measure {
+    /// What it measures, and its intervals.
+    ghost meaning: { Self → Meaning };
+
+    /// How many numbers a partial has. The intervals narrow along every choice.
+    fn slots(&self) -> usize
+        ensures slots { result ≡ (meaning self.now).slots }
+        ensures sound { IsMeasure (meaning self.now) };
+
+    /// How many numbers a step has, 0 where partials follow the choice itself.
+    fn step_width(&self) -> usize
+        ensures { result ≡ (meaning self.now).step_width };
+
+    /// Writes the partial before the first column.
+    fn first(&self, partial: &mut [i128])
+        requires { length partial.old ≡ (meaning self.now).slots }
+        ensures { partial.new ≡ (meaning self.now).first };
+
+    /// Writes the step of a choice at the sizes that remain.
+    fn step(&self, stage: usize, remaining: &[i128], choice: &[u64], step: &mut [i128])
+        requires way { IsStep (meaning self.now) stage remaining.now choice.now }
+        requires room { length step.old ≡ (meaning self.now).step_width }
+        ensures { step.new ≡ (meaning self.now).step stage (sizes_in remaining.now) choice.now };
+
+    /// Writes the partial that a choice leads to, by the choice's step.
+    fn follow(
+        &self,
+        stage: usize,
+        remaining: &[i128],
+        choice: &[u64],
+        step: &[i128],
+        partial: &[i128],
+        next: &mut [i128],
+    )
+        requires allowed { IsMove (meaning self.now) stage remaining.now choice.now partial.now }
+        requires step { let m = meaning self.now in
+            step.now ≡ m.step stage (sizes_in remaining.now) choice.now }
+        requires room { length next.old ≡ (meaning self.now).slots }
+        ensures { let m = meaning self.now in
+            next.new ≡ m.advance stage (sizes_in remaining.now) choice.now partial.now };
+
+    /// Writes the partial that a choice leads to: `step` and `follow` together.
+    fn advance(
+        &self,
+        stage: usize,
+        remaining: &[i128],
+        choice: &[u64],
+        partial: &[i128],
+        next: &mut [i128],
+    )
+        requires allowed { IsMove (meaning self.now) stage remaining.now choice.now partial.now }
+        requires room { length next.old ≡ (meaning self.now).slots }
+        ensures { let m = meaning self.now in
+            next.new ≡ m.advance stage (sizes_in remaining.now) choice.now partial.now };
+
+    /// What is known of the completions of sizes and a partial: that of the tail's rule over their
+    /// interval.
+    fn verdict(&self, stage: usize, remaining: &[i128], partial: &[i128], tail: Tail) -> Verdict
+        requires { IsPlace (meaning self.now) stage remaining.now partial.now }
+        ensures { let m = meaning self.now in
+            let low = m.low stage (sizes_in remaining.now) partial.now in
+            let high = m.high stage (sizes_in remaining.now) partial.now in
+            result ≡ judged m.tail m.rule tail low high };
+
+    /// The value of a partial after the last column.
+    fn value(&self, partial: &[i128]) -> i128
+        requires { IsEnd (meaning self.now) partial.now }
+        ensures { result ≡ (meaning self.now).value partial.now };
+}
