@@ -1,7 +1,6 @@
 use crate::rank_sum::rank_sum;
 use crate::walked::Walked;
 use crate::{Status, run};
-use enumerate::plain_tail;
 use outside::{MemorySink, MemorySource, SteadySource};
 use record_reader::{Picks, records};
 use sample_reader::groups;
@@ -344,10 +343,7 @@ fn agrees_with_the_walk(rt: HostRuntime) -> Result<(), Fail> {
             (Tail::Greater, answer.greater),
             (Tail::Two, answer.two),
         ] {
-            assert!(rt;
-                plain_tail(rt.alloc(), &walked, tail)? == numerator,
-                "of {file:?}"
-            );
+            assert!(rt; walked.tail(rt.alloc(), tail)? == numerator, "of {file:?}");
         }
     }
     Ok(())

@@ -10,7 +10,7 @@ ghost use Rattle.exact_run.specs.declared.TheConstants.{MOST_SCORE};
 
 use crate::rank_sum::{doubled_scores, sum_of};
 use crate::tails::Compared;
-use enumerate::{Plain, first_labelling, next_labelling};
+use enumerate::{Plain, first_labelling, next_labelling, plain_tail};
 use sample_reader::{Groups, pooled_subjects, values};
 use std::alloc::Global;
 use weights::{Bytes, NoMemory, Nums, Tail, multinomial};
@@ -63,6 +63,12 @@ impl Walked {
             scores,
             observed,
         }))
+    }
+
+    // The number of labellings in a tail, by the walk. The test has every tail.
+    #[tactic(auto, unfolding(crate::specs::RankSum::rank_sum_of))]
+    pub(crate) fn tail(&self, alloc: Global, tail: Tail) -> Result<u128, NoMemory> {
+        plain_tail(alloc, self, tail)
     }
 
     // The sum of the scores of the second sample.
