@@ -1,4 +1,5 @@
-//! Exact nonparametric tests: `exact TEST FILE` prints a test's exact p-values for the data of a file.
+//! Exact nonparametric tests: `exact TEST FILE` prints a test's exact p-values for the data of a
+//! file.
 #![tactic(auto)]
 
 use exact_run::{Status, run};

@@ -21,7 +21,8 @@ use weights::Bytes;
 
 // The bytes of the file, or the refusal.
 fn read_file<S: Source>(alloc: Global, source: &mut S, file: &str) -> Result<Bytes, Refusal>
-    ensures bytes { IfOk result (λ read. IfSome (S.held source.old file.now) (λ bytes. bytes ≡ read)) }
+    ensures bytes { IfOk result (λ read.
+        IfSome (S.held source.old file.now) (λ bytes. bytes ≡ read)) }
     ensures short { IfOk result (λ read. length read ≤ LONGEST_FILE) }
     ensures refused { let held = S.held source.old file.now in
         IfErr result (IsReadRefusal held (S.faults source.old) (S.faults source.new)) }
@@ -59,7 +60,8 @@ fn prepare<S: Source>(alloc: Global, words: &[String], source: &mut S) -> Result
         IfOk result (λ text. IfSome known (λ outcome. outcome ≡ Reports text)) }
     ensures refused { let known = outcome_of (map string_bytes words.now) (S.held source.old) in
         IfErr result (IsCause known (S.faults source.old) (S.faults source.new)) }
-    ensures words { meaning_of (map string_bytes words.now) ≡ None ↔ result ≡ Err Refusal.CommandLine }
+    ensures words { meaning_of (map string_bytes words.now) ≡ None
+        ↔ result ≡ Err Refusal.CommandLine }
     ensures untouched { meaning_of (map string_bytes words.now) ≡ None → source.new ≡ source.old }
 {
     let Some(settings) = read(words) else {
@@ -72,17 +74,19 @@ fn prepare<S: Source>(alloc: Global, words: &[String], source: &mut S) -> Result
 // Tells the refusal, and answers its status.
 fn refuse<E: Sink>(refusal: Refusal, err: &mut E) -> Status
     ensures status { result ≡ status_of refusal }
-    ensures line { WritesLine (E.taken err.old) (E.taken err.new) (E.faults err.old) (E.faults err.new)
+    ensures line { WritesLine
+        (E.taken err.old) (E.taken err.new) (E.faults err.old) (E.faults err.new)
         (line_of refusal) }
 {
     let _told = write_all(err, refusal_line(refusal).as_slice());
     refusal.status()
 }
 
-/// Runs the command that the words name; they are those after the program's own name. `ranksum FILE`,
-/// and then perhaps `--columns=LIST` and `--separator=WORD`, writes the report of the rank sum test of
-/// the two groups in the file. The file is read from `source`; the report is composed whole, and then
-/// written to `out` by one call of `write_all`. Where there is none, one line to `err` says why.
+/// Runs the command that the words name; they are those after the program's own name. `ranksum
+/// FILE`, and then perhaps `--columns=LIST` and `--separator=WORD`, writes the report of the rank
+/// sum test of the two groups in the file. The file is read from `source`; the report is composed
+/// whole, and then written to `out` by one call of `write_all`. Where there is none, one line to
+/// `err` says why.
 pub fn run<S: Source, O: Sink, E: Sink>(
     alloc: Global,
     words: &[String],
@@ -101,7 +105,8 @@ pub fn run<S: Source, O: Sink, E: Sink>(
         ComesExactly result Status.BadData known }
     ensures too_wide { let known = outcome_of (map string_bytes words.now) (S.held source.old) in
         ComesExactly result Status.TooWide known }
-    ensures read_fault { result ≡ Status.ReadFault → Rose (S.faults source.old) (S.faults source.new) }
+    ensures read_fault { result ≡ Status.ReadFault
+        → Rose (S.faults source.old) (S.faults source.new) }
     ensures write_fault { result ≡ Status.WriteFault → Rose (O.faults out.old) (O.faults out.new) }
 
     // A report is whole or a counted prefix, and before the first write `out` is as it was.
@@ -114,7 +119,8 @@ pub fn run<S: Source, O: Sink, E: Sink>(
     ensures silent { result ≡ Status.Done → err.new ≡ err.old }
     ensures line { let meaning = meaning_of (map string_bytes words.now) in
         let known = outcome_of (map string_bytes words.now) (S.held source.old) in
-        let wrote = WritesLine (E.taken err.old) (E.taken err.new) (E.faults err.old) (E.faults err.new) in
+        let wrote = WritesLine
+        (E.taken err.old) (E.taken err.new) (E.faults err.old) (E.faults err.new) in
         result ≢ Status.Done → TellsRefusal result meaning known (λ cause. wrote (line_of cause)) }
 
     // Words that are refused are refused always, and touch no source.

@@ -62,7 +62,8 @@ fn digit(n: u64, power: u64) -> u8
     (n / power % 10) as u8 + b'0'
 }
 
-/// A quotient of at most 1 as a digit, a point and six decimals, rounded half up. It takes no memory.
+/// A quotient of at most 1 as a digit, a point and six decimals, rounded half up. It takes no
+/// memory.
 pub fn six_decimals(numerator: u128, denominator: u128) -> [u8; 8]
     requires part { numerator ≤ denominator }
     requires some { 0 < denominator }

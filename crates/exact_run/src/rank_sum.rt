@@ -22,8 +22,8 @@ use sample_reader::{Groups, Subject, pooled_subjects, values};
 use std::alloc::Global;
 use weights::{NoMemory, Nums, Tail, multinomial};
 
-/// The answer of a rank sum test: the observed statistic, which is twice the rank sum, the number of
-/// rearrangements, and how many of them each tail has.
+/// The answer of a rank sum test: the observed statistic, which is twice the rank sum, the number
+/// of rearrangements, and how many of them each tail has.
 #[derive(Clone, Copy, Debug, PartialEq, Eq)]
 pub struct Answer {
     pub statistic: u64,
@@ -88,8 +88,8 @@ fn answer_for(
     })
 }
 
-/// The answer of the rank sum test of two groups, or the refusal where its total is too wide. Its bound
-/// never is, for at most `MOST_ROWS` subjects.
+/// The answer of the rank sum test of two groups, or the refusal where its total is too wide. Its
+/// bound never is, for at most `MOST_ROWS` subjects.
 #[tactic(auto, using(crate::proofs::RankSumLemmas::bound_for))]
 pub fn rank_sum(alloc: Global, groups: &Groups) -> Result<Answer, Refusal>
     requires { length groups.now.labels ≡ 2 }

@@ -25,9 +25,10 @@ pub struct Settings<'a> {
     pub options: Options,
 }
 
-/// Reads the words after the program's name: `ranksum`, the name of a file, and options. An option is `--columns=LIST`, with two
-/// different numbers of fields from 1 to 1000, or `--separator=WORD`, with `comma`, `semicolon` or `tab`. Each is given once at
-/// most, in any order. The second word is the file's name whatever it is, also where it looks like an option.
+/// Reads the words after the program's name: `ranksum`, the name of a file, and options. An option
+/// is `--columns=LIST`, with two different numbers of fields from 1 to 1000, or `--separator=WORD`,
+/// with `comma`, `semicolon` or `tab`. Each is given once at most, in any order. The second word is
+/// the file's name whatever it is, also where it looks like an option.
 ///
 /// None comes exactly where the words are refused. It takes no memory.
 pub fn read(words: &[String]) -> Option<Settings<'_>>

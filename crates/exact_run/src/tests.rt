@@ -68,42 +68,51 @@ fn reports(rt: HostRuntime) -> Result<(), AllocError> {
         (
             "ranksum f.csv",
             SIX,
-            "test ranksum\ngroup 3 x\ngroup 3 y\nstatistic 30/2\ntotal 20\nless 20/20 1.000000\ngreater 1/20 0.050000\ntwo 2/20 0.100000\n",
+            "test ranksum\ngroup 3 x\ngroup 3 y\nstatistic 30/2\ntotal 20\nless 20/20 1.000000\n\
+             greater 1/20 0.050000\ntwo 2/20 0.100000\n",
         ),
         (
             "ranksum f.csv",
             b"group,value\nx,1\nx,2\nx,2\ny,2\ny,3\ny,3\n",
-            "test ranksum\ngroup 3 x\ngroup 3 y\nstatistic 28/2\ntotal 20\nless 20/20 1.000000\ngreater 3/20 0.150000\ntwo 6/20 0.300000\n",
+            "test ranksum\ngroup 3 x\ngroup 3 y\nstatistic 28/2\ntotal 20\nless 20/20 1.000000\n\
+             greater 3/20 0.150000\ntwo 6/20 0.300000\n",
         ),
         (
             "ranksum f.csv",
             b"group,value\nx,5\nx,5\ny,5",
-            "test ranksum\ngroup 2 x\ngroup 1 y\nstatistic 4/2\ntotal 3\nless 3/3 1.000000\ngreater 3/3 1.000000\ntwo 3/3 1.000000\n",
+            "test ranksum\ngroup 2 x\ngroup 1 y\nstatistic 4/2\ntotal 3\nless 3/3 1.000000\n\
+             greater 3/3 1.000000\ntwo 3/3 1.000000\n",
         ),
         (
             "ranksum f.csv",
             b"\xEF\xBB\xBF\"group\",\"value\"\r\n\"x\",1e-05\r\n\"x\",2\r\n\"y\",3\r\n",
-            "test ranksum\ngroup 2 x\ngroup 1 y\nstatistic 6/2\ntotal 3\nless 3/3 1.000000\ngreater 1/3 0.333333\ntwo 2/3 0.666667\n",
+            "test ranksum\ngroup 2 x\ngroup 1 y\nstatistic 6/2\ntotal 3\nless 3/3 1.000000\n\
+             greater 1/3 0.333333\ntwo 2/3 0.666667\n",
         ),
         (
             "ranksum f.csv --columns=2,3",
-            b"\"\",\"group\",\"value\"\n\"1\",\"x\",4.17\n\"2\",\"x\",5.58\n\"3\",\"y\",6.31\n\"4\",\"y\",5.87\n",
-            "test ranksum\ngroup 2 x\ngroup 2 y\nstatistic 14/2\ntotal 6\nless 6/6 1.000000\ngreater 1/6 0.166667\ntwo 2/6 0.333333\n",
+            b"\"\",\"group\",\"value\"\n\"1\",\"x\",4.17\n\"2\",\"x\",5.58\n\"3\",\"y\",6.31\n\
+             \"4\",\"y\",5.87\n",
+            "test ranksum\ngroup 2 x\ngroup 2 y\nstatistic 14/2\ntotal 6\nless 6/6 1.000000\n\
+             greater 1/6 0.166667\ntwo 2/6 0.333333\n",
         ),
         (
             "ranksum f.csv --separator=semicolon --columns=2,1",
             b"value;group\n1; x\n2;x \n3;y\t\n",
-            "test ranksum\ngroup 2 x\ngroup 1 y\nstatistic 6/2\ntotal 3\nless 3/3 1.000000\ngreater 1/3 0.333333\ntwo 2/3 0.666667\n",
+            "test ranksum\ngroup 2 x\ngroup 1 y\nstatistic 6/2\ntotal 3\nless 3/3 1.000000\n\
+             greater 1/3 0.333333\ntwo 2/3 0.666667\n",
         ),
         (
             "ranksum f.csv --separator=tab",
             b"g\tv\na\x01\t1\nb\x7F\t2\n",
-            "test ranksum\ngroup 1 a?\ngroup 1 b?\nstatistic 4/2\ntotal 2\nless 2/2 1.000000\ngreater 1/2 0.500000\ntwo 2/2 1.000000\n",
+            "test ranksum\ngroup 1 a?\ngroup 1 b?\nstatistic 4/2\ntotal 2\nless 2/2 1.000000\n\
+             greater 1/2 0.500000\ntwo 2/2 1.000000\n",
         ),
         (
             "ranksum f.csv",
             b"g,v\nx,-1e17\ny,0.5\nx,.000000000000000001\n",
-            "test ranksum\ngroup 2 x\ngroup 1 y\nstatistic 6/2\ntotal 3\nless 3/3 1.000000\ngreater 1/3 0.333333\ntwo 2/3 0.666667\n",
+            "test ranksum\ngroup 2 x\ngroup 1 y\nstatistic 6/2\ntotal 3\nless 3/3 1.000000\n\
+             greater 1/3 0.333333\ntwo 2/3 0.666667\n",
         ),
     ];
     for (words, file, report) in table {
@@ -203,7 +212,12 @@ fn counts_up_to_the_limit(rt: HostRuntime) -> Result<(), AllocError> {
         "ranksum f.csv",
         &numbered(rt.alloc(), 130)?,
         Status::Done,
-        "test ranksum\ngroup 65 x\ngroup 65 y\nstatistic 12740/2\ntotal 95067625827960698145584333020095113100\nless 95067625827960698145584333020095113100/95067625827960698145584333020095113100 1.000000\ngreater 1/95067625827960698145584333020095113100 0.000000\ntwo 2/95067625827960698145584333020095113100 0.000000\n",
+        "test ranksum\ngroup 65 x\ngroup 65 y\nstatistic 12740/2\n\
+         total 95067625827960698145584333020095113100\n\
+         less 95067625827960698145584333020095113100/\
+         95067625827960698145584333020095113100 1.000000\n\
+         greater 1/95067625827960698145584333020095113100 0.000000\n\
+         two 2/95067625827960698145584333020095113100 0.000000\n",
     )?;
     expect(
         &rt,
@@ -243,7 +257,8 @@ fn takes_ten_thousand_rows(rt: HostRuntime) -> Result<(), AllocError> {
         "ranksum f.csv",
         &one_apart(rt.alloc(), 10_000)?,
         Status::Done,
-        "test ranksum\ngroup 9999 x\ngroup 1 y\nstatistic 10001/2\ntotal 10000\nless 10000/10000 1.000000\ngreater 10000/10000 1.000000\ntwo 10000/10000 1.000000\n",
+        "test ranksum\ngroup 9999 x\ngroup 1 y\nstatistic 10001/2\ntotal 10000\n\
+         less 10000/10000 1.000000\ngreater 10000/10000 1.000000\ntwo 10000/10000 1.000000\n",
     )?;
     expect(
         &rt,

@@ -12,8 +12,8 @@ use std::marker::Model;
 use weights::{NoMemory, Tail};
 
 /// The network of a measure: a stage is a column, and a choice says how many of its subjects get
-/// each label. A key has the sizes that remain, its room, and then the measure's partial. It is seen
-/// as the measure.
+/// each label. A key has the sizes that remain, its room, and then the measure's partial. It is
+/// seen as the measure.
 #[derive(Drop)]
 pub struct LabelStages<M: Measure> {
     columns: Vec<u64>,

@@ -3,7 +3,8 @@ use Rattle.std.specs.Prelude.{◌≡◌, ◌≢◌, ℕ, ℤ, ◌+◌, ◌*◌, 
 use Rattle.std.specs.List.{IsDistinct}
 use Rattle.node_pool.specs.Nodes.{Node, key_eq, keys, is_held, weighted, weight_in}
 
--- the width of the keys, the nodes in an order that is left open, and how many keys can be added before memory is needed
+-- the width of the keys, the nodes in an order that is left open, and how many keys can be added
+-- before memory is needed
 pub record Pool : Type 0 where
   pub width : ℕ
   pub nodes : List Node
@@ -20,7 +21,8 @@ pub record IsMerge (old : List Node) (key : List ℤ) (weight : ℕ) (new : List
   -- each sum over the nodes gains this weight alone
   pub sums : (f : List ℤ → ℕ) → weighted f new ≡ weighted f old + weight * f key
 
--- the held keys keep their places, and the key stands at this one, which is the next where it is new
+-- the held keys keep their places, and the key stands at this one, which is the next where it is
+-- new
 pub record IsPlaced (old : List Node) (key : List ℤ) (new : List Node) (place : ℕ) : Type 0 where
   pub within : place < length new
   pub stands : (d : Node) → (slice_index_or new place d).key ≡ key

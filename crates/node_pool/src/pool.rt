@@ -17,9 +17,9 @@ use weights::{Count, NoMemory};
 /// keys can be added before memory is needed. Only [`NodePool::new`] and [`NodePool::reserve`] take
 /// memory.
 ///
-/// The keys lie flat in one row, beside their weights. Buckets name their places, by open addressing
-/// with linear steps: a power of two, at most half full. A list of the slots in use makes emptying
-/// cheap.
+/// The keys lie flat in one row, beside their weights. Buckets name their places, by open
+/// addressing with linear steps: a power of two, at most half full. A list of the slots in use
+/// makes emptying cheap.
 #[derive(Drop)]
 pub struct NodePool<C: Count> {
     alloc: Global,
@@ -115,8 +115,8 @@ fn size_for(least: usize, count: usize, more: usize) -> Option<usize>
 }
 
 impl<C: Count> NodePool<C> {
-    /// No keys, for keys of this many numbers, at most 16, with spare 0. Where they have none, there
-    /// is one key at most.
+    /// No keys, for keys of this many numbers, at most 16, with spare 0. Where they have none,
+    /// there is one key at most.
     pub fn new(alloc: Global, width: usize) -> Result<NodePool<C>, NoMemory>
         requires { width ≤ 16 }
         ensures { IfOk result (λ pool. pool ≡ record { width = width; nodes = []; spare = 0 }) }

@@ -7,4 +7,5 @@ use Rattle.number_text.specs.Trimmed.{trimmed}
 unfoldable pub count_of : ℕ → List ℕ → Option ℕ
 count_of most text =
     let digits = trimmed text in
-    if (is_numeral digits && nat_le (decimal_value digits) most) then Some (decimal_value digits) else None
+    if (is_numeral digits && nat_le (decimal_value digits) most)
+    then Some (decimal_value digits) else None

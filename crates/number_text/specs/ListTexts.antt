@@ -24,7 +24,9 @@ item_of low high text = option_and_then (within low high) (integer_of (trimmed t
 abbrev pub items_of : ℤ → ℤ → List (List ℕ) → Option (List ℤ)
 items_of low high [] = Some []
 items_of low high (text ∷ texts) =
-    option_and_then (λ item. option_map (λ items. item ∷ items) (items_of low high texts)) (item_of low high text)
+    option_and_then
+    (λ item. option_map (λ items. item ∷ items) (items_of low high texts))
+    (item_of low high text)
 
 -- the items, where there are at most `room`
 abbrev pub fitting : ℕ → List ℤ → Option (List ℤ)
@@ -32,4 +34,5 @@ fitting room items = if nat_le (length items) room then Some items else None
 
 -- the numbers that a list writes, where each lies from low to high and there are at most `room`
 unfoldable pub list_of : ℤ → ℤ → ℕ → List ℕ → Option (List ℤ)
-list_of low high room text = option_and_then (fitting room) (items_of low high (slice_split is_comma text))
+list_of low high room text =
+    option_and_then (fitting room) (items_of low high (slice_split is_comma text))

@@ -25,7 +25,8 @@ signed negative magnitude = if negative then neg_ℤ (pos magnitude) else pos ma
 
 -- the whole number that a sign and digits write, where there is a digit and nothing else
 abbrev pub integer_from : Bool → List ℕ → Option ℤ
-integer_from negative digits = if is_numeral digits then Some (signed negative (decimal_value digits)) else None
+integer_from negative digits =
+    if is_numeral digits then Some (signed negative (decimal_value digits)) else None
 
 -- the whole number that an optional sign and one digit or more write
 abbrev pub integer_of : List ℕ → Option ℤ

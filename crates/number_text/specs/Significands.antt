@@ -15,5 +15,6 @@ pub record IsSignificand (cap value digits zeros : ℕ) : Type 0 where
 
 -- digits * 10 ^ power, where that is a whole number below the limit; the last digit is not 0
 abbrev pub scaled : ℕ → ℕ → ℤ → Option ℕ
-scaled limit digits (pos power) = if nat_lt (digits * 10 ^ power) limit then Some (digits * 10 ^ power) else None
+scaled limit digits (pos power) =
+    if nat_lt (digits * 10 ^ power) limit then Some (digits * 10 ^ power) else None
 scaled limit digits (negsuc power) = None

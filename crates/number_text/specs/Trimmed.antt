@@ -8,7 +8,8 @@ is_blank byte = byte == 32 || byte == 9
 -- the text from its first byte that is no blank
 abbrev pub without_leading_blanks : List ℕ → List ℕ
 without_leading_blanks [] = []
-without_leading_blanks (byte ∷ rest) = if is_blank byte then without_leading_blanks rest else byte ∷ rest
+without_leading_blanks (byte ∷ rest) =
+    if is_blank byte then without_leading_blanks rest else byte ∷ rest
 
 -- the text up to its last byte that is no blank
 abbrev pub without_trailing_blanks : List ℕ → List ℕ

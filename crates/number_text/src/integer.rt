@@ -26,7 +26,8 @@ impl SignedText<'_> {
     /// The whole number, where its magnitude is below the cap, and else the cap with its sign.
     pub(crate) fn capped_value(&self) -> i128
         requires { IsTrue (is_numeral self.now.unsigned.now) }
-        ensures { result ≡ signed self.now.negative (min (decimal_value self.now.unsigned.now) CAP) }
+        ensures { result
+            ≡ signed self.now.negative (min (decimal_value self.now.unsigned.now) CAP) }
     {
         let magnitude = capped_value(0, self.unsigned) as i128;
         if self.negative { -magnitude } else { magnitude }

@@ -6,12 +6,12 @@ ghost use Rattle.number_text.specs.ListTexts.{IsWithin, item_of, list_of};
 use crate::blanks::trim;
 use crate::integer::split_sign;
 
-/// Reads a list: one item or more, separated by commas. An item is an optional `+` or `-` and at least one digit; spaces and
-/// tabs around it are ignored.
+/// Reads a list: one item or more, separated by commas. An item is an optional `+` or `-` and at
+/// least one digit; spaces and tabs around it are ignored.
 ///
-/// The items are written into the front of `out`, whose rest stays, and their number is the answer. `None` comes exactly where
-/// the text is not a list, an item is outside `low` to `high`, or there are more items than `out` has places. Then any item of
-/// `out` may have changed.
+/// The items are written into the front of `out`, whose rest stays, and their number is the answer.
+/// `None` comes exactly where the text is not a list, an item is outside `low` to `high`, or there
+/// are more items than `out` has places. Then any item of `out` may have changed.
 pub fn read_list(text: &[u8], low: i64, high: i64, out: &mut [i64]) -> Option<usize>
     ensures listed { result ≡ option_map length (list_of low high (length out.old) text.now) }
     ensures written { IfSome (list_of low high (length out.old) text.now)

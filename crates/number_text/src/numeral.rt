@@ -45,7 +45,8 @@ impl<'a> NumeralText<'a> {
         })
     }
 
-    /// The magnitude of the value in units of 10^-18, where it is a whole number of them below 10^36.
+    /// The magnitude of the value in units of 10^-18, where it is a whole number of them below
+    /// 10^36.
     pub(crate) fn units(&self) -> Option<u128>
         requires whole { IsTrue (all_digits self.now.whole.now) }
         requires fraction { IsTrue (all_digits self.now.fraction.now) }
@@ -65,7 +66,8 @@ impl<'a> NumeralText<'a> {
     }
 }
 
-/// The text before the first exponent mark, and the exponent behind it, which is 0 where there is no mark.
+/// The text before the first exponent mark, and the exponent behind it, which is 0 where there is
+/// no mark.
 fn split_exponent(text: &[u8]) -> (&[u8], SignedText<'_>)
     ensures decimal { result.0.now ≡ before_first is_exponent_mark text.now }
     ensures exponent { integer_from result.1.negative result.1.unsigned.now ≡ exponent_of text.now }

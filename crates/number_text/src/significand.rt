@@ -6,8 +6,8 @@ ghost use Rattle.number_text.specs.Significands.{DropsZeros, IsSignificand, scal
 
 use crate::digits::{CAP, capped_value};
 
-/// A whole number: `digits` times 10 to the power `zeros`. The last one of the digits is not 0, unless the number is 0. Digits
-/// above the cap stand as the cap.
+/// A whole number: `digits` times 10 to the power `zeros`. The last one of the digits is not 0,
+/// unless the number is 0. Digits above the cap stand as the cap.
 #[derive(Clone, Copy)]
 pub(crate) struct Significand {
     /// The number without the zeros at its end.
@@ -21,7 +21,8 @@ impl Significand {
     pub(crate) fn of(whole: &[u8], fraction: &[u8]) -> Significand
         requires whole { IsTrue (all_digits whole.now) }
         requires fraction { IsTrue (all_digits fraction.now) }
-        ensures { IsSignificand CAP (decimal_value (whole.now ++ fraction.now)) result.digits result.zeros }
+        ensures { IsSignificand CAP
+            (decimal_value (whole.now ++ fraction.now)) result.digits result.zeros }
     {
         let kept = without_last_zeros(fraction);
         if !kept.is_empty() {
@@ -49,7 +50,8 @@ fn without_last_zeros(mut digits: &[u8]) -> &[u8]
     digits
 }
 
-/// `digits` times 10 to the power `power`, where that is a whole number below the cap. The last one of the digits is not 0.
+/// `digits` times 10 to the power `power`, where that is a whole number below the cap. The last one
+/// of the digits is not 0.
 pub(crate) fn scale(digits: u128, power: i128) -> Option<u128>
     requires { 0 < digits }
     ensures scaled { result ≡ scaled CAP digits power }

@@ -38,13 +38,14 @@ impl Model for MemorySink {
       faults = a.faults.count;
     } };
 
-    ghost invariant = { λ a. (1 ≤ a.step) × (a.room ≤ vec_capacity a.bytes) × (vec_len a.bytes ≤ a.room) };
+    ghost invariant = { λ a.
+        (1 ≤ a.step) × (a.room ≤ vec_capacity a.bytes) × (vec_len a.bytes ≤ a.room) };
 }
 
 impl MemorySink {
-    /// A sink that took `taken` already, with room for as many bytes as its capacity. A write takes at
-    /// most `step` bytes and no memory. Writes of pieces that are not empty are calls 1, 2, 3 and so
-    /// on; one fails where its number is in `fail`, or where its bytes would pass the room.
+    /// A sink that took `taken` already, with room for as many bytes as its capacity. A write takes
+    /// at most `step` bytes and no memory. Writes of pieces that are not empty are calls 1, 2, 3
+    /// and so on; one fails where its number is in `fail`, or where its bytes would pass the room.
     pub fn new(taken: Vec<u8>, step: usize, fail: Vec<u64>) -> MemorySink
         requires { 1 ≤ step }
         ensures { result ≡ record {

@@ -124,9 +124,11 @@ impl MemorySource {
             → Gives self.old self.new result (length buf.old) }
         ensures counts { self.old.faults ≤ self.new.faults }
         ensures rises { OnErr result (Rose self.old.faults self.new.faults) }
-        ensures moves { IfOk result (λ n. bytes_left self.old ≡ take n buf.new ++ bytes_left self.new) }
+        ensures moves { IfOk result (λ n.
+            bytes_left self.old ≡ take n buf.new ++ bytes_left self.new) }
         ensures end { IfOk result (λ n. n ≡ 0 → 0 < length buf.new → bytes_left self.new ≡ []) }
-        ensures copies { IfOk result (λ n. buf.new ≡ take n (bytes_left self.old) ++ drop n buf.old) }
+        ensures copies { IfOk result (λ n.
+            buf.new ≡ take n (bytes_left self.old) ++ drop n buf.old) }
     {
         if !self.is_started {
             return Ok(0);

@@ -25,16 +25,18 @@ pub trait Source {
 
     /// Makes the named bytes the bytes that are left.
     fn start(&mut self, name: &str) -> Result<(), Failed>
-        ensures starts { OnOk result (IfSome (held self.old name.now) (λ bytes. left self.new ≡ Some bytes)) }
+        ensures starts { OnOk result
+            (IfSome (held self.old name.now) (λ bytes. left self.new ≡ Some bytes)) }
         ensures keeps { (n : List ℕ) → held self.new n ≡ held self.old n }
         ensures counts { faults self.old ≤ faults self.new }
         ensures fails { OnErr result (Rose (faults self.old) (faults self.new)) };
 
-    /// Moves a prefix of the bytes that are left into the front of `buf`, and answers its length. It is
-    /// 0 for a `buf` that is not empty where nothing is left.
+    /// Moves a prefix of the bytes that are left into the front of `buf`, and answers its length.
+    /// It is 0 for a `buf` that is not empty where nothing is left.
     fn read(&mut self, buf: &mut [u8]) -> Result<usize, Failed>
         ensures within { IfOk result (λ n. n ≤ length buf.new) }
-        ensures moves { IfOk result (λ n. Consumes (left self.old) (left self.new) (take n buf.new)) }
+        ensures moves { IfOk result (λ n.
+            Consumes (left self.old) (left self.new) (take n buf.new)) }
         ensures end { IfOk result (λ n. n ≡ 0 → 0 < length buf.new → IsAtEnd (left self.new)) }
         ensures keeps { (n : List ℕ) → held self.new n ≡ held self.old n }
         ensures counts { faults self.old ≤ faults self.new }
@@ -74,11 +76,13 @@ impl From<NoMemory> for ReadFail {
 
 /// Starts the source, and reads all bytes that it holds under the name.
 pub fn read_all<S: Source>(alloc: Global, source: &mut S, name: &str) -> Result<Bytes, ReadFail>
-    ensures bytes { IfOk result (λ read. IfSome (S.held source.old name.now) (λ bytes. read ≡ bytes)) }
+    ensures bytes { IfOk result (λ read.
+        IfSome (S.held source.old name.now) (λ bytes. read ≡ bytes)) }
     ensures short { IfOk result (λ read. length read ≤ LONGEST_FILE) }
     ensures long { IsErrOf result ReadFail.TooLong
         → IfSome (S.held source.old name.now) (λ bytes. LONGEST_FILE < length bytes) }
-    ensures fault { IsErrOf result ReadFail.ReadFault → Rose (S.faults source.old) (S.faults source.new) }
+    ensures fault { IsErrOf result ReadFail.ReadFault
+        → Rose (S.faults source.old) (S.faults source.new) }
     ensures counts { S.faults source.old ≤ S.faults source.new }
     ensures keeps { (n : List ℕ) → S.held source.new n ≡ S.held source.old n }
 {

@@ -22,7 +22,8 @@ impl Model for SteadySource {
 
     ghost Value = { Steady };
 
-    ghost view = { λ a. record { bytes = a.bytes.items; step = a.step; left = drop a.given a.bytes.items } };
+    ghost view = { λ a.
+        record { bytes = a.bytes.items; step = a.step; left = drop a.given a.bytes.items } };
 
     ghost invariant = { λ a. (1 ≤ a.step) × (a.given ≤ length a.bytes.items) };
 }

@@ -54,8 +54,8 @@ impl From<Kind> for FieldFault {
     }
 }
 
-/// A layout: its shape, and how the fields of its rows are read, one after the other. `S` is what is
-/// known so far.
+/// A layout: its shape, and how the fields of its rows are read, one after the other. `S` is what
+/// is known so far.
 pub trait Layout<S> {
     ghost meaning: { Self → LayoutMeaning S };
 
@@ -186,8 +186,8 @@ fn with_row<S: Drop, L: Layout<S>>(
 }
 
 /// What is known of a file in a layout, or its first fault: that of the header, then that of the
-/// first faulty row, then that the rows end too early. Within a row a row too many comes first, then
-/// its width, then its picked fields in their order.
+/// first faulty row, then that the rows end too early. Within a row a row too many comes first,
+/// then its width, then its picked fields in their order.
 pub fn read_in<S: Drop, L: Layout<S>>(
     alloc: Global,
     layout: &L,

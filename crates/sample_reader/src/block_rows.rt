@@ -56,7 +56,8 @@ impl CellsSoFar {
     // The blocks of these, where they are all, and there are so many blocks and treatments.
     fn into_blocks(self, blocks: u64, treatments: u64) -> Blocks
         requires { AreWholeBlocks blocks treatments self }
-        ensures { block_data_of result ≡ record { blocks = blocks; treatments = treatments; cells = self } }
+        ensures { block_data_of result
+            ≡ record { blocks = blocks; treatments = treatments; cells = self } }
     {
         Blocks {
             blocks,
@@ -177,7 +178,8 @@ pub fn blocks(alloc: Global, rows: &Rows, picks: &Picks) -> Result<Blocks, Layou
 /// `NotBinary`.
 pub fn binary_blocks(alloc: Global, rows: &Rows, picks: &Picks) -> Result<Blocks, LayoutFault>
     requires { MayPick 2 8 picks.now }
-    ensures ok { IfOk result (λ blocks. binary_blocks_in picks.now rows.now ≡ Ok (block_data_of blocks)) }
+    ensures ok { IfOk result (λ blocks.
+        binary_blocks_in picks.now rows.now ≡ Ok (block_data_of blocks)) }
     ensures binary { IfOk result (λ blocks. All IsBinary blocks.cells) }
     ensures fault { IfErr result (IsFaultOf (binary_blocks_in picks.now rows.now)) }
 {

@@ -1,4 +1,5 @@
-//! Samples read from the records of files: groups, pairs and blocks; and the pooled sample of groups.
+//! Samples read from the records of files: groups, pairs and blocks; and the pooled sample of
+//! groups.
 #![tactic(auto)]
 
 mod block_rows;

@@ -45,7 +45,8 @@ fn numbers_in(alloc: Global, labels: &Labels, order: &Labels) -> Result<Nums, we
 
 // Whether there are so many numbers, and each is below that.
 fn is_whole(numbers: &[u64], many: usize) -> bool
-    ensures { IsTrue result ↔ ((length numbers.now ≡ many) × All (λ number. number < many) numbers.now) }
+    ensures { IsTrue result
+        ↔ ((length numbers.now ≡ many) × All (λ number. number < many) numbers.now) }
 {
     numbers.len() == many && numbers.iter().all(|number| *number < many as u64)
 }
@@ -53,7 +54,8 @@ fn is_whole(numbers: &[u64], many: usize) -> bool
 // The number of each label in the order, where the order has the same labels.
 fn new_numbers(alloc: Global, labels: &Labels, order: &Labels) -> Result<Nums, OrderFault>
     requires { AllPairs ◌≢◌ labels.now }
-    ensures numbers { IfOk result (λ numbers. numbers ≡ map (number_among bytes_eq order.now) labels.now) }
+    ensures numbers { IfOk result (λ numbers.
+        numbers ≡ map (number_among bytes_eq order.now) labels.now) }
     ensures fit { OnOk result (IsPermutation labels.now order.now) }
     ensures unfit { IsErrOf result OrderFault.Unfit → ¬ IsPermutation labels.now order.now }
 {
@@ -67,7 +69,8 @@ fn new_numbers(alloc: Global, labels: &Labels, order: &Labels) -> Result<Nums, O
 // The members by the new numbers of their groups.
 fn renumbered(alloc: Global, members: &[u64], numbers: &[u64]) -> Result<Nums, weights::NoMemory>
     requires { All (λ member. member < length numbers.now) members.now }
-    ensures { IfOk result (λ new. new ≡ map (λ member. slice_index numbers.now member) members.now) }
+    ensures { IfOk result (λ new.
+        new ≡ map (λ member. slice_index numbers.now member) members.now) }
 {
     let mut new = Nums::empty(alloc);
     for member in members {

@@ -85,7 +85,8 @@ fn second_less_first(alloc: Global, first: &[i128], second: &[i128]) -> Result<I
     requires same_length { length first.now ≡ length second.now }
     requires first_in_range { AreInRange first.now }
     requires second_in_range { AreInRange second.now }
-    ensures differences { IfOk result (λ differences. differences ≡ second_less_first first.now second.now) }
+    ensures differences { IfOk result (λ differences.
+        differences ≡ second_less_first first.now second.now) }
     ensures one_each { IfOk result (λ differences. length differences ≡ length first.now) }
     ensures in_range { IfOk result AreDifferences }
 {
@@ -101,7 +102,8 @@ fn differences(alloc: Global, first: Ints, second: &Ints) -> Result<Ints, NoMemo
     requires one_or_two { (length second.now ≡ 0) ⊎ (length first ≡ length second.now) }
     requires first_in_range { AreInRange first }
     requires second_in_range { AreInRange second.now }
-    ensures differences { IfOk result (λ differences. differences ≡ differences_of first second.now) }
+    ensures differences { IfOk result (λ differences.
+        differences ≡ differences_of first second.now) }
     ensures one_each { IfOk result (λ differences. length differences ≡ length first) }
     ensures in_range { IfOk result AreDifferences }
 {

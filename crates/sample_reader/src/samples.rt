@@ -27,7 +27,8 @@ pub struct Blocks {
     pub blocks: u64,
     /// How many treatments there are.
     pub treatments: u64,
-    /// The cells by blocks, in the order of the file: values in units of 10^-18, or numbers 0 and 1.
+    /// The cells by blocks, in the order of the file: values in units of 10^-18, or numbers 0 and
+    /// 1.
     pub cells: Ints,
     pub ghost not_empty: { 1 ≤ blocks },
     pub ghost few_enough: { blocks ≤ MOST_ROWS },

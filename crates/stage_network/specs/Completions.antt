@@ -6,7 +6,8 @@ use Rattle.stage_network.specs.declared.stages.Verdict.{Verdict}
 use Rattle.stage_network.specs.declared.stages.Verdict.TheVariants.{Inside, Outside, Undecided}
 use Rattle.stage_network.specs.Network.{Network}
 
--- the lists of choices, one for each of the next m stages, each allowed at the key that the earlier ones reach
+-- the lists of choices, one for each of the next m stages, each allowed at the key that the earlier
+-- ones reach
 abbrev pub paths : Network → ℕ → ℕ → List ℤ → List (List (List ℕ))
 paths n zero g k = [] ∷ []
 paths n (suc m) g k =

@@ -39,7 +39,8 @@ line_sum p lines = sum_by (λ l. cond (p l.value) l.weight 0) lines
 abbrev pub every : ℤ → Bool
 every v = true
 
--- the lines have strictly ascending values, weights of at least 1, and these sums: for each test of values, the weight of the lines that pass
+-- the lines have strictly ascending values, weights of at least 1, and these sums: for each test of
+-- values, the weight of the lines that pass
 pub record IsSpreadOf (sums : (ℤ → Bool) → ℕ) (lines : List Line) : Type 0 where
   pub ascending : IsAscending lines
   pub positive : AllByRecursion (λ l. 1 ≤ l.weight) lines

@@ -1,4 +1,5 @@
--- Rooms: a key is a room, its first numbers, and a partial, the others. The room alone decides the choices, their weights and the rooms that they lead to.
+-- Rooms: a key is a room, its first numbers, and a partial, the others. The room alone decides the
+-- choices, their weights and the rooms that they lead to.
 use Rattle.std.specs.Prelude.{◌≡◌, ℕ, ℤ, ◌≤◌, List, ◌++◌, length, take}
 use Rattle.std.specs.List.{Contains}
 use Rattle.stage_network.specs.Network.{Network, IsReached}

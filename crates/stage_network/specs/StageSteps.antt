@@ -1,10 +1,12 @@
--- How the nodes of a stage are kept: each room once, and of each node its partial and the number of its room.
+-- How the nodes of a stage are kept: each room once, and of each node its partial and the number of
+-- its room.
 use Rattle.std.specs.Prelude.{◌≡◌, ℕ, ℤ, ◌+◌, ◌-◌, ◌*◌, ◌<◌, List, [], ◌∷◌, ◌++◌, length}
 use Rattle.std.specs.List.{AllByRecursion}
 use Rattle.node_pool.specs.Nodes.{Node, NodeRow, node}
 use Rattle.node_pool.specs.TableSteps.{key_at}
 
--- how many numbers a room has, and a key; the nodes; how many rooms were named, and the last of them
+-- how many numbers a room has, and a key; the nodes; how many rooms were named, and the last of
+-- them
 pub record Housed : Type 0 where
   pub room_width : ℕ
   pub width : ℕ

@@ -1,4 +1,5 @@
--- The network of the tests: two samples without ties, subject by subject, by how many of each sample are left and the sum of the second sample's doubled ranks.
+-- The network of the tests: two samples without ties, subject by subject, by how many of each
+-- sample are left and the sum of the second sample's doubled ranks.
 use Rattle.std.specs.Prelude.{ℕ, ℤ, pos, ◌+ℤ◌, ◌-ℤ◌, ◌+◌, ◌*◌, List, [], ◌∷◌, nat_lt, ◌==◌, int_le, int_lt, slice_index, slice_index_or, if◌then◌else◌}
 use Rattle.stage_network.specs.declared.stages.Verdict.{Verdict}
 use Rattle.stage_network.specs.declared.stages.Verdict.TheVariants.{Inside, Outside, Undecided}

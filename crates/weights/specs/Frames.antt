@@ -15,13 +15,16 @@ pub record IsFrameOf (test : ConditionalTest) (frame : Frame) : Type 0 where
 
 -- the rules of the tails compute no number of a rearrangement that passes a limit
 pub record RulesFit (test : ConditionalTest) : Type 0 where
-  pub fits : (tail : Tail) (r : List ℕ) → Contains test.reference r → RuleFits (rule_of test tail) (measured test tail r)
+  pub fits : (tail : Tail) (r : List ℕ) → Contains test.reference r
+      → RuleFits (rule_of test tail) (measured test tail r)
 
 -- the first of the tails that a test has
 abbrev pub first_tail : ConditionalTest → Tail
-first_tail test = if test.has_tail Less then Less else (if test.has_tail Greater then Greater else Two)
+first_tail test =
+    if test.has_tail Less then Less else (if test.has_tail Greater then Greater else Two)
 
--- a test has a tail, for the first of which its statistic is measured, and its rearrangements weigh at least 1
+-- a test has a tail, for the first of which its statistic is measured, and its rearrangements weigh
+-- at least 1
 pub record IsShown (test : ConditionalTest) : Type 0 where
   pub has : test.has_tail (first_tail test) ≡ true
   pub statistic_is : (r : List ℕ) → measured test (first_tail test) r ≡ test.statistic r

@@ -1,4 +1,5 @@
--- Labellings seen by columns: how many subjects of each column have each label. A table is the list of these counts.
+-- Labellings seen by columns: how many subjects of each column have each label. A table is the list
+-- of these counts.
 use Rattle.std.specs.Prelude.{◌≡◌, ℕ, ◌+◌, ◌-◌, ◌*◌, List, [], ◌∷◌, length, take, drop, map, min, Bool, nat_eq, nat_le, if◌then◌else◌}
 use Rattle.std.specs.List.{flat_map, filter, sum_by, range_with_len}
 use Rattle.std.specs.Cmp.Lexicographic.{pointwise}
@@ -17,7 +18,8 @@ minus (r ∷ rs) (a ∷ x) = (r - a) ∷ minus rs x
 -- the counts, one for each row, that sum to c and fit the sizes that remain, in lexicographic order
 abbrev pub choices : ℕ → List ℕ → List (List ℕ)
 choices c [] = if nat_eq c 0 then [] ∷ [] else []
-choices c (r ∷ rs) = flat_map (λ a. map (λ x. a ∷ x) (choices (c - a) rs)) (range_with_len 0 (min c r + 1))
+choices c (r ∷ rs) =
+    flat_map (λ a. map (λ x. a ∷ x) (choices (c - a) rs)) (range_with_len 0 (min c r + 1))
 
 -- the tables with these sums of columns and of rows, column by column
 abbrev pub tables : List ℕ → List ℕ → List (List (List ℕ))
@@ -43,7 +45,8 @@ abbrev pub labellings_giving : List (List ℕ) → List ℕ → List ℕ → ℕ
 labellings_giving table columns rows =
     length (filter (λ xs. same_table table (columns_of (length rows) columns xs)) (labellings rows))
 
--- the grouping law: for every function of a table, its sum over the tables, each weighed, is its sum over the labellings
+-- the grouping law: for every function of a table, its sum over the tables, each weighed, is its
+-- sum over the labellings
 abbrev pub IsGrouping : List ℕ → List ℕ → Type 0
 IsGrouping columns rows =
     (f : List (List ℕ) → ℕ) → sum_by (λ table. table_weight table * f table) (tables columns rows)

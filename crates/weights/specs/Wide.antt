@@ -10,7 +10,8 @@ use Rattle.weights.specs.declared.wide.PrepareFault.TheVariants.{TooWide, NoMemo
 -- what of a test is too wide, where something is: its total, else its bound
 abbrev pub too_wide : ConditionalTest → Option WideOf
 too_wide test =
-    if is_total_too_wide test then Some Total else (if nat_lt MAX test.bound then Some Statistic else None)
+    if is_total_too_wide test then Some Total
+    else (if nat_lt MAX test.bound then Some Statistic else None)
 
 -- a problem is prepared exactly where nothing of its test is too wide, but for want of memory
 abbrev pub Prepares : {V : Type 0} → (V → ConditionalTest) → V → Result V PrepareFault → Type 0
