@@ -1,17 +1,13 @@
 -- Slots behind a home, and why one is empty.
-use Rattle.std.proofs.Common.{◌≡◌, ◌≢◌, ℕ, zero, suc, ◌+◌, ◌-◌, ◌<◌, ◌≤◌, List, [], ◌∷◌, length, get_or, set, Bool, true, false, cond, eqb, ltb, refl, ap, ◌∙◌, subst, arith}
+use Rattle.std.proofs.Common.{◌≡◌, ◌≢◌, ℕ, zero, suc, ◌+◌, ◌-◌, ◌<◌, ◌≤◌, List, [], ◌∷◌, length, get_or, set, true, cond, eqb, ltb, refl, ap, ◌∙◌, subst, sym, inl, inr, ◌⊎◌, below_more, arith}
 use Rattle.std.specs.List.{count_by}
 use Rattle.std.proofs.lemmas.Bool.Decides.{nat_tests}
 use Rattle.std.proofs.lemmas.List.Sums.{sum_by-cons, sum_by-set}
-use Rattle.node_pool.specs.TableSteps.{spot, is_full}
+use Rattle.node_pool.specs.TableSteps.{IsWalk, spot, is_full}
 
 pub spot-here : (size home : ℕ) → home < size → spot size home 0 ≡ home
 unfolding spot
 spot-here size home h = grind (arith, nat_tests)
-
-pub spot-within : (size home d : ℕ) → home < size → d < size → spot size home d < size
-unfolding spot
-spot-within size home d h l = grind (arith, nat_tests)
 
 pub spot-next : (size home d : ℕ) → home < size → d < size → cond (eqb (spot size home d + 1) size) 0 (spot size home d + 1) ≡ spot size home (d + 1)
 unfolding spot
@@ -47,11 +43,48 @@ count-empty (b ∷ bs) e =
     let here : b ≡ 0 = e 0 in
     rw (sum_by-cons (λ x. cond (is_full x) 1 0) b bs, here, count-empty bs (λ s. e (suc s))) refl
 
-pub spot-next-at : (size home d slot : ℕ) → slot ≡ spot size home d → home < size → d < size → cond (eqb (slot + 1) size) 0 (slot + 1) ≡ spot size home (d + 1)
-spot-next-at size home d slot e h l = rw e (spot-next size home d h l)
+-- while every slot passed was full, the distance is below the number of slots
+pub stays_near : (buckets : List ℕ) (home d : ℕ) → home < length buckets → count_by is_full buckets < length buckets → ((e : ℕ) → e < d → 0 < get_or buckets (spot (length buckets) home e) 0) → d < length buckets
+stays_near buckets home d h room full =
+    let free = some_empty buckets room in
+    let at : ℕ = distance (length buckets) home free.0 in
+    let reach = spot-reaches (length buckets) home free.0 h free.1 in
+    let none : get_or buckets (spot (length buckets) home at) 0 ≡ 0 = ap (λ s. get_or buckets s 0) reach.1 ∙ free.2 in
+    elim (cases_lt at d) [
+      | inl below ↦ absurd (omega (arith, full at below, none))
+      | inr above ↦ omega (arith, reach.0, above)
+    ]
+  where
+    cases_lt : (a b : ℕ) → (a < b) ⊎ (b ≤ a)
+    cases_lt a b = grind arith
 
-pub full_at : (bs : List ℕ) (slot at : ℕ) → slot ≡ at → get_or bs slot 0 ≢ 0 → 0 < get_or bs at 0
-full_at bs slot at e ne = subst (λ s. 0 < get_or bs s 0) e (above (get_or bs slot 0) ne)
+-- a search from a home to a slot, that has passed full slots alone
+pub record IsAlong (buckets : List ℕ) (home slot steps : ℕ) : Type 0 where
+  pub here : slot ≡ spot (length buckets) home steps
+  pub within : slot < length buckets
+  pub near : steps < length buckets
+  pub full : (e : ℕ) → e < steps → 0 < get_or buckets (spot (length buckets) home e) 0
+
+pub along-start : (buckets : List ℕ) (home : ℕ) → home < length buckets → IsAlong buckets home home 0
+along-start buckets home h = record {
+  here = sym (spot-here (length buckets) home h);
+  within = h;
+  near = omega arith;
+  full = λ e l. absurd (omega arith);
+}
+
+pub along-next : {buckets : List ℕ} {home slot steps : ℕ} → IsAlong buckets home slot steps → home < length buckets → count_by is_full buckets < length buckets → get_or buckets slot 0 ≢ 0 → (next : ℕ) → next ≡ cond (eqb (slot + 1) (length buckets)) 0 (slot + 1) → next < length buckets → IsAlong buckets home next (steps + 1)
+along-next {buckets} {home} {slot} {steps} a h room some next e within =
+    let full : (e : ℕ) → e < steps + 1 → 0 < get_or buckets (spot (length buckets) home e) 0 = below_more _ _ a.full (subst (λ s. 0 < get_or buckets s 0) a.here (above (get_or buckets slot 0) some)) in
+    record {
+      here = e ∙ rw (a.here) (spot-next (length buckets) home steps h a.near);
+      within = within;
+      near = stays_near buckets home (steps + 1) h room full;
+      full = full;
+    }
   where
     above : (b : ℕ) → b ≢ 0 → 0 < b
     above b ne = omega arith
+
+pub along-walk : {buckets : List ℕ} {home slot steps : ℕ} → IsAlong buckets home slot steps → IsWalk buckets home slot
+along-walk {buckets} {home} {slot} {steps} a = record { far = steps; near = a.near; ends = a.here; full = a.full }

@@ -1,27 +1,11 @@
 -- A table, one key at a time.
-use Rattle.std.proofs.Common.{◌≡◌, ◌≢◌, ℕ, zero, suc, ◌+◌, ◌-◌, ◌*◌, ◌<◌, ◌≤◌, List, [], ◌∷◌, length, take, drop, get_or, set, Bool, true, false, cond, eqb, ltb, refl, arith, sym, ◌∙◌, ap, subst, inl, inr, ◌⊎◌}
+use Rattle.std.proofs.Common.{◌≡◌, ◌≢◌, ℕ, ◌+◌, ◌-◌, ◌<◌, ◌≤◌, List, length, get_or, set, arith, sym, ◌∙◌, ap, subst, inl, inr, ◌⊎◌}
 use Rattle.std.specs.Prelude.{ℤ}
-use Rattle.std.specs.List.{count_by}
 use Rattle.std.proofs.lemmas.Bool.{cases_eq}
 use Rattle.std.proofs.lemmas.List.{length-set, get_or-set_same, get_or-set_other}
 use Rattle.node_pool.specs.HashSteps.{home_of}
-use Rattle.node_pool.specs.TableSteps.{IsTable, IsWalk, key_at, is_full, spot, AllEmpty}
-use Rattle.node_pool.proofs.Spots.{spot-within, spot-reaches, distance, some_empty, count-filled, count-empty}
-
--- while every slot passed was full, the distance is below the number of slots
-pub stays_near : (buckets : List ℕ) (home d : ℕ) → home < length buckets → count_by is_full buckets < length buckets → ((e : ℕ) → e < d → 0 < get_or buckets (spot (length buckets) home e) 0) → d < length buckets
-stays_near buckets home d h room full =
-    let free = some_empty buckets room in
-    let at : ℕ = distance (length buckets) home free.0 in
-    let reach = spot-reaches (length buckets) home free.0 h free.1 in
-    let none : get_or buckets (spot (length buckets) home at) 0 ≡ 0 = ap (λ s. get_or buckets s 0) reach.1 ∙ free.2 in
-    elim (cases_lt at d) [
-      | inl below ↦ absurd (omega (arith, full at below, none))
-      | inr above ↦ omega (arith, reach.0, above)
-    ]
-  where
-    cases_lt : (a b : ℕ) → (a < b) ⊎ (b ≤ a)
-    cases_lt a b = grind arith
+use Rattle.node_pool.specs.TableSteps.{IsTable, IsWalk, key_at, spot, AllEmpty}
+use Rattle.node_pool.proofs.Spots.{count-filled, count-empty}
 
 -- a full slot stays full, and what it holds stays
 kept : (buckets : List ℕ) (slot n s : ℕ) → get_or buckets slot 0 ≡ 0 → 0 < get_or buckets s 0 → get_or (set buckets slot (n + 1)) s 0 ≡ get_or buckets s 0
@@ -128,7 +112,3 @@ not_held width n keys slots buckets key d table free missed i low same =
 
     three : (a b : ℕ) → (a < b) ⊎ ((a ≡ b) ⊎ (b < a))
     three a b = grind arith
-
--- the key that a range of the row is
-pub range-key : (width i : ℕ) (keys : List ℤ) → take ((i * width + width) - i * width) (drop (i * width) keys) ≡ key_at width keys i
-range-key width i keys = let e : (i * width + width) - i * width ≡ width = omega arith in ap (λ n. take n (drop (i * width) keys)) e

@@ -1,5 +1,5 @@
 -- The hash of a key.
-use Rattle.std.specs.Prelude.{ℕ, ℤ, ◌-◌, ◌*◌, ◌/◌, ◌%◌, ◌^◌, List, Bool, cond, nat_eq, fold, bit_xor, bit_and}
+use Rattle.std.specs.Prelude.{ℕ, ℤ, ◌-◌, ◌*◌, ◌/◌, ◌%◌, ◌^◌, List, cond, nat_eq, fold, bit_xor, bit_and}
 use Rattle.std.specs.Int.{cast_unsigned}
 use mir.Syntax.{w128}
 

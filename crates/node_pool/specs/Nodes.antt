@@ -1,5 +1,5 @@
 -- Nodes: keys with their weights, as a list.
-use Rattle.std.specs.Prelude.{ℕ, ℤ, ◌+◌, ◌*◌, List, [], ◌∷◌, map, Bool, cond}
+use Rattle.std.specs.Prelude.{ℕ, ℤ, ◌*◌, List, [], ◌∷◌, map, Bool, cond}
 use Rattle.std.specs.declared.cmp.Ordering.{Ordering}
 use Rattle.std.specs.List.{sum_by}
 use Rattle.std.specs.Ordering.{int_cmp, eq_by_cmp}

@@ -38,5 +38,6 @@ pub record IsPool (width : ℕ) (row : List ℤ) (weights slots buckets : List �
   pub weights_fit : length slots + spare ≤ weight_room
   pub slots_fit : length slots + spare ≤ slot_room
 
-abbrev pub IsRow : ℕ → List ℤ → List ℕ → Type 0
-IsRow width row weights = length row ≡ length weights * width
+-- a row that has a key for each weight
+pub record IsRow (width : ℕ) (row : List ℤ) (weights : List ℕ) : Type 0 where
+  pub long : length row ≡ length weights * width

@@ -4,6 +4,8 @@ use Rattle.std.specs.Prelude.{◌≡◌, ◌≢◌, ℕ, ℤ, ◌+◌, ◌-◌, 
 use Rattle.std.specs.List.{count_by}
 use Rattle.std.proofs.Common.{get_or}
 use Rattle.node_pool.specs.HashSteps.{home_of}
+use Rattle.node_pool.specs.declared.table.Found.{Found}
+use Rattle.node_pool.specs.declared.table.Found.TheVariants.{At, Free}
 
 -- the key at a place
 abbrev pub key_at : ℕ → List ℤ → ℕ → List ℤ
@@ -36,3 +38,20 @@ pub record IsTable (width n : ℕ) (keys : List ℤ) (slots buckets : List ℕ) 
 
 abbrev pub AllEmpty : List ℕ → Type 0
 AllEmpty buckets = (s : ℕ) → get_or buckets s 0 ≡ 0
+
+-- a key stands at a place among the first n
+pub record IsHeldAt (width n : ℕ) (keys key : List ℤ) (place : ℕ) : Type 0 where
+  pub low : place < n
+  pub here : key_at width keys place ≡ key
+
+-- a key stands at none of the first n places, and the search for it ends at an empty slot
+pub record IsFreeAt (width n : ℕ) (keys : List ℤ) (buckets : List ℕ) (key : List ℤ)
+    (slot : ℕ) : Type 0 where
+  pub absent : (i : ℕ) → i < n → key_at width keys i ≢ key
+  pub within : slot < length buckets
+  pub empty : get_or buckets slot 0 ≡ 0
+  pub walk : IsWalk buckets (home_of (length buckets) key) slot
+
+abbrev pub IsFound : ℕ → ℕ → List ℤ → List ℕ → List ℤ → Found → Type 0
+IsFound width n keys buckets key (At place) = IsHeldAt width n keys key place
+IsFound width n keys buckets key (Free slot) = IsFreeAt width n keys buckets key slot

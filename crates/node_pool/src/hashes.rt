@@ -1,5 +1,5 @@
 // The hash of a key, by multiplications and shifts.
-ghost use Rattle.std.specs.Prelude.{◌≡◌, ◌<◌, ◌-◌, ◌≤◌};
+ghost use Rattle.std.specs.Prelude.{◌≡◌, ◌<◌, ◌-◌};
 ghost use Rattle.node_pool.specs.HashSteps.{stirred, stirred_number, hash_of, home_of};
 
 // Mixes a half of a number in.

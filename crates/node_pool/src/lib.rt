@@ -4,6 +4,7 @@
 mod hashes;
 mod list;
 mod pool;
+mod room;
 mod table;
 #[cfg(test)]
 mod tests;

@@ -1,8 +1,9 @@
 // Keys with weights, one after another.
-ghost use Rattle.std.specs.Prelude.{◌≡◌, ◌+◌, ◌*◌, ◌<◌, ◌≤◌, [], ◌∷◌, ◌++◌, length};
-ghost use Rattle.std.specs.Prelude.{vec_len, vec_capacity, OnOk, OnErr, slice_index_or};
+ghost use Rattle.std.specs.Prelude.{◌≡◌, ◌+◌, ◌<◌, [], ◌∷◌, ◌++◌, length};
+ghost use Rattle.std.specs.Prelude.{OnOk, OnErr, slice_index_or};
 ghost use Rattle.node_pool.specs.Nodes.{Node, NodeRow, node};
 
+use crate::room::{append_within, push_within};
 use crate::table::key_at;
 use std::alloc::Global;
 use std::marker::Model;
@@ -29,18 +30,6 @@ impl<C: Count> Model for NodeList<C> {
     } };
 
     ghost invariant = { λ p. IsRow p.width p.row.items (map C.number p.weights.items) };
-}
-
-/// Adds an item to a list that has room.
-#[inline(always)]
-fn push_within<T: Drop>(items: &mut Vec<T>, item: T)
-    requires { vec_len items.old < vec_capacity items.old }
-    ensures { items.new.items ≡ items.old.items ++ item ∷ [] }
-{
-    match items.push(item) {
-        Ok(()) => {}
-        Err(_) => unreachable!(),
-    }
 }
 
 impl<C: Count> NodeList<C> {
@@ -92,7 +81,8 @@ impl<C: Count> NodeList<C> {
         ensures err { OnErr result (self.new.nodes ≡ self.old.nodes) }
     {
         self.weights.reserve(1)?;
-        self.row.extend_from_slice(key)?;
+        self.row.reserve(key.len())?;
+        append_within(&mut self.row, key);
         push_within(&mut self.weights, weight);
         Ok(())
     }

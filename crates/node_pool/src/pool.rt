@@ -1,14 +1,14 @@
 // A finite map from keys to weights, with room that was asked for before.
-ghost use Rattle.std.specs.Prelude.{◌≡◌, ◌+◌, ◌-◌, ◌*◌, ◌^◌, ◌<◌, ◌≤◌, [], ◌∷◌, ◌++◌, false, length};
+ghost use Rattle.std.specs.Prelude.{◌≡◌, ◌+◌, ◌-◌, ◌*◌, ◌^◌, ◌<◌, ◌≤◌, [], false, length};
 ghost use Rattle.std.specs.Prelude.{vec_len, vec_capacity, IfOk, IfSome, OnOk, OnErr};
-ghost use Rattle.std.specs.Prelude.{slice_index_or, if◌then◌else◌};
+ghost use Rattle.std.specs.Prelude.{slice_index, slice_index_or, slice_set, map, if◌then◌else◌};
 ghost use Rattle.std.specs.List.{IsDistinct};
 ghost use Rattle.node_pool.specs.Nodes.{Node, key_eq, keys, is_held, weight_in};
 ghost use Rattle.node_pool.specs.Pool.{Pool, IsMerge, IsPlaced};
-ghost use Rattle.node_pool.specs.PoolSteps.{put, IsSizeFor};
+ghost use Rattle.node_pool.specs.PoolSteps.{IsSizeFor};
 
-use crate::hashes::home_of;
-use crate::table::{clear_buckets, key_at, probe, rehash};
+use crate::room::{append_within, push_within};
+use crate::table::{Found, clear_buckets, find, key_at, rehash};
 use std::alloc::Global;
 use std::marker::Model;
 use weights::{Count, NoMemory};
@@ -55,40 +55,18 @@ const FEWEST: usize = 16;
 // The greatest number of keys.
 const MOST: usize = 1 << 31;
 
-// Adds an item to a list that has room.
+// Adds a weight to the one at a place, where the sum is within the limit.
 #[inline(always)]
-fn push_within<T: Drop>(items: &mut Vec<T>, item: T)
-    requires { vec_len items.old < vec_capacity items.old }
-    ensures items { items.new.items ≡ items.old.items ++ item ∷ [] }
-    ensures room { vec_capacity items.old ≤ vec_capacity items.new }
+fn raise<C: Count>(weights: &mut Vec<C>, place: usize, weight: C)
+    requires within { place < vec_len weights.old }
+    requires fits { slice_index (map C.number weights.old.items) place + C.number weight ≤ C.LIMIT }
+    ensures numbers { let old = map C.number weights.old.items in
+        map C.number weights.new.items
+        ≡ slice_set old place (slice_index old place + C.number weight) }
+    ensures room { vec_capacity weights.new ≡ vec_capacity weights.old }
 {
-    match items.push(item) {
-        Ok(()) => {}
-        Err(_) => unreachable!(),
-    }
-}
-
-// Adds a key to a row that has room.
-#[inline(always)]
-fn append_within(row: &mut Vec<i128>, key: &[i128])
-    requires { vec_len row.old + length key.now ≤ vec_capacity row.old }
-    ensures items { row.new.items ≡ row.old.items ++ key.now }
-    ensures room { vec_capacity row.old ≤ vec_capacity row.new }
-{
-    match row.extend_from_slice(key) {
-        Ok(()) => {}
-        Err(_) => unreachable!(),
-    }
-}
-
-// The sum of two counts, which is within the limit.
-#[inline(always)]
-fn sum<C: Count>(a: C, b: C) -> C
-    requires { C.number a + C.number b ≤ C.LIMIT }
-    ensures { C.number result ≡ C.number a + C.number b }
-{
-    match a.checked_add(b) {
-        Some(sum) => sum,
+    match weights[place].checked_add(weight) {
+        Some(sum) => weights[place] = sum,
         None => unreachable!(),
     }
 }
@@ -212,38 +190,6 @@ impl<C: Count> NodePool<C> {
         Ok(())
     }
 
-    // Adds a weight to a key's, and answers the key's place: a new key stands at the end.
-    #[inline(always)]
-    fn put(&mut self, key: &[i128], weight: C) -> usize
-        requires wide { length key.now ≡ self.old.width }
-        requires room { is_held self.old.nodes key.now ≡ false → 1 ≤ self.old.spare }
-        requires fits { weight_in self.old.nodes key.now + C.number weight ≤ C.LIMIT }
-        ensures width { self.new.width ≡ self.old.width }
-        ensures nodes { self.new.nodes ≡ put key.now (C.number weight) self.old.nodes }
-        ensures spare { let held = is_held self.old.nodes key.now in
-            self.new.spare ≡ (if held then self.old.spare else self.old.spare - 1) }
-        ensures within { result < length self.new.nodes }
-        ensures place { (d : Node) → (slice_index_or self.new.nodes result d).key ≡ key.now }
-        ensures distinct { IsDistinct key_eq (keys self.old.nodes) }
-    {
-        let home = home_of(self.buckets.len(), key);
-        let slot = probe(self.width, &self.row, &self.slots, &self.buckets, home, key);
-        let entry = self.buckets[slot] as usize;
-        if entry == 0 {
-            let count = self.slots.len();
-            self.buckets[slot] = count as u32 + 1;
-            push_within(&mut self.slots, slot as u32);
-            append_within(&mut self.row, key);
-            push_within(&mut self.weights, weight);
-            self.spare -= 1;
-            count
-        } else {
-            let i = entry - 1;
-            self.weights[i] = sum(self.weights[i], weight);
-            i
-        }
-    }
-
     /// Adds a weight to a key's, which is 0 where the key is not held. A new key lowers spare by 1.
     #[inline(always)]
     pub fn add(&mut self, key: &[i128], weight: C)
@@ -255,7 +201,7 @@ impl<C: Count> NodePool<C> {
         ensures spare { let held = is_held self.old.nodes key.now in
             self.new.spare ≡ (if held then self.old.spare else self.old.spare - 1) }
     {
-        let _place = self.put(key, weight);
+        let _place = self.enter(key, weight);
     }
 
     /// The same, and answers the key's place. A held key keeps its place until the pool is emptied.
@@ -270,7 +216,21 @@ impl<C: Count> NodePool<C> {
             self.new.spare ≡ (if held then self.old.spare else self.old.spare - 1) }
         ensures placed { IsPlaced self.old.nodes key.now self.new.nodes result }
     {
-        self.put(key, weight)
+        match find(self.width, &self.row, &self.slots, &self.buckets, key) {
+            Found::At(place) => {
+                raise(&mut self.weights, place, weight);
+                place
+            }
+            Found::Free(slot) => {
+                let place = self.slots.len();
+                self.buckets[slot] = place as u32 + 1;
+                push_within(&mut self.slots, slot as u32);
+                append_within(&mut self.row, key);
+                push_within(&mut self.weights, weight);
+                self.spare -= 1;
+                place
+            }
+        }
     }
 
     /// Empties the map, in steps that its length bounds, and makes its room spare.

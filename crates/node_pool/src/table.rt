@@ -1,8 +1,8 @@
 // Where keys stand in buckets.
-ghost use Rattle.std.specs.Prelude.{◌≡◌, ◌≢◌, ℕ, ◌+◌, ◌-◌, ◌*◌, ◌^◌, ◌<◌, ◌≤◌, ◌↔◌, IsTrue, length, slice_index, if◌then◌else◌, ◌==◌};
+ghost use Rattle.std.specs.Prelude.{◌≡◌, ℕ, ◌+◌, ◌-◌, ◌*◌, ◌^◌, ◌<◌, ◌≤◌, ◌↔◌, IsTrue, length, slice_index, if◌then◌else◌, ◌==◌};
 ghost use Rattle.std.specs.List.{count_by};
 ghost use Rattle.node_pool.specs.HashSteps.{home_of};
-ghost use Rattle.node_pool.specs.TableSteps.{IsTable, IsWalk, key_at, is_full, AllEmpty};
+ghost use Rattle.node_pool.specs.TableSteps.{IsTable, IsWalk, IsFound, key_at, is_full, AllEmpty};
 
 use crate::hashes::home_of;
 
@@ -25,40 +25,33 @@ fn next_slot(size: usize, slot: usize) -> usize
     if slot + 1 == size { 0 } else { slot + 1 }
 }
 
-// The slot that names a key's place, or else the empty slot where the search for it ends.
+// Where the search for a key ends: at the key's place, or at the empty slot that is free for it.
+pub enum Found {
+    At(usize),
+    Free(usize),
+}
+
+// Searches for a key.
 #[inline(always)]
-pub fn probe(
-    width: usize,
-    keys: &[i128],
-    slots: &[u32],
-    buckets: &[u32],
-    home: usize,
-    key: &[i128],
-) -> usize
+pub fn find(width: usize, keys: &[i128], slots: &[u32], buckets: &[u32], key: &[i128]) -> Found
     requires table { IsTable width (length slots.now) keys.now slots.now buckets.now }
     requires room { length slots.now < length buckets.now }
-    requires home { home ≡ home_of (length buckets.now) key.now }
-    requires within { home < length buckets.now }
     requires long { length keys.now ≡ length slots.now * width }
     requires wide { length key.now ≡ width }
-    ensures within { result < length buckets.now }
-    ensures walk { IsWalk buckets.now home result }
-    ensures held { 0 < slice_index buckets.now result
-        → key_at width keys.now (slice_index buckets.now result - 1) ≡ key.now }
-    ensures free { slice_index buckets.now result ≡ 0
-        → (i : ℕ) → i < length slots.now → key_at width keys.now i ≢ key.now }
+    ensures { IsFound width (length slots.now) keys.now buckets.now key.now result }
 {
+    let home = home_of(buckets.len(), key);
     let mut slot = home;
     let mut steps = 0usize;
     while buckets[slot] != 0 {
-        let start = (buckets[slot] as usize - 1) * width;
-        if same_key(&keys[start..start + width], key) {
-            return slot;
+        let place = buckets[slot] as usize - 1;
+        if same_key(key_at(width, keys, place), key) {
+            return Found::At(place);
         }
         slot = next_slot(buckets.len(), slot);
         steps += 1;
     }
-    slot
+    Found::Free(slot)
 }
 
 // The empty slot where the search for a key that is not held ends.
@@ -88,8 +81,7 @@ pub fn rehash(width: usize, keys: &[i128], slots: &mut [u32], buckets: &mut [u32
     ensures table { IsTable width (length slots.new) keys.now slots.new buckets.new }
 {
     for i in 0..slots.len() {
-        let start = i * width;
-        let home = home_of(buckets.len(), &keys[start..start + width]);
+        let home = home_of(buckets.len(), key_at(width, keys, i));
         let slot = free_slot(buckets, home);
         buckets[slot] = i as u32 + 1;
         slots[i] = slot as u32;

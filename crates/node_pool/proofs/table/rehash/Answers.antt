@@ -1,8 +1,8 @@
-use Rattle.std.proofs.Common.{◌≡◌, ◌≢◌, ℕ, ◌+◌, ◌*◌, ◌<◌, ◌≤◌, length, get_or, set, take, drop, refl, sym, ◌∙◌, ap, subst, arith}
+use Rattle.std.proofs.Common.{ℕ, ◌+◌, ◌<◌, length, set, refl, ◌∙◌, ap, subst, arith}
 use Rattle.std.proofs.lemmas.List.{length-set, get_or-set_same, get_or-set_other}
 use Rattle.node_pool.specs.HashSteps.{home_of}
-use Rattle.node_pool.specs.TableSteps.{IsTable, IsWalk, key_at}
-use Rattle.node_pool.proofs.Tables.{table-none, table-more, range-key}
+use Rattle.node_pool.specs.TableSteps.{IsWalk}
+use Rattle.node_pool.proofs.Tables.{table-none, table-more}
 use Rattle.node_pool.proofs.table.rehash.Goals as goal
 
 pub loop-i-init : goal.loop-i-init
@@ -16,7 +16,7 @@ loop-i-preserved c =
     let low : i < length ss = omega (arith, c.loop-i-test.true) in
     record {
       table = table-more c.args.width i c.args.keys.now c.args.keys.now ss (set ss i slot) c.loop-i.buckets slot c.loop-i.invariant.table
-          c.free_slot-slot.ensures.within c.free_slot-slot.ensures.free (subst (λ h. IsWalk c.loop-i.buckets h slot) (c.home_of-home.ensures.value ∙ ap (home_of (length c.loop-i.buckets)) (range-key c.args.width i c.args.keys.now)) c.free_slot-slot.ensures.walk)
+          c.free_slot-slot.ensures.within c.free_slot-slot.ensures.free (subst (λ h. IsWalk c.loop-i.buckets h slot) (c.home_of-home.ensures.value ∙ ap (home_of (length c.loop-i.buckets)) c.key_at.ensures) c.free_slot-slot.ensures.walk)
           (λ j h. refl) (λ j h. get_or-set_other ss i j slot 0 (λ e. omega arith)) (get_or-set_same ss i slot 0 low);
       size = length-set c.loop-i.buckets slot (i + 1) ∙ c.loop-i.invariant.size;
     }

@@ -1,4 +1,4 @@
-use Rattle.std.proofs.Common.{◌≤◌, ◌+◌, ℕ, ap, arith}
+use Rattle.std.proofs.Common.{ap, arith}
 use Rattle.node_pool.specs.Nodes.{weighted}
 use Rattle.node_pool.proofs.Puts.{weight_in-le}
 use Rattle.node_pool.proofs.tests.put.Goals as goal

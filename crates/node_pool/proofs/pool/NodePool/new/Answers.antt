@@ -1,4 +1,4 @@
-use Rattle.std.proofs.Common.{◌≡◌, ℕ, ◌+◌, ◌*◌, ◌<◌, ◌≤◌, List, [], length, get_or, replicate, map, arith, rules, ap, sym, ◌∙◌, suc, zero, refl}
+use Rattle.std.proofs.Common.{◌≡◌, ℕ, get_or, replicate, arith, rules, suc, zero, refl}
 use Rattle.node_pool.proofs.Pools.{pool-none}
 use Rattle.node_pool.proofs.pool.NodePool.new.Goals as goal
 

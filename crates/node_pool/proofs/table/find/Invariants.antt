@@ -1,14 +1,12 @@
-use Rattle.std.proofs.Common.{◌≡◌, ◌≢◌, ℕ, ◌-◌, ◌<◌, length, get_or}
+use Rattle.std.proofs.Common.{◌≢◌, ℕ, ◌-◌, ◌<◌, length, get_or}
 use Rattle.node_pool.specs.TableSteps.{spot, key_at}
-use Rattle.node_pool.proofs.table.probe.Given as goal
+use Rattle.node_pool.proofs.Spots.{IsAlong}
+use Rattle.node_pool.proofs.table.find.Given as goal
 
 -- every slot passed was full, and held another key
 abbrev pub invariant-loop-slot : goal.invariant-loop-slot
 invariant-loop-slot l = record {
-  here : l.slot ≡ spot (length l.buckets) l.home l.steps;
-  within : l.slot < length l.buckets;
-  near : l.steps < length l.buckets;
-  full : (e : ℕ) → e < l.steps → 0 < get_or l.buckets (spot (length l.buckets) l.home e) 0;
+  along : IsAlong l.buckets l.home l.slot l.steps;
   missed : (e : ℕ) → e < l.steps → key_at l.width l.keys (get_or l.buckets (spot (length l.buckets) l.home e) 0 - 1) ≢ l.key;
 }
 
