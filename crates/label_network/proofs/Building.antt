@@ -1,14 +1,15 @@
 -- A further row of a table, and the first.
 use Rattle.std.proofs.Common.{◌≡◌, ℕ, zero, suc, ◌+◌, ◌-◌, ◌*◌, ◌<◌, ◌≤◌, List, [], ◌∷◌, ◌++◌, length, get_or, refl, sym, ◌∙◌, ap, arith, length-append, inl, inr}
 use Rattle.std.specs.Prelude.{ℤ, pos, replicate}
+use Rattle.std.specs.Int.{int_min, int_max}
 use Rattle.std.proofs.lemmas.List.{get_or-append_right, length-replicate}
 use Rattle.std.proofs.lemmas.Bool.Decides.{eqb_tells}
 use Rattle.std.proofs.Math.Nat.{mul-le-mul}
-use Rattle.label_network.specs.LaterSums.{total_score, least_sum, greatest_sum, later_scores}
-use Rattle.label_network.specs.LaterSteps.{IsLeastRow, IsGreatestRow, IsBuilt}
+use Rattle.label_network.specs.LaterSums.{total_score, part_sum, later_scores}
+use Rattle.label_network.specs.LaterSteps.{IsRow, IsBuilt}
 use Rattle.label_network.specs.LaterTables.{IsTable, IsTotals, IsCounted}
 use Rattle.label_network.proofs.Later.{later-end}
-use Rattle.label_network.proofs.LinearArcs.{least-none, greatest-none}
+use Rattle.label_network.proofs.LinearArcs.{part-none}
 
 front : {X : Type 0} (xs ys : List X) (i : ℕ) (d : X) → i < length xs → get_or (xs ++ ys) i d ≡ get_or xs i d
 front [] ys i d h = absurd (omega (arith, h))
@@ -90,25 +91,24 @@ module _ (scores : List ℤ) (columns : List ℕ) where
   pub built-first : (width : ℕ) → length scores ≡ length columns → IsBuilt scores columns width (length columns) (replicate width (pos 0)) (replicate width (pos 0)) 0 (pos 0) (replicate width (pos 0)) (replicate width (pos 0)) (pos 0 ∷ []) (0 ∷ [])
   built-first width e =
       let none : later_scores scores columns (length columns) ≡ [] = later-end scores columns e in
-      let low : (j : ℕ) → get_or (replicate width (pos 0)) j (pos 0) ≡ least_sum j (later_scores scores columns (length columns)) = λ j. zeros width j ∙ sym (ap (least_sum j) none ∙ least-none j) in
-      let high : (j : ℕ) → get_or (replicate width (pos 0)) j (pos 0) ≡ greatest_sum j (later_scores scores columns (length columns)) = λ j. zeros width j ∙ sym (ap (greatest_sum j) none ∙ greatest-none j) in
+      let none_yet : (better : ℤ → ℤ → ℤ) (j : ℕ) → get_or (replicate width (pos 0)) j (pos 0) ≡ part_sum better j (later_scores scores columns (length columns)) = λ better j. zeros width j ∙ sym (ap (part_sum better j) none ∙ part-none better j) in
       record {
         stage = omega arith;
         low_long = length-replicate width (pos 0);
         high_long = length-replicate width (pos 0);
-        low_row = record { each = λ j h. low j };
-        high_row = record { each = λ j h. high j };
+        low_row = record { each = λ j h. none_yet int_min j };
+        high_row = record { each = λ j h. none_yet int_max j };
         count = sym (ap length none);
         whole = sym (ap total_score none);
-        least_table = table-first _ (length columns) width (replicate width (pos 0)) (length-replicate width (pos 0)) (λ j h. low j);
-        greatest_table = table-first _ (length columns) width (replicate width (pos 0)) (length-replicate width (pos 0)) (λ j h. high j);
+        least_table = table-first _ (length columns) width (replicate width (pos 0)) (length-replicate width (pos 0)) (λ j h. none_yet int_min j);
+        greatest_table = table-first _ (length columns) width (replicate width (pos 0)) (length-replicate width (pos 0)) (λ j h. none_yet int_max j);
         all_totals = record { long = omega arith; each = λ i a b. (let f : i ≡ length columns = omega (arith, a, b) in let z : length columns - i ≡ 0 = omega (arith, a) in rw z (sym (ap (λ n. total_score (later_scores scores columns n)) f ∙ ap total_score none))) };
         all_counts = record { long = omega arith; each = λ i a b. (let f : i ≡ length columns = omega (arith, a, b) in let z : length columns - i ≡ 0 = omega (arith, a) in rw z (sym (ap (λ n. length (later_scores scores columns n)) f ∙ ap length none))) };
       }
 
   -- one stage more
   pub built-more : (width g : ℕ) (low high low' high' : List ℤ) (before before' : ℕ) (total total' : ℤ) (least greatest totals : List ℤ) (counts : List ℕ) → 0 < g → IsBuilt scores columns width g low high before total least greatest totals counts →
-      length low' ≡ length low → length high' ≡ length high → IsLeastRow (later_scores scores columns (g - 1)) low' → IsGreatestRow (later_scores scores columns (g - 1)) high' → before' ≡ length (later_scores scores columns (g - 1)) → total' ≡ total_score (later_scores scores columns (g - 1)) →
+      length low' ≡ length low → length high' ≡ length high → IsRow int_min (later_scores scores columns (g - 1)) low' → IsRow int_max (later_scores scores columns (g - 1)) high' → before' ≡ length (later_scores scores columns (g - 1)) → total' ≡ total_score (later_scores scores columns (g - 1)) →
       IsBuilt scores columns width (g - 1) low' high' before' total' (least ++ low') (greatest ++ high') (totals ++ total' ∷ []) (counts ++ before' ∷ [])
   built-more width g low high low' high' before before' total total' least greatest totals counts k b ll hl lr hr c t = record {
     stage = omega (arith, b.stage);

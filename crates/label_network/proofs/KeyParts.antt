@@ -8,6 +8,8 @@ use Rattle.std.proofs.Math.Seq.{take-append_seam, drop-append_seam}
 use Rattle.weights.specs.declared.TheConstants.{MAX}
 use Rattle.weights.specs.Labellings.{number_of_labellings}
 use Rattle.weights.specs.Grouped.{fits}
+use Rattle.weights.specs.declared.tails.Tail.{Tail}
+use Rattle.stage_network.specs.Judged.{judged}
 use Rattle.weights.proofs.ChoiceLists.{IsChoice}
 use Rattle.stage_network.specs.Network.{Network, IsReached, pending}
 use Rattle.stage_network.specs.Completions.{total_weight}
@@ -117,6 +119,16 @@ length-sizes_in : (zs : List ℤ) → length (sizes_in zs) ≡ length zs
 length-sizes_in [] = refl
 length-sizes_in (z ∷ zs) = ap suc (length-sizes_in zs)
 
+module _ (m : Meaning) (g : ℕ) (room partial : List ℤ) (e : length room ≡ length m.rows) where
+  pub room_verdict : (t : Tail) → (label_network m).verdict t g (room ++ partial) ≡ judged m.tail m.rule t (m.low g (sizes_in room) partial) (m.high g (sizes_in room) partial)
+  room_verdict t = rw (room_front (length m.rows) room partial e, room_back (length m.rows) room partial e) refl
+
+  pub room_place : IsReached (label_network m) g (room ++ partial) → IsPlace m g room partial
+  room_place r =
+      let front = room_front (length m.rows) room partial e in
+      let back = room_back (length m.rows) room partial e in
+      rw (front, back) at (is_place m g (room ++ partial) (is_key m g (room ++ partial) r))
+
 module _ (m : Meaning) (g : ℕ) (room partial : List ℤ) (c : List ℕ) (e : length room ≡ length m.rows) where
   room_sizes : remaining m (room ++ partial) ≡ sizes_in room
   room_sizes = ap sizes_in (room_front (length m.rows) room partial e)
@@ -127,9 +139,8 @@ module _ (m : Meaning) (g : ℕ) (room partial : List ℤ) (c : List ℕ) (e : l
       ∙ rw (room_sizes, room_back (length m.rows) room partial e) refl
 
   pub room_move : IsReached (label_network m) g (room ++ partial) → g < length m.columns → Contains ((label_network m).choices g (room ++ partial)) c → IsMove m g room c partial
-  room_move r before o =
-      let h : IsKey m g (room ++ partial) = is_key m g (room ++ partial) r in
-      let front = room_front (length m.rows) room partial e in
-      let back = room_back (length m.rows) room partial e in
-      let place : IsPlace m g room partial = rw (front, back) at (is_place m g (room ++ partial) h) in
-      record { before = before; place = place; allowed = rw room_sizes at (is_allowed m g (room ++ partial) c before o) }
+  room_move r before o = record {
+    before = before;
+    place = room_place m g room partial e r;
+    allowed = rw room_sizes at (is_allowed m g (room ++ partial) c before o);
+  }

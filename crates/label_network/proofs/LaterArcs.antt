@@ -4,104 +4,87 @@ use Rattle.std.specs.Prelude.{ℤ, pos, ◌+ℤ◌, ◌*ℤ◌, ◌≤ℤ◌, re
 use Rattle.std.specs.Int.{int_min, int_max}
 use Rattle.std.proofs.Math.IntN.{zero-*ℤ, suc_ℤ-*ℤ}
 use Rattle.std.proofs.lemmas.Int.{ints, clamps}
-use Rattle.label_network.specs.LaterSums.{total_score, least_sum, greatest_sum}
+use Rattle.label_network.specs.LaterSums.{total_score, part_sum, least_sum, greatest_sum}
+use Rattle.label_network.specs.LaterSteps.{better_of}
+use Rattle.label_network.specs.declared.ends.End.{End}
+use Rattle.label_network.specs.declared.ends.End.TheVariants.{Least, Greatest}
 use Rattle.completion_bounds.proofs.Products.{suc-out}
 
-min-left : (a b : ℤ) → int_min a b ≤ℤ a
-min-left a b = omega (arith, ints, clamps)
+-- no farther from an end
+abbrev pub Nearer : End → ℤ → ℤ → Type 0
+Nearer Least a b = a ≤ℤ b
+Nearer Greatest a b = b ≤ℤ a
 
-min-right : (a b : ℤ) → int_min a b ≤ℤ b
-min-right a b = omega (arith, ints, clamps)
+pub near-same : (e : End) (a : ℤ) → Nearer e a a
+near-same Least a = omega (arith, ints)
+near-same Greatest a = omega (arith, ints)
 
-max-left : (a b : ℤ) → a ≤ℤ int_max a b
-max-left a b = omega (arith, ints, clamps)
+near-left : (e : End) (a b : ℤ) → Nearer e (better_of e a b) a
+near-left Least a b = omega (arith, ints, clamps)
+near-left Greatest a b = omega (arith, ints, clamps)
 
-max-right : (a b : ℤ) → b ≤ℤ int_max a b
-max-right a b = omega (arith, ints, clamps)
+near-right : (e : End) (a b : ℤ) → Nearer e (better_of e a b) b
+near-right Least a b = omega (arith, ints, clamps)
+near-right Greatest a b = omega (arith, ints, clamps)
 
-same-le : (a : ℤ) → a ≤ℤ a
-same-le a = omega (arith, ints)
+near-none : (e : End) (a : ℤ) → Nearer e a (pos 0 +ℤ a)
+near-none Least a = omega (arith, ints)
+near-none Greatest a = omega (arith, ints)
+
+near-chain : (e : End) (a b c : ℤ) → Nearer e a b → Nearer e b c → Nearer e a c
+near-chain Least a b c h k = omega (arith, ints, h, k)
+near-chain Greatest a b c h k = omega (arith, ints, h, k)
+
+near-plus : (e : End) (a b p q v : ℤ) → Nearer e a (v +ℤ b) → Nearer e b (p +ℤ q) → Nearer e a ((p +ℤ v) +ℤ q)
+near-plus Least a b p q v h k = omega (arith, ints, h, k)
+near-plus Greatest a b p q v h k = omega (arith, ints, h, k)
 
 -- one score taken, or passed over
-pub least-taken : (j : ℕ) (x : ℤ) (xs : List ℤ) → least_sum (suc j) (x ∷ xs) ≤ℤ (x +ℤ least_sum j xs)
-least-taken j x xs = by (nat_lt j (length xs))
+taken : (e : End) (j : ℕ) (x : ℤ) (xs : List ℤ) → Nearer e (part_sum (better_of e) (suc j) (x ∷ xs)) (x +ℤ part_sum (better_of e) j xs)
+taken e j x xs = by (nat_lt j (length xs))
   where
-    by : (b : Bool) → cond b (int_min (x +ℤ least_sum j xs) (least_sum (suc j) xs)) (x +ℤ least_sum j xs) ≤ℤ (x +ℤ least_sum j xs)
-    by true = min-left (x +ℤ least_sum j xs) (least_sum (suc j) xs)
-    by false = same-le (x +ℤ least_sum j xs)
+    by : (b : Bool) → Nearer e (cond b (better_of e (x +ℤ part_sum (better_of e) j xs) (part_sum (better_of e) (suc j) xs)) (x +ℤ part_sum (better_of e) j xs)) (x +ℤ part_sum (better_of e) j xs)
+    by true = near-left e (x +ℤ part_sum (better_of e) j xs) (part_sum (better_of e) (suc j) xs)
+    by false = near-same e (x +ℤ part_sum (better_of e) j xs)
 
-pub least-passed : (j : ℕ) (x : ℤ) (xs : List ℤ) → j ≤ length xs → least_sum j (x ∷ xs) ≤ℤ least_sum j xs
-least-passed zero x xs h = same-le (pos 0)
-least-passed (suc j) x xs h = rw (lt-ltb j (length xs) (omega (arith, h))) (min-right (x +ℤ least_sum j xs) (least_sum (suc j) xs))
+passed : (e : End) (j : ℕ) (x : ℤ) (xs : List ℤ) → j ≤ length xs → Nearer e (part_sum (better_of e) j (x ∷ xs)) (part_sum (better_of e) j xs)
+passed e zero x xs h = near-same e (pos 0)
+passed e (suc j) x xs h = rw (lt-ltb j (length xs) (omega (arith, h))) (near-right e (x +ℤ part_sum (better_of e) j xs) (part_sum (better_of e) (suc j) xs))
 
-pub greatest-taken : (j : ℕ) (x : ℤ) (xs : List ℤ) → (x +ℤ greatest_sum j xs) ≤ℤ greatest_sum (suc j) (x ∷ xs)
-greatest-taken j x xs = by (nat_lt j (length xs))
-  where
-    by : (b : Bool) → (x +ℤ greatest_sum j xs) ≤ℤ cond b (int_max (x +ℤ greatest_sum j xs) (greatest_sum (suc j) xs)) (x +ℤ greatest_sum j xs)
-    by true = max-left (x +ℤ greatest_sum j xs) (greatest_sum (suc j) xs)
-    by false = same-le (x +ℤ greatest_sum j xs)
-
-pub greatest-passed : (j : ℕ) (x : ℤ) (xs : List ℤ) → j ≤ length xs → greatest_sum j xs ≤ℤ greatest_sum j (x ∷ xs)
-greatest-passed zero x xs h = same-le (pos 0)
-greatest-passed (suc j) x xs h = rw (lt-ltb j (length xs) (omega (arith, h))) (max-right (x +ℤ greatest_sum j xs) (greatest_sum (suc j) xs))
-
-pub none-times : (v : ℤ) → pos 0 *ℤ v ≡ pos 0
+none-times : (v : ℤ) → pos 0 *ℤ v ≡ pos 0
 none-times v = zero-*ℤ v
 
 pub more-times : (k : ℕ) (v : ℤ) → pos (suc k) *ℤ v ≡ (pos k *ℤ v) +ℤ v
 more-times k v = ap (λ a. a *ℤ v) (suc-out k) ∙ suc_ℤ-*ℤ (pos k) v
 
 -- k of c equal scores taken
-pub least-arc : (c k j : ℕ) (v : ℤ) (xs : List ℤ) → k ≤ c → k ≤ j → j - k ≤ length xs → least_sum j (replicate c v ++ xs) ≤ℤ ((pos k *ℤ v) +ℤ least_sum (j - k) xs)
-least-arc zero zero j v xs h i l = let e : j - 0 ≡ j = omega arith in rw (e, none-times v) (omega (arith, ints))
-least-arc zero (suc k) j v xs h i l = absurd (omega (arith, h))
-least-arc (suc c) zero j v xs h i l =
-    let rest = least-arc c zero j v xs (omega arith) (omega arith) l in
+pub part-arc : (e : End) (c k j : ℕ) (v : ℤ) (xs : List ℤ) → k ≤ c → k ≤ j → j - k ≤ length xs → Nearer e (part_sum (better_of e) j (replicate c v ++ xs)) ((pos k *ℤ v) +ℤ part_sum (better_of e) (j - k) xs)
+part-arc e zero zero j v xs h i l = let same : j - 0 ≡ j = omega arith in rw (same, none-times v) (near-none e (part_sum (better_of e) j xs))
+part-arc e zero (suc k) j v xs h i l = absurd (omega (arith, h))
+part-arc e (suc c) zero j v xs h i l =
+    let rest = part-arc e c zero j v xs (omega arith) (omega arith) l in
     let long : length (replicate c v ++ xs) ≡ length (replicate c v) + length xs = length-append (replicate c v) xs in
-    let first = least-passed j v (replicate c v ++ xs) (omega (arith, l, long)) in
-    omega (arith, ints, first, rest)
-least-arc (suc c) (suc k) zero v xs h i l = absurd (omega (arith, i))
-least-arc (suc c) (suc k) (suc j) v xs h i l =
-    let e : suc j - suc k ≡ j - k = omega arith in
-    let rest = least-arc c k j v xs (omega (arith, h)) (omega (arith, i)) (omega (arith, l)) in
-    let first = least-taken j v (replicate c v ++ xs) in
-    rw (e, more-times k v) (omega (arith, ints, first, rest))
-
-pub greatest-arc : (c k j : ℕ) (v : ℤ) (xs : List ℤ) → k ≤ c → k ≤ j → j - k ≤ length xs → ((pos k *ℤ v) +ℤ greatest_sum (j - k) xs) ≤ℤ greatest_sum j (replicate c v ++ xs)
-greatest-arc zero zero j v xs h i l = let e : j - 0 ≡ j = omega arith in rw (e, none-times v) (omega (arith, ints))
-greatest-arc zero (suc k) j v xs h i l = absurd (omega (arith, h))
-greatest-arc (suc c) zero j v xs h i l =
-    let rest = greatest-arc c zero j v xs (omega arith) (omega arith) l in
-    let long : length (replicate c v ++ xs) ≡ length (replicate c v) + length xs = length-append (replicate c v) xs in
-    let first = greatest-passed j v (replicate c v ++ xs) (omega (arith, l, long)) in
-    omega (arith, ints, first, rest)
-greatest-arc (suc c) (suc k) zero v xs h i l = absurd (omega (arith, i))
-greatest-arc (suc c) (suc k) (suc j) v xs h i l =
-    let e : suc j - suc k ≡ j - k = omega arith in
-    let rest = greatest-arc c k j v xs (omega (arith, h)) (omega (arith, i)) (omega (arith, l)) in
-    let first = greatest-taken j v (replicate c v ++ xs) in
-    rw (e, more-times k v) (omega (arith, ints, first, rest))
+    near-chain e _ _ _ (passed e j v (replicate c v ++ xs) (omega (arith, l, long))) rest
+part-arc e (suc c) (suc k) zero v xs h i l = absurd (omega (arith, i))
+part-arc e (suc c) (suc k) (suc j) v xs h i l =
+    let less : suc j - suc k ≡ j - k = omega arith in
+    let rest = part-arc e c k j v xs (omega (arith, h)) (omega (arith, i)) (omega (arith, l)) in
+    rw (less, more-times k v) (near-plus e _ _ _ _ v (taken e j v (replicate c v ++ xs)) rest)
 
 -- all of the scores
-pub least-all : (j : ℕ) (xs : List ℤ) → length xs ≤ j → least_sum j xs ≡ total_score xs
-least-all zero [] h = refl
-least-all zero (x ∷ xs) h = absurd (omega (arith, h))
-least-all (suc j) [] h = refl
-least-all (suc j) (x ∷ xs) h = rw (le-ltb j (length xs) (omega (arith, h))) (ap (λ s. x +ℤ s) (least-all j xs (omega (arith, h))))
-
-pub greatest-all : (j : ℕ) (xs : List ℤ) → length xs ≤ j → greatest_sum j xs ≡ total_score xs
-greatest-all zero [] h = refl
-greatest-all zero (x ∷ xs) h = absurd (omega (arith, h))
-greatest-all (suc j) [] h = refl
-greatest-all (suc j) (x ∷ xs) h = rw (le-ltb j (length xs) (omega (arith, h))) (ap (λ s. x +ℤ s) (greatest-all j xs (omega (arith, h))))
+all-taken : (better : ℤ → ℤ → ℤ) (j : ℕ) (xs : List ℤ) → length xs ≤ j → part_sum better j xs ≡ total_score xs
+all-taken better zero [] h = refl
+all-taken better zero (x ∷ xs) h = absurd (omega (arith, h))
+all-taken better (suc j) [] h = refl
+all-taken better (suc j) (x ∷ xs) h = rw (le-ltb j (length xs) (omega (arith, h))) (ap (λ s. x +ℤ s) (all-taken better j xs (omega (arith, h))))
 
 -- the least are all but the others' greatest
 pub complement : (n j i : ℕ) (xs : List ℤ) → length xs ≡ n → j + i ≡ n → least_sum j xs +ℤ greatest_sum i xs ≡ total_score xs
-complement n zero i xs e s = ap (λ t. pos 0 +ℤ t) (greatest-all i xs (omega (arith, e, s))) ∙ plain (total_score xs)
+complement n zero i xs e s = ap (λ t. pos 0 +ℤ t) (all-taken int_max i xs (omega (arith, e, s))) ∙ plain (total_score xs)
   where
     plain : (t : ℤ) → pos 0 +ℤ t ≡ t
     plain t = omega (arith, ints)
-complement n (suc j) zero xs e s = ap (λ t. t +ℤ pos 0) (least-all (suc j) xs (omega (arith, e, s))) ∙ plain (total_score xs)
+complement n (suc j) zero xs e s = ap (λ t. t +ℤ pos 0) (all-taken int_min (suc j) xs (omega (arith, e, s))) ∙ plain (total_score xs)
   where
     plain : (t : ℤ) → t +ℤ pos 0 ≡ t
     plain t = omega (arith, ints)

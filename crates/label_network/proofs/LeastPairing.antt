@@ -7,7 +7,7 @@ use Rattle.std.proofs.lemmas.Int.{ints}
 use Rattle.std.proofs.lemmas.List.{length-reverse, reverse-append, drop-append-le, drop-drop}
 use Rattle.std.proofs.lemmas.List.Sums.{sum_by-cons}
 use Rattle.label_network.specs.LaterSums.{total_score, subjects, least_sum, greatest_sum}
-use Rattle.label_network.specs.Linear.{least_steps, greatest_steps, least_added, greatest_added}
+use Rattle.label_network.specs.Linear.{steps_by, least_added, greatest_added}
 use Rattle.completion_bounds.specs.Pairings.{paired}
 use Rattle.label_network.proofs.Sorting.{sort_up, length-sort, total-sort, total-parts, least_is, greatest_is}
 use Rattle.completion_bounds.proofs.Products.{distribute, distribute_left}
@@ -48,7 +48,7 @@ by-tails u (w ∷ us) (m ∷ ms) ys l e =
     last p wt q wd t wy wu uy ww {s} a b c d e f = omega (arith, ints, a, b, c, d, e, f)
 
 -- the end of an ascending list has the greatest
-tails-greatest : (u : ℤ) (us : List ℤ) (ms : List ℕ) (a : ℕ) (later : List ℤ) → a + sum ms ≡ length later → tails u us ms (drop a (sort_up later)) ≡ greatest_steps u us ms later
+tails-greatest : (u : ℤ) (us : List ℤ) (ms : List ℕ) (a : ℕ) (later : List ℤ) → a + sum ms ≡ length later → tails u us ms (drop a (sort_up later)) ≡ steps_by greatest_sum u us ms later
 tails-greatest u [] ms a later e = refl
 tails-greatest u (w ∷ us) [] a later e = refl
 tails-greatest u (w ∷ us) (m ∷ ms) a later e =
@@ -79,7 +79,7 @@ drop-turned a (suc i) (z ∷ zs) e =
     last : (s t z : ℤ) → s ≡ t → s +ℤ (z +ℤ pos 0) ≡ z +ℤ t
     last s t z e = omega (arith, ints, e)
 
-tails-least : (u : ℤ) (us : List ℤ) (ms : List ℕ) (a : ℕ) (later : List ℤ) → a + sum ms ≡ length later → tails u us ms (drop a (reverse (sort_up later))) ≡ least_steps u us ms later
+tails-least : (u : ℤ) (us : List ℤ) (ms : List ℕ) (a : ℕ) (later : List ℤ) → a + sum ms ≡ length later → tails u us ms (drop a (reverse (sort_up later))) ≡ steps_by least_sum u us ms later
 tails-least u [] ms a later e = refl
 tails-least u (w ∷ us) [] a later e = refl
 tails-least u (w ∷ us) (m ∷ ms) a later e =

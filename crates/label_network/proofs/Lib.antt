@@ -16,7 +16,6 @@ pub mod LinearArcs
 pub mod Building
 pub mod Lookups
 pub mod Adding
-pub mod AddingMost
 pub mod Enough
 pub mod Ascending
 pub mod Sorting

@@ -1,5 +1,5 @@
 -- The interval of a sum of products narrows along each choice.
-use Rattle.std.proofs.Common.{◌≡◌, ℕ, zero, suc, ◌+◌, ◌-◌, ◌≤◌, List, [], ◌∷◌, ◌++◌, length, true, refl, sym, ◌∙◌, ap, arith, nat_le}
+use Rattle.std.proofs.Common.{◌≡◌, ℕ, zero, suc, ◌+◌, ◌-◌, ◌≤◌, List, [], ◌∷◌, ◌++◌, length, true, refl, sym, ◌∙◌, ap, subst, arith, nat_le}
 use Rattle.std.specs.Prelude.{ℤ, pos, negsuc, ◌+ℤ◌, ◌-ℤ◌, ◌*ℤ◌, ◌≤ℤ◌, replicate}
 use Rattle.std.specs.List.{sum}
 use Rattle.std.proofs.Math.IntN.{*ℤ_comm, zero-*ℤ, *ℤ-zero}
@@ -8,9 +8,12 @@ use Rattle.std.proofs.lemmas.Int.{ints}
 use Rattle.std.proofs.lemmas.List.Sums.{sum_by-cons}
 use Rattle.weights.specs.Grouped.{fits, minus}
 use Rattle.weights.proofs.Sized.{sum-minus, first_and}
-use Rattle.label_network.specs.LaterSums.{total_score, least_sum, greatest_sum}
-use Rattle.label_network.specs.Linear.{RowsClimb, row_sum, Climbs, least_steps, greatest_steps, least_added, greatest_added}
-use Rattle.label_network.proofs.LaterArcs.{least-arc, greatest-arc, more-times}
+use Rattle.label_network.specs.LaterSums.{total_score, part_sum}
+use Rattle.label_network.specs.LaterSteps.{better_of}
+use Rattle.label_network.specs.declared.ends.End.{End}
+use Rattle.label_network.specs.declared.ends.End.TheVariants.{Least, Greatest}
+use Rattle.label_network.specs.Linear.{RowsClimb, row_sum, Climbs, steps_by, added_by, least_added, greatest_added}
+use Rattle.label_network.proofs.LaterArcs.{Nearer, part-arc, more-times}
 use Rattle.completion_bounds.proofs.Products.{distribute, distribute_left}
 
 -- products of three, each with one of the factors moved
@@ -44,57 +47,49 @@ row-steps u (w ∷ us) (x ∷ xs) e =
     joined : (a s b t c d f : ℤ) → s ≡ b +ℤ t → c ≡ a +ℤ b → c ≡ d +ℤ f → a +ℤ s ≡ f +ℤ (d +ℤ t)
     joined a s b t c d f i j k = omega (arith, ints, i, j, k)
 
--- one step: a least sum times the step, before and after
-one-least : (d v a b : ℤ) (k : ℕ) → pos 0 ≤ℤ d → a ≤ℤ ((pos k *ℤ v) +ℤ b) → (d *ℤ a) ≤ℤ (((pos k *ℤ d) *ℤ v) +ℤ (d *ℤ b))
-one-least d v a b k h e =
-    let moved : d *ℤ (pos k *ℤ v) ≡ (pos k *ℤ d) *ℤ v = *ℤ_comm d (pos k *ℤ v) ∙ assoc-pos k v d ∙ ap (λ n. pos k *ℤ n) (*ℤ_comm v d) ∙ sym (assoc-pos k d v) in
-    let apart : d *ℤ ((pos k *ℤ v) +ℤ b) ≡ (d *ℤ (pos k *ℤ v)) +ℤ (d *ℤ b) = distribute d (pos k *ℤ v) b in
-    omega (arith, ints, scale d a ((pos k *ℤ v) +ℤ b) h e, moved, apart)
+-- one step: a sum times the step, before and after
+near-times : (e : End) (d a b : ℤ) → pos 0 ≤ℤ d → Nearer e a b → Nearer e (d *ℤ a) (d *ℤ b)
+near-times Least d a b h n = scale d a b h n
+near-times Greatest d a b h n = scale d b a h n
 
-one-greatest : (d v a b : ℤ) (k : ℕ) → pos 0 ≤ℤ d → ((pos k *ℤ v) +ℤ b) ≤ℤ a → (((pos k *ℤ d) *ℤ v) +ℤ (d *ℤ b)) ≤ℤ (d *ℤ a)
-one-greatest d v a b k h e =
+one-step : (e : End) (d v a b : ℤ) (k : ℕ) → pos 0 ≤ℤ d → Nearer e a ((pos k *ℤ v) +ℤ b) → Nearer e (d *ℤ a) (((pos k *ℤ d) *ℤ v) +ℤ (d *ℤ b))
+one-step e d v a b k h n =
     let moved : d *ℤ (pos k *ℤ v) ≡ (pos k *ℤ d) *ℤ v = *ℤ_comm d (pos k *ℤ v) ∙ assoc-pos k v d ∙ ap (λ n. pos k *ℤ n) (*ℤ_comm v d) ∙ sym (assoc-pos k d v) in
     let apart : d *ℤ ((pos k *ℤ v) +ℤ b) ≡ (d *ℤ (pos k *ℤ v)) +ℤ (d *ℤ b) = distribute d (pos k *ℤ v) b in
-    omega (arith, ints, scale d ((pos k *ℤ v) +ℤ b) a h e, moved, apart)
+    subst (Nearer e (d *ℤ a)) (apart ∙ ap (λ n. n +ℤ (d *ℤ b)) moved) (near-times e d a ((pos k *ℤ v) +ℤ b) h n)
+
+near-nothing : (e : End) → Nearer e (pos 0) (pos 0 +ℤ pos 0)
+near-nothing Least = omega (arith, ints)
+near-nothing Greatest = omega (arith, ints)
+
+near-both : (e : End) (a s p q t w z : ℤ) → Nearer e a (p +ℤ q) → Nearer e s (t +ℤ w) → z ≡ p +ℤ t → Nearer e (a +ℤ s) (z +ℤ (q +ℤ w))
+near-both Least a s p q t w z h k i = omega (arith, ints, h, k, i)
+near-both Greatest a s p q t w z h k i = omega (arith, ints, h, k, i)
+
+near-moved : (e : End) (s p w a y z : ℤ) → Nearer e s (p +ℤ w) → a +ℤ y ≡ p +ℤ z → Nearer e (z +ℤ s) (a +ℤ (y +ℤ w))
+near-moved Least s p w a y z h i = omega (arith, ints, h, i)
+near-moved Greatest s p w a y z h i = omega (arith, ints, h, i)
 
 sums-minus : (r x : List ℕ) → fits x r ≡ true → sum (minus r x) ≡ sum r - sum x
 sums-minus r x f = omega (arith, sum-minus r x f)
 
-least-steps : (u : ℤ) (us : List ℤ) (r x : List ℕ) (c : ℕ) (v : ℤ) (later : List ℤ) → Climbs u us → fits x r ≡ true → sum x ≤ c → sum r ≤ sum x + length later → least_steps u us r (replicate c v ++ later) ≤ℤ ((row_steps u us x *ℤ v) +ℤ least_steps u us (minus r x) later)
-least-steps u [] r x c v later a f h l = rw (zero-*ℤ v) (omega (arith, ints))
-least-steps u (w ∷ us) [] [] c v later a f h l = rw (zero-*ℤ v) (omega (arith, ints))
-least-steps u (w ∷ us) [] (b ∷ x) c v later a f h l = absurd (cc f)
-least-steps u (w ∷ us) (m ∷ ms) [] c v later a f h l = absurd (cc f)
-least-steps u (w ∷ us) (m ∷ ms) (b ∷ x) c v later a f h l =
+steps-arc : (e : End) (u : ℤ) (us : List ℤ) (r x : List ℕ) (c : ℕ) (v : ℤ) (later : List ℤ) → Climbs u us → fits x r ≡ true → sum x ≤ c → sum r ≤ sum x + length later → Nearer e (steps_by (part_sum (better_of e)) u us r (replicate c v ++ later)) ((row_steps u us x *ℤ v) +ℤ steps_by (part_sum (better_of e)) u us (minus r x) later)
+steps-arc e u [] r x c v later a f h l = rw (zero-*ℤ v) (near-nothing e)
+steps-arc e u (w ∷ us) [] [] c v later a f h l = rw (zero-*ℤ v) (near-nothing e)
+steps-arc e u (w ∷ us) [] (b ∷ x) c v later a f h l = absurd (cc f)
+steps-arc e u (w ∷ us) (m ∷ ms) [] c v later a f h l = absurd (cc f)
+steps-arc e u (w ∷ us) (m ∷ ms) (b ∷ x) c v later a f h l =
     let both = first_and (nat_le b m) (fits x ms) f in
     let most : b ≤ m = leb-true b m both.0 in
     let xs : sum (b ∷ x) ≡ b + sum x = sum_by-cons (λ v. v) b x in
     let rs : sum (m ∷ ms) ≡ m + sum ms = sum_by-cons (λ v. v) m ms in
     let less : sum ((m - b) ∷ minus ms x) ≡ sum (m ∷ ms) - sum (b ∷ x) = sums-minus (m ∷ ms) (b ∷ x) f in
     let part : sum (b ∷ x) + sum ((m - b) ∷ minus ms x) ≡ sum (m ∷ ms) = sum-minus (m ∷ ms) (b ∷ x) f in
-    let arc : least_sum (sum (m ∷ ms)) (replicate c v ++ later) ≤ℤ ((pos (sum (b ∷ x)) *ℤ v) +ℤ least_sum (sum ((m - b) ∷ minus ms x)) later) = rw less (least-arc c (sum (b ∷ x)) (sum (m ∷ ms)) v later h (omega (arith, part)) (omega (arith, l))) in
-    let here = one-least (w -ℤ u) v _ _ (sum (b ∷ x)) (omega (arith, ints, a.0)) arc in
-    let rest = least-steps w us ms x c v later a.1 both.1 (omega (arith, xs, h)) (omega (arith, xs, rs, l, most)) in
+    let arc = rw (← less) at (part-arc e c (sum (b ∷ x)) (sum (m ∷ ms)) v later h (omega (arith, part)) (omega (arith, l))) in
+    let here = one-step e (w -ℤ u) v _ _ (sum (b ∷ x)) (omega (arith, ints, a.0)) arc in
+    let rest = steps-arc e w us ms x c v later a.1 both.1 (omega (arith, xs, h)) (omega (arith, xs, rs, l, most)) in
     let apart = distribute_left (pos (sum (b ∷ x)) *ℤ (w -ℤ u)) (row_steps w us x) v in
-    omega (arith, ints, here, rest, apart)
-
-greatest-steps : (u : ℤ) (us : List ℤ) (r x : List ℕ) (c : ℕ) (v : ℤ) (later : List ℤ) → Climbs u us → fits x r ≡ true → sum x ≤ c → sum r ≤ sum x + length later → ((row_steps u us x *ℤ v) +ℤ greatest_steps u us (minus r x) later) ≤ℤ greatest_steps u us r (replicate c v ++ later)
-greatest-steps u [] r x c v later a f h l = rw (zero-*ℤ v) (omega (arith, ints))
-greatest-steps u (w ∷ us) [] [] c v later a f h l = rw (zero-*ℤ v) (omega (arith, ints))
-greatest-steps u (w ∷ us) [] (b ∷ x) c v later a f h l = absurd (cc f)
-greatest-steps u (w ∷ us) (m ∷ ms) [] c v later a f h l = absurd (cc f)
-greatest-steps u (w ∷ us) (m ∷ ms) (b ∷ x) c v later a f h l =
-    let both = first_and (nat_le b m) (fits x ms) f in
-    let most : b ≤ m = leb-true b m both.0 in
-    let xs : sum (b ∷ x) ≡ b + sum x = sum_by-cons (λ v. v) b x in
-    let rs : sum (m ∷ ms) ≡ m + sum ms = sum_by-cons (λ v. v) m ms in
-    let less : sum ((m - b) ∷ minus ms x) ≡ sum (m ∷ ms) - sum (b ∷ x) = sums-minus (m ∷ ms) (b ∷ x) f in
-    let part : sum (b ∷ x) + sum ((m - b) ∷ minus ms x) ≡ sum (m ∷ ms) = sum-minus (m ∷ ms) (b ∷ x) f in
-    let arc : ((pos (sum (b ∷ x)) *ℤ v) +ℤ greatest_sum (sum ((m - b) ∷ minus ms x)) later) ≤ℤ greatest_sum (sum (m ∷ ms)) (replicate c v ++ later) = rw less (greatest-arc c (sum (b ∷ x)) (sum (m ∷ ms)) v later h (omega (arith, part)) (omega (arith, l))) in
-    let here = one-greatest (w -ℤ u) v _ _ (sum (b ∷ x)) (omega (arith, ints, a.0)) arc in
-    let rest = greatest-steps w us ms x c v later a.1 both.1 (omega (arith, xs, h)) (omega (arith, xs, rs, l, most)) in
-    let apart = distribute_left (pos (sum (b ∷ x)) *ℤ (w -ℤ u)) (row_steps w us x) v in
-    omega (arith, ints, here, rest, apart)
+    near-both e _ _ ((pos (sum (b ∷ x)) *ℤ (w -ℤ u)) *ℤ v) ((w -ℤ u) *ℤ part_sum (better_of e) (sum ((m - b) ∷ minus ms x)) later) (row_steps w us x *ℤ v) (steps_by (part_sum (better_of e)) w us (minus ms x) later) _ here rest apart
 
 pub total-block : (c : ℕ) (v : ℤ) (later : List ℤ) → total_score (replicate c v ++ later) ≡ (pos c *ℤ v) +ℤ total_score later
 total-block zero v later = rw (zero-*ℤ v) (plain (total_score later))
@@ -123,60 +118,36 @@ taken-sum u us b x c v later l e =
     last : (r k s t m y : ℤ) → r ≡ k +ℤ s → t ≡ m +ℤ y → m ≡ k → r +ℤ y ≡ s +ℤ t
     last r k s t m y i j n = omega (arith, ints, i, j, n)
 
-pub least-added : (us : List ℤ) (r x : List ℕ) (c : ℕ) (v : ℤ) (later : List ℤ) → RowsClimb us → length us ≡ length r → length x ≡ length r → fits x r ≡ true → sum x ≡ c → sum r ≡ c + length later → least_added us r (replicate c v ++ later) ≤ℤ ((v *ℤ row_sum us x) +ℤ least_added us (minus r x) later)
-least-added [] r x c v later a l k f e s = rw (*ℤ-zero v) (omega (arith, ints))
-least-added (u ∷ us) [] x c v later a l k f e s = absurd (omega (arith, l))
-least-added (u ∷ us) (m ∷ ms) [] c v later a l k f e s = absurd (omega (arith, k))
-least-added (u ∷ us) (m ∷ ms) (b ∷ x) c v later a l k f e s =
+added-arc : (end : End) (us : List ℤ) (r x : List ℕ) (c : ℕ) (v : ℤ) (later : List ℤ) → RowsClimb us → length us ≡ length r → length x ≡ length r → fits x r ≡ true → sum x ≡ c → sum r ≡ c + length later → Nearer end (added_by (part_sum (better_of end)) us r (replicate c v ++ later)) ((v *ℤ row_sum us x) +ℤ added_by (part_sum (better_of end)) us (minus r x) later)
+added-arc end [] r x c v later a l k f e s = rw (*ℤ-zero v) (near-nothing end)
+added-arc end (u ∷ us) [] x c v later a l k f e s = absurd (omega (arith, l))
+added-arc end (u ∷ us) (m ∷ ms) [] c v later a l k f e s = absurd (omega (arith, k))
+added-arc end (u ∷ us) (m ∷ ms) (b ∷ x) c v later a l k f e s =
     let both = first_and (nat_le b m) (fits x ms) f in
     let most : b ≤ m = leb-true b m both.0 in
     let xs : sum (b ∷ x) ≡ b + sum x = sum_by-cons (λ v. v) b x in
     let rs : sum (m ∷ ms) ≡ m + sum ms = sum_by-cons (λ v. v) m ms in
-    let steps = least-steps u us ms x c v later a both.1 (omega (arith, xs, e)) (omega (arith, xs, rs, s, e, most)) in
+    let steps = steps-arc end u us ms x c v later a both.1 (omega (arith, xs, e)) (omega (arith, xs, rs, s, e, most)) in
     let taken = taken-sum u us b x c v later (omega (arith, l, k)) e in
-    omega (arith, ints, steps, taken)
+    near-moved end _ (row_steps u us x *ℤ v) (steps_by (part_sum (better_of end)) u us (minus ms x) later) (v *ℤ row_sum (u ∷ us) (b ∷ x)) (u *ℤ total_score later) (u *ℤ total_score (replicate c v ++ later)) steps taken
+
+pub least-added : (us : List ℤ) (r x : List ℕ) (c : ℕ) (v : ℤ) (later : List ℤ) → RowsClimb us → length us ≡ length r → length x ≡ length r → fits x r ≡ true → sum x ≡ c → sum r ≡ c + length later → least_added us r (replicate c v ++ later) ≤ℤ ((v *ℤ row_sum us x) +ℤ least_added us (minus r x) later)
+least-added = added-arc Least
 
 pub greatest-added : (us : List ℤ) (r x : List ℕ) (c : ℕ) (v : ℤ) (later : List ℤ) → RowsClimb us → length us ≡ length r → length x ≡ length r → fits x r ≡ true → sum x ≡ c → sum r ≡ c + length later → ((v *ℤ row_sum us x) +ℤ greatest_added us (minus r x) later) ≤ℤ greatest_added us r (replicate c v ++ later)
-greatest-added [] r x c v later a l k f e s = rw (*ℤ-zero v) (omega (arith, ints))
-greatest-added (u ∷ us) [] x c v later a l k f e s = absurd (omega (arith, l))
-greatest-added (u ∷ us) (m ∷ ms) [] c v later a l k f e s = absurd (omega (arith, k))
-greatest-added (u ∷ us) (m ∷ ms) (b ∷ x) c v later a l k f e s =
-    let both = first_and (nat_le b m) (fits x ms) f in
-    let most : b ≤ m = leb-true b m both.0 in
-    let xs : sum (b ∷ x) ≡ b + sum x = sum_by-cons (λ v. v) b x in
-    let rs : sum (m ∷ ms) ≡ m + sum ms = sum_by-cons (λ v. v) m ms in
-    let steps = greatest-steps u us ms x c v later a both.1 (omega (arith, xs, e)) (omega (arith, xs, rs, s, e, most)) in
-    let taken = taken-sum u us b x c v later (omega (arith, l, k)) e in
-    omega (arith, ints, steps, taken)
+greatest-added = added-arc Greatest
 
 -- nothing is added where no scores are left
-pub least-none : (j : ℕ) → least_sum j [] ≡ pos 0
-least-none zero = refl
-least-none (suc j) = refl
+pub part-none : (better : ℤ → ℤ → ℤ) (j : ℕ) → part_sum better j [] ≡ pos 0
+part-none better zero = refl
+part-none better (suc j) = refl
 
-pub greatest-none : (j : ℕ) → greatest_sum j [] ≡ pos 0
-greatest-none zero = refl
-greatest-none (suc j) = refl
+steps-none : (better : ℤ → ℤ → ℤ) (u : ℤ) (us : List ℤ) (ms : List ℕ) → steps_by (part_sum better) u us ms [] ≡ pos 0
+steps-none better u [] ms = refl
+steps-none better u (w ∷ us) [] = refl
+steps-none better u (w ∷ us) (m ∷ ms) = rw (part-none better (sum (m ∷ ms)), *ℤ-zero (w -ℤ u), steps-none better w us ms) refl
 
-zero-plus : (t : ℤ) → pos 0 +ℤ t ≡ t
-zero-plus t = omega (arith, ints)
-
-least-steps-none : (u : ℤ) (us : List ℤ) (ms : List ℕ) → least_steps u us ms [] ≡ pos 0
-least-steps-none u [] ms = refl
-least-steps-none u (w ∷ us) [] = refl
-least-steps-none u (w ∷ us) (m ∷ ms) = rw (least-none (sum (m ∷ ms)), *ℤ-zero (w -ℤ u), least-steps-none w us ms) refl
-
-greatest-steps-none : (u : ℤ) (us : List ℤ) (ms : List ℕ) → greatest_steps u us ms [] ≡ pos 0
-greatest-steps-none u [] ms = refl
-greatest-steps-none u (w ∷ us) [] = refl
-greatest-steps-none u (w ∷ us) (m ∷ ms) = rw (greatest-none (sum (m ∷ ms)), *ℤ-zero (w -ℤ u), greatest-steps-none w us ms) refl
-
-pub least-added-none : (us : List ℤ) (ms : List ℕ) → least_added us ms [] ≡ pos 0
-least-added-none [] ms = refl
-least-added-none (u ∷ us) [] = refl
-least-added-none (u ∷ us) (m ∷ ms) = rw (*ℤ-zero u, least-steps-none u us ms) refl
-
-pub greatest-added-none : (us : List ℤ) (ms : List ℕ) → greatest_added us ms [] ≡ pos 0
-greatest-added-none [] ms = refl
-greatest-added-none (u ∷ us) [] = refl
-greatest-added-none (u ∷ us) (m ∷ ms) = rw (*ℤ-zero u, greatest-steps-none u us ms) refl
+pub added-none : (better : ℤ → ℤ → ℤ) (us : List ℤ) (ms : List ℕ) → added_by (part_sum better) us ms [] ≡ pos 0
+added-none better [] ms = refl
+added-none better (u ∷ us) [] = refl
+added-none better (u ∷ us) (m ∷ ms) = rw (*ℤ-zero u, steps-none better u us ms) refl

@@ -13,7 +13,7 @@ use Rattle.weights.proofs.ChoiceLists.{IsChoice}
 use Rattle.completion_bounds.specs.Pairings.{greatest_score}
 use Rattle.label_network.specs.Meanings.{Meaning, AreReached, IsPlace, IsEnd, allowed, sizes_in}
 use Rattle.label_network.specs.LaterSums.{absolute_sum, later_scores}
-use Rattle.label_network.specs.Linear.{row_sum, least_added, greatest_added, score_of, picked, order_of, ordered, ordered_scores, so_far, linear_low, linear_high, column_sum, linear_meaning, greatest_sizes}
+use Rattle.label_network.specs.Linear.{row_sum, least_added, greatest_added, score_of, picked, order_of, ordered, ordered_scores, so_far, linear_low, linear_high, linear_outlook, column_sum, linear_meaning, greatest_sizes}
 use Rattle.label_network.specs.LinearSteps.{whole_reach, HasTails, ArePlaces, IsLinearMeasure}
 use Rattle.label_network.proofs.Sizes.{sizes-of_pos}
 use Rattle.label_network.proofs.Narrowing.{IsLeft, chosen}
@@ -30,6 +30,12 @@ pub one_item : {X : Type 0} (xs : List X) (x : X) → length xs ≡ 1 → set xs
 one_item [] x e = absurd (omega (arith, e))
 one_item (y ∷ []) x e = refl
 one_item (y ∷ z ∷ ys) x e = absurd (omega (arith, e))
+
+pub two_items : {X : Type 0} (xs : List X) (x y : X) → length xs ≡ 2 → set (set xs 0 x) 1 y ≡ x ∷ y ∷ []
+two_items [] x y e = absurd (omega (arith, e))
+two_items (a ∷ []) x y e = absurd (omega (arith, e))
+two_items (a ∷ b ∷ []) x y e = refl
+two_items (a ∷ b ∷ c ∷ xs) x y e = absurd (omega (arith, e))
 
 sizes-long : (zs : List ℤ) → length (sizes_in zs) ≡ length zs
 sizes-long [] = refl
@@ -102,26 +108,31 @@ module _ (us : List ℤ) (rows : List ℕ) (scores : List ℤ) (columns : List �
         grouped : (m s : ℕ) → (3 * m) * s ≡ 3 * (m * s)
         grouped m s = omega arith
 
-    least_is : least_added ordered_us (picked order (sizes_in f)) (later_scores scores columns g) ≡ least_added (ordered_scores us) (ordered us (sizes_in f)) (later_scores scores columns g)
-    least_is = rw (h.ordered_is, h.order_is) refl
-
-    greatest_is : greatest_added ordered_us (picked order (sizes_in f)) (later_scores scores columns g) ≡ greatest_added (ordered_scores us) (ordered us (sizes_in f)) (later_scores scores columns g)
-    greatest_is = rw (h.ordered_is, h.order_is) refl
-
     sums-within : greatest_sizes us scores columns ≤ MAX
     sums-within = omega (arith, h.linear.sums_fit)
 
-    pub low-fits : unsigned_abs (so_far p) + unsigned_abs (least_added ordered_us (picked order (sizes_in f)) (later_scores scores columns g)) ≤ MAX
-    low-fits = rw least_is (omega (arith, sums-within, low-small us rows scores columns tail rule h.linear g (sizes_in f) left p partial_is))
+    -- the outlook of the sizes
+    pub outlook-is : least_added ordered_us (picked order (sizes_in f)) (later_scores scores columns g) ∷ greatest_added ordered_us (picked order (sizes_in f)) (later_scores scores columns g) ∷ [] ≡ linear_outlook us scores columns g (sizes_in f)
+    outlook-is = rw (h.ordered_is, h.order_is) refl
 
-    pub high-fits : unsigned_abs (so_far p) + unsigned_abs (greatest_added ordered_us (picked order (sizes_in f)) (later_scores scores columns g)) ≤ MAX
-    high-fits = rw greatest_is (omega (arith, sums-within, high-small us rows scores columns tail rule h.linear g (sizes_in f) left p partial_is))
+    module _ (low high : ℤ) (e : low ∷ high ∷ [] ≡ linear_outlook us scores columns g (sizes_in f)) where
+      least-is : low ≡ least_added (ordered_scores us) (ordered us (sizes_in f)) (later_scores scores columns g)
+      least-is = ap (λ l. score_of l 0) e
 
-    pub low-is : so_far p +ℤ least_added ordered_us (picked order (sizes_in f)) (later_scores scores columns g) ≡ linear_low us scores columns g (sizes_in f) p
-    low-is = ap (λ t. so_far p +ℤ t) least_is
+      greatest-is : high ≡ greatest_added (ordered_scores us) (ordered us (sizes_in f)) (later_scores scores columns g)
+      greatest-is = ap (λ l. score_of l 1) e
 
-    pub high-is : so_far p +ℤ greatest_added ordered_us (picked order (sizes_in f)) (later_scores scores columns g) ≡ linear_high us scores columns g (sizes_in f) p
-    high-is = ap (λ t. so_far p +ℤ t) greatest_is
+      pub low-fits : unsigned_abs (so_far p) + unsigned_abs low ≤ MAX
+      low-fits = rw least-is (omega (arith, sums-within, low-small us rows scores columns tail rule h.linear g (sizes_in f) left p partial_is))
+
+      pub high-fits : unsigned_abs (so_far p) + unsigned_abs high ≤ MAX
+      high-fits = rw greatest-is (omega (arith, sums-within, high-small us rows scores columns tail rule h.linear g (sizes_in f) left p partial_is))
+
+      pub low-is : so_far p +ℤ low ≡ linear_low us scores columns g (sizes_in f) p
+      low-is = ap (λ t. so_far p +ℤ t) least-is
+
+      pub high-is : so_far p +ℤ high ≡ linear_high us scores columns g (sizes_in f) p
+      high-is = ap (λ t. so_far p +ℤ t) greatest-is
 
     pub low-rule_fits : RuleFits rule (linear_low us scores columns g (sizes_in f) p)
     low-rule_fits = low-rule us rows scores columns tail rule h.linear g (sizes_in f) left p partial_is

@@ -2,6 +2,7 @@
 use Rattle.std.proofs.Common.{◌≡◌, ℕ, ◌+◌, ◌*◌, ◌<◌, ◌≤◌, List, [], ◌∷◌, length, refl, sym, ◌∙◌, ap, arith}
 use Rattle.std.specs.Prelude.{ℤ, pos, ◌+ℤ◌, ◌*ℤ◌, ◌≤ℤ◌, unsigned_abs, slice_index}
 use Rattle.std.specs.List.{sum}
+use Rattle.std.specs.Int.{int_min, int_max}
 use Rattle.std.proofs.Math.Nat.{mul-le-mul_left}
 use Rattle.std.proofs.lemmas.Int.{ints, unsigned_abs-mul}
 use Rattle.weights.specs.declared.tails.Tail.{Tail}
@@ -16,7 +17,7 @@ use Rattle.label_network.specs.Linear.{row_sum, least_added, greatest_added, sco
 use Rattle.label_network.proofs.Absolute.{size-plus, sizes-block}
 use Rattle.label_network.proofs.Ascending.{ascending, each-once}
 use Rattle.label_network.proofs.Rearranging.{picked-minus, picked-fits, picked-sum, picked-row, picked-length, picked_scores-length}
-use Rattle.label_network.proofs.LinearArcs.{least-added, greatest-added, least-added-none, greatest-added-none}
+use Rattle.label_network.proofs.LinearArcs.{least-added, greatest-added, added-none}
 use Rattle.label_network.proofs.Later.{fits-length, later-length, later-next, later-end, sizes-next}
 use Rattle.label_network.proofs.LinearSizes.{row-size, picked-within, least-added-size, greatest-added-size}
 use Rattle.label_network.proofs.Narrowing.{IsLeft, IsNarrowing, reached-left, reached-kept, measured}
@@ -123,8 +124,8 @@ module _ (us : List ℤ) (rows : List ℕ) (scores : List ℤ) (columns : List �
     keeps = λ g r x p before l c k. keeping g r x before l c p k;
     rises = λ g r x p before l c k. rising g r x before l c p;
     falls = λ g r x p before l c k. falling g r x before l c p;
-    low_end = λ r p l k. rw (later-end scores columns h.long, least-added-none (ordered_scores us) (ordered us r)) (plus-zero (so_far p));
-    high_end = λ r p l k. rw (later-end scores columns h.long, greatest-added-none (ordered_scores us) (ordered us r)) (plus-zero (so_far p));
+    low_end = λ r p l k. rw (later-end scores columns h.long, added-none int_min (ordered_scores us) (ordered us r)) (plus-zero (so_far p));
+    high_end = λ r p l k. rw (later-end scores columns h.long, added-none int_max (ordered_scores us) (ordered us r)) (plus-zero (so_far p));
   }
 
   first-partial : IsPartial us scores columns 0 rows (pos 0 ∷ [])

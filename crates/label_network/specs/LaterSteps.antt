@@ -1,33 +1,30 @@
--- Rows of the sums of the j least and the j greatest scores, for j from 0 on, while they are built.
-use Rattle.std.specs.Prelude.{◌≡◌, ℕ, ◌<◌, ◌≤◌, ℤ, pos, List, ◌∷◌, ◌++◌, length, get_or, replicate}
-use Rattle.label_network.specs.LaterSums.{total_score, later_scores, least_sum, greatest_sum}
-use Rattle.label_network.specs.LaterTables.{IsLeastTable, IsGreatestTable, IsTotals, IsCounted}
+-- Rows of the sums of the j least or of the j greatest scores, from j 0 on, while they are built.
+use Rattle.std.specs.Prelude.{◌≡◌, ℕ, ◌<◌, ◌≤◌, ℤ, pos, List, ◌∷◌, length, get_or}
+use Rattle.std.specs.Int.{int_min, int_max}
+use Rattle.label_network.specs.declared.ends.End.{End}
+use Rattle.label_network.specs.declared.ends.End.TheVariants.{Least, Greatest}
+use Rattle.label_network.specs.LaterSums.{total_score, later_scores, part_sum}
+use Rattle.label_network.specs.LaterTables.{IsPartTable, IsTotals, IsCounted}
 
-pub record IsLeastRow (scores row : List ℤ) : Type 0 where
-  pub each : (j : ℕ) → j < length row → get_or row j (pos 0) ≡ least_sum j scores
+-- of two sums the one that is nearer to an end
+abbrev pub better_of : End → ℤ → ℤ → ℤ
+better_of Least = int_min
+better_of Greatest = int_max
 
-pub record IsGreatestRow (scores row : List ℤ) : Type 0 where
-  pub each : (j : ℕ) → j < length row → get_or row j (pos 0) ≡ greatest_sum j scores
+-- the other end
+abbrev pub other_end : End → End
+other_end Least = Greatest
+other_end Greatest = Least
+
+pub record IsRow (better : ℤ → ℤ → ℤ) (scores row : List ℤ) : Type 0 where
+  pub each : (j : ℕ) → j < length row → get_or row j (pos 0) ≡ part_sum better j scores
 
 -- a row that has one score more from place j on
-pub record IsLeastHalf (x : ℤ) (scores row : List ℤ) (j : ℕ) : Type 0 where
+pub record IsHalf (better : ℤ → ℤ → ℤ) (x : ℤ) (scores row : List ℤ) (j : ℕ) : Type 0 where
   pub long : j ≤ length row
-  pub before : (i : ℕ) → i < j → get_or row i (pos 0) ≡ least_sum i scores
-  pub after : (i : ℕ) → j ≤ i → i < length row → get_or row i (pos 0) ≡ least_sum i (x ∷ scores)
-
--- the same of the greatest
-pub record IsGreatestHalf (x : ℤ) (scores row : List ℤ) (j : ℕ) : Type 0 where
-  pub long : j ≤ length row
-  pub before : (i : ℕ) → i < j → get_or row i (pos 0) ≡ greatest_sum i scores
+  pub before : (i : ℕ) → i < j → get_or row i (pos 0) ≡ part_sum better i scores
   pub after : (i : ℕ) → j ≤ i → i < length row
-      → get_or row i (pos 0) ≡ greatest_sum i (x ∷ scores)
-
--- the rows and the total after some of a column's subjects
-pub record IsColumnPart (x : ℤ) (scores : List ℤ) (i : ℕ) (low high : List ℤ) (sum : ℤ)
-    : Type 0 where
-  pub low_row : IsLeastRow (replicate i x ++ scores) low
-  pub high_row : IsGreatestRow (replicate i x ++ scores) high
-  pub total : sum ≡ total_score (replicate i x ++ scores)
+      → get_or row i (pos 0) ≡ part_sum better i (x ∷ scores)
 
 -- the tables from stage g on, and the rows, total and number of stage g
 pub record IsBuilt (scores : List ℤ) (columns : List ℕ) (width g : ℕ) (low high : List ℤ)
@@ -35,11 +32,11 @@ pub record IsBuilt (scores : List ℤ) (columns : List ℕ) (width g : ℕ) (low
   pub stage : g ≤ length columns
   pub low_long : length low ≡ width
   pub high_long : length high ≡ width
-  pub low_row : IsLeastRow (later_scores scores columns g) low
-  pub high_row : IsGreatestRow (later_scores scores columns g) high
+  pub low_row : IsRow int_min (later_scores scores columns g) low
+  pub high_row : IsRow int_max (later_scores scores columns g) high
   pub count : before ≡ length (later_scores scores columns g)
   pub whole : total ≡ total_score (later_scores scores columns g)
-  pub least_table : IsLeastTable scores columns width g least
-  pub greatest_table : IsGreatestTable scores columns width g greatest
+  pub least_table : IsPartTable int_min scores columns width g least
+  pub greatest_table : IsPartTable int_max scores columns width g greatest
   pub all_totals : IsTotals scores columns g totals
   pub all_counts : IsCounted scores columns g counts

@@ -21,19 +21,19 @@ subjects (s ∷ scores) (c ∷ counts) = replicate c s ++ subjects scores counts
 abbrev pub later_scores : List ℤ → List ℕ → ℕ → List ℤ
 later_scores scores columns g = subjects (drop g scores) (drop g columns)
 
--- the least sum of j of the scores, or of all where there are no more: each score is taken, or
--- passed over while enough are left
+-- a sum of j of the scores, or of all where there are no more: each score is taken, or passed over
+-- while enough are left, whichever is better
+abbrev pub part_sum : (ℤ → ℤ → ℤ) → ℕ → List ℤ → ℤ
+part_sum better zero xs = pos 0
+part_sum better (suc j) [] = pos 0
+part_sum better (suc j) (x ∷ xs) =
+    let taken = x +ℤ part_sum better j xs in
+    if nat_lt j (length xs) then better taken (part_sum better (suc j) xs) else taken
+
+-- the least
 abbrev pub least_sum : ℕ → List ℤ → ℤ
-least_sum zero xs = pos 0
-least_sum (suc j) [] = pos 0
-least_sum (suc j) (x ∷ xs) =
-    let taken = x +ℤ least_sum j xs in
-    if nat_lt j (length xs) then int_min taken (least_sum (suc j) xs) else taken
+least_sum j xs = part_sum int_min j xs
 
 -- the greatest
 abbrev pub greatest_sum : ℕ → List ℤ → ℤ
-greatest_sum zero xs = pos 0
-greatest_sum (suc j) [] = pos 0
-greatest_sum (suc j) (x ∷ xs) =
-    let taken = x +ℤ greatest_sum j xs in
-    if nat_lt j (length xs) then int_max taken (greatest_sum (suc j) xs) else taken
+greatest_sum j xs = part_sum int_max j xs

@@ -1,7 +1,8 @@
 -- Tables of the sums of the later scores: one row for each stage, the last stage first.
 use Rattle.std.specs.Prelude.{◌≡◌, ℕ, suc, ◌+◌, ◌-◌, ◌*◌, ◌<◌, ◌≤◌, ◌^◌, ◌⊎◌, ℤ, pos, List, length, get_or}
 use Rattle.std.specs.List.{sum}
-use Rattle.label_network.specs.LaterSums.{total_score, absolute_sum, later_scores, least_sum, greatest_sum}
+use Rattle.std.specs.Int.{int_min, int_max}
+use Rattle.label_network.specs.LaterSums.{total_score, absolute_sum, later_scores, part_sum}
 
 -- the rows of the stages from g on
 pub record IsTable (f : ℕ → ℕ → ℤ) (stages width g : ℕ) (table : List ℤ) : Type 0 where
@@ -9,13 +10,10 @@ pub record IsTable (f : ℕ → ℕ → ℤ) (stages width g : ℕ) (table : Lis
   pub each : (h j : ℕ) → g ≤ h → h ≤ stages → j < width
       → get_or table ((stages - h) * width + j) (pos 0) ≡ f h j
 
-abbrev pub IsLeastTable : List ℤ → List ℕ → ℕ → ℕ → List ℤ → Type 0
-IsLeastTable scores columns width g table =
-    IsTable (λ h j. least_sum j (later_scores scores columns h)) (length columns) width g table
-
-abbrev pub IsGreatestTable : List ℤ → List ℕ → ℕ → ℕ → List ℤ → Type 0
-IsGreatestTable scores columns width g table =
-    IsTable (λ h j. greatest_sum j (later_scores scores columns h)) (length columns) width g table
+abbrev pub IsPartTable : (ℤ → ℤ → ℤ) → List ℤ → List ℕ → ℕ → ℕ → List ℤ → Type 0
+IsPartTable better scores columns width g table =
+    IsTable (λ h j. part_sum better j (later_scores scores columns h)) (length columns) width g
+    table
 
 -- the totals of the later scores of the stages from g on
 pub record IsTotals (scores : List ℤ) (columns : List ℕ) (g : ℕ) (totals : List ℤ) : Type 0 where
@@ -40,7 +38,7 @@ pub record IsLater (scores : List ℤ) (columns : List ℕ) (width : ℕ)
   pub wide : 1 ≤ width
   pub few : sum columns < 2 ^ 64
   pub small : absolute_sum (later_scores scores columns 0) < 2 ^ 127
-  pub least_table : IsLeastTable scores columns width 0 least
-  pub greatest_table : IsGreatestTable scores columns width 0 greatest
+  pub least_table : IsPartTable int_min scores columns width 0 least
+  pub greatest_table : IsPartTable int_max scores columns width 0 greatest
   pub all_totals : IsTotals scores columns 0 totals
   pub all_counts : IsCounted scores columns 0 counts

@@ -10,14 +10,17 @@ pub record Meaning : Type 0 where
   -- how many subjects each column has, and how many get each label
   pub columns : List ℕ
   pub rows : List ℕ
-  -- how many numbers a partial has, and a step
+  -- how many numbers a partial has, a step, and an outlook
   pub slots : ℕ
   pub step_width : ℕ
+  pub outlook_width : ℕ
   -- the partial before the first column
   pub first : List ℤ
   -- of a stage, the sizes that remain and a choice: their step, and where a partial is led to
   pub step : ℕ → List ℕ → List ℕ → List ℤ
   pub advance : ℕ → List ℕ → List ℕ → List ℤ → List ℤ
+  -- of a stage and the sizes that remain: what their later choices can do
+  pub outlook : ℕ → List ℕ → List ℤ
   -- the value of a partial after the last column
   pub value : List ℤ → ℤ
   -- of a stage, sizes and a partial: between which the values of all completions lie
@@ -63,6 +66,11 @@ sizes_in remaining = map nat_abs remaining
 pub record IsPlace (m : Meaning) (g : ℕ) (remaining partial : List ℤ) : Type 0 where
   pub whole : remaining ≡ map pos (sizes_in remaining)
   pub reached : AreReached m g (sizes_in remaining) partial
+
+-- the sizes of a place
+pub record IsRoom (m : Meaning) (g : ℕ) (remaining : List ℤ) : Type 0 where
+  pub partial : List ℤ
+  pub place : IsPlace m g remaining partial
 
 -- a place before the last column, and a choice that is allowed there
 pub record IsMove (m : Meaning) (g : ℕ) (remaining : List ℤ) (choice : List ℕ) (partial : List ℤ)

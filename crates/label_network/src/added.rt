@@ -1,4 +1,4 @@
-// The least and the greatest sum of products that the remaining sizes of rows can add.
+// What the remaining sizes of rows can add, at least and at most.
 ghost use Rattle.std.specs.Prelude.{◌≡◌, ◌+◌, ◌*◌, ◌^◌, ◌<◌, ◌≤◌, length, get_or, unsigned_abs, ◌+ℤ◌, ◌-ℤ◌, ◌*ℤ◌};
 ghost use Rattle.std.specs.List.{sum};
 ghost use Rattle.label_network.specs.Meanings.{sizes_in};
@@ -7,6 +7,7 @@ ghost use Rattle.label_network.specs.Linear.{picked, least_added, greatest_added
 ghost use Rattle.label_network.specs.LinearSteps.{whole_reach, HasTails, ArePlaces};
 
 use crate::later_scores::LaterScores;
+use stage_network::Interval;
 
 // Adds what one row's score more than the row before gives on a sum of later scores.
 #[inline(always)]
@@ -31,55 +32,34 @@ fn size_at(order: &[usize], remaining: &[i128], place: usize) -> u64
     remaining[order[place]] as u64
 }
 
-impl LaterScores {
-    // The least sum of products that rows with these scores and remaining sizes can add.
-    #[inline(always)]
-    pub(crate) fn least_added(
-        &self,
-        rows: &[i128],
-        order: &[usize],
-        stage: usize,
-        remaining: &[i128],
-    ) -> i128
-        requires stage { stage ≤ length self.now.columns.items }
-        requires level { length rows.now ≡ length order.now }
-        requires places { ArePlaces order.now remaining.now }
-        requires whole { let later =
-            later_scores self.now.scores.items self.now.columns.items stage in
-            sum (picked order.now (sizes_in remaining.now)) ≡ length later }
-        requires tails { let later =
-            later_scores self.now.scores.items self.now.columns.items stage in
-            HasTails self.now.width (picked order.now (sizes_in remaining.now)) later }
-        requires steps { whole_reach rows.now < 2 ^ 127 }
-        requires small { let later =
-            later_scores self.now.scores.items self.now.columns.items stage in
-            whole_reach rows.now * absolute_sum later < 2 ^ 127 }
-        ensures { let later = later_scores self.now.scores.items self.now.columns.items stage in
-            result ≡ least_added rows.now (picked order.now (sizes_in remaining.now)) later }
-    {
-        if rows.len() == 0 {
-            return 0;
-        }
-        let mut left = self.count(stage);
-        let total = self.total(stage);
-        let mut sum = add_step(0, 0, rows[0], total);
-        for i in 1..rows.len() {
-            left -= size_at(order, remaining, i - 1);
-            let least = self.least(stage, left);
-            sum = add_step(sum, rows[i - 1], rows[i], least);
-        }
-        sum
+// Adds what one row's score more than the row before gives on both ends.
+#[inline(always)]
+fn add_steps(sums: Interval, before: i128, here: i128, later: Interval) -> Interval
+    requires step { unsigned_abs (here -ℤ before) < 2 ^ 127 }
+    requires small_low { unsigned_abs sums.low
+        + unsigned_abs (here -ℤ before) * unsigned_abs later.low < 2 ^ 127 }
+    requires small_high { unsigned_abs sums.high
+        + unsigned_abs (here -ℤ before) * unsigned_abs later.high < 2 ^ 127 }
+    ensures low { result.low ≡ sums.low +ℤ ((here -ℤ before) *ℤ later.low) }
+    ensures high { result.high ≡ sums.high +ℤ ((here -ℤ before) *ℤ later.high) }
+{
+    Interval {
+        low: add_step(sums.low, before, here, later.low),
+        high: add_step(sums.high, before, here, later.high),
     }
+}
 
-    // The greatest.
+impl LaterScores {
+    // The least and the greatest sum of products that rows with these scores and remaining sizes
+    // can add.
     #[inline(always)]
-    pub(crate) fn greatest_added(
+    pub(crate) fn added(
         &self,
         rows: &[i128],
         order: &[usize],
         stage: usize,
         remaining: &[i128],
-    ) -> i128
+    ) -> Interval
         requires stage { stage ≤ length self.now.columns.items }
         requires level { length rows.now ≡ length order.now }
         requires places { ArePlaces order.now remaining.now }
@@ -93,20 +73,29 @@ impl LaterScores {
         requires small { let later =
             later_scores self.now.scores.items self.now.columns.items stage in
             whole_reach rows.now * absolute_sum later < 2 ^ 127 }
-        ensures { let later = later_scores self.now.scores.items self.now.columns.items stage in
-            result ≡ greatest_added rows.now (picked order.now (sizes_in remaining.now)) later }
+        ensures low { let later =
+            later_scores self.now.scores.items self.now.columns.items stage in
+            result.low ≡ least_added rows.now (picked order.now (sizes_in remaining.now)) later }
+        ensures high { let later =
+            later_scores self.now.scores.items self.now.columns.items stage in
+            result.high
+            ≡ greatest_added rows.now (picked order.now (sizes_in remaining.now)) later }
     {
         if rows.len() == 0 {
-            return 0;
+            return Interval { low: 0, high: 0 };
         }
         let mut left = self.count(stage);
         let total = self.total(stage);
-        let mut sum = add_step(0, 0, rows[0], total);
+        let first = add_step(0, 0, rows[0], total);
+        let mut sums = Interval {
+            low: first,
+            high: first,
+        };
         for i in 1..rows.len() {
             left -= size_at(order, remaining, i - 1);
-            let greatest = self.greatest(stage, left);
-            sum = add_step(sum, rows[i - 1], rows[i], greatest);
+            let ends = self.ends(stage, left);
+            sums = add_steps(sums, rows[i - 1], rows[i], ends);
         }
-        sum
+        sums
     }
 }

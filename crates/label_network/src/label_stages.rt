@@ -131,6 +131,10 @@ impl<M: Measure> Roomed for LabelStages<M> {
 
     ghost step_of = { λ m g room choice. (M.meaning m).step g (sizes_in room) choice };
 
+    ghost outlook_width = { λ m. (M.meaning m).outlook_width };
+
+    ghost outlook_of = { λ m g room. (M.meaning m).outlook g (sizes_in room) };
+
     fn room_width(&self) -> usize {
         self.rows.len()
     }
@@ -155,5 +159,25 @@ impl<M: Measure> Roomed for LabelStages<M> {
     ) {
         self.measure
             .follow(stage, room, choice, step, partial, next);
+    }
+
+    fn outlook_width(&self) -> usize {
+        self.measure.outlook_width()
+    }
+
+    fn outlook(&self, stage: usize, room: &[i128], outlook: &mut [i128]) {
+        self.measure.outlook(stage, room, outlook);
+    }
+
+    #[inline(always)]
+    fn verdict_by(
+        &self,
+        stage: usize,
+        room: &[i128],
+        outlook: &[i128],
+        partial: &[i128],
+        tail: Tail,
+    ) -> Verdict {
+        self.measure.verdict_by(stage, room, outlook, partial, tail)
     }
 }

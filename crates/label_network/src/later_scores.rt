@@ -2,64 +2,45 @@
 ghost use Rattle.std.specs.Prelude.{◌≡◌, ◌+◌, ◌-◌, ◌*◌, ◌^◌, ◌<◌, ◌≤◌, ◌⊎◌, ℤ, pos, List, ◌∷◌, ◌++◌, length, replicate, slice_index_or, IfOk, if◌then◌else◌};
 ghost use Rattle.std.specs.List.{sum};
 ghost use Rattle.std.specs.Int.{int_min, int_max};
-ghost use Rattle.label_network.specs.LaterSums.{total_score, absolute_sum, later_scores, least_sum, greatest_sum};
-ghost use Rattle.label_network.specs.LaterTables.{IsLater, IsTabled};
-ghost use Rattle.label_network.specs.LaterSteps.{IsLeastRow, IsGreatestRow};
+ghost use Rattle.label_network.specs.LaterSums.{total_score, absolute_sum, later_scores, part_sum, least_sum, greatest_sum};
+ghost use Rattle.label_network.specs.LaterTables.{IsLater, IsPartTable, IsTabled};
+ghost use Rattle.label_network.specs.LaterSteps.{IsRow, better_of, other_end};
 
+use crate::ends::{End, chosen, other};
+use crate::units::with_units;
+use stage_network::Interval;
 use std::alloc::Global;
 use weights::NoMemory;
 
-/// The sum with a score taken, or with it passed over where enough are left.
-fn lesser(taken: i128, passed: i128, enough: bool) -> i128
-    ensures { result ≡ if enough then int_min taken passed else taken }
-{
-    if enough && passed < taken {
-        passed
-    } else {
-        taken
-    }
-}
-
-/// Turns the sums of the least of some later scores into those with one score more.
-fn add_to_least(row: &mut [i128], before: u64, score: i128)
+/// Turns the sums of some later scores into those with one score more.
+fn add_to_row(end: End, row: &mut [i128], before: u64, score: i128)
     ghost scores: { List ℤ }
     requires count { before ≡ length scores }
-    requires row { IsLeastRow scores row.old }
+    requires row { IsRow (better_of end) scores row.old }
     requires small { absolute_sum (score ∷ scores) < 2 ^ 127 }
-    ensures { IsLeastRow (score ∷ scores) row.new }
+    ensures { IsRow (better_of end) (score ∷ scores) row.new }
 {
     let mut j = row.len();
     while j > 1 {
         j -= 1;
         let enough = j as u64 <= before;
-        row[j] = lesser(row[j - 1] + score, row[j], enough);
+        row[j] = chosen(end, row[j - 1] + score, row[j], enough);
     }
 }
 
-/// The sum with a score taken, or with it passed over where enough are left.
-fn greater(taken: i128, passed: i128, enough: bool) -> i128
-    ensures { result ≡ if enough then int_max taken passed else taken }
-{
-    if enough && passed > taken {
-        passed
-    } else {
-        taken
-    }
-}
-
-/// The same of the greatest.
-fn add_to_greatest(row: &mut [i128], before: u64, score: i128)
+/// Turns them into those with so many equal scores more. As many of these as the row has places
+/// tell all, and the others change nothing.
+fn add_units(end: End, row: &mut [i128], before: u64, count: u64, score: i128)
     ghost scores: { List ℤ }
     requires count { before ≡ length scores }
-    requires row { IsGreatestRow scores row.old }
-    requires small { absolute_sum (score ∷ scores) < 2 ^ 127 }
-    ensures { IsGreatestRow (score ∷ scores) row.new }
+    requires row { IsRow (better_of end) scores row.old }
+    requires few { before + count < 2 ^ 64 }
+    requires small { absolute_sum (replicate count score ++ scores) < 2 ^ 127 }
+    ensures { IsRow (better_of end) (replicate count score ++ scores) row.new }
 {
-    let mut j = row.len();
-    while j > 1 {
-        j -= 1;
-        let enough = j as u64 <= before;
-        row[j] = greater(row[j - 1] + score, row[j], enough);
+    let telling = count.min(row.len() as u64);
+    for i in 0..telling {
+        add_to_row(end, row, before + i, score);
     }
 }
 
@@ -74,22 +55,18 @@ fn add_column(
 ) -> i128
     ghost scores: { List ℤ }
     requires count { before ≡ length scores }
-    requires low { IsLeastRow scores low.old }
-    requires high { IsGreatestRow scores high.old }
+    requires low { IsRow int_min scores low.old }
+    requires high { IsRow int_max scores high.old }
     requires total { total ≡ total_score scores }
     requires few { before + count < 2 ^ 64 }
     requires small { absolute_sum (replicate count score ++ scores) < 2 ^ 127 }
-    ensures low { IsLeastRow (replicate count score ++ scores) low.new }
-    ensures high { IsGreatestRow (replicate count score ++ scores) high.new }
+    ensures low { IsRow int_min (replicate count score ++ scores) low.new }
+    ensures high { IsRow int_max (replicate count score ++ scores) high.new }
     ensures total { result ≡ total_score (replicate count score ++ scores) }
 {
-    let mut sum = total;
-    for i in 0..count {
-        add_to_least(low, before + i, score);
-        add_to_greatest(high, before + i, score);
-        sum += score;
-    }
-    sum
+    add_units(End::Least, low, before, count, score);
+    add_units(End::Greatest, high, before, count, score);
+    with_units(total, score, count)
 }
 
 /// Adds the subjects of the column of a stage to both rows, and gives the new total.
@@ -107,13 +84,13 @@ fn add_stage(
     requires long { length scores.now ≡ length columns.now }
     requires rest_is { rest ≡ later_scores scores.now columns.now (stage + 1) }
     requires count { before ≡ length rest }
-    requires low { IsLeastRow rest low.old }
-    requires high { IsGreatestRow rest high.old }
+    requires low { IsRow int_min rest low.old }
+    requires high { IsRow int_max rest high.old }
     requires total { total ≡ total_score rest }
     requires few { sum columns.now < 2 ^ 64 }
     requires small { absolute_sum (later_scores scores.now columns.now 0) < 2 ^ 127 }
-    ensures low { IsLeastRow (later_scores scores.now columns.now stage) low.new }
-    ensures high { IsGreatestRow (later_scores scores.now columns.now stage) high.new }
+    ensures low { IsRow int_min (later_scores scores.now columns.now stage) low.new }
+    ensures high { IsRow int_max (later_scores scores.now columns.now stage) high.new }
     ensures total { result ≡ total_score (later_scores scores.now columns.now stage) }
 {
     add_column(low, high, before, total, columns[stage], scores[stage])
@@ -234,38 +211,51 @@ impl LaterScores {
         self.totals[self.row(stage)]
     }
 
-    // Where the sum of `take` scores of a stage's later subjects stands.
+    // The table of an end's sums.
     #[inline(always)]
-    fn place(&self, stage: usize, take: usize) -> usize
-        requires stage { stage ≤ length self.now.columns.items }
-        requires take { take < self.now.width }
-        ensures place { result ≡ (length self.now.columns.items - stage) * self.now.width + take }
-        ensures least { result < length self.now.least.items }
-        ensures greatest { result < length self.now.greatest.items }
+    fn table(&self, end: End) -> &[i128]
+        ensures { IsPartTable (better_of end) self.now.scores.items self.now.columns.items
+            self.now.width 0 result.now }
     {
-        (self.columns.len() - stage) * self.width + take
+        match end {
+            End::Least => self.least.as_slice(),
+            End::Greatest => self.greatest.as_slice(),
+        }
     }
 
-    // A held sum of the least.
+    // A held sum of `take` of a stage's later scores.
     #[inline(always)]
-    fn held_least(&self, stage: usize, take: u64) -> i128
+    fn held(&self, end: End, stage: usize, take: u64) -> i128
         requires stage { stage ≤ length self.now.columns.items }
         requires take { take < self.now.width }
         ensures { let later = later_scores self.now.scores.items self.now.columns.items stage in
-            result ≡ least_sum take later }
+            result ≡ part_sum (better_of end) take later }
     {
-        self.least[self.place(stage, take as usize)]
+        let place = (self.columns.len() - stage) * self.width + take as usize;
+        self.table(end)[place]
     }
 
-    // A held sum of the greatest.
+    // The sum of `take` of a stage's later scores.
     #[inline(always)]
-    fn held_greatest(&self, stage: usize, take: u64) -> i128
+    fn part(&self, end: End, stage: usize, take: u64) -> i128
         requires stage { stage ≤ length self.now.columns.items }
-        requires take { take < self.now.width }
+        requires few { let later =
+            later_scores self.now.scores.items self.now.columns.items stage in
+            take ≤ length later }
+        requires held { let later =
+            later_scores self.now.scores.items self.now.columns.items stage in
+            IsTabled self.now.width take later }
         ensures { let later = later_scores self.now.scores.items self.now.columns.items stage in
-            result ≡ greatest_sum take later }
+            result ≡ part_sum (better_of end) take later }
     {
-        self.greatest[self.place(stage, take as usize)]
+        if take < self.width as u64 {
+            self.held(end, stage, take)
+        } else {
+            // All are taken but those of the other end, which are few.
+            let total = self.total(stage);
+            let others = self.held(other(end), stage, self.count(stage) - take);
+            total - others
+        }
     }
 
     /// The sum of the `take` least scores of the later subjects.
@@ -281,14 +271,7 @@ impl LaterScores {
         ensures { let later = later_scores self.now.scores.items self.now.columns.items stage in
             result ≡ least_sum take later }
     {
-        if take < self.width as u64 {
-            self.held_least(stage, take)
-        } else {
-            // All but the others' greatest are taken, and the others are few.
-            let total = self.total(stage);
-            let others = self.held_greatest(stage, self.count(stage) - take);
-            total - others
-        }
+        self.part(End::Least, stage, take)
     }
 
     /// The sum of the `take` greatest.
@@ -304,12 +287,29 @@ impl LaterScores {
         ensures { let later = later_scores self.now.scores.items self.now.columns.items stage in
             result ≡ greatest_sum take later }
     {
-        if take < self.width as u64 {
-            self.held_greatest(stage, take)
-        } else {
-            let total = self.total(stage);
-            let others = self.held_least(stage, self.count(stage) - take);
-            total - others
+        self.part(End::Greatest, stage, take)
+    }
+
+    /// The sums of the `take` least and of the `take` greatest.
+    #[inline(always)]
+    pub(crate) fn ends(&self, stage: usize, take: u64) -> Interval
+        requires stage { stage ≤ length self.now.columns.items }
+        requires few { let later =
+            later_scores self.now.scores.items self.now.columns.items stage in
+            take ≤ length later }
+        requires held { let later =
+            later_scores self.now.scores.items self.now.columns.items stage in
+            IsTabled self.now.width take later }
+        ensures low { let later =
+            later_scores self.now.scores.items self.now.columns.items stage in
+            result.low ≡ least_sum take later }
+        ensures high { let later =
+            later_scores self.now.scores.items self.now.columns.items stage in
+            result.high ≡ greatest_sum take later }
+    {
+        Interval {
+            low: self.least(stage, take),
+            high: self.greatest(stage, take),
         }
     }
 }

@@ -4,6 +4,7 @@
 
 mod added;
 mod choice_order;
+mod ends;
 mod keys;
 mod label_stages;
 mod later_scores;
@@ -11,6 +12,7 @@ mod linear;
 mod measure;
 #[cfg(test)]
 mod tests;
+mod units;
 mod ways;
 
 pub use label_stages::LabelStages;

@@ -1,7 +1,7 @@
 // What a statistic of labellings offers to the network of its columns.
-ghost use Rattle.std.specs.Prelude.{◌≡◌, List, length};
+ghost use Rattle.std.specs.Prelude.{◌≡◌, ◌≤◌, List, length};
 ghost use Rattle.stage_network.specs.Judged.{judged};
-ghost use Rattle.label_network.specs.Meanings.{Meaning, IsMeasure, IsPlace, IsMove, IsStep, IsEnd, sizes_in};
+ghost use Rattle.label_network.specs.Meanings.{Meaning, IsMeasure, IsPlace, IsRoom, IsMove, IsStep, IsEnd, sizes_in};
 
 use stage_network::Verdict;
 use weights::Tail;
@@ -12,7 +12,8 @@ use weights::Tail;
 /// to be given; like the numbers of a key they are passed as i128.
 ///
 /// What leads a partial on is split: a `step` is made once for a choice at the sizes that remain,
-/// and each partial that stands with these sizes follows it.
+/// and each partial that stands with these sizes follows it. So is what judges it: an `outlook` is
+/// made once for the sizes that remain.
 pub trait Measure {
     /// What it measures, and its intervals.
     ghost meaning: { Self → Meaning };
@@ -25,6 +26,11 @@ pub trait Measure {
     /// How many numbers a step has, 0 where partials follow the choice itself.
     fn step_width(&self) -> usize
         ensures { result ≡ (meaning self.now).step_width };
+
+    /// How many numbers an outlook has, at most 16: 0 where `verdict_by` does well with the sizes.
+    fn outlook_width(&self) -> usize
+        ensures width { result ≡ (meaning self.now).outlook_width }
+        ensures few { (meaning self.now).outlook_width ≤ 16 };
 
     /// Writes the partial before the first column.
     fn first(&self, partial: &mut [i128])
@@ -72,6 +78,29 @@ pub trait Measure {
     /// interval.
     fn verdict(&self, stage: usize, remaining: &[i128], partial: &[i128], tail: Tail) -> Verdict
         requires { IsPlace (meaning self.now) stage remaining.now partial.now }
+        ensures { let m = meaning self.now in
+            let low = m.low stage (sizes_in remaining.now) partial.now in
+            let high = m.high stage (sizes_in remaining.now) partial.now in
+            result ≡ judged m.tail m.rule tail low high };
+
+    /// Writes the outlook of the sizes that remain.
+    fn outlook(&self, stage: usize, remaining: &[i128], outlook: &mut [i128])
+        requires sizes { IsRoom (meaning self.now) stage remaining.now }
+        requires room { length outlook.old ≡ (meaning self.now).outlook_width }
+        ensures { outlook.new ≡ (meaning self.now).outlook stage (sizes_in remaining.now) };
+
+    /// What is known of the completions of sizes and a partial, by the outlook of the sizes.
+    fn verdict_by(
+        &self,
+        stage: usize,
+        remaining: &[i128],
+        outlook: &[i128],
+        partial: &[i128],
+        tail: Tail,
+    ) -> Verdict
+        requires place { IsPlace (meaning self.now) stage remaining.now partial.now }
+        requires outlook { let m = meaning self.now in
+            outlook.now ≡ m.outlook stage (sizes_in remaining.now) }
         ensures { let m = meaning self.now in
             let low = m.low stage (sizes_in remaining.now) partial.now in
             let high = m.high stage (sizes_in remaining.now) partial.now in

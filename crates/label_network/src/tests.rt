@@ -2,7 +2,7 @@
 ghost use Rattle.std.specs.Prelude.{ℤ, ◌≤◌, unsigned_abs};
 ghost use Rattle.weights.specs.Rules.{RuleFits};
 
-use crate::{LabelStages, LinearMeasure};
+use crate::{LabelStages, LaterScores, LinearMeasure};
 use enumerate::next_labelling;
 use stage_network::{Judge, TailSum, spread_by_rooms, tail_sum, tail_sum_by_rooms};
 use std::alloc::Global;
@@ -141,5 +141,20 @@ fn three_samples_with_ties(rt: HostRuntime) -> Result<(), Fail> {
         let found = tail_sum_by_rooms(rt.alloc(), &stages, Tail::Greater)?;
         assert_eq!(rt; found.sum, walked(least) as u128, "from {least} on");
     }
+    Ok(())
+}
+
+// Of the scores 3, -1, -1 and 2, and then without the 3: so many of the least and the greatest. The
+// tables hold the sums of up to two, and the others are what is left of the total.
+#[test]
+fn ends_of_later_scores(rt: HostRuntime) -> Result<(), Fail> {
+    let later = LaterScores::new(rt.alloc(), &[3, -1, 2], &[1, 2, 1], 2)?;
+    assert_eq!(rt; later.count(0), 4);
+    assert_eq!(rt; later.total(0), 3);
+    assert_eq!(rt; (later.least(0, 2), later.greatest(0, 2)), (-2, 5));
+    assert_eq!(rt; (later.least(0, 3), later.greatest(0, 3)), (0, 4));
+    assert_eq!(rt; (later.least(1, 1), later.greatest(1, 1)), (-1, 2));
+    assert_eq!(rt; (later.least(1, 3), later.greatest(1, 3)), (0, 0));
+    assert_eq!(rt; (later.least(3, 0), later.greatest(3, 0)), (0, 0));
     Ok(())
 }

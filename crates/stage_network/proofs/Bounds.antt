@@ -9,7 +9,7 @@ use Rattle.stage_network.specs.Completions.{total_weight}
 use Rattle.stage_network.specs.Laws.{IsLawful}
 use Rattle.stage_network.specs.Network.{Network, IsReached}
 use Rattle.stage_network.specs.NodeSteps.{AllReached}
-use Rattle.stage_network.proofs.Steps.{all_paths, all-step, total_weight-step, reached-next}
+use Rattle.stage_network.proofs.Steps.{all_paths, all-step, reached-next}
 
 -- an element's term is at most the sum
 pub term-le-sum_by : {X : Type 0} (f : X → ℕ) (xs : List X) (x : X) → Contains xs x → f x ≤ sum_by f xs

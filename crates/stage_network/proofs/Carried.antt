@@ -1,5 +1,5 @@
 -- Open nodes alone, from stage to stage.
-use Rattle.std.proofs.Common.{◌≡◌, ◌≢◌, ℕ, zero, suc, ◌+◌, ◌*◌, ◌<◌, ◌≤◌, List, [], ◌∷◌, ◌++◌, length, map, Bool, true, false, cond, ◌&&◌, refl, sym, ◌∙◌, ap, arith, subst}
+use Rattle.std.proofs.Common.{◌≡◌, ℕ, ◌+◌, ◌*◌, ◌≤◌, List, [], ◌∷◌, Bool, true, false, ◌&&◌, refl, sym, ◌∙◌, ap, subst}
 use Rattle.std.specs.Prelude.{ℤ}
 use Rattle.std.specs.List.{sum_by, flat_map, filter, IsDistinct, AllByRecursion, Contains}
 use Rattle.std.specs.Set.{is_member}
@@ -7,7 +7,7 @@ use Rattle.std.proofs.lemmas.List.Elements.{recursion_from_All, All-contains_its
 use Rattle.weights.specs.declared.tails.Tail.{Tail}
 use Rattle.node_pool.specs.Nodes.{Node, key_eq, keys, weighted}
 use Rattle.stage_network.specs.Laws.{IsLawful}
-use Rattle.stage_network.specs.Network.{Network, IsReached}
+use Rattle.stage_network.specs.Network.{Network}
 use Rattle.stage_network.specs.NodeSteps.{successor, successors, AllReached, AllHeavy}
 use Rattle.stage_network.proofs.NodeSums.{opened_to}
 use Rattle.stage_network.specs.Opened.{reached_openly, is_open}

@@ -1,7 +1,7 @@
 -- What a stage keeps: the summed weight of the extreme completions is what was closed and what is still open.
 use Rattle.std.proofs.Common.{◌≡◌, ◌≢◌, ℕ, ◌+◌, ◌*◌, ◌<◌, ◌≤◌, List, [], ◌∷◌, ◌++◌, map, Bool, true, false, cond, refl, sym, ◌∙◌, ap, arith}
 use Rattle.std.specs.Prelude.{ℤ}
-use Rattle.std.specs.List.{sum_by, flat_map, filter, AllByRecursion, Contains}
+use Rattle.std.specs.List.{sum_by, filter, AllByRecursion, Contains}
 use Rattle.std.proofs.lemmas.List.Sums.{sum_by-cons}
 use Rattle.std.proofs.lemmas.List.Elements.{recursion_from_All, All-contains_itself}
 use Rattle.std.proofs.Math.Nat.{mul_assoc}
@@ -14,7 +14,7 @@ use Rattle.stage_network.specs.Laws.{IsLawful}
 use Rattle.stage_network.specs.Network.{Network, IsReached}
 use Rattle.stage_network.specs.NodeSteps.{successor, successors, closed_part, closed_weight, AllReached}
 use Rattle.stage_network.specs.Opened.{is_open, is_undecided}
-use Rattle.stage_network.proofs.Steps.{sum_by-same, sum_by-scaled, sum_by-map, sum_by-flat_map, filter_all, filter_none, total_weight-step, extreme_weight-step, reached-next}
+use Rattle.stage_network.proofs.Steps.{sum_by-same, sum_by-scaled, sum_by-map, filter_all, filter_none, reached-next}
 
 -- one node's successors carry its sum to the next stage
 pub weighted-successors : (n : Network) (g : ℕ) (here later : List ℤ → ℕ) → ((k : List ℤ) → here k ≡ sum_by (λ c. n.weight g k c * later (n.next g k c)) (n.choices g k)) → (a : Node) → weighted later (successors n g a) ≡ a.weight * here a.key

@@ -1,10 +1,9 @@
 -- Rooms filled one after another: the nodes of the next stage.
-use Rattle.std.proofs.Common.{◌≡◌, ◌≢◌, ℕ, zero, suc, ◌+◌, ◌-◌, ◌*◌, ◌<◌, ◌≤◌, List, [], ◌∷◌, ◌++◌, length, map, take, get_or, Bool, true, false, cond, ◌&&◌, ◌||◌, refl, sym, ◌∙◌, ap, arith, subst, nat_eq, nat_lt}
+use Rattle.std.proofs.Common.{◌≡◌, ℕ, zero, suc, ◌+◌, ◌*◌, ◌<◌, ◌≤◌, List, [], ◌∷◌, ◌++◌, length, take, get_or, Bool, true, false, cond, ◌&&◌, ◌||◌, refl, sym, ◌∙◌, ap, arith, subst, nat_eq, nat_lt}
 use Rattle.std.specs.Prelude.{ℤ}
-use Rattle.std.specs.List.{sum_by, flat_map, filter, IsDistinct, AllByRecursion, Contains}
+use Rattle.std.specs.List.{sum_by, filter, IsDistinct, AllByRecursion}
 use Rattle.std.specs.Set.{is_member}
-use Rattle.std.proofs.lemmas.List.{length-append}
-use Rattle.std.proofs.lemmas.List.Sums.{sum_by-cons, sum_by-append, length-filter}
+use Rattle.std.proofs.lemmas.List.Sums.{sum_by-cons, sum_by-append}
 use Rattle.std.proofs.lemmas.Map.Made.{is_member-filter}
 use Rattle.std.proofs.lemmas.Map.Keys.{IsDistinct-head, IsDistinct-tail, IsDistinct-cons}
 use Rattle.weights.specs.declared.tails.Tail.{Tail}
@@ -14,11 +13,12 @@ use Rattle.stage_network.specs.Laws.{IsLawful}
 use Rattle.stage_network.specs.Network.{Network, IsReached}
 use Rattle.stage_network.specs.NodeSteps.{successor, closed_weight, AllReached, AllHeavy, AreNodes}
 use Rattle.stage_network.specs.Opened.{is_open}
-use Rattle.stage_network.proofs.Steps.{sum_by-flat_map, sum_by-same, filter_all, filter_none, reached-next}
+use Rattle.stage_network.proofs.Steps.{sum_by-flat_map, sum_by-same, reached-next}
 use Rattle.stage_network.specs.WaySteps.{Way, segment, way_nodes, spread_out, bucket, firsts, IsFine, AllFine}
 use Rattle.node_pool.proofs.Puts.{same_key, key_equiv, unlike, alike}
-use Rattle.stage_network.proofs.Conserved.{sum_by-filter, split-extreme, split-total, open_part, all_append, all_map}
-use Rattle.stage_network.proofs.OpenKeys.{list_any-append, map-append, distinct_filter, member-holds, all_of_members, all_filter}
+use Rattle.stage_network.proofs.Conserved.{sum_by-filter, split-extreme, split-total, all_append, all_map}
+use Rattle.stage_network.proofs.OpenKeys.{list_any-append, map-append, distinct_filter, member-holds, all_of_members, all_filter, same-holds}
+use Rattle.stage_network.proofs.Bounds.{weights-le-weighted}
 use Rattle.stage_network.proofs.Stepping.{reached_at}
 use Rattle.stage_network.proofs.Roomwise.{sum_by-add, all_segment, heavy_at, heavy-arc}
 
@@ -124,6 +124,13 @@ module _ (n : Network) (g width : ℕ) (nodes rooms : List Node) (here : AreNode
       (λ w f i d h k. reached-next n g (get_or nodes i d).key w.choice (reached_at n g nodes i d here.reached (omega (arith, k, f.0.chosen.last))) here.before (f.0.chosen.allowed i d h k))
       (filter p ways) (fine_filter n g width nodes rooms p ways a)
 
+  -- all arcs together
+  pub every-heavy : (ways : List Way) → AllFine n g width nodes rooms ways → AllHeavy (spread_out n g nodes ways)
+  every-heavy ways fine = subst (λ ws. AllHeavy (spread_out n g nodes ws)) (firsts-all n g width nodes rooms ways fine) (spread-heavy (λ a. nat_lt a.target (length rooms)) ways fine)
+
+  pub every-reached : (ways : List Way) → AllFine n g width nodes rooms ways → AllReached n (g + 1) (spread_out n g nodes ways)
+  every-reached ways fine = subst (λ ws. AllReached n (g + 1) (spread_out n g nodes ws)) (firsts-all n g width nodes rooms ways fine) (spread-reached (λ a. nat_lt a.target (length rooms)) ways fine)
+
   pub spread-here : (e : Node) (t : ℕ) (ways : List Way) → AllFine n g width nodes rooms ways → AllByRecursion (λ (b : Node). take width b.key ≡ (get_or rooms t e).key) (spread_out n g nodes (bucket t ways))
   spread-here e t ways a = spread-all n g width nodes rooms (λ (b : Node). take width b.key ≡ (get_or rooms t e).key) (λ a. IsFine n g width nodes rooms a × (nat_eq a.target t ≡ true))
       (λ w f i d h k. f.0.room i d e h k ∙ ap (λ t. (get_or rooms t e).key) (is_same w.target t f.1))
@@ -133,6 +140,29 @@ module _ (n : Network) (g width : ℕ) (nodes rooms : List Node) (here : AreNode
   spread-before e t ways a = spread-all n g width nodes rooms (λ (b : Node). (j : ℕ) × (j < t) × (take width b.key ≡ (get_or rooms j e).key)) (λ a. IsFine n g width nodes rooms a × (nat_lt a.target t ≡ true))
       (λ w f i d h k. (w.target, is_below w.target t f.1, f.0.room i d e h k))
       (firsts t ways) (fine_filter n g width nodes rooms (λ a. nat_lt a.target t) ways a)
+
+  -- a room's nodes, told as those of the arcs to it
+  module _ (t : ℕ) (ways : List Way) (fine : AllFine n g width nodes rooms ways) (work : List Node) (heavy : AllHeavy work) (told : (f : List ℤ → ℕ) → weighted f work ≡ weighted f (spread_out n g nodes (bucket t ways))) where
+    filled_same : (q : List ℤ) → is_member key_eq (keys work) q ≡ is_member key_eq (keys (spread_out n g nodes (bucket t ways))) q
+    filled_same = same-members work (spread_out n g nodes (bucket t ways)) heavy (spread-heavy (λ a. nat_eq a.target t) ways fine) told
+
+    pub filled-reached : AllReached n (g + 1) work
+    filled-reached = same-holds (IsReached n (g + 1)) (spread_out n g nodes (bucket t ways)) work (spread-reached (λ a. nat_eq a.target t) ways fine) filled_same
+
+    pub filled-here : (e : Node) → AllByRecursion (λ (b : Node). take width b.key ≡ (get_or rooms t e).key) work
+    filled-here e = same-holds (λ k. take width k ≡ (get_or rooms t e).key) (spread_out n g nodes (bucket t ways)) work (spread-here e t ways fine) filled_same
+
+  -- the weight of a room's nodes, beside all others'
+  pub bucket-fits : (f : List ℤ → ℕ) (t limit : ℕ) (ways : List Way) → weighted f (spread_out n g nodes ways) ≤ limit → weighted f (spread_out n g nodes (firsts t ways)) + weighted f (spread_out n g nodes (bucket t ways)) ≤ limit
+  bucket-fits f t limit ways h = omega (arith, firsts-more n g nodes f t ways, firsts-le n g nodes f (t + 1) ways, h)
+
+  pub bucket-light : (t limit : ℕ) (ways : List Way) → AllFine n g width nodes rooms ways → weighted (total_weight n (g + 1)) (spread_out n g nodes ways) ≤ limit → weighted (λ k. 1) (spread_out n g nodes (bucket t ways)) ≤ limit
+  bucket-light t limit ways fine h =
+      omega (
+        arith,
+        weights-le-weighted n here.lawful (g + 1) (omega (arith, here.before)) (spread_out n g nodes (bucket t ways)) (spread-reached (λ a. nat_eq a.target t) ways fine),
+        bucket-fits (total_weight n (g + 1)) t limit ways h,
+      )
 
 -- rooms apart
 apart_at : (x : List ℤ) (rooms : List Node) (t : ℕ) (e : Node) → AllByRecursion (λ y. key_eq x y ≡ false) (keys rooms) → t < length rooms → key_eq x (get_or rooms t e).key ≡ false

@@ -1,12 +1,12 @@
 -- Nodes with their rooms in front of their partials.
-use Rattle.std.proofs.Common.{◌≡◌, ℕ, zero, suc, ◌+◌, ◌-◌, ◌*◌, ◌<◌, ◌≤◌, List, [], ◌∷◌, ◌++◌, length, take, drop, get_or, refl, sym, ◌∙◌, ap, arith, subst}
+use Rattle.std.proofs.Common.{◌≡◌, ℕ, zero, suc, ◌+◌, ◌-◌, ◌*◌, ◌<◌, ◌≤◌, List, [], ◌∷◌, ◌++◌, length, take, drop, get_or, refl, sym, ◌∙◌, ap, arith}
 use Rattle.std.specs.Prelude.{ℤ}
 use Rattle.std.specs.List.{AllByRecursion}
 use Rattle.std.proofs.lemmas.List.{length-append, length-drop, length-take-le, take-append-le, take_all, drop-append-le, drop_all}
 use Rattle.node_pool.specs.Nodes.{Node, NodeRow, node}
 use Rattle.node_pool.specs.TableSteps.{key_at}
 use Rattle.node_pool.proofs.NodeLists.{key_at-more, key_at-new}
-use Rattle.stage_network.specs.StageSteps.{Housed, AreHoused, whole_nodes}
+use Rattle.stage_network.specs.StageSteps.{AreHoused, whole_nodes}
 use Rattle.stage_network.proofs.Roomwise.{all_at}
 
 pub room-fits : (width n i : ℕ) (rooms : List ℤ) → length rooms ≡ n * width → i < n → i * width + width ≤ length rooms

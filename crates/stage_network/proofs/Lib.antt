@@ -1,5 +1,6 @@
 pub mod Steps
 pub mod LineSums
+pub mod LinePlaces
 pub mod DistributionLines
 pub mod WalkedLines
 pub mod Judging
@@ -12,10 +13,13 @@ pub mod Stepping
 pub mod WayLists
 pub mod Roomwise
 pub mod Rests
+pub mod OneArc
+pub mod RoomNodes
 pub mod Housing
 pub mod Gathered
 pub mod Carried
 pub mod ToCome
+pub mod Sweeps
 pub mod NodeLines
 pub mod Swaps
 pub mod SortedOnce

@@ -1,15 +1,13 @@
 -- Lines by ascending value: what adding to them does, and that their sums determine them.
-use Rattle.std.proofs.Common.{◌≡◌, ◌≢◌, ℕ, zero, suc, ◌+◌, ◌<◌, ◌≤◌, List, [], ◌∷◌, ◌++◌, length, map, filter, set, take, drop, Bool, true, false, cond, ◌⊎◌, inl, inr, refl, sym, ◌∙◌, ap, subst, arith, nat_eq, eq-eqb}
+use Rattle.std.proofs.Common.{◌≡◌, ◌≢◌, ℕ, zero, suc, ◌+◌, ◌<◌, ◌≤◌, List, [], ◌∷◌, ◌++◌, length, set, take, drop, Bool, true, false, cond, ◌⊎◌, inl, inr, refl, sym, ◌∙◌, ap, subst, arith, nat_eq, eq-eqb}
 use Rattle.std.specs.Prelude.{ℤ, ◌<ℤ◌, ◌≤ℤ◌, int_lt, int_le, slice_index_or, if◌then◌else◌}
-use Rattle.std.specs.List.{sum_by, AllByRecursion}
+use Rattle.std.specs.List.{AllByRecursion}
 use Rattle.std.specs.Ordering.{int_eq}
 use Rattle.std.proofs.lemmas.Int.{ints, by_lt_z}
 use Rattle.std.proofs.lemmas.Bool.Decides.{Decides-int_eq, Decides-eqb}
 use Rattle.std.proofs.lemmas.List.Sums.{sum_by-cons}
 use Rattle.weights.specs.declared.lines.Line.{Line}
-use Rattle.weights.specs.Conditional.{ConditionalTest, insert_value, ascending_values, value_weight, distribution}
-use Rattle.weights.proofs.Sums.{sum_by-same, sum_by-zero, sum_by-plus, sum_by-map}
-use Rattle.stage_network.specs.Lines.{IsAboveLast, place_of, add_line, with_weight, line_sum, every, IsAscending, IsSpreadOf}
+use Rattle.stage_network.specs.Lines.{IsAboveLast, place_of, add_line, with_weight, line_sum, every, IsAscending}
 
 -- comparing
 

@@ -1,5 +1,5 @@
 -- Why a network of ranks is lawful.
-use Rattle.std.proofs.Common.{◌≡◌, ◌≢◌, ℕ, zero, suc, ◌+◌, ◌-◌, ◌*◌, ◌^◌, ◌<◌, ◌≤◌, List, [], ◌∷◌, length, get_or, set, Bool, true, false, cond, eqb, ltb, refl, ◌∙◌, sym, ap, subst, inl, inr, ◌⊎◌, arith, add-one}
+use Rattle.std.proofs.Common.{◌≡◌, ◌≢◌, ℕ, zero, suc, ◌+◌, ◌-◌, ◌*◌, ◌^◌, ◌<◌, ◌≤◌, List, [], ◌∷◌, length, set, Bool, true, false, cond, eqb, ltb, refl, ◌∙◌, sym, ap, subst, arith, add-one}
 use Rattle.std.specs.Prelude.{ℤ, pos, ◌+ℤ◌, ◌-ℤ◌, int_lt, int_le, slice_index}
 use Rattle.std.specs.List.{sum_by, Contains, AllByRecursion}
 use Rattle.std.proofs.lemmas.Bool.{lt-ltb, le-ltb}
@@ -7,7 +7,6 @@ use Rattle.std.proofs.lemmas.Bool.Decides.{nat_tests}
 use Rattle.std.proofs.lemmas.Int.{ints}
 use Rattle.std.proofs.Math.Nat.{pow-suc, mul-le-mul_left}
 use Rattle.std.proofs.Math.Pow.{pow_mono}
-use Rattle.weights.specs.declared.tails.Tail.{Tail}
 use Rattle.stage_network.specs.declared.stages.Verdict.{Verdict}
 use Rattle.stage_network.specs.declared.stages.Verdict.TheVariants.{Inside, Outside, Undecided}
 use Rattle.stage_network.specs.Network.{IsReached}
@@ -17,7 +16,7 @@ use Rattle.weights.specs.declared.tails.Tail.TheVariants.{Less}
 use Rattle.stage_network.proofs.Steps.{all_paths, all-step, IsKept, inside_from_arcs, outside_from_arcs}
 use Rattle.weights.specs.Numbers.{binomial}
 use Rattle.weights.proofs.Binomials.{binomial-zero, binomial-pascal, binomial-all}
-use Rattle.stage_network.specs.TestRanks.{at, second_choice, both_choices, sum_verdict, rank_network}
+use Rattle.stage_network.specs.TestRanks.{both_choices, sum_verdict, rank_network}
 
 pub three_items : {X : Type 0} (xs : List X) (a b c : X) → length xs ≡ 3 → set (set (set xs 0 a) 1 b) 2 c ≡ a ∷ b ∷ c ∷ []
 three_items [] a b c e = absurd (omega arith)

@@ -1,7 +1,5 @@
 -- Room by room: what one more node, arc or room changes.
-use Rattle.std.proofs.Common.{◌≡◌, ◌≢◌, ℕ, zero, suc, ◌+◌, ◌-◌, ◌*◌, ◌<◌, ◌≤◌, ◌^◌, List, [], ◌∷◌, ◌++◌, length, map, take, drop, get_or, Bool, true, false, cond, ◌||◌, refl, sym, ◌∙◌, ap, arith, subst, add-one, append_assoc, append-nil, nat_eq, inl, inr, ◌⊎◌}
-use Rattle.std.proofs.lemmas.Bool.{cases_eq}
-use Rattle.stage_network.proofs.WayLists.{not_eq}
+use Rattle.std.proofs.Common.{◌≡◌, ℕ, zero, suc, ◌+◌, ◌-◌, ◌*◌, ◌<◌, ◌≤◌, List, [], ◌∷◌, ◌++◌, length, map, take, drop, get_or, Bool, true, false, cond, ◌||◌, refl, sym, ◌∙◌, ap, arith, subst, add-one, append_assoc, append-nil, nat_eq}
 use Rattle.std.specs.Prelude.{ℤ}
 use Rattle.std.specs.List.{sum_by, flat_map, filter, Contains, AllByRecursion}
 use Rattle.node_pool.specs.Pool.{IsMerge, IsPlaced}
@@ -14,12 +12,12 @@ use Rattle.stage_network.specs.Network.{Network, IsReached}
 use Rattle.stage_network.specs.NodeSteps.{AllReached, AllHeavy, successor, successors}
 use Rattle.stage_network.specs.Opened.{is_open}
 use Rattle.stage_network.specs.Rooms.{AreRoommates, IsRoomed}
-use Rattle.stage_network.proofs.Steps.{sum_by-map, sum_by-flat_map, sum_by-same}
+use Rattle.stage_network.proofs.Steps.{sum_by-map, sum_by-same}
 use Rattle.stage_network.specs.WaySteps.{IsRun, Way, segment, way_nodes, spread_out, bucket, lift, IsFine, AllFine}
 use Rattle.std.proofs.lemmas.Map.Keys.{IsDistinct-head, IsDistinct-tail, IsDistinct-cons}
-use Rattle.std.proofs.lemmas.List.{length_push, get_or_default, length-drop, length-take-le, take_all, get_or-take, get_or-drop}
+use Rattle.std.proofs.lemmas.List.{get_or_default, length-drop, length-take-le, take_all, get_or-take, get_or-drop}
 use Rattle.std.proofs.lemmas.List.Sums.{sum_by-cons, sum_by_more, sum_by-take-le, sum_by-append}
-use Rattle.std.proofs.lemmas.List.Elements.{filter_more, filter-append}
+use Rattle.std.proofs.lemmas.List.Elements.{filter_more}
 use Rattle.std.proofs.lemmas.List.Concat.{flat_map-append}
 use Rattle.weights.specs.declared.tails.Tail.{Tail}
 use Rattle.stage_network.proofs.Stepping.{reached_at}

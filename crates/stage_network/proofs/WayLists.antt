@@ -1,8 +1,8 @@
 -- One more arc.
-use Rattle.std.proofs.Common.{◌≡◌, ◌≢◌, ℕ, zero, suc, ◌+◌, ◌*◌, ◌<◌, ◌≤◌, List, [], ◌∷◌, ◌++◌, length, take, drop, map, get_or, set, Bool, true, false, cond, refl, arith, sym, ◌∙◌, ap, subst, inl, inr, ◌⊎◌, append-nil, nat_eq, eqb}
-use Rattle.std.specs.List.{AllByRecursion, filter}
+use Rattle.std.proofs.Common.{◌≡◌, ◌≢◌, ℕ, zero, suc, ◌+◌, ◌*◌, ◌<◌, ◌≤◌, List, [], ◌∷◌, ◌++◌, length, take, drop, map, get_or, set, false, refl, arith, sym, ◌∙◌, ap, inl, inr, ◌⊎◌, append-nil, nat_eq}
+use Rattle.std.specs.List.{AllByRecursion}
 use Rattle.std.proofs.lemmas.Bool.{cases_eq}
-use Rattle.std.proofs.lemmas.List.{length-drop, length-set, length_push, length-append, get_or-set_same, get_or-set_other, get_or_append_left, get_or_push, take-append-le, drop-append-le, take_all, drop-drop, map_push, length-map, get_or-map, get_or_read}
+use Rattle.std.proofs.lemmas.List.{length-drop, length-set, length_push, length-append, get_or-set_same, get_or-set_other, get_or_append_left, get_or_push, take-append-le, drop-append-le, take_all, drop-drop, map_push, length-map, get_or-map}
 use Rattle.std.proofs.lemmas.List.Elements.{filter-append}
 use Rattle.stage_network.specs.declared.arcs.Arc.{Arc}
 use Rattle.stage_network.specs.WaySteps.{Way, bucket, ways_of, IsPlace, IsLinked, IsWays}

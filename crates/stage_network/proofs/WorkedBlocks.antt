@@ -1,10 +1,10 @@
 -- The worked blocks keep the laws.
-use Rattle.std.proofs.Common.{◌≡◌, ℕ, zero, suc, ◌+◌, ◌*◌, ◌<◌, ◌≤◌, List, [], ◌∷◌, length, set, refl, arith, lit≤}
-use Rattle.std.specs.Prelude.{ℤ, pos, ◌≤ℤ◌, slice_index}
-use Rattle.std.specs.List.{AllByRecursion, Contains}
+use Rattle.std.proofs.Common.{◌≡◌, ℕ, ◌<◌, List, [], ◌∷◌, length, set, refl, arith, lit≤}
+use Rattle.std.specs.Prelude.{slice_index}
+use Rattle.std.specs.List.{Contains}
 use Rattle.std.proofs.lemmas.Int.{ints}
 use Rattle.std.proofs.lemmas.List.Elements.{All-contains, All-from_recursion}
-use Rattle.stage_network.specs.SoundAddends.{AddsBetween, IsAdditive}
+use Rattle.stage_network.specs.SoundAddends.{IsAdditive}
 use Rattle.stage_network.specs.WorkedBlocks.{block_choices, worked_blocks}
 
 pub blocks_additive : IsAdditive worked_blocks

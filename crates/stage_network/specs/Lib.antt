@@ -17,3 +17,4 @@ pub mod NodeSteps
 pub mod WaySteps
 pub mod StageSteps
 pub mod AdditiveSteps
+pub mod SweepSteps

@@ -1,6 +1,6 @@
 -- Nodes of a stage: where they lead, and what is decided of them.
-use Rattle.std.specs.Prelude.{◌≡◌, ℕ, ℤ, ◌*◌, ◌≤◌, ◌<◌, List, [], ◌∷◌, map, filter, cond}
-use Rattle.std.specs.List.{flat_map, sum_by, count_by, AllByRecursion}
+use Rattle.std.specs.Prelude.{ℕ, ◌*◌, ◌≤◌, ◌<◌, List, map, filter, cond}
+use Rattle.std.specs.List.{flat_map, sum_by, AllByRecursion}
 use Rattle.weights.specs.declared.tails.Tail.{Tail}
 use Rattle.node_pool.specs.Nodes.{Node}
 use Rattle.stage_network.specs.Network.{Network, IsReached}

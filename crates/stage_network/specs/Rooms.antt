@@ -19,6 +19,12 @@ pub record IsRoomed (n : Network) (width : ℕ) : Type 0 where
   pub next : (g : ℕ) (j k : List ℤ) (c : List ℕ) → AreRoommates n width g j k
       → Contains (n.choices g k) c → take width (n.next g j c) ≡ take width (n.next g k c)
 
+-- a room of a reached key of stage g
+pub record IsPlace (n : Network) (width g : ℕ) (room : List ℤ) : Type 0 where
+  pub partial : List ℤ
+  pub wide : length room ≡ width
+  pub reached : IsReached n g (room ++ partial)
+
 -- a room of a reached key of stage g, and a choice that is allowed there
 pub record IsWay (n : Network) (width g : ℕ) (room : List ℤ) (c : List ℕ) : Type 0 where
   pub partial : List ℤ

@@ -1,6 +1,6 @@
 -- How the nodes of a stage are kept: each room once, and of each node its partial and the number of
 -- its room.
-use Rattle.std.specs.Prelude.{◌≡◌, ℕ, ℤ, ◌+◌, ◌-◌, ◌*◌, ◌<◌, List, [], ◌∷◌, ◌++◌, length}
+use Rattle.std.specs.Prelude.{◌≡◌, ℕ, ℤ, ◌*◌, ◌<◌, List, [], ◌∷◌, ◌++◌, length}
 use Rattle.std.specs.List.{AllByRecursion}
 use Rattle.node_pool.specs.Nodes.{Node, NodeRow, node}
 use Rattle.node_pool.specs.TableSteps.{key_at}

@@ -78,6 +78,10 @@ impl<S: Roomed> Roomed for Held<S> {
 
     ghost step_of = { S.step_of };
 
+    ghost outlook_width = { S.outlook_width };
+
+    ghost outlook_of = { S.outlook_of };
+
     fn room_width(&self) -> usize {
         self.inner.room_width()
     }
@@ -100,5 +104,24 @@ impl<S: Roomed> Roomed for Held<S> {
         next: &mut [i128],
     ) {
         self.inner.advance(stage, room, choice, step, partial, next);
+    }
+
+    fn outlook_width(&self) -> usize {
+        self.inner.outlook_width()
+    }
+
+    fn outlook(&self, stage: usize, room: &[i128], outlook: &mut [i128]) {
+        self.inner.outlook(stage, room, outlook);
+    }
+
+    fn verdict_by(
+        &self,
+        stage: usize,
+        room: &[i128],
+        outlook: &[i128],
+        partial: &[i128],
+        tail: Tail,
+    ) -> Verdict {
+        self.inner.verdict_by(stage, room, outlook, partial, tail)
     }
 }

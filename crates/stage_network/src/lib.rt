@@ -16,6 +16,7 @@ mod settling;
 mod spreads;
 mod stages;
 mod sums;
+mod sweep;
 #[cfg(test)]
 mod tests;
 mod verdicts;

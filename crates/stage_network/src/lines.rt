@@ -1,5 +1,5 @@
 // Values with their weights, by ascending value.
-ghost use Rattle.std.specs.Prelude.{◌≡◌, ◌+◌, ◌≤◌, [], ◌∷◌, ◌++◌, OnOk, OnErr};
+ghost use Rattle.std.specs.Prelude.{◌≡◌, ◌+◌, ◌≤◌, [], ◌∷◌, ◌++◌, OnOk, OnErr, int_lt};
 ghost use Rattle.std.specs.Ordering.{int_eq};
 ghost use Rattle.weights.specs.declared.TheConstants.{MAX};
 ghost use Rattle.stage_network.specs.Lines.{IsAscending, IsAboveLast};
@@ -29,14 +29,14 @@ impl Model for Spread {
 
 // How many lines have lesser values.
 fn place_of(lines: &[Line], value: i128) -> usize
+    requires { IsAscending lines.now }
     ensures { result ≡ place_of value lines.now }
 {
-    for (place, line) in lines.iter().enumerate() {
-        if value <= line.value {
-            return place;
-        }
-    }
-    lines.len()
+    lines.partition_point(
+        |line: &Line| -> bool
+            ensures { result ≡ int_lt line.now.value value }
+        { line.value < value },
+    )
 }
 
 fn has_value(line: &Line, value: i128) -> bool

@@ -97,6 +97,10 @@ impl<A: Roomed, B: Roomed> Roomed for OneOf<A, B> {
 
     ghost step_of = { of_either A.step_of B.step_of };
 
+    ghost outlook_width = { of_either A.outlook_width B.outlook_width };
+
+    ghost outlook_of = { of_either A.outlook_of B.outlook_of };
+
     fn room_width(&self) -> usize {
         match self {
             OneOf::First(a) => a.room_width(),
@@ -130,6 +134,34 @@ impl<A: Roomed, B: Roomed> Roomed for OneOf<A, B> {
         match self {
             OneOf::First(a) => a.advance(stage, room, choice, step, partial, next),
             OneOf::Second(b) => b.advance(stage, room, choice, step, partial, next),
+        }
+    }
+
+    fn outlook_width(&self) -> usize {
+        match self {
+            OneOf::First(a) => a.outlook_width(),
+            OneOf::Second(b) => b.outlook_width(),
+        }
+    }
+
+    fn outlook(&self, stage: usize, room: &[i128], outlook: &mut [i128]) {
+        match self {
+            OneOf::First(a) => a.outlook(stage, room, outlook),
+            OneOf::Second(b) => b.outlook(stage, room, outlook),
+        }
+    }
+
+    fn verdict_by(
+        &self,
+        stage: usize,
+        room: &[i128],
+        outlook: &[i128],
+        partial: &[i128],
+        tail: Tail,
+    ) -> Verdict {
+        match self {
+            OneOf::First(a) => a.verdict_by(stage, room, outlook, partial, tail),
+            OneOf::Second(b) => b.verdict_by(stage, room, outlook, partial, tail),
         }
     }
 }

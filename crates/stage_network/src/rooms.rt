@@ -10,7 +10,7 @@ ghost use Rattle.stage_network.specs.NodeSteps.{AreNodes, AllHeavy, all_successo
 ghost use Rattle.stage_network.specs.WaySteps.{AreWays, IsRun, IsChoiceOf};
 ghost use Rattle.stage_network.specs.WaySteps.{segment, chosen, spread_out, bucket, lift};
 
-use crate::keys::{front, write_front, write_key};
+use crate::keys::{front, write_key};
 use crate::nodes::StageNodes;
 use crate::stages::Roomed;
 use crate::ways::Ways;
@@ -187,33 +187,27 @@ fn pour<C: Count, S: Roomed>(
     Ok(())
 }
 
-/// Fills a room of the next stage with the partials of all nodes that lead there, and writes the
-/// room in front of the key.
+/// Fills a room of the next stage with the partials of all nodes that lead there.
 pub fn fill<C: Count, S: Roomed>(
     stages: &S,
     stage: usize,
     nodes: &StageNodes<C>,
-    width: usize,
     rooms: &NodePool<Narrow>,
     ways: &Ways,
     target: usize,
-    key: &mut [i128],
     step: &mut [i128],
     next: &mut [i128],
     into: &mut NodePool<C>,
 ) -> Result<(), NoMemory>
     requires nodes { AreNodes (S.Stages.network stages.now) stage nodes.now.nodes }
-    requires roomed { IsRoomed (S.Stages.network stages.now) (S.room_width stages.now) }
-    requires width { width ≡ S.room_width stages.now }
-    requires here { nodes.now.room_width ≡ width }
-    requires small { rooms.now.width ≡ width }
+    requires here { nodes.now.room_width ≡ S.room_width stages.now }
     requires ways { let n = S.Stages.network stages.now in
+        let width = S.room_width stages.now in
         AreWays n stage width nodes.now.nodes rooms.now.nodes ways.now }
     requires target { target < length rooms.now.nodes }
-    requires key { length key.old ≡ (S.Stages.network stages.now).width }
     requires step { length step.old ≡ S.step_width stages.now }
     requires next { length next.old ≡ into.old.width }
-    requires wide { width + into.old.width ≡ (S.Stages.network stages.now).width }
+    requires wide { S.room_width stages.now + into.old.width ≡ (S.Stages.network stages.now).width }
     requires empty { into.old.nodes ≡ [] }
     requires limit { let n = S.Stages.network stages.now in
         weighted (λ k. 1) (spread_out n stage nodes.now.nodes (bucket target ways.now.ways))
@@ -221,24 +215,20 @@ pub fn fill<C: Count, S: Roomed>(
     requires fits { let n = S.Stages.network stages.now in
         weighted (λ k. 1) (spread_out n stage nodes.now.nodes (bucket target ways.now.ways)) ≤ MAX }
     ensures wide { OnOk result (into.new.width ≡ into.old.width) }
-    ensures key { OnOk result (length key.new ≡ length key.old) }
     ensures step { OnOk result (length step.new ≡ length step.old) }
     ensures next { OnOk result (length next.new ≡ length next.old) }
-    ensures room { OnOk result ((d : Node)
-        → take width key.new ≡ (slice_index_or rooms.now.nodes target d).key) }
     ensures heavy { OnOk result (AllHeavy into.new.nodes) }
     ensures told { let n = S.Stages.network stages.now in
-        OnOk result ((f : List ℤ → ℕ)
-        → weighted f (lift (take width key.new) into.new.nodes)
+        OnOk result ((d : Node) (f : List ℤ → ℕ)
+        → weighted f (lift (slice_index_or rooms.now.nodes target d).key into.new.nodes)
         ≡ weighted f (spread_out n stage nodes.now.nodes (bucket target ways.now.ways))) }
 {
-    write_front(rooms.key(target), key);
     let mut place = ways.first(target);
     while place != 0 {
         let i = place - 1;
         let arc = ways.arc(i);
-        let room = nodes.room(arc.start);
         let choice = ways.choice(i);
+        let room = nodes.room(arc.start);
         stages.step(stage, room, choice, step);
         pour(
             stages, stage, nodes, arc.start, arc.end, arc.weight, room, choice, step, next, into,

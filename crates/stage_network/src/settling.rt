@@ -6,12 +6,12 @@ ghost use Rattle.node_pool.specs.Nodes.{node, weighted};
 ghost use Rattle.stage_network.specs.Network.{IsReached};
 ghost use Rattle.stage_network.specs.Completions.{is_inside, total_weight};
 ghost use Rattle.stage_network.specs.Laws.{IsLawful};
-ghost use Rattle.stage_network.specs.Opened.{is_open};
-ghost use Rattle.stage_network.specs.Rooms.{IsRoomed};
+ghost use Rattle.stage_network.specs.Opened.{is_undecided};
 ghost use Rattle.stage_network.specs.NodeSteps.{AllReached, closed_weight, open_nodes};
 ghost use Rattle.stage_network.specs.WaySteps.{lift};
+ghost use Rattle.stage_network.specs.SweepSteps.{IsRoomful, closed_at, staying};
 
-use crate::keys::{front, write_behind};
+use crate::keys::write_key;
 use crate::nodes::StageNodes;
 use crate::stages::{Roomed, Stages, Verdict};
 use node_pool::NodePool;
@@ -19,17 +19,13 @@ use weights::{Count, NoMemory, Tail};
 
 // Adds an inside node's weight, or keeps an open node.
 #[inline(always)]
-fn settle_node<C: Count, S: Stages>(
-    stages: &S,
-    stage: usize,
-    tail: Tail,
-    key: &[i128],
+fn settle_node<C: Count>(
+    verdict: Verdict,
     partial: &[i128],
     weight: C,
     inside: &mut u128,
     kept: &mut StageNodes<C>,
 ) -> Result<(), NoMemory>
-    requires reached { IsReached (S.network stages.now) stage key.now }
     requires fits { inside.old + C.number weight ≤ MAX }
     requires named { 1 ≤ kept.old.rooms }
     requires wide { kept.old.room_width + length partial.now ≡ kept.old.width }
@@ -38,12 +34,12 @@ fn settle_node<C: Count, S: Stages>(
     ensures room { OnOk result (kept.new.room ≡ kept.old.room) }
     ensures named { OnOk result (kept.new.rooms ≡ kept.old.rooms) }
     ensures nodes { let added = node (kept.old.room ++ partial.now) (C.number weight) in
-        let stays = is_open (S.network stages.now) tail stage key.now in
-        OnOk result (kept.new.nodes ≡ kept.old.nodes ++ (if stays then added ∷ [] else [])) }
-    ensures inside { let settled = is_inside ((S.network stages.now).verdict tail stage key.now) in
-        OnOk result (inside.new ≡ inside.old + (if settled then C.number weight else 0)) }
+        let more = if is_undecided verdict then added ∷ [] else [] in
+        OnOk result (kept.new.nodes ≡ kept.old.nodes ++ more) }
+    ensures inside { let more = if is_inside verdict then C.number weight else 0 in
+        OnOk result (inside.new ≡ inside.old + more) }
 {
-    match stages.verdict(stage, key, tail) {
+    match verdict {
         Verdict::Inside => {
             *inside += weight.value();
             Ok(())
@@ -53,87 +49,115 @@ fn settle_node<C: Count, S: Stages>(
     }
 }
 
-// The weight of the completions of nodes that have this summed weight, and one of which has this
-// key.
-fn completed<S: Stages>(stages: &S, stage: usize, key: &[i128], inside: u128) -> u128
-    requires reached { 0 < inside → IsReached (S.network stages.now) stage key.now }
-    requires fits { inside * total_weight (S.network stages.now) stage key.now ≤ MAX }
-    ensures { result ≡ inside * total_weight (S.network stages.now) stage key.now }
+// The weight of the completions of nodes of a room that have this summed weight; one of them has
+// this partial.
+fn completed<S: Stages>(
+    stages: &S,
+    stage: usize,
+    room: &[i128],
+    partial: &[i128],
+    inside: u128,
+) -> u128
+    requires reached { IsReached (S.network stages.now) stage (room.now ++ partial.now) }
+    requires wide { length room.now + length partial.now ≡ (S.network stages.now).width }
+    requires fits { let n = S.network stages.now in
+        inside * total_weight n stage (room.now ++ partial.now) ≤ MAX }
+    ensures { let n = S.network stages.now in
+        result ≡ inside * total_weight n stage (room.now ++ partial.now) }
 {
     if inside == 0 {
         return 0;
     }
+    let _lawful = stages.stages();
+    let mut numbers = [0i128; 16];
+    let key = &mut numbers[..stages.width()];
+    write_key(room, partial, key);
     inside * stages.rest(stage, key)
 }
 
-/// Adds what is decided in a room, which stands in front of the key, and keeps its open nodes.
-pub fn settle_room<C: Count, S: Roomed>(
+// Adds what is decided in a room, and keeps its open nodes.
+fn settle_room<C: Count, S: Roomed>(
     stages: &S,
     stage: usize,
     tail: Tail,
     nodes: &NodePool<C>,
-    width: usize,
-    key: &mut [i128],
+    room: &[i128],
     sum: u128,
     kept: &mut StageNodes<C>,
 ) -> Result<u128, NoMemory>
-    requires lawful { IsLawful (S.Stages.network stages.now) }
-    requires roomed { IsRoomed (S.Stages.network stages.now) width }
-    requires within { stage ≤ (S.Stages.network stages.now).count }
-    requires reached { let n = S.Stages.network stages.now in
-        AllReached n stage (lift (take width key.old) nodes.now.nodes) }
-    requires fits { let n = S.Stages.network stages.now in
-        sum + weighted (total_weight n stage) (lift (take width key.old) nodes.now.nodes) ≤ MAX }
-    requires long { width + nodes.now.width ≡ length key.old }
-    requires here { kept.old.room_width ≡ width }
-    requires wide { kept.old.width ≡ length key.old }
-    ensures here { OnOk result (kept.new.room_width ≡ width) }
+    requires { let n = S.Stages.network stages.now in
+        IsRoomful n (S.room_width stages.now) stage sum room.now nodes.now kept.old }
+    ensures here { OnOk result (kept.new.room_width ≡ length room.now) }
     ensures wide { OnOk result (kept.new.width ≡ kept.old.width) }
-    ensures key { OnOk result (length key.new ≡ length key.old) }
     ensures nodes { let n = S.Stages.network stages.now in
-        let more = open_nodes n tail stage (lift (take width key.old) nodes.now.nodes) in
+        let more = open_nodes n tail stage (lift room.now nodes.now.nodes) in
         OnOk result (kept.new.nodes ≡ kept.old.nodes ++ more) }
     ensures sum { let n = S.Stages.network stages.now in
-        let closed = closed_weight n tail stage (lift (take width key.old) nodes.now.nodes) in
+        let closed = closed_weight n tail stage (lift room.now nodes.now.nodes) in
         IfOk result (λ all. all ≡ sum + closed) }
 {
-    kept.open(front(key, width))?;
+    kept.open(room)?;
+    if nodes.len() == 0 {
+        return Ok(sum);
+    }
+    let _width = stages.room_width();
+    let mut numbers = [0i128; 16];
+    let outlook = &mut numbers[..stages.outlook_width()];
+    stages.outlook(stage, room, outlook);
     let mut inside = 0u128;
     for i in 0..nodes.len() {
         let partial = nodes.key(i);
-        write_behind(partial, width, key);
-        settle_node(
-            stages,
-            stage,
-            tail,
-            key,
-            partial,
-            nodes.weight(i),
-            &mut inside,
-            kept,
-        )?;
+        let verdict = stages.verdict_by(stage, room, outlook, partial, tail);
+        settle_node(verdict, partial, nodes.weight(i), &mut inside, kept)?;
     }
-    Ok(sum + completed(stages, stage, key, inside))
+    Ok(sum + completed(stages, stage, room, nodes.key(0), inside))
 }
 
-/// Keeps all nodes of a room, which stands in front of the key.
-pub fn keep_room<C: Count>(
+// Keeps all nodes of a room.
+fn keep_room<C: Count>(
     nodes: &NodePool<C>,
-    width: usize,
-    key: &[i128],
+    room: &[i128],
     kept: &mut StageNodes<C>,
 ) -> Result<(), NoMemory>
-    requires long { width + nodes.now.width ≡ length key.now }
-    requires here { kept.old.room_width ≡ width }
-    requires wide { kept.old.width ≡ length key.now }
-    ensures here { OnOk result (kept.new.room_width ≡ width) }
+    requires here { kept.old.room_width ≡ length room.now }
+    requires wide { kept.old.width ≡ length room.now + nodes.now.width }
+    ensures here { OnOk result (kept.new.room_width ≡ length room.now) }
     ensures wide { OnOk result (kept.new.width ≡ kept.old.width) }
-    ensures nodes { let room = take width key.now in
-        OnOk result (kept.new.nodes ≡ kept.old.nodes ++ lift room nodes.now.nodes) }
+    ensures nodes { OnOk result (kept.new.nodes ≡ kept.old.nodes ++ lift room.now nodes.now.nodes) }
 {
-    kept.open(front(key, width))?;
+    kept.open(room)?;
     for i in 0..nodes.len() {
         kept.push(nodes.key(i), nodes.weight(i))?;
     }
     Ok(())
+}
+
+/// Settles a room for a tail; without one all its nodes are kept.
+pub fn settle<C: Count, S: Roomed>(
+    stages: &S,
+    stage: usize,
+    tail: Option<Tail>,
+    nodes: &NodePool<C>,
+    room: &[i128],
+    sum: u128,
+    kept: &mut StageNodes<C>,
+) -> Result<u128, NoMemory>
+    requires { let n = S.Stages.network stages.now in
+        IsRoomful n (S.room_width stages.now) stage sum room.now nodes.now kept.old }
+    ensures here { OnOk result (kept.new.room_width ≡ length room.now) }
+    ensures wide { OnOk result (kept.new.width ≡ kept.old.width) }
+    ensures nodes { let n = S.Stages.network stages.now in
+        let more = staying n tail stage (lift room.now nodes.now.nodes) in
+        OnOk result (kept.new.nodes ≡ kept.old.nodes ++ more) }
+    ensures sum { let n = S.Stages.network stages.now in
+        let closed = weighted (closed_at n tail stage) (lift room.now nodes.now.nodes) in
+        IfOk result (λ all. all ≡ sum + closed) }
+{
+    match tail {
+        Some(tail) => settle_room(stages, stage, tail, nodes, room, sum, kept),
+        None => {
+            keep_room(nodes, room, kept)?;
+            Ok(sum)
+        }
+    }
 }

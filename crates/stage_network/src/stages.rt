@@ -1,10 +1,10 @@
 // What a network of stages is.
-ghost use Rattle.std.specs.Prelude.{◌≡◌, ℕ, ℤ, ◌+◌, ◌<◌, List, ◌++◌, length, drop};
+ghost use Rattle.std.specs.Prelude.{◌≡◌, ℕ, ℤ, ◌+◌, ◌<◌, ◌≤◌, List, ◌++◌, length, drop};
 ghost use Rattle.std.specs.List.{Contains};
 ghost use Rattle.stage_network.specs.Network.{Network, IsReached, pending};
 ghost use Rattle.stage_network.specs.Completions.{total_weight};
 ghost use Rattle.stage_network.specs.Laws.{IsLawful};
-ghost use Rattle.stage_network.specs.Rooms.{IsRoomed, IsWay};
+ghost use Rattle.stage_network.specs.Rooms.{IsRoomed, IsPlace, IsWay};
 
 use weights::Tail;
 
@@ -88,7 +88,8 @@ pub trait Stages {
 
 /// A network whose keys are a room, the first numbers, and a partial, the others: the room alone
 /// decides the choices, their weights, the rooms that they lead to, and so the rest. What differs
-/// from key to key, the partial, is then advanced by itself, many times per room.
+/// from key to key, the partial, is then advanced and judged by itself, many times per room: by a
+/// step, made once for a room and a choice, and by an outlook, made once for a room.
 pub trait Roomed: Stages {
     /// How many numbers a room has.
     ghost room_width: { Self → ℕ };
@@ -98,6 +99,12 @@ pub trait Roomed: Stages {
 
     /// The step of a stage, a room and a choice.
     ghost step_of: { Self → ℕ → List ℤ → List ℕ → List ℤ };
+
+    /// How many numbers an outlook has.
+    ghost outlook_width: { Self → ℕ };
+
+    /// The outlook of a stage and a room.
+    ghost outlook_of: { Self → ℕ → List ℤ → List ℤ };
 
     /// How many of a key's first numbers make its room.
     fn room_width(&self) -> usize
@@ -140,4 +147,33 @@ pub trait Roomed: Stages {
         ensures { let n = Self.Stages.network self.now in
             next.new
             ≡ drop (room_width self.now) (n.next stage (room.now ++ partial.now) choice.now) };
+
+    /// How many numbers an outlook has, at most 16: 0 where `verdict_by` does well with the room.
+    fn outlook_width(&self) -> usize
+        ensures width { result ≡ outlook_width self.now }
+        ensures few { outlook_width self.now ≤ 16 };
+
+    /// Writes what `verdict_by` is to be told of a room, as what its later choices can still add.
+    /// It is asked once for each room.
+    fn outlook(&self, stage: usize, room: &[i128], outlook: &mut [i128])
+        requires place { let n = Self.Stages.network self.now in
+            IsPlace n (room_width self.now) stage room.now }
+        requires wide { length outlook.old ≡ outlook_width self.now }
+        ensures { outlook.new ≡ outlook_of self.now stage room.now };
+
+    /// What is known of the completions of a room and a partial, by the room's outlook.
+    fn verdict_by(
+        &self,
+        stage: usize,
+        room: &[i128],
+        outlook: &[i128],
+        partial: &[i128],
+        tail: Tail,
+    ) -> Verdict
+        requires room { length room.now ≡ room_width self.now }
+        requires reached { let n = Self.Stages.network self.now in
+            IsReached n stage (room.now ++ partial.now) }
+        requires outlook { outlook.now ≡ outlook_of self.now stage room.now }
+        ensures { let n = Self.Stages.network self.now in
+            result ≡ n.verdict tail stage (room.now ++ partial.now) };
 }

@@ -70,6 +70,10 @@ impl<'a, S: Stages> Roomed for Whole<'a, S> {
 
     ghost step_of = { λ whole stage room choice. [] };
 
+    ghost outlook_width = { λ whole. 0 };
+
+    ghost outlook_of = { λ whole stage room. [] };
+
     fn room_width(&self) -> usize {
         let _lawful = self.stages.stages();
         self.stages.width()
@@ -91,5 +95,23 @@ impl<'a, S: Stages> Roomed for Whole<'a, S> {
         _next: &mut [i128],
     ) {
         let _lawful = self.stages.stages();
+    }
+
+    fn outlook_width(&self) -> usize {
+        0
+    }
+
+    fn outlook(&self, _stage: usize, _room: &[i128], _outlook: &mut [i128]) {}
+
+    fn verdict_by(
+        &self,
+        stage: usize,
+        room: &[i128],
+        _outlook: &[i128],
+        _partial: &[i128],
+        tail: Tail,
+    ) -> Verdict {
+        let _lawful = self.stages.stages();
+        self.stages.verdict(stage, room, tail)
     }
 }

@@ -1,8 +1,9 @@
 // Two samples without ties, subject by subject, for the sum of the second sample's doubled ranks.
-ghost use Rattle.std.specs.Prelude.{◌≡◌, ◌+◌, ◌≤◌};
+ghost use Rattle.std.specs.Prelude.{◌≡◌, ◌+◌, ◌≤◌, []};
 ghost use Rattle.weights.specs.Numbers.{binomial};
 ghost use Rattle.stage_network.specs.TestRanks.{rank_network, rank_step};
 
+use crate::keys::write_key;
 use crate::{Roomed, Stages, Verdict};
 use weights::{Tail, binomial};
 
@@ -109,6 +110,10 @@ impl Roomed for Ranks {
 
     ghost step_of = { λ s stage room choice. rank_step stage choice };
 
+    ghost outlook_width = { λ s. 0 };
+
+    ghost outlook_of = { λ s stage room. [] };
+
     fn room_width(&self) -> usize {
         2
     }
@@ -135,5 +140,24 @@ impl Roomed for Ranks {
         next: &mut [i128],
     ) {
         next[0] = partial[0] + step[0];
+    }
+
+    fn outlook_width(&self) -> usize {
+        0
+    }
+
+    fn outlook(&self, _stage: usize, _room: &[i128], _outlook: &mut [i128]) {}
+
+    fn verdict_by(
+        &self,
+        stage: usize,
+        room: &[i128],
+        _outlook: &[i128],
+        partial: &[i128],
+        tail: Tail,
+    ) -> Verdict {
+        let mut key = [0i128; 3];
+        write_key(room, partial, &mut key);
+        self.verdict(stage, &key, tail)
     }
 }

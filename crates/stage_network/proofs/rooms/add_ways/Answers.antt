@@ -1,58 +1,30 @@
-use Rattle.std.proofs.Common.{◌≡◌, ◌<◌, ◌≤◌, ◌+◌, ◌-◌, ◌*◌, ◌++◌, ◌∷◌, ◌&&◌, ℕ, List, [], Bool, suc, length, get_or, take, drop, map, cond, ap, sym, subst, ◌∙◌, arith, rules, refl, add-one, nat_eq, nat_lt}
+use Rattle.std.proofs.Common.{◌≡◌, ◌+◌, ℕ, List, get_or, take, cond, ap, sym, subst, ◌∙◌, arith, nat_eq}
 use Rattle.std.specs.Prelude.{ℤ}
-use Rattle.std.specs.List.{Contains, AllByRecursion, IsDistinct, sum_by, flat_map, filter}
-use Rattle.std.proofs.lemmas.List.{take_all, length-append, length-take-le}
+use Rattle.std.specs.List.{Contains, AllByRecursion, sum_by}
 use Rattle.std.proofs.lemmas.List.Elements.{All-contains_itself, recursion_from_All}
 use Rattle.std.proofs.lemmas.List.Sums.{sum_by-cons}
-use Rattle.node_pool.specs.Nodes.{Node, node, weighted, key_eq, keys, is_held, weight_in}
-use Rattle.node_pool.proofs.Puts.{weight_in-le, none_distinct}
-use Rattle.stage_network.specs.StageSteps.{Housed}
+use Rattle.node_pool.specs.Nodes.{Node, weighted}
 use Rattle.stage_network.specs.Network.{Network, IsReached, pending}
-use Rattle.stage_network.specs.Completions.{total_weight, extreme_weight, is_inside}
-use Rattle.stage_network.specs.Laws.{IsLawful}
-use Rattle.stage_network.specs.Opened.{is_open, reached_openly, opened_below}
-use Rattle.stage_network.specs.Rooms.{AreRoommates, IsWay}
-use Rattle.stage_network.specs.NodeSteps.{successor, successors, all_successors, AllReached, AllHeavy, AreNodes, closed_weight, inside_weight, open_nodes}
-use Rattle.stage_network.specs.WaySteps.{Way, WayList, AreWays, IsFine, AllFine, IsRun, IsPlace, segment, chosen, way_nodes, spread_out, bucket, firsts, lift}
+use Rattle.stage_network.specs.WaySteps.{Way, segment, chosen, way_nodes, spread_out}
 use Rattle.stage_network.proofs.Stepping.{reached_at}
-use Rattle.stage_network.proofs.Roomwise.{fine-push, fine-kept, fine_way, placed-more, spread-push, by_choices, all_segment, whole-key}
+use Rattle.stage_network.proofs.Roomwise.{fine-push, fine-kept, fine_way, placed-more, spread-push, by_choices, all_segment}
+use Rattle.stage_network.proofs.OneArc.{key_is, reached-key}
 use Rattle.stage_network.proofs.rooms.add_ways.Goals as goal
 
 pub first_choice-more-requires-clause-reached : goal.first_choice-more-requires-clause-reached
 first_choice-more-requires-clause-reached g c =
     let n : Network = g.S.Stages.network c.args.stages.now in
-    let s : ℕ = c.args.stage in
-    let nodes : List Node = c.args.nodes.now.nodes in
-    let k : List ℤ = c.write_key.new.key in
-    let key : (d : Node) → k ≡ (get_or nodes c.args.start d).key = λ d. c.write_key.ensures ∙ whole-key c.args.nodes.now.room_width c.room.result.now c.partial.result.now (get_or nodes c.args.start d).key (c.room.ensures.room d) (c.partial.ensures.partial d) in
-    let first : c.args.start < length nodes = omega (arith, c.requires.some, c.requires.within) in
-    let d : Node = node [] 0 in
-    let reached : IsReached n s k = subst (IsReached n s) (sym (key d)) (reached_at n s nodes c.args.start d c.requires.nodes.reached first) in
-    reached
+    reached-key n c.args.stage c.args.nodes.now.nodes c.args.start _ _ _ _ c.requires.nodes.reached (omega (arith, c.requires.some, c.requires.within)) c.write_key.ensures c.room.ensures.room c.partial.ensures.partial
 
 pub apply-weight-requires-clause-reached : goal.apply-weight-requires-clause-reached
 apply-weight-requires-clause-reached g c =
     let n : Network = g.S.Stages.network c.args.stages.now in
-    let s : ℕ = c.args.stage in
-    let nodes : List Node = c.args.nodes.now.nodes in
-    let k : List ℤ = c.write_key.new.key in
-    let key : (d : Node) → k ≡ (get_or nodes c.args.start d).key = λ d. c.write_key.ensures ∙ whole-key c.args.nodes.now.room_width c.room.result.now c.partial.result.now (get_or nodes c.args.start d).key (c.room.ensures.room d) (c.partial.ensures.partial d) in
-    let first : c.args.start < length nodes = omega (arith, c.requires.some, c.requires.within) in
-    let d : Node = node [] 0 in
-    let reached : IsReached n s k = subst (IsReached n s) (sym (key d)) (reached_at n s nodes c.args.start d c.requires.nodes.reached first) in
-    reached
+    reached-key n c.args.stage c.args.nodes.now.nodes c.args.start _ _ _ _ c.requires.nodes.reached (omega (arith, c.requires.some, c.requires.within)) c.write_key.ensures c.room.ensures.room c.partial.ensures.partial
 
 pub next_choice-more-requires-clause-reached : goal.next_choice-more-requires-clause-reached
 next_choice-more-requires-clause-reached g c =
     let n : Network = g.S.Stages.network c.args.stages.now in
-    let s : ℕ = c.args.stage in
-    let nodes : List Node = c.args.nodes.now.nodes in
-    let k : List ℤ = c.write_key.new.key in
-    let key : (d : Node) → k ≡ (get_or nodes c.args.start d).key = λ d. c.write_key.ensures ∙ whole-key c.args.nodes.now.room_width c.room.result.now c.partial.result.now (get_or nodes c.args.start d).key (c.room.ensures.room d) (c.partial.ensures.partial d) in
-    let first : c.args.start < length nodes = omega (arith, c.requires.some, c.requires.within) in
-    let d : Node = node [] 0 in
-    let reached : IsReached n s k = subst (IsReached n s) (sym (key d)) (reached_at n s nodes c.args.start d c.requires.nodes.reached first) in
-    reached
+    reached-key n c.args.stage c.args.nodes.now.nodes c.args.start _ _ _ _ c.requires.nodes.reached (omega (arith, c.requires.some, c.requires.within)) c.write_key.ensures c.room.ensures.room c.partial.ensures.partial
 
 pub loop-more-init : goal.loop-more-init
 loop-more-init g c =
@@ -60,10 +32,6 @@ loop-more-init g c =
     let s : ℕ = c.args.stage in
     let nodes : List Node = c.args.nodes.now.nodes in
     let k : List ℤ = c.write_key.new.key in
-    let key : (d : Node) → k ≡ (get_or nodes c.args.start d).key = λ d. c.write_key.ensures ∙ whole-key c.args.nodes.now.room_width c.room.result.now c.partial.result.now (get_or nodes c.args.start d).key (c.room.ensures.room d) (c.partial.ensures.partial d) in
-    let first : c.args.start < length nodes = omega (arith, c.requires.some, c.requires.within) in
-    let d : Node = node [] 0 in
-    let reached : IsReached n s k = subst (IsReached n s) (sym (key d)) (reached_at n s nodes c.args.start d c.requires.nodes.reached first) in
     let first_is : n.choices s k ≡ pending n s k c.first_choice-more.result c.first_choice-more.new.choice = c.first_choice-more.ensures in
     record {
       told = λ f. ap (λ cs. weighted f (spread_out n s nodes c.args.ways.now.ways) + sum_by (λ c'. weighted f (chosen n s c' (segment c.args.start c.args.end nodes))) cs) (sym first_is);
@@ -79,10 +47,8 @@ loop-more-preserved g c =
     let s : ℕ = c.args.stage in
     let nodes : List Node = c.args.nodes.now.nodes in
     let k : List ℤ = c.write_key.new.key in
-    let key : (d : Node) → k ≡ (get_or nodes c.args.start d).key = λ d. c.write_key.ensures ∙ whole-key c.args.nodes.now.room_width c.room.result.now c.partial.result.now (get_or nodes c.args.start d).key (c.room.ensures.room d) (c.partial.ensures.partial d) in
-    let first : c.args.start < length nodes = omega (arith, c.requires.some, c.requires.within) in
-    let d : Node = node [] 0 in
-    let reached : IsReached n s k = subst (IsReached n s) (sym (key d)) (reached_at n s nodes c.args.start d c.requires.nodes.reached first) in
+    let key : (d : Node) → k ≡ (get_or nodes c.args.start d).key = key_is c.args.nodes.now.nodes c.args.start _ _ _ _ c.write_key.ensures c.room.ensures.room c.partial.ensures.partial in
+    let reached : IsReached n s k = reached-key n c.args.stage c.args.nodes.now.nodes c.args.start _ _ _ _ c.requires.nodes.reached (omega (arith, c.requires.some, c.requires.within)) c.write_key.ensures c.room.ensures.room c.partial.ensures.partial in
     let here : List ℕ = c.loop-more.choice in
     let allowed = rw c.loop-more-test.true at c.loop-more.invariant.allowed in
     let later : n.later s k here ≡ pending n s k c.next_choice-more.result c.next_choice-more.new.choice = c.next_choice-more.ensures in
@@ -114,15 +80,11 @@ returns-clause-told g c =
     let s : ℕ = c.args.stage in
     let nodes : List Node = c.args.nodes.now.nodes in
     let k : List ℤ = c.write_key.new.key in
-    let key : (d : Node) → k ≡ (get_or nodes c.args.start d).key = λ d. c.write_key.ensures ∙ whole-key c.args.nodes.now.room_width c.room.result.now c.partial.result.now (get_or nodes c.args.start d).key (c.room.ensures.room d) (c.partial.ensures.partial d) in
-    let first : c.args.start < length nodes = omega (arith, c.requires.some, c.requires.within) in
-    let d : Node = node [] 0 in
-    let reached : IsReached n s k = subst (IsReached n s) (sym (key d)) (reached_at n s nodes c.args.start d c.requires.nodes.reached first) in
     λ f.
     let same = all_segment (λ b. n.choices s b.key ≡ n.choices s k) c.args.start c.args.end nodes (λ i e h j. c.requires.roomed.choices s (get_or nodes i e).key k (record {
       first = reached_at n s nodes i e c.requires.nodes.reached (omega (arith, j, c.requires.within));
-      second = reached;
-      same = c.requires.run i e h j ∙ sym (ap (take c.args.width) (key e));
+      second = reached-key n c.args.stage c.args.nodes.now.nodes c.args.start _ _ _ _ c.requires.nodes.reached (omega (arith, c.requires.some, c.requires.within)) c.write_key.ensures c.room.ensures.room c.partial.ensures.partial;
+      same = c.requires.run i e h j ∙ sym (ap (take c.args.width) (key_is c.args.nodes.now.nodes c.args.start _ _ _ _ c.write_key.ensures c.room.ensures.room c.partial.ensures.partial e));
     })) in
     let told = (rw c.loop-more-test.false at c.loop-more.invariant.told) f in
     omega (arith, told, by_choices n s f (n.choices s k) (segment c.args.start c.args.end nodes) same)

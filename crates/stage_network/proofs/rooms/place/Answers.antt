@@ -1,4 +1,4 @@
-use Rattle.std.proofs.Common.{◌≡◌, ◌≤◌, ◌+◌, ◌*◌, ℕ, ap, subst, ◌∙◌, arith}
+use Rattle.std.proofs.Common.{ap, subst, ◌∙◌, arith}
 use Rattle.node_pool.specs.Nodes.{weighted}
 use Rattle.node_pool.specs.Pool.{IsPlaced}
 use Rattle.node_pool.proofs.Puts.{weight_in-le}

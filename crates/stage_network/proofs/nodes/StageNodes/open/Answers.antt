@@ -1,9 +1,5 @@
-use Rattle.std.proofs.Common.{◌≡◌, ◌<◌, ◌≤◌, ◌+◌, ◌-◌, ◌*◌, ◌++◌, ◌∷◌, ℕ, List, [], length, take, drop, get_or, ap, sym, ◌∙◌, subst, arith, rules}
-use Rattle.std.proofs.lemmas.List.{get_or_read}
-use Rattle.std.specs.Prelude.{ℤ}
-use Rattle.node_pool.specs.Nodes.{Node, NodeRow, node}
-use Rattle.node_pool.specs.TableSteps.{key_at}
-use Rattle.stage_network.specs.StageSteps.{Housed, whole_nodes}
+use Rattle.std.proofs.Common.{◌≡◌, ◌+◌, length, ap, sym, ◌∙◌, rules}
+use Rattle.stage_network.specs.StageSteps.{Housed}
 use Rattle.stage_network.proofs.Housing.{opened-whole, opened-housed, opened-room}
 use Rattle.stage_network.proofs.nodes.StageNodes.open.Goals as goal
 

@@ -1,9 +1,6 @@
-use Rattle.std.proofs.Common.{◌≡◌, ◌<◌, ◌≤◌, ◌+◌, ◌-◌, ◌*◌, ◌++◌, ◌∷◌, ℕ, List, [], length, take, drop, get_or, ap, sym, ◌∙◌, subst, arith}
-use Rattle.std.proofs.lemmas.List.{get_or_read}
-use Rattle.std.specs.Prelude.{ℤ}
-use Rattle.node_pool.specs.Nodes.{Node, NodeRow, node}
-use Rattle.node_pool.specs.TableSteps.{key_at}
-use Rattle.stage_network.specs.StageSteps.{Housed, whole_nodes}
+use Rattle.std.proofs.Common.{◌<◌, ◌-◌, ◌++◌, ◌∷◌, [], ap, ◌∙◌, arith}
+use Rattle.node_pool.specs.Nodes.{Node, node}
+use Rattle.stage_network.specs.StageSteps.{Housed}
 use Rattle.stage_network.proofs.Housing.{pushed-whole, pushed-housed}
 use Rattle.stage_network.proofs.nodes.StageNodes.push.Goals as goal
 

@@ -1,4 +1,4 @@
-use Rattle.std.proofs.Common.{◌≤◌, ◌+◌, ◌^◌, arith}
+use Rattle.std.proofs.Common.{arith}
 use Rattle.std.specs.Prelude.{pos}
 use Rattle.stage_network.proofs.RankLaws.{ways-binomial, ways-fit}
 use Rattle.stage_network.proofs.tests.ranks.ways.Goals as goal

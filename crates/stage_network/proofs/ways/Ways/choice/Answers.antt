@@ -1,8 +1,7 @@
-use Rattle.std.proofs.Common.{◌≡◌, ◌<◌, ◌+◌, ◌*◌, ◌≤◌, ◌++◌, ◌∷◌, [], ℕ, List, length, get_or, take, drop, map, ap, sym, subst, ◌∙◌, arith, rules, refl}
-use Rattle.std.proofs.lemmas.List.{get_or_read}
+use Rattle.std.proofs.Common.{◌<◌, length, get_or, ap, sym, ◌∙◌, arith}
 use Rattle.stage_network.specs.declared.arcs.Arc.{Arc}
-use Rattle.stage_network.specs.WaySteps.{Way, WayList, IsPlace, ways_of}
-use Rattle.stage_network.proofs.WayLists.{length-ways, ways-at, way_at, ways-push, link-ways, more-ways, next-read, choice-fits}
+use Rattle.stage_network.specs.WaySteps.{Way, WayList}
+use Rattle.stage_network.proofs.WayLists.{length-ways, ways-at, choice-fits}
 use Rattle.stage_network.proofs.ways.Ways.choice.Goals as goal
 
 pub choice_at-requires : goal.choice_at-requires

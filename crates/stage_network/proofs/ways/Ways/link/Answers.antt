@@ -1,8 +1,7 @@
-use Rattle.std.proofs.Common.{◌≡◌, ◌<◌, ◌+◌, ◌*◌, ◌≤◌, ◌++◌, ◌∷◌, [], ℕ, List, length, get_or, take, drop, map, ap, sym, subst, ◌∙◌, arith, rules, refl}
+use Rattle.std.proofs.Common.{◌≡◌, ◌<◌, ◌++◌, ◌∷◌, [], length, get_or, ap, sym, ◌∙◌, arith}
 use Rattle.std.proofs.lemmas.List.{get_or_read, length_push}
-use Rattle.stage_network.specs.declared.arcs.Arc.{Arc}
-use Rattle.stage_network.specs.WaySteps.{Way, WayList, IsPlace, ways_of}
-use Rattle.stage_network.proofs.WayLists.{length-ways, ways-at, way_at, ways-push, link-ways, more-ways, next-read, choice-fits}
+use Rattle.stage_network.specs.WaySteps.{WayList}
+use Rattle.stage_network.proofs.WayLists.{ways-push, link-ways}
 use Rattle.stage_network.proofs.ways.Ways.link.Goals as goal
 
 pub invariant_of-self-2 : goal.invariant_of-self-2

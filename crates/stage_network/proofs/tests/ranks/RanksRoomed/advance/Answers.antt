@@ -1,8 +1,8 @@
-use Rattle.std.proofs.Common.{◌≡◌, ◌∙◌, ◌<◌, ◌≤◌, ◌+◌, ◌*◌, ◌++◌, ℕ, List, [], ◌∷◌, length, drop, ap, sym, subst, refl, arith}
+use Rattle.std.proofs.Common.{◌≡◌, ◌∙◌, ◌≤◌, ◌+◌, ◌++◌, ℕ, List, [], ◌∷◌, length, ap, sym, arith}
 use Rattle.std.specs.Prelude.{ℤ, pos, ◌+ℤ◌}
 use Rattle.std.proofs.lemmas.Int.{ints}
 use Rattle.std.proofs.lemmas.List.{length-append}
-use Rattle.stage_network.specs.TestRanks.{at, rank_network, rank_step}
+use Rattle.stage_network.specs.TestRanks.{at, rank_step}
 use Rattle.stage_network.proofs.RankLaws.{Ranked, ranked, small_sum, one_item}
 use Rattle.stage_network.proofs.RankRooms.{partial-at, step-next, step-small}
 use Rattle.stage_network.proofs.tests.ranks.RanksRoomed.advance.Goals as goal

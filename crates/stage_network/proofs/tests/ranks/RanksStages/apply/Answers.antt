@@ -1,9 +1,8 @@
-use Rattle.std.proofs.Common.{◌≡◌, ◌∙◌, ◌<◌, ◌≤◌, ◌+◌, ◌*◌, ℕ, [], ◌∷◌, ap, sym, subst, refl, arith, eqb, false, get_or}
+use Rattle.std.proofs.Common.{◌≡◌, ◌∙◌, ◌≤◌, ◌+◌, ℕ, ap, arith, eqb, false, get_or}
 use Rattle.std.proofs.lemmas.Bool.Decides.{nat_tests}
-use Rattle.std.specs.Prelude.{ℤ, pos, slice_index_or, ◌+ℤ◌, ◌-ℤ◌}
+use Rattle.std.specs.Prelude.{pos, slice_index_or}
 use Rattle.std.proofs.lemmas.Int.{ints}
-use Rattle.stage_network.specs.TestRanks.{rank_network}
-use Rattle.stage_network.proofs.RankLaws.{Ranked, ranked, rank_total, small_sum, three_items, three_same}
+use Rattle.stage_network.proofs.RankLaws.{Ranked, ranked, small_sum, three_items, three_same}
 use Rattle.stage_network.proofs.tests.ranks.RanksStages.apply.Goals as goal
 
 pub overflow_add-next-else-choice-eq0 : goal.overflow_add-next-else-choice-eq0

@@ -1,5 +1,5 @@
-use Rattle.std.proofs.Common.{◌≡◌, ◌∙◌, ℕ, [], ◌∷◌, refl, arith}
-use Rattle.std.specs.Prelude.{ℤ, pos}
+use Rattle.std.proofs.Common.{◌∙◌, refl, arith}
+use Rattle.std.specs.Prelude.{pos}
 use Rattle.stage_network.proofs.RankLaws.{three_items, three_same}
 use Rattle.std.proofs.lemmas.Int.{ints}
 use Rattle.stage_network.proofs.tests.ranks.RanksStages.first_key.Goals as goal

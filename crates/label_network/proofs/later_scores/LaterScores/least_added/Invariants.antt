@@ -1,8 +1,0 @@
-use Rattle.label_network.specs.Meanings.{sizes_in}
-use Rattle.label_network.specs.Linear.{picked}
-use Rattle.label_network.specs.LaterSums.{later_scores}
-use Rattle.label_network.specs.LinearSteps.{IsAdding}
-use Rattle.label_network.proofs.later_scores.LaterScores.least_added.Given as goal
-
-abbrev pub invariant-loop-i : goal.invariant-loop-i
-invariant-loop-i l = IsAdding l.rows (picked l.order (sizes_in l.remaining)) (later_scores l.self.scores.items l.self.columns.items l.stage) l.i l.left l.sum

@@ -1,0 +1,78 @@
+-- One arc: what is known of it by its own numbers, and of each node that it starts from.
+use Rattle.std.proofs.Common.{◌≡◌, ℕ, ◌+◌, ◌-◌, ◌*◌, ◌<◌, ◌≤◌, List, [], ◌++◌, length, get_or, take, drop, ap, arith, refl, sym, ◌∙◌, subst}
+use Rattle.std.specs.Prelude.{ℤ}
+use Rattle.std.specs.List.{Contains}
+use Rattle.node_pool.specs.Nodes.{Node, node, weighted}
+use Rattle.stage_network.specs.Network.{Network, IsReached}
+use Rattle.stage_network.specs.NodeSteps.{AllReached, AreNodes}
+use Rattle.stage_network.specs.Rooms.{IsWay}
+use Rattle.stage_network.specs.WaySteps.{Way, AllFine, IsChoiceOf, IsFine, IsRun, chosen, segment, way_nodes}
+use Rattle.stage_network.proofs.Roomwise.{all_at, heavy_at, heavy-arc, pour-fits, pour-more, whole-key}
+use Rattle.stage_network.proofs.Stepping.{reached_at}
+
+-- an arc of a list, by what was read of it
+pub way_is : (ways : List Way) (i start end weight : ℕ) (choice : List ℕ) → ((d : Way) → start ≡ (get_or ways i d).start) → ((d : Way) → end ≡ (get_or ways i d).end) → ((d : Way) → weight ≡ (get_or ways i d).weight) → ((d : Way) → choice ≡ (get_or ways i d).choice) → (d : Way) → get_or ways i d ≡ record { start = start; end = end; choice = choice; weight = weight; target = (get_or ways i d).target }
+way_is ways i start end weight choice s e w c d = rw (s d, e d, w d, c d) refl
+
+abbrev pub no_way : Way
+no_way = record { start = 0; end = 0; choice = []; weight = 0; target = 0 }
+
+pub fine_is : (n : Network) (g width : ℕ) (nodes rooms : List Node) (ways : List Way) → AllFine n g width nodes rooms ways → (i start end weight : ℕ) (choice : List ℕ) → i < length ways → ((d : Way) → start ≡ (get_or ways i d).start) → ((d : Way) → end ≡ (get_or ways i d).end) → ((d : Way) → weight ≡ (get_or ways i d).weight) → ((d : Way) → choice ≡ (get_or ways i d).choice) → IsFine n g width nodes rooms (record { start = start; end = end; choice = choice; weight = weight; target = (get_or ways i no_way).target })
+fine_is n g width nodes rooms ways fine i start end weight choice low s e w c =
+    subst (IsFine n g width nodes rooms) (way_is ways i start end weight choice s e w c no_way) (all_at (IsFine n g width nodes rooms) ways i no_way fine low)
+
+-- its nodes
+pub nodes_are : (n : Network) (g : ℕ) (nodes : List Node) (ways : List Way) (i start end weight : ℕ) (choice : List ℕ) → ((d : Way) → start ≡ (get_or ways i d).start) → ((d : Way) → end ≡ (get_or ways i d).end) → ((d : Way) → weight ≡ (get_or ways i d).weight) → ((d : Way) → choice ≡ (get_or ways i d).choice) → (f : List ℤ → ℕ) → weighted f (way_nodes n g nodes (get_or ways i no_way)) ≡ weighted f (chosen n g choice (segment start end nodes))
+nodes_are n g nodes ways i start end weight choice s e w c f = ap (λ a. weighted f (way_nodes n g nodes a)) (way_is ways i start end weight choice s e w c no_way)
+
+-- the room of its nodes is that of a reached key, where the choice is allowed
+pub way_of_room : (n : Network) (g width start end weight : ℕ) (nodes : List Node) (choice : List ℕ) (room : List ℤ) → AreNodes n g nodes → IsChoiceOf n g nodes start end choice weight → length room ≡ width → ((d : Node) → room ≡ take width (get_or nodes start d).key) → IsWay n width g room choice
+way_of_room n g width start end weight nodes choice room are fine wide here =
+    let d : Node = node [] 0 in
+    let k : List ℤ = (get_or nodes start d).key in
+    let key : room ++ drop width k ≡ k = whole-key width room (drop width k) k (here d) refl in
+    record {
+      partial = drop width k;
+      wide = wide;
+      reached = subst (IsReached n g) (sym key) (reached_at n g nodes start d are.reached (omega (arith, fine.order, fine.last)));
+      allowed = subst (λ j. Contains (n.choices g j) choice) (sym key) (fine.allowed start d (omega arith) fine.order);
+    }
+
+-- one of its nodes, by its partial and its weight
+module _ (n : Network) (g width : ℕ) (nodes : List Node) (are : AreNodes n g nodes) (start end weight : ℕ) (choice : List ℕ) (fine : IsChoiceOf n g nodes start end choice weight) (run : IsRun width nodes start end) (room : List ℤ) (here : (d : Node) → room ≡ take width (get_or nodes start d).key) (i : ℕ) (from : start ≤ i) (below : i < end) (partial : List ℤ) (rest : (d : Node) → partial ≡ drop width (get_or nodes i d).key) where
+  key : (d : Node) → room ++ partial ≡ (get_or nodes i d).key
+  key d = whole-key width room partial (get_or nodes i d).key (here d ∙ sym (run i d from below)) (rest d)
+
+  low : i < length nodes
+  low = omega (arith, below, fine.last)
+
+  pub start-reached : IsReached n g (room ++ partial)
+  start-reached = let d : Node = node [] 0 in subst (IsReached n g) (sym (key d)) (reached_at n g nodes i d are.reached low)
+
+  pub start-allowed : Contains (n.choices g (room ++ partial)) choice
+  start-allowed = let d : Node = node [] 0 in subst (λ k. Contains (n.choices g k) choice) (sym (key d)) (fine.allowed i d from below)
+
+  module _ (count : ℕ) (weighs : (d : Node) → count ≡ (get_or nodes i d).weight) (f : List ℤ → ℕ) where
+    arc-value : (d : Node) → ((get_or nodes i d).weight * n.weight g (get_or nodes i d).key choice) * f (n.next g (get_or nodes i d).key choice) ≡ (count * weight) * f (n.next g (room ++ partial) choice)
+    arc-value d = rw (← weighs d, fine.weighs i d from below, ← key d) refl
+
+    pub start-more : weighted f (chosen n g choice (take ((i + 1) - start) (segment start end nodes))) ≡ weighted f (chosen n g choice (take (i - start) (segment start end nodes))) + (count * weight) * f (n.next g (room ++ partial) choice)
+    start-more = let d : Node = node [] 0 in pour-more n g choice f nodes start end i d from below fine.last ∙ ap (λ m. weighted f (chosen n g choice (take (i - start) (segment start end nodes))) + m) (arc-value d)
+
+    pub start-fits : weighted f (chosen n g choice (take (i - start) (segment start end nodes))) + (count * weight) * f (n.next g (room ++ partial) choice) ≤ weighted f (chosen n g choice (segment start end nodes))
+    start-fits = let d : Node = node [] 0 in omega (arith, pour-fits n g choice f nodes start end i d from below fine.last, arc-value d)
+
+  pub start-heavy : (count : ℕ) → ((d : Node) → count ≡ (get_or nodes i d).weight) → 1 ≤ count * weight
+  start-heavy count weighs =
+      let d : Node = node [] 0 in
+      heavy-arc count weight (rw (weighs d) (heavy_at nodes i d are.heavy low))
+      (rw (← fine.weighs i d from below) (are.lawful.weighty g (get_or nodes i d).key choice (reached_at n g nodes i d are.reached low) (fine.allowed i d from below)))
+
+-- a key that was written from a node's room and partial
+pub key_is : (nodes : List Node) (i width : ℕ) (k r p : List ℤ) → k ≡ r ++ p → ((d : Node) → r ≡ take width (get_or nodes i d).key) → ((d : Node) → p ≡ drop width (get_or nodes i d).key) → (d : Node) → k ≡ (get_or nodes i d).key
+key_is nodes i width k r p e room partial d = e ∙ whole-key width r p (get_or nodes i d).key (room d) (partial d)
+
+pub reached-key : (n : Network) (g : ℕ) (nodes : List Node) (i width : ℕ) (k r p : List ℤ) → AllReached n g nodes → i < length nodes → k ≡ r ++ p → ((d : Node) → r ≡ take width (get_or nodes i d).key) → ((d : Node) → p ≡ drop width (get_or nodes i d).key) → IsReached n g k
+reached-key n g nodes i width k r p reached low e room partial =
+    let d : Node = node [] 0 in
+    subst (IsReached n g) (sym (key_is nodes i width k r p e room partial d)) (reached_at n g nodes i d reached low)

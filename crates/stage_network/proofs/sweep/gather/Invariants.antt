@@ -1,0 +1,24 @@
+use Rattle.std.proofs.Common.{◌≡◌, ◌+◌, ℕ, List}
+use Rattle.std.specs.Prelude.{ℤ}
+use Rattle.std.specs.List.{IsDistinct}
+use Rattle.node_pool.specs.Nodes.{Node, key_eq, keys, weighted}
+use Rattle.stage_network.specs.Network.{Network}
+use Rattle.stage_network.specs.NodeSteps.{AllHeavy}
+use Rattle.stage_network.specs.WaySteps.{firsts, spread_out}
+use Rattle.stage_network.specs.SweepSteps.{closed_at, staying}
+use Rattle.stage_network.proofs.sweep.gather.Given as goal
+
+-- the rooms before this one are settled
+abbrev pub invariant-loop-target : goal.invariant-loop-target
+invariant-loop-target g l =
+    let n : Network = g.S.Stages.network l.stages in
+    let done : List Node = spread_out n l.stage l.nodes.nodes (firsts l.target l.ways.ways) in
+    record {
+      sum : l.more ≡ l.sum + weighted (closed_at n l.tail (l.stage + 1)) done;
+      told : (f : List ℤ → ℕ) → weighted f l.kept.nodes ≡ weighted f (staying n l.tail (l.stage + 1) done);
+      distinct : IsDistinct key_eq (keys l.kept.nodes);
+      heavy : AllHeavy l.kept.nodes;
+      wide : l.work.width ≡ l.fn.work.width;
+      there : l.kept.room_width ≡ g.S.Roomed.room_width l.stages;
+      deep : l.kept.width ≡ l.fn.kept.width;
+    }

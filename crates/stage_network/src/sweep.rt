@@ -1,0 +1,171 @@
+// One sweep through the stages, room by room: with a tail only its open keys are kept, and without
+// one every key is.
+ghost use Rattle.std.specs.Prelude.{◌≡◌, ℕ, ℤ, ◌+◌, ◌<◌, ◌≤◌, List, [], ◌∷◌, length, drop, OnOk, IfOk};
+ghost use Rattle.std.specs.List.{IsDistinct};
+ghost use Rattle.weights.specs.declared.TheConstants.{MAX};
+ghost use Rattle.node_pool.specs.Nodes.{key_eq, keys, node, weighted};
+ghost use Rattle.stage_network.specs.Completions.{total_weight};
+ghost use Rattle.stage_network.specs.Rooms.{IsRoomed};
+ghost use Rattle.stage_network.specs.NodeSteps.{AreNodes, AllHeavy, AllReached};
+ghost use Rattle.stage_network.specs.WaySteps.{AreWays, spread_out};
+ghost use Rattle.stage_network.specs.SweepSteps.{IsSwept, closed_at, staying};
+
+use crate::keys::{behind, front};
+use crate::nodes::StageNodes;
+use crate::rooms::{fill, list_ways};
+use crate::settling::settle;
+use crate::stages::{Roomed, Stages};
+use crate::ways::Ways;
+use node_pool::NodePool;
+use std::alloc::Global;
+use std::mem;
+use weights::{Count, Narrow, NoMemory, Tail};
+
+/// The nodes of the last stage that are kept, the weight that was closed on the way, and how many
+/// nodes were kept in all.
+#[derive(Drop)]
+pub struct Swept<C: Count> {
+    pub nodes: StageNodes<C>,
+    pub sum: u128,
+    pub opened: u128,
+}
+
+// Fills the rooms of the next stage, one after another, and settles each.
+fn gather<C: Count, S: Roomed>(
+    stages: &S,
+    stage: usize,
+    tail: Option<Tail>,
+    nodes: &StageNodes<C>,
+    rooms: &NodePool<Narrow>,
+    ways: &Ways,
+    step: &mut [i128],
+    next: &mut [i128],
+    sum: u128,
+    work: &mut NodePool<C>,
+    kept: &mut StageNodes<C>,
+) -> Result<u128, NoMemory>
+    requires nodes { AreNodes (S.Stages.network stages.now) stage nodes.now.nodes }
+    requires here { nodes.now.room_width ≡ S.room_width stages.now }
+    requires small { rooms.now.width ≡ S.room_width stages.now }
+    requires ways { let n = S.Stages.network stages.now in
+        let width = S.room_width stages.now in
+        AreWays n stage width nodes.now.nodes rooms.now.nodes ways.now }
+    requires step { length step.old ≡ S.step_width stages.now }
+    requires next { length next.old ≡ work.old.width }
+    requires wide { S.room_width stages.now + work.old.width ≡ (S.Stages.network stages.now).width }
+    requires there { kept.old.room_width ≡ S.room_width stages.now }
+    requires deep { kept.old.width ≡ (S.Stages.network stages.now).width }
+    requires empty { kept.old.nodes ≡ [] }
+    requires limit { let n = S.Stages.network stages.now in
+        let all = spread_out n stage nodes.now.nodes ways.now.ways in
+        weighted (total_weight n (stage + 1)) all ≤ C.LIMIT }
+    requires fits { let n = S.Stages.network stages.now in
+        let all = spread_out n stage nodes.now.nodes ways.now.ways in
+        sum + weighted (total_weight n (stage + 1)) all ≤ MAX }
+    ensures step { OnOk result (length step.new ≡ length step.old) }
+    ensures next { OnOk result (length next.new ≡ length next.old) }
+    ensures work { OnOk result (work.new.width ≡ work.old.width) }
+    ensures there { OnOk result (kept.new.room_width ≡ S.room_width stages.now) }
+    ensures deep { OnOk result (kept.new.width ≡ kept.old.width) }
+    ensures heavy { OnOk result (AllHeavy kept.new.nodes) }
+    ensures distinct { OnOk result (IsDistinct key_eq (keys kept.new.nodes)) }
+    ensures told { let n = S.Stages.network stages.now in
+        let all = spread_out n stage nodes.now.nodes ways.now.ways in
+        OnOk result ((f : List ℤ → ℕ)
+        → weighted f kept.new.nodes ≡ weighted f (staying n tail (stage + 1) all)) }
+    ensures sum { let n = S.Stages.network stages.now in
+        let all = spread_out n stage nodes.now.nodes ways.now.ways in
+        IfOk result (λ more. more ≡ sum + weighted (closed_at n tail (stage + 1)) all) }
+{
+    let _count = stages.stages();
+    let _width = stages.room_width();
+    let mut more = sum;
+    for target in 0..rooms.len() {
+        work.clear();
+        fill(stages, stage, nodes, rooms, ways, target, step, next, work)?;
+        let _apart = work.len();
+        more = settle(stages, stage + 1, tail, work, rooms.key(target), more, kept)?;
+    }
+    Ok(more)
+}
+
+// The pool of the one partial of stage 0, behind its room.
+fn start<C: Count, S: Roomed>(
+    alloc: Global,
+    stages: &S,
+    width: usize,
+    key: &mut [i128],
+) -> Result<NodePool<C>, NoMemory>
+    requires roomed { IsRoomed (S.Stages.network stages.now) width }
+    requires key { length key.old ≡ (S.Stages.network stages.now).width }
+    requires limit { let n = S.Stages.network stages.now in total_weight n 0 n.first ≤ C.LIMIT }
+    ensures wide { let n = S.Stages.network stages.now in
+        IfOk result (λ pool. width + pool.width ≡ n.width) }
+    ensures nodes { let n = S.Stages.network stages.now in
+        IfOk result (λ pool. pool.nodes ≡ node (drop width n.first) 1 ∷ []) }
+    ensures key { OnOk result (key.new ≡ (S.Stages.network stages.now).first) }
+{
+    let _stages = stages.stages();
+    let mut nodes = NodePool::new(alloc, stages.width() - width)?;
+    stages.first_key(key);
+    nodes.reserve(1)?;
+    match C::of(1) {
+        Some(one) => nodes.add(behind(key, width), one),
+        None => unreachable!(),
+    }
+    Ok(nodes)
+}
+
+/// Sweeps through the stages.
+pub fn sweep<C: Count, S: Roomed>(
+    alloc: Global,
+    stages: &S,
+    tail: Option<Tail>,
+) -> Result<Swept<C>, NoMemory>
+    requires limit { let n = S.Stages.network stages.now in total_weight n 0 n.first ≤ C.LIMIT }
+    ensures swept { let n = S.Stages.network stages.now in
+        IfOk result (λ all. IsSwept n tail all.sum all.opened all.nodes.nodes) }
+    ensures wide { IfOk result (λ all. all.nodes.width ≡ (S.Stages.network stages.now).width) }
+    ensures reached { let n = S.Stages.network stages.now in
+        IfOk result (λ all. AllReached n n.count all.nodes.nodes) }
+    ensures fits { IfOk result (λ all. weighted (λ k. 1) all.nodes.nodes ≤ MAX) }
+{
+    let count = stages.stages();
+    let width = stages.room_width();
+    let partial_width = stages.width() - width;
+    let mut choices = vec![in alloc; 0u64; stages.choice_width()]?;
+    let choice = choices.as_mut_slice();
+    let mut keys = vec![in alloc; 0i128; stages.width()]?;
+    let key = keys.as_mut_slice();
+    let mut next_keys = vec![in alloc; 0i128; stages.width()]?;
+    let next_key = next_keys.as_mut_slice();
+    let mut steps = vec![in alloc; 0i128; stages.step_width()]?;
+    let step = steps.as_mut_slice();
+    let mut partials = vec![in alloc; 0i128; partial_width]?;
+    let next = partials.as_mut_slice();
+    let mut work = start::<C, S>(alloc, stages, width, key)?;
+    let mut here = StageNodes::<C>::new(alloc, width, partial_width);
+    let mut ahead = StageNodes::<C>::new(alloc, width, partial_width);
+    let mut rooms = NodePool::<Narrow>::new(alloc, width)?;
+    let mut ways = Ways::new(alloc, stages.choice_width());
+    let mut sum = settle(stages, 0, tail, &work, front(key, width), 0, &mut here)?;
+    let mut opened = here.len() as u128;
+    for stage in 0..count {
+        rooms.clear();
+        ways.clear();
+        list_ways(
+            stages, stage, &here, width, key, choice, next_key, &mut rooms, &mut ways,
+        )?;
+        ahead.clear();
+        sum = gather(
+            stages, stage, tail, &here, &rooms, &ways, step, next, sum, &mut work, &mut ahead,
+        )?;
+        mem::swap(&mut here, &mut ahead);
+        opened += here.len() as u128;
+    }
+    Ok(Swept {
+        nodes: here,
+        sum,
+        opened,
+    })
+}
