@@ -3,7 +3,7 @@ mod BinaryBlocks
 mod LayoutVectors
 mod OrderLemmas
 mod PooledLemmas
-mod Rearranged
+pub mod Rearranged
 mod Sizes
 pub mod SortedOnce
 mod SubjectLemmas

@@ -81,8 +81,8 @@ impl Labels {
         Ok(number)
     }
 
-    // The same labels again.
-    pub(crate) fn copy(&self) -> Result<Labels, NoMemory>
+    /// The same labels in memory of their own.
+    pub fn copy(&self) -> Result<Labels, NoMemory>
         ensures { IfOk result (λ copy. copy ≡ self.now) }
     {
         let mut copy = Labels::empty(*self.labels.allocator());

@@ -1,0 +1,6 @@
+mod PooledValues
+mod TieColumns
+mod ScoreSums
+mod ColumnValues
+mod FittingTests
+mod Vectors

@@ -1,0 +1,42 @@
+use Rattle.std.proofs.Common.{◌≡◌, ◌∙◌, refl, ap, arith, rules, FitsSigned}
+use Rattle.std.specs.Prelude.{pos, ◌*ℤ◌}
+use mir.Syntax.{w128}
+use mir.Val.{to_z, of_z}
+use Rattle.std.proofs.lemmas.Int.{to_z-of_z}
+use Rattle.label_network.specs.LaterSums.{total_score}
+use Rattle.two_sample_tests.specs.TwoSamples.{second_sum}
+use Rattle.two_sample_tests.proofs.FittingTests.{centre-fits, far-fits, sum-within}
+use Rattle.two_sample_tests.proofs.ScoreSums.{second-within}
+use Rattle.two_sample_tests.proofs.scored_samples.frame_of.Goals as goal
+
+pub second_sum-statistic-requires : goal.second_sum-statistic-requires
+second_sum-statistic-requires c = rw c.as_slice-scores.ensures (sum-within _ _ c.requires.some c.requires.bound)
+
+pub total_score-requires : goal.total_score-requires
+total_score-requires c = rw c.as_slice-scores.ensures (sum-within _ _ c.requires.some c.requires.bound)
+
+pub times-centre-requires : goal.times-centre-requires
+times-centre-requires c =
+    let t : FitsSigned w128 c.total_score.result = search rules in
+    let whole : to_z w128 (of_z w128 c.total_score.result) ≡ total_score c.args.subjects.now.scored.list = to_z-of_z w128 c.total_score.result t ∙ c.total_score.ensures ∙ ap total_score c.as_slice-scores.ensures in
+    rw whole (centre-fits c.args.second c.args.subjects.now.scored.list c.requires.within c.requires.few c.requires.bound)
+
+pub far-requires : goal.far-requires
+far-requires c =
+    let t : FitsSigned w128 c.total_score.result = search rules in
+    let whole : to_z w128 (of_z w128 c.total_score.result) ≡ total_score c.args.subjects.now.scored.list = to_z-of_z w128 c.total_score.result t ∙ c.total_score.ensures ∙ ap total_score c.as_slice-scores.ensures in
+    let r : FitsSigned w128 c.times-centre.result = search rules in
+    let centre : to_z w128 (of_z w128 c.times-centre.result) ≡ pos c.args.second *ℤ total_score c.args.subjects.now.scored.list = to_z-of_z w128 c.times-centre.result r ∙ c.times-centre.ensures ∙ ap (λ z. pos c.args.second *ℤ z) whole in
+    let v : FitsSigned w128 c.second_sum-statistic.result = search rules in
+    let statistic : to_z w128 (of_z w128 c.second_sum-statistic.result) ≡ second_sum c.args.subjects.now.scored.list c.args.subjects.now.marks = to_z-of_z w128 c.second_sum-statistic.result v ∙ c.second_sum-statistic.ensures ∙ ap (λ ss. second_sum ss c.as_slice.result.now) c.as_slice-scores.ensures ∙ ap (second_sum c.args.subjects.now.scored.list) c.as_slice.ensures in
+    rw (c.as_slice-scores.ensures, centre, statistic) (far-fits c.args.second c.args.subjects.now.scored.list c.requires.within c.requires.few c.requires.bound 0 (omega arith) (second_sum c.args.subjects.now.scored.list c.args.subjects.now.marks) (second-within c.args.subjects.now.scored.list c.args.subjects.now.marks))
+
+pub returns : goal.returns
+returns c =
+    let t : FitsSigned w128 c.total_score.result = search rules in
+    let whole : to_z w128 (of_z w128 c.total_score.result) ≡ total_score c.args.subjects.now.scored.list = to_z-of_z w128 c.total_score.result t ∙ c.total_score.ensures ∙ ap total_score c.as_slice-scores.ensures in
+    let r : FitsSigned w128 c.times-centre.result = search rules in
+    let centre : to_z w128 (of_z w128 c.times-centre.result) ≡ pos c.args.second *ℤ total_score c.args.subjects.now.scored.list = to_z-of_z w128 c.times-centre.result r ∙ c.times-centre.ensures ∙ ap (λ z. pos c.args.second *ℤ z) whole in
+    let v : FitsSigned w128 c.second_sum-statistic.result = search rules in
+    let statistic : to_z w128 (of_z w128 c.second_sum-statistic.result) ≡ second_sum c.args.subjects.now.scored.list c.args.subjects.now.marks = to_z-of_z w128 c.second_sum-statistic.result v ∙ c.second_sum-statistic.ensures ∙ ap (λ ss. second_sum ss c.as_slice.result.now) c.as_slice-scores.ensures ∙ ap (second_sum c.args.subjects.now.scored.list) c.as_slice.ensures in
+    rw (statistic, c.far.ensures, c.as_slice-scores.ensures, centre, statistic) refl

@@ -1,0 +1,61 @@
+// Both ways to the answer of a test of two samples.
+use crate::sums::second_sum;
+use crate::two_sample::TwoSample;
+use enumerate::{Plain, first_labelling, next_labelling};
+use label_network::{LabelStages, LinearMeasure};
+use stage_network::{Judge, Prepared};
+use std::alloc::Global;
+use weights::{Bytes, Frame, NoMemory, Tail};
+
+impl Plain for TwoSample {
+    ghost use Rattle.two_sample_tests.specs.TwoSamples.{two_sample_test};
+
+    ghost test = { two_sample_test };
+
+    fn first(&self, alloc: Global) -> Result<Bytes, NoMemory> {
+        first_labelling(alloc, self.made().sizes.as_slice())
+    }
+
+    fn next(&self, labels: &mut Bytes) -> bool {
+        next_labelling(labels.as_mut_slice())
+    }
+
+    fn weight(&self, _labels: &[u8]) -> u128 {
+        1
+    }
+
+    fn extreme(&self, labels: &[u8], tail: Tail) -> bool {
+        self.frame().rule(tail).passes(self.value(labels))
+    }
+
+    fn value(&self, labels: &[u8]) -> i128 {
+        second_sum(self.made().scores.as_slice(), labels)
+    }
+}
+
+impl Prepared for TwoSample {
+    ghost use Rattle.two_sample_tests.specs.Columns.{two_sample_network};
+
+    type Built = LabelStages<LinearMeasure>;
+
+    ghost network = { two_sample_network };
+
+    fn frame(&self) -> Frame {
+        self.made().frame
+    }
+
+    fn has_tail(&self, _tail: Tail) -> bool {
+        true
+    }
+
+    fn stages_of(&self, alloc: Global, tail: Tail) -> Result<Self::Built, NoMemory> {
+        let made = self.made();
+        let rule = made.frame.rule(tail);
+        let rows = made.sizes.as_slice();
+        let columns = made.columns.sizes.as_slice();
+        let scores = made.columns.scores.as_slice();
+        let judge = Judge { tail, rule };
+        let measure = LinearMeasure::new(alloc, &[0, 1], rows, scores, columns, judge)?;
+        LabelStages::new(alloc, columns, rows, measure)
+    }
+}
