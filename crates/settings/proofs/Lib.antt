@@ -1,0 +1,5 @@
+pub mod GivenOnce
+pub mod ClapWalk
+pub mod ClapFinds
+pub mod UsableSettings
+pub mod Vectors

@@ -1,0 +1,11 @@
+pub mod Names
+pub mod Tests
+pub mod Faults
+pub mod Values
+pub mod Options
+pub mod Words
+pub mod Meaning
+pub mod Usable
+pub mod Help
+pub mod ClapLine
+pub mod WordSteps

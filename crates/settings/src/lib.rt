@@ -1,0 +1,17 @@
+//! The words of the command line, read and given meaning.
+#![tactic(auto)]
+
+mod clap_line;
+mod command_line;
+mod names;
+mod settings;
+mod tails;
+#[cfg(test)]
+mod tests;
+mod values;
+mod words;
+
+pub use command_line::{CommandLine, help_text, read};
+pub use names::{OptionName, TestName, UsageFault};
+pub use settings::{FileName, Nums64, Settings};
+pub use tails::TailChoice;

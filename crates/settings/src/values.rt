@@ -1,0 +1,104 @@
+// The values of options, read from their texts.
+ghost use Rattle.std.specs.Prelude.{◌≡◌, ◌<◌, ◌+◌, IfOk, drop, length, slice_index_or, [], bytes_eq};
+ghost use Rattle.std.specs.List.{list_any};
+ghost use Rattle.std.specs.Option.{ok_or};
+ghost use Rattle.settings.specs.Faults.{Meets};
+ghost use Rattle.settings.specs.Values.{are_distinct, are_labels, columns_of, is_empty, labels_in, order_of, separator_of};
+ghost use Rattle.settings.specs.declared.names.OptionName.TheVariants as option;
+
+use crate::names::{OptionName, UsageFault};
+use number_text::{read_list, trim};
+use sample_reader::Labels;
+use std::alloc::Global;
+use weights::NoMemory;
+
+// The byte between two fields that a word names.
+pub(crate) fn separator_of(word: &str) -> Option<u8>
+    ensures { result ≡ separator_of word.now }
+{
+    match word {
+        "comma" => Some(b','),
+        "semicolon" => Some(b';'),
+        "tab" => Some(b'\t'),
+        _ => None,
+    }
+}
+
+// The two fields that a list picks.
+pub(crate) fn columns_of(text: &str) -> Option<[u64; 2]>
+    ensures { result ≡ columns_of text.now }
+{
+    let mut columns = [0; 2];
+    let count = read_list(text.as_bytes(), 1, 1000, &mut columns)?;
+    let [first, second] = columns;
+    if count != 2 || first == second {
+        return None;
+    }
+    Some([first as u64, second as u64])
+}
+
+// The labels that a text lists.
+pub(crate) fn order_of(alloc: Global, text: &str) -> Result<Labels, UsageFault>
+    ensures { Meets (ok_or (order_of text.now) (UsageFault.Value option.Order)) result }
+{
+    let labels = labels_in(alloc, text.as_bytes())?;
+    if !are_labels(&labels) {
+        return Err(UsageFault::Value(OptionName::Order));
+    }
+    Ok(labels)
+}
+
+// The texts between the commas, without the blanks around each.
+fn labels_in(alloc: Global, text: &[u8]) -> Result<Labels, NoMemory>
+    ensures { IfOk result (λ labels. labels ≡ labels_in text.now) }
+{
+    let mut labels = Labels::empty(alloc);
+    for part in text.split(|byte| *byte == b',') {
+        labels.push(trim(part))?;
+    }
+    Ok(labels)
+}
+
+// 2 to 8 labels, none empty, no two equal.
+fn are_labels(labels: &Labels) -> bool
+    ensures { result ≡ are_labels labels.now }
+{
+    2 <= labels.len() && labels.len() <= 8 && !has_empty(labels) && are_distinct(labels)
+}
+
+fn has_empty(labels: &Labels) -> bool
+    ensures { result ≡ list_any is_empty labels.now }
+{
+    for number in 0..labels.len() {
+        if labels.label(number).is_empty() {
+            return true;
+        }
+    }
+    false
+}
+
+fn are_distinct(labels: &Labels) -> bool
+    ensures { result ≡ are_distinct labels.now }
+{
+    for number in 0..labels.len() {
+        if stands_after(labels, number) {
+            return false;
+        }
+    }
+    true
+}
+
+// Whether a label stands once more after its place.
+fn stands_after(labels: &Labels, number: usize) -> bool
+    requires { number < length labels.now }
+    ensures { result ≡ list_any (bytes_eq (slice_index_or labels.now number []))
+        (drop (number + 1) labels.now) }
+{
+    let count = labels.len();
+    for later in number + 1..count {
+        if labels.label(number) == labels.label(later) {
+            return true;
+        }
+    }
+    false
+}
