@@ -1,0 +1,4 @@
+pub mod AnswerLemmas
+pub mod Quotients
+pub mod ReportLemmas
+mod Vectors

@@ -1,0 +1,4 @@
+pub mod Decimals
+pub mod Report
+pub mod Refusals
+pub mod DecimalSteps

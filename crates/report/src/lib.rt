@@ -1,0 +1,19 @@
+//! The text of a report, and the line that tells why there is none.
+#![tactic(auto)]
+
+mod answer_lines;
+mod composing;
+mod decimals;
+mod heading_lines;
+mod headings;
+mod pieces;
+mod refusals;
+mod short_line;
+#[cfg(test)]
+mod tests;
+
+pub use composing::compose;
+pub use decimals::six_decimals;
+pub use headings::{Extra, Sizes, Title};
+pub use refusals::{Refusal, refusal_line};
+pub use short_line::ShortLine;

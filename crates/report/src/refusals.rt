@@ -1,0 +1,152 @@
+// Why there is no report, and the line that says so.
+ghost use Rattle.std.specs.Prelude.{◌≡◌, ◌+◌, ◌≤◌, ◌++◌, length};
+ghost use Rattle.report.specs.Refusals.{fault_text, option_text, refusal_line_text, refusal_text, usage_text, wide_word};
+
+use crate::short_line::ShortLine;
+use record_reader::DataFault;
+use settings::{OptionName, UsageFault};
+use thiserror::Error;
+use weights::{NoMemory, WideOf};
+
+/// Why a run has no report.
+#[derive(Clone, Copy, Debug, PartialEq, Eq, Error)]
+pub enum Refusal {
+    /// The words are refused.
+    #[error(transparent)]
+    Usage(UsageFault),
+    /// An option does not fit the data of the file.
+    #[error("--{} does not fit the data", .0.word())]
+    Unfit(OptionName),
+    /// The data of the file have a fault.
+    #[error(transparent)]
+    Row(DataFault),
+    /// The file is longer than a file may be.
+    #[error("file longer than 1048576 bytes")]
+    TooLong,
+    /// A number of the test passes the greatest that there is.
+    #[error("too wide: {}", word_of(*.0))]
+    TooWide(WideOf),
+    /// A call to the source failed.
+    #[error("read fault")]
+    ReadFault,
+    /// A write of the report failed.
+    #[error("write fault")]
+    WriteFault,
+    /// Memory ran out.
+    #[error("no memory")]
+    NoMemory,
+}
+
+// Adds an option as it is written.
+fn push_option(line: &mut ShortLine, name: OptionName)
+    requires { length line.old ≤ 20 }
+    ensures text { line.new ≡ line.old ++ option_text name }
+    ensures short { length line.new ≤ length line.old + 15 }
+{
+    if name != OptionName::Test {
+        line.push(b"--");
+    }
+    line.push(name.word().as_bytes());
+}
+
+// Adds what is wrong with the words.
+fn push_usage(line: &mut ShortLine, fault: UsageFault)
+    requires { length line.old ≤ 9 }
+    ensures text { line.new ≡ line.old ++ usage_text fault }
+    ensures short { length line.new ≤ 80 }
+{
+    match fault {
+        UsageFault::Form => line.push(b"command line"),
+        UsageFault::Value(name) => {
+            line.push(b"value of ");
+            push_option(line, name);
+        }
+        UsageFault::Pairing(name, test) => {
+            push_option(line, name);
+            line.push(b" with ");
+            line.push(test.word().as_bytes());
+        }
+        UsageFault::NoMemory => line.push(b"no memory"),
+    }
+}
+
+// Adds where a fault of the data is, and what is wrong there.
+fn push_fault(line: &mut ShortLine, fault: DataFault)
+    requires { length line.old ≤ 9 }
+    ensures text { line.new ≡ line.old ++ fault_text fault }
+    ensures short { length line.new ≤ 80 }
+{
+    line.push(b"row ");
+    line.push_number(fault.row);
+    if fault.kind.has_field() {
+        line.push(b" field ");
+        line.push_number(fault.field);
+    }
+    line.push(b": ");
+    line.push(fault.kind.text().as_bytes());
+}
+
+// The word for a number of a test.
+fn word_of(number: WideOf) -> &'static str
+    ensures { result.now ≡ wide_word number }
+{
+    match number {
+        WideOf::Total => "total",
+        WideOf::Statistic => "statistic",
+    }
+}
+
+// Adds the words that tell a refusal.
+fn push_text(line: &mut ShortLine, refusal: Refusal)
+    requires { length line.old ≤ 9 }
+    ensures text { line.new ≡ line.old ++ refusal_text refusal }
+    ensures short { length line.new ≤ 80 }
+{
+    match refusal {
+        Refusal::Usage(fault) => push_usage(line, fault),
+        Refusal::Unfit(name) => {
+            push_option(line, name);
+            line.push(b" does not fit the data");
+        }
+        Refusal::Row(fault) => push_fault(line, fault),
+        Refusal::TooLong => line.push(b"file longer than 1048576 bytes"),
+        Refusal::TooWide(number) => {
+            line.push(b"too wide: ");
+            line.push(word_of(number).as_bytes());
+        }
+        Refusal::ReadFault => line.push(b"read fault"),
+        Refusal::WriteFault => line.push(b"write fault"),
+        Refusal::NoMemory => line.push(b"no memory"),
+    }
+}
+
+/// The line that tells a refusal, with its line feed. It takes no memory.
+pub fn refusal_line(refusal: &Refusal) -> ShortLine
+    ensures { result ≡ refusal_line_text refusal.now }
+{
+    let mut line = ShortLine::empty();
+    line.push(b"refused: ");
+    push_text(&mut line, *refusal);
+    line.push(b"\n");
+    line
+}
+
+impl From<NoMemory> for Refusal {
+    ghost use Rattle.report.specs.declared.refusals.Refusal.TheVariants as refusal;
+
+    ghost from_gives = { λ _ result. result ≡ refusal.NoMemory };
+
+    fn from(_error: NoMemory) -> Refusal {
+        Refusal::NoMemory
+    }
+}
+
+impl From<UsageFault> for Refusal {
+    ghost use Rattle.report.specs.declared.refusals.Refusal.TheVariants as refusal;
+
+    ghost from_gives = { λ fault result. result ≡ refusal.Usage fault };
+
+    fn from(fault: UsageFault) -> Refusal {
+        Refusal::Usage(fault)
+    }
+}
