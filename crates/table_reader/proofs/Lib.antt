@@ -1,0 +1,5 @@
+mod LayoutVectors
+mod Limits
+pub mod Places
+pub mod WholeStrata
+pub mod WholeTable
