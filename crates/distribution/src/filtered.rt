@@ -1,0 +1,68 @@
+// The weight of the lines whose values are extreme.
+ghost use Rattle.std.specs.Prelude.{◌≡◌, ◌≤◌, int_le, nat_le};
+ghost use Rattle.std.specs.List.{All};
+ghost use Rattle.weights.specs.Conditional.{ConditionalTest, by_distance, distance, distribution};
+ghost use Rattle.weights.specs.Conditional.{numerator, observed_statistic};
+ghost use Rattle.weights.specs.declared.TheConstants.{MAX};
+ghost use Rattle.weights.specs.declared.tails.Tail.TheVariants.{Less, Greater, Two};
+ghost use Rattle.weights.specs.Rules.{RuleFits, passes};
+ghost use Rattle.stage_network.specs.Lines.{every, line_sum};
+
+use stage_network::Spread;
+use weights::{Line, Rule};
+
+// The weight of the lines whose values pass a rule.
+fn weight_of(lines: &[Line], rule: Rule) -> u128
+    requires total { line_sum every lines.now ≤ MAX }
+    requires fits { All (λ line. RuleFits rule line.value) lines.now }
+    ensures { result ≡ line_sum (passes rule) lines.now }
+{
+    let mut sum = 0;
+    for line in lines {
+        if rule.passes(line.value) {
+            sum += line.weight;
+        }
+    }
+    sum
+}
+
+/// The weight of the lines with a value of at most this one, where the weights of all lines sum to
+/// at most [`weights::MAX`]. Of the distribution of a test, at the observed statistic, it is the
+/// numerator of the tail `Less`. It takes no memory, and looks at each line once.
+pub fn below(spread: &Spread, value: i128) -> u128
+    requires { line_sum every spread.now ≤ MAX }
+    ensures sum { result ≡ line_sum (λ v. int_le v value) spread.now }
+    ensures law { (test : ConditionalTest) → spread.now ≡ distribution test
+        → value ≡ observed_statistic test → result ≡ numerator test Less }
+{
+    weight_of(spread.as_slice(), Rule::AtMost(value))
+}
+
+/// The weight of the lines with a value of at least this one, where the weights of all lines sum to
+/// at most [`weights::MAX`]. Of the distribution of a test, at the observed statistic, it is the
+/// numerator of the tail `Greater`. It takes no memory, and looks at each line once.
+pub fn above(spread: &Spread, value: i128) -> u128
+    requires { line_sum every spread.now ≤ MAX }
+    ensures sum { result ≡ line_sum (λ v. int_le value v) spread.now }
+    ensures law { (test : ConditionalTest) → spread.now ≡ distribution test
+        → value ≡ observed_statistic test → result ≡ numerator test Greater }
+{
+    weight_of(spread.as_slice(), Rule::AtLeast(value))
+}
+
+/// The weight of the lines with a value that, times a factor, is at least so far apart from a
+/// centre, where the weights of all lines sum to at most [`weights::MAX`] and no such number of a
+/// line passes it. Of the distribution of a test that goes by distance, with the test's factor and
+/// centre and as far apart as the observed statistic, it is the numerator of the tail `Two`. It
+/// takes no memory, and looks at each line once.
+pub fn far(spread: &Spread, factor: u128, centre: i128, apart: u128) -> u128
+    requires total { line_sum every spread.now ≤ MAX }
+    requires fits { All (λ line. RuleFits (Rule.Far factor centre apart) line.value) spread.now }
+    ensures sum { result ≡ line_sum (λ v. nat_le apart (distance factor centre v)) spread.now }
+    ensures law { (test : ConditionalTest) → spread.now ≡ distribution test
+        → test.two_sided ≡ by_distance factor centre
+        → apart ≡ distance factor centre (observed_statistic test)
+        → result ≡ numerator test Two }
+{
+    weight_of(spread.as_slice(), Rule::Far(factor, centre, apart))
+}

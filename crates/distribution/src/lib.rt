@@ -1,0 +1,8 @@
+//! The tails of a test from its whole exact distribution: sums of the weights of lines.
+#![tactic(auto)]
+
+mod filtered;
+#[cfg(test)]
+mod tests;
+
+pub use filtered::{above, below, far};
