@@ -1,15 +1,7 @@
-pub mod Choices
-pub mod Completions
-pub mod Exactly
-pub mod Merging
-pub mod NodeSums
-pub mod PooledLemmas
-pub mod Quotients
-pub mod RankSumLemmas
-pub mod ReportLemmas
-pub mod SecondSums
-pub mod SettingsLemmas
-mod SettingsVectors
-pub mod TailWeights
-pub mod Telling
+pub mod Asking
+pub mod Orders
+pub mod Promised
+pub mod Readings
+pub mod Showable
 mod Vectors
+pub mod Words

@@ -1,10 +1,4 @@
-pub mod Decimals
-pub mod Nodes
+pub mod Questions
 pub mod Outcome
-pub mod PooledRanks
 pub mod Promises
-pub mod RankSum
-pub mod Refusals
-pub mod Report
-pub mod Settings
-pub mod Tails
+pub mod CauseSteps

@@ -1,50 +1,133 @@
--- What the words and the bytes of the file that they name come to: a report, or the first refusal.
-use Rattle.std.specs.Prelude.{ℕ, List, Option, Some, None, Result, Ok, Err, length, nat_lt, if◌then◌else◌}
+-- What the words and the bytes of the file that they name come to: the text of a report, or the
+-- first refusal.
+use Rattle.std.specs.Prelude.{ℕ, List, Bool, true, false, Option, Some, None, Result, Ok, Err, length, nat_lt, if◌then◌else◌}
 use Rattle.std.specs.Option.{option_map}
 use Rattle.outside.specs.declared.source.TheConstants.{LONGEST_FILE}
-use Rattle.weights.specs.Conditional.{ConditionalTest, is_total_too_wide}
-use Rattle.sample_reader.specs.Groups.{GroupData}
+use Rattle.weights.specs.Conditional.{ConditionalTest, distribution}
+use Rattle.weights.specs.Wide.{too_wide}
+use Rattle.weights.specs.declared.lines.Line.{Line}
+use Rattle.weights.specs.declared.tails.Tail.TheVariants as tail
+use Rattle.weights.specs.declared.tails.Tails.{Tails}
+use Rattle.weights.specs.declared.wide.WideOf.{WideOf}
+use Rattle.stage_network.specs.Follows.{answer_of}
+use Rattle.stage_network.specs.declared.answers.Way.{Way}
+use Rattle.stage_network.specs.declared.answers.Way.TheVariants as way
+use Rattle.record_reader.specs.Layouts.{and_then}
 use Rattle.record_reader.specs.Records.{records_of}
-use Rattle.record_reader.specs.declared.faults.LayoutFault.{LayoutFault}
-use Rattle.record_reader.specs.declared.faults.LayoutFault.TheVariants as layout
-use Rattle.sample_reader.specs.GroupLayout.{groups_in}
-use Rattle.exact_run.specs.PooledRanks.{rank_sum_test}
-use Rattle.exact_run.specs.Report.{report_text}
-use Rattle.exact_run.specs.Settings.{meaning_of, picks_in, separator_in}
-use Rattle.exact_run.specs.declared.settings.Options.{Options}
-use Rattle.exact_run.specs.declared.refusals.Refusal.{Refusal}
-use Rattle.exact_run.specs.declared.refusals.Refusal.TheVariants as refusal
+use Rattle.settings.specs.Help.{help}
+use Rattle.settings.specs.Meaning.{meaning_of}
+use Rattle.settings.specs.declared.command_line.CommandLine.{CommandLine}
+use Rattle.settings.specs.declared.command_line.CommandLine.TheVariants as command
+use Rattle.settings.specs.declared.names.OptionName.TheVariants as option
+use Rattle.settings.specs.declared.names.UsageFault.{UsageFault}
+use Rattle.settings.specs.declared.names.UsageFault.TheVariants as usage
+use Rattle.settings.specs.declared.settings.Settings.{Settings}
+use Rattle.settings.specs.declared.tails.TailChoice.{TailChoice}
+use Rattle.settings.specs.declared.tails.TailChoice.TheVariants as choice
+use Rattle.report.specs.Report.{report_text}
+use Rattle.report.specs.declared.headings.Title.TheVariants as title
+use Rattle.report.specs.declared.refusals.Refusal.{Refusal}
+use Rattle.report.specs.declared.refusals.Refusal.TheVariants as refusal
+use Rattle.exact_run.specs.Questions.{Question, question_of}
 
-pub data Outcome : Type 0 where
-  Reports : (text : List ℕ) → Outcome
-  Refuses : (cause : Refusal) → Outcome
+-- the text of the report, or why there is none
+abbrev pub Outcome : Type 0
+Outcome = Result (List ℕ) Refusal
 
--- a test is refused where its total is too wide
-abbrev pub outcome_of_test : GroupData → ConditionalTest → Outcome
-outcome_of_test groups test =
-    if is_total_too_wide test then Refuses refusal.TotalTooWide
-    else Reports (report_text groups test)
+-- ---- a question
 
--- the outcome of a file's data, or of its first fault (of the two faults that a definition gives;
--- the third is want of memory)
-abbrev pub outcome_of_data : Result GroupData LayoutFault → Outcome
-outcome_of_data (Ok groups) = outcome_of_test groups (rank_sum_test groups)
-outcome_of_data (Err layout.Columns) = Refuses refusal.Columns
-outcome_of_data (Err (layout.At fault)) = Refuses (refusal.Data fault)
-outcome_of_data (Err layout.NoMemory) = Refuses refusal.NoMemory
+-- the tails that a test has
+abbrev pub tails_in : ConditionalTest → Tails
+tails_in test = record {
+  less = test.has_tail tail.Less;
+  greater = test.has_tail tail.Greater;
+  two = test.has_tail tail.Two;
+}
 
--- a file is refused for its length before its data; the data are two groups
-unfoldable pub outcome_of_bytes : Options → List ℕ → Outcome
-outcome_of_bytes options bytes =
-    if nat_lt LONGEST_FILE (length bytes) then Refuses refusal.TooLong
-    else outcome_of_data (groups_in 2 (picks_in options) (records_of (separator_in options) bytes))
+abbrev pub less_alone : Tails
+less_alone = record { less = true; greater = false; two = false }
 
-abbrev pub outcome_of_command : Option (List ℕ × Options) → (List ℕ → Option (List ℕ))
+abbrev pub greater_alone : Tails
+greater_alone = record { less = false; greater = true; two = false }
+
+abbrev pub two_alone : Tails
+two_alone = record { less = false; greater = false; two = true }
+
+-- these tails, where the test has them
+abbrev pub only : Bool → Tails → Option Tails
+only has tails = if has then Some tails else None
+
+-- the tails that are asked of those that a test has
+abbrev pub asked : TailChoice → Tails → Option Tails
+asked choice.All has = Some has
+asked choice.Less has = only has.less less_alone
+asked choice.Greater has = only has.greater greater_alone
+asked choice.Two has = only has.two two_alone
+
+abbrev pub way_of : Bool → Way
+way_of plain = if plain then way.Plain else way.Network
+
+-- the distribution, where it is asked
+abbrev pub spread_of : Bool → ConditionalTest → Option (List Line)
+spread_of shown test = if shown then Some (distribution test) else None
+
+-- the report of a question for some tails
+abbrev pub report_for : Settings → Tails → Question → List ℕ
+report_for settings tails question =
+    report_text (title.Test settings.test) question.sizes question.extra
+    (answer_of question.test question.opened tails (way_of settings.plain))
+    settings.nodes (spread_of settings.distribution question.test)
+
+-- what is too wide is refused
+abbrev pub told : Settings → Tails → Option WideOf → Question → Outcome
+told settings tails (Some what) question = Err (refusal.TooWide what)
+told settings tails None question = Ok (report_for settings tails question)
+
+-- tails that the test does not have are refused before
+abbrev pub outcome_of_asked : Settings → Option Tails → Question → Outcome
+outcome_of_asked settings None question = Err (refusal.Unfit option.Tail)
+outcome_of_asked settings (Some tails) question =
+    told settings tails (too_wide question.test) question
+
+-- The order of refusals, for all tests: tails that do not fit, then the total, then the bound.
+abbrev pub outcome_of_question : Settings → Question → Outcome
+outcome_of_question settings question =
+    outcome_of_asked settings (asked settings.tail (tails_in question.test)) question
+
+-- ---- a file
+
+-- faults of the data, and other options that do not fit them, are refused before
+abbrev pub outcome_of_rows : Settings → List (List (List ℕ)) → Outcome
+outcome_of_rows settings rows = and_then (outcome_of_question settings) (question_of settings rows)
+
+-- and the length of the file before these
+unfoldable pub outcome_of_bytes : Settings → List ℕ → Outcome
+outcome_of_bytes settings bytes =
+    if nat_lt LONGEST_FILE (length bytes) then Err refusal.TooLong
+    else outcome_of_rows settings (records_of settings.separator bytes)
+
+-- ---- words
+
+-- the refusal of words
+abbrev pub usage_refusal : UsageFault → Refusal
+usage_refusal usage.NoMemory = refusal.NoMemory
+usage_refusal fault = refusal.Usage fault
+
+-- the outcome of a command line; no words ask for made data yet
+abbrev pub outcome_of_command : Result CommandLine UsageFault → (List ℕ → Option (List ℕ))
     → Option Outcome
-outcome_of_command None held = Some (Refuses refusal.CommandLine)
-outcome_of_command (Some command) held = option_map (outcome_of_bytes command.1) (held command.0)
+outcome_of_command (Err fault) held = Some (Err (usage_refusal fault))
+outcome_of_command (Ok command.Help) held = Some (Ok help)
+outcome_of_command (Ok (command.Test settings)) held =
+    option_map (outcome_of_bytes settings) (held settings.file)
+outcome_of_command (Ok (command.Drill number)) held = Some (Err (refusal.Unfit option.Test))
 
 -- the outcome of words and of a source, where the words alone decide it or the source tells what it
 -- holds
 abbrev pub outcome_of : List (List ℕ) → (List ℕ → Option (List ℕ)) → Option Outcome
 outcome_of words held = outcome_of_command (meaning_of words) held
+
+-- the words name a file that is read
+abbrev pub names_file : Result CommandLine UsageFault → Bool
+names_file (Ok (command.Test settings)) = true
+names_file _ = false

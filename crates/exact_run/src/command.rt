@@ -1,92 +1,101 @@
 // The top call: it does all that the program does.
-ghost use Rattle.std.specs.Prelude.{◌≡◌, ◌≢◌, ◌≤◌, ◌↔◌, None, Err, length, map, IfOk, IfErr, IfSome, string_bytes};
+ghost use Rattle.std.specs.Prelude.{◌≡◌, ◌≤◌, ◌⊎◌, false, Err, Ok, length, map, option_map, string_bytes};
 ghost use Rattle.std.specs.Io.KnownBytes.{Appends};
 ghost use Rattle.outside.specs.Faults.{AppendsPrefix, Rose};
 ghost use Rattle.outside.specs.declared.source.TheConstants.{LONGEST_FILE};
-ghost use Rattle.exact_run.specs.Outcome.{outcome_of, outcome_of_bytes, Reports};
-ghost use Rattle.exact_run.specs.Promises.{ComesExactly, IsBeforeWriting, IsCause, IsCompleted, IsReadRefusal, IsReport, RefusesBytes, TellsRefusal, WritesLine};
-ghost use Rattle.exact_run.specs.Refusals.{refusal_line as line_of, status_of};
-ghost use Rattle.exact_run.specs.Settings.{AreUsable, meaning_of};
+ghost use Rattle.settings.specs.Help.{help};
+ghost use Rattle.settings.specs.Meaning.{meaning_of};
+ghost use Rattle.settings.specs.Usable.{AreUsable};
+ghost use Rattle.settings.specs.declared.names.UsageFault.{UsageFault};
+ghost use Rattle.report.specs.Refusals.{refusal_line_text};
+ghost use Rattle.exact_run.specs.CauseSteps.{ComesTo, Meets};
+ghost use Rattle.exact_run.specs.Outcome.{names_file, outcome_of, outcome_of_bytes, usage_refusal as refusal_of};
+ghost use Rattle.exact_run.specs.Promises.{IsBeforeWriting, Promises, WritesLine, status_of};
 
-use crate::rank_sum::rank_sum;
-use crate::refusals::{Refusal, refusal_line};
-use crate::report::compose;
-use crate::settings::{Options, read};
+use crate::questions::report_in;
+use crate::refusing::usage_refusal;
 use crate::status::Status;
 use outside::{ReadFail, Sink, Source, read_all, write_all};
-use record_reader::{LayoutFault, records};
-use sample_reader::groups;
+use record_reader::records;
+use report::{Refusal, refusal_line};
+use settings::{CommandLine, OptionName, Settings, help_text, read};
 use std::alloc::Global;
 use weights::Bytes;
 
-// The bytes of the file, or the refusal.
-fn read_file<S: Source>(alloc: Global, source: &mut S, file: &str) -> Result<Bytes, Refusal>
-    ensures bytes { IfOk result (λ read.
-        IfSome (S.held source.old file.now) (λ bytes. bytes ≡ read)) }
-    ensures short { IfOk result (λ read. length read ≤ LONGEST_FILE) }
-    ensures refused { let held = S.held source.old file.now in
-        IfErr result (IsReadRefusal held (S.faults source.old) (S.faults source.new)) }
+// The help text.
+fn help(alloc: Global) -> Result<Bytes, Refusal>
+    ensures { Meets (Ok help) result }
 {
-    match read_all(alloc, source, file) {
-        Ok(bytes) => Ok(bytes),
+    let mut text = Bytes::empty(alloc);
+    match text.append(help_text().as_bytes()) {
+        Ok(()) => Ok(text),
+        Err(_) => Err(Refusal::NoMemory),
+    }
+}
+
+// The report of a file's bytes, or the refusal.
+fn report_of(alloc: Global, settings: &Settings, bytes: &[u8]) -> Result<Bytes, Refusal>
+    requires short { length bytes.now ≤ LONGEST_FILE }
+    requires usable { AreUsable settings.now }
+    ensures { Meets (outcome_of_bytes settings.now bytes.now) result }
+{
+    match records(alloc, bytes, settings.separator) {
+        Ok(rows) => report_in(alloc, settings, &rows),
+        Err(_) => Err(Refusal::NoMemory),
+    }
+}
+
+// The report of the file that the settings name, or the refusal.
+fn report_from<S: Source>(
+    alloc: Global,
+    settings: &Settings,
+    source: &mut S,
+) -> Result<Bytes, Refusal>
+    requires { AreUsable settings.now }
+    ensures { let held = S.held source.old settings.now.file in
+        let known = option_map (outcome_of_bytes settings.now) held in
+        ComesTo (Rose (S.faults source.old) (S.faults source.new)) known result }
+{
+    match read_all(alloc, source, settings.file.as_str()) {
+        Ok(bytes) => report_of(alloc, settings, bytes.as_slice()),
         Err(ReadFail::ReadFault) => Err(Refusal::ReadFault),
         Err(ReadFail::TooLong) => Err(Refusal::TooLong),
         Err(ReadFail::NoMemory) => Err(Refusal::NoMemory),
     }
 }
 
-// The report of a file's bytes, or the refusal.
-fn report_of(alloc: Global, options: &Options, bytes: &[u8]) -> Result<Bytes, Refusal>
-    requires short { length bytes.now ≤ LONGEST_FILE }
-    requires usable { AreUsable options.now }
-    ensures report { IfOk result (λ text. outcome_of_bytes options.now bytes.now ≡ Reports text) }
-    ensures refused { IfErr result (λ cause. RefusesBytes options.now bytes.now cause) }
+// The report that the words and the source ask for, or the refusal. No words ask for made data yet.
+fn report_for<S: Source>(alloc: Global, words: &[String], source: &mut S) -> Result<Bytes, Refusal>
+    ensures comes { let known = outcome_of (map string_bytes words.now) (S.held source.old) in
+        ComesTo (Rose (S.faults source.old) (S.faults source.new)) known result }
+    ensures words { let meaning = meaning_of (map string_bytes words.now) in
+        (fault : UsageFault) → meaning ≡ Err fault
+        → (result ≡ Err (refusal_of fault)) ⊎ (result ≡ Err Refusal.NoMemory) }
+    ensures untouched { names_file (meaning_of (map string_bytes words.now)) ≡ false
+        → source.new ≡ source.old }
 {
-    let picks = options.picks(alloc)?;
-    let rows = records(alloc, bytes, options.separator())?;
-    let groups = match groups(alloc, &rows, &picks, 2) {
-        Ok(groups) => groups,
-        Err(LayoutFault::Columns) => return Err(Refusal::Columns),
-        Err(LayoutFault::At(fault)) => return Err(Refusal::Data(fault)),
-        Err(LayoutFault::NoMemory) => return Err(Refusal::NoMemory),
-    };
-    let answer = rank_sum(alloc, &groups)?;
-    Ok(compose(alloc, &groups, &answer)?)
-}
-
-// The report that the words and the source ask for, or the refusal.
-fn prepare<S: Source>(alloc: Global, words: &[String], source: &mut S) -> Result<Bytes, Refusal>
-    ensures report { let known = outcome_of (map string_bytes words.now) (S.held source.old) in
-        IfOk result (λ text. IfSome known (λ outcome. outcome ≡ Reports text)) }
-    ensures refused { let known = outcome_of (map string_bytes words.now) (S.held source.old) in
-        IfErr result (IsCause known (S.faults source.old) (S.faults source.new)) }
-    ensures words { meaning_of (map string_bytes words.now) ≡ None
-        ↔ result ≡ Err Refusal.CommandLine }
-    ensures untouched { meaning_of (map string_bytes words.now) ≡ None → source.new ≡ source.old }
-{
-    let Some(settings) = read(words) else {
-        return Err(Refusal::CommandLine);
-    };
-    let bytes = read_file(alloc, source, settings.file)?;
-    report_of(alloc, &settings.options, bytes.as_slice())
+    match read(alloc, words) {
+        Ok(CommandLine::Help) => help(alloc),
+        Ok(CommandLine::Test(settings)) => report_from(alloc, &settings, source),
+        Ok(CommandLine::Drill(_)) => Err(Refusal::Unfit(OptionName::Test)),
+        Err(fault) => Err(usage_refusal(fault)),
+    }
 }
 
 // Tells the refusal, and answers its status.
 fn refuse<E: Sink>(refusal: Refusal, err: &mut E) -> Status
     ensures status { result ≡ status_of refusal }
-    ensures line { WritesLine
-        (E.taken err.old) (E.taken err.new) (E.faults err.old) (E.faults err.new)
-        (line_of refusal) }
+    ensures line { let rose = Rose (E.faults err.old) (E.faults err.new) in
+        WritesLine (E.taken err.old) (E.taken err.new) rose (refusal_line_text refusal) }
 {
-    let _told = write_all(err, refusal_line(refusal).as_slice());
-    refusal.status()
+    let _told = write_all(err, refusal_line(&refusal).as_slice());
+    Status::of(refusal)
 }
 
-/// Runs the command that the words name; they are those after the program's own name. `ranksum
-/// FILE`, and then perhaps `--columns=LIST` and `--separator=WORD`, writes the report of the rank
-/// sum test of the two groups in the file. The file is read from `source`; the report is composed
-/// whole, and then written to `out` by one call of `write_all`. Where there is none, one line to
-/// `err` says why.
+/// Runs the command that the words name; they are those after the program's own name. `TEST FILE`
+/// with options in any place writes the report of the test for the data of the file; `--help` alone
+/// writes the help text. The file is read from `source`; the report is composed whole, and then
+/// written to `out` by one call of `write_all`. Where there is none, one line to `err` says why.
 pub fn run<S: Source, O: Sink, E: Sink>(
     alloc: Global,
     words: &[String],
@@ -94,45 +103,28 @@ pub fn run<S: Source, O: Sink, E: Sink>(
     out: &mut O,
     err: &mut E,
 ) -> Status
-    // The headline: after Done `out` holds what it held before, and then the whole report.
-    ensures done { let known = outcome_of (map string_bytes words.now) (S.held source.old) in
-        result ≡ Status.Done → IsReport known (Appends (O.taken out.old) (O.taken out.new)) }
+    // What the status says of the outcome, of the counts of faults and of the sinks.
+    ensures promises { let known = outcome_of (map string_bytes words.now) (S.held source.old) in
+        let source_rose = Rose (S.faults source.old) (S.faults source.new) in
+        let out_rose = Rose (O.faults out.old) (O.faults out.new) in
+        let took = Appends (O.taken out.old) (O.taken out.new) in
+        let took_prefix = AppendsPrefix (O.taken out.old) (O.taken out.new) in
+        let err_rose = Rose (E.faults err.old) (E.faults err.new) in
+        let told = WritesLine (E.taken err.old) (E.taken err.new) err_rose in
+        Promises result known source_rose out_rose took took_prefix told }
 
-    // Every other status comes with its own cause.
-    ensures usage { let known = outcome_of (map string_bytes words.now) (S.held source.old) in
-        ComesExactly result Status.Usage known }
-    ensures bad_data { let known = outcome_of (map string_bytes words.now) (S.held source.old) in
-        ComesExactly result Status.BadData known }
-    ensures too_wide { let known = outcome_of (map string_bytes words.now) (S.held source.old) in
-        ComesExactly result Status.TooWide known }
-    ensures read_fault { result ≡ Status.ReadFault
-        → Rose (S.faults source.old) (S.faults source.new) }
-    ensures write_fault { result ≡ Status.WriteFault → Rose (O.faults out.old) (O.faults out.new) }
-
-    // A report is whole or a counted prefix, and before the first write `out` is as it was.
-    ensures prefix { let known = outcome_of (map string_bytes words.now) (S.held source.old) in
-        result ≡ Status.WriteFault
-        → IsReport known (AppendsPrefix (O.taken out.old) (O.taken out.new)) }
+    // Before the first write `out` is as it was, and a report is told by no line.
     ensures unchanged { IsBeforeWriting result → out.new ≡ out.old }
-
-    // Every refusal is told by its line, also where the source does not tell what it holds.
     ensures silent { result ≡ Status.Done → err.new ≡ err.old }
-    ensures line { let meaning = meaning_of (map string_bytes words.now) in
-        let known = outcome_of (map string_bytes words.now) (S.held source.old) in
-        let wrote = WritesLine
-        (E.taken err.old) (E.taken err.new) (E.faults err.old) (E.faults err.new) in
-        result ≢ Status.Done → TellsRefusal result meaning known (λ cause. wrote (line_of cause)) }
 
-    // Words that are refused are refused always, and touch no source.
-    ensures words { meaning_of (map string_bytes words.now) ≡ None → result ≡ Status.Usage }
-    ensures untouched { meaning_of (map string_bytes words.now) ≡ None → source.new ≡ source.old }
-
-    // Where nothing is refused and no count rose, the report is written, or memory ran out.
-    ensures complete { let known = outcome_of (map string_bytes words.now) (S.held source.old) in
-        let completed = IsCompleted result (S.faults source.old) (S.faults source.new) in
-        IfSome known (completed (O.faults out.old) (O.faults out.new)) }
+    // Words that are refused are refused always, and words that name no file touch no source.
+    ensures words { let meaning = meaning_of (map string_bytes words.now) in
+        (fault : UsageFault) → meaning ≡ Err fault
+        → (result ≡ Status.Usage) ⊎ (result ≡ Status.NoMemory) }
+    ensures untouched { names_file (meaning_of (map string_bytes words.now)) ≡ false
+        → source.new ≡ source.old }
 {
-    match prepare(alloc, words, source) {
+    match report_for(alloc, words, source) {
         Ok(report) => match write_all(out, report.as_slice()) {
             Ok(()) => Status::Done,
             Err(_) => refuse(Refusal::WriteFault, err),

@@ -1,16 +1,18 @@
 // How a run ended.
 ghost use Rattle.std.specs.Prelude.{◌≡◌};
 
+use report::Refusal;
+
 /// How a run ended.
 #[derive(Clone, Copy, Debug, PartialEq, Eq)]
 pub enum Status {
     /// The report was written whole.
     Done,
-    /// The words were refused, or `--columns` does not fit the data.
+    /// The words were refused, or an option does not fit the data.
     Usage,
     /// The file's data were refused.
     BadData,
-    /// The number of rearrangements passes 2^127 - 1.
+    /// The number of rearrangements, or the bound of the statistic, passes 2^127 - 1.
     TooWide,
     /// A call to the source failed.
     ReadFault,
@@ -21,7 +23,7 @@ pub enum Status {
 }
 
 impl Status {
-    ghost use Rattle.exact_run.specs.Refusals.{status_number};
+    ghost use Rattle.exact_run.specs.Promises.{status_number, status_of};
 
     /// The number with which the program ends.
     pub fn number(self) -> u8
@@ -35,6 +37,20 @@ impl Status {
             Status::ReadFault => 5,
             Status::WriteFault => 6,
             Status::NoMemory => 7,
+        }
+    }
+
+    // The status of a refusal.
+    pub(crate) fn of(refusal: Refusal) -> Status
+        ensures { result ≡ status_of refusal }
+    {
+        match refusal {
+            Refusal::Usage(_) | Refusal::Unfit(_) => Status::Usage,
+            Refusal::Row(_) | Refusal::TooLong => Status::BadData,
+            Refusal::TooWide(_) => Status::TooWide,
+            Refusal::ReadFault => Status::ReadFault,
+            Refusal::WriteFault => Status::WriteFault,
+            Refusal::NoMemory => Status::NoMemory,
         }
     }
 }

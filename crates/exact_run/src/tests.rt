@@ -1,13 +1,7 @@
-use crate::rank_sum::rank_sum;
-use crate::walked::Walked;
 use crate::{Status, run};
 use outside::{MemorySink, MemorySource, SteadySource};
-use record_reader::{Picks, records};
-use sample_reader::groups;
 use std::alloc::{AllocError, Global};
 use std::process::Abort;
-use std::test::Fail;
-use weights::Tail;
 
 // The words of a text that is cut at its blanks.
 fn words_of(alloc: Global, text: &str) -> Result<Vec<String>, AllocError> {
@@ -38,33 +32,27 @@ fn expect(
     let mut err = sink(alloc)?;
     let answer = run(alloc, &words, &mut source, &mut out, &mut err);
     assert!(rt; answer == status, "status of {told}");
-    let is_done = status == Status::Done;
-    assert!(rt;
-        out.taken()
-            == if is_done {
-                told.as_bytes()
-            } else {
-                b"".as_slice()
-            },
-        "{told}"
-    );
-    assert!(rt;
-        err.taken()
-            == if is_done {
-                b"".as_slice()
-            } else {
-                told.as_bytes()
-            },
-        "{told}"
-    );
+    let (report, line) = match status {
+        Status::Done => (told, ""),
+        _ => ("", told),
+    };
+    assert!(rt; out.taken() == report.as_bytes(), "{told}");
+    assert!(rt; err.taken() == line.as_bytes(), "{told}");
     Ok(())
 }
 
 const SIX: &[u8; 36] = b"group,value\nx,1\nx,2\nx,3\ny,4\ny,5\ny,6\n";
 
+const TIED: &[u8; 36] = b"group,value\nx,1\nx,2\nx,2\ny,2\ny,3\ny,3\n";
+
+const SPREAD: &[u8; 28] = b"group,value\nx,1\nx,4\ny,2\ny,3\n";
+
+const ROW_NAMES: &[u8; 71] = b"\"\",\"group\",\"value\"\n\"1\",\"x\",4.17\n\"2\",\"x\",5.58\n\
+    \"3\",\"y\",6.31\n\"4\",\"y\",5.87\n";
+
 #[test]
 fn reports(rt: HostRuntime) -> Result<(), AllocError> {
-    let table: [(&str, &[u8], &str); 8] = [
+    let table: [(&str, &[u8], &str); 16] = [
         (
             "ranksum f.csv",
             SIX,
@@ -73,7 +61,7 @@ fn reports(rt: HostRuntime) -> Result<(), AllocError> {
         ),
         (
             "ranksum f.csv",
-            b"group,value\nx,1\nx,2\nx,2\ny,2\ny,3\ny,3\n",
+            TIED,
             "test ranksum\ngroup 3 x\ngroup 3 y\nstatistic 28/2\ntotal 20\nless 20/20 1.000000\n\
              greater 3/20 0.150000\ntwo 6/20 0.300000\n",
         ),
@@ -90,14 +78,13 @@ fn reports(rt: HostRuntime) -> Result<(), AllocError> {
              greater 1/3 0.333333\ntwo 2/3 0.666667\n",
         ),
         (
-            "ranksum f.csv --columns=2,3",
-            b"\"\",\"group\",\"value\"\n\"1\",\"x\",4.17\n\"2\",\"x\",5.58\n\"3\",\"y\",6.31\n\
-             \"4\",\"y\",5.87\n",
+            "ranksum f.csv --columns 2,3",
+            ROW_NAMES,
             "test ranksum\ngroup 2 x\ngroup 2 y\nstatistic 14/2\ntotal 6\nless 6/6 1.000000\n\
              greater 1/6 0.166667\ntwo 2/6 0.333333\n",
         ),
         (
-            "ranksum f.csv --separator=semicolon --columns=2,1",
+            "--separator=semicolon ranksum --columns=2,1 f.csv",
             b"value;group\n1; x\n2;x \n3;y\t\n",
             "test ranksum\ngroup 2 x\ngroup 1 y\nstatistic 6/2\ntotal 3\nless 3/3 1.000000\n\
              greater 1/3 0.333333\ntwo 2/3 0.666667\n",
@@ -113,6 +100,53 @@ fn reports(rt: HostRuntime) -> Result<(), AllocError> {
             b"g,v\nx,-1e17\ny,0.5\nx,.000000000000000001\n",
             "test ranksum\ngroup 2 x\ngroup 1 y\nstatistic 6/2\ntotal 3\nless 3/3 1.000000\n\
              greater 1/3 0.333333\ntwo 2/3 0.666667\n",
+        ),
+        (
+            "ranksum f.csv --order y,x",
+            SIX,
+            "test ranksum\ngroup 3 y\ngroup 3 x\nstatistic 12/2\ntotal 20\nless 1/20 0.050000\n\
+             greater 20/20 1.000000\ntwo 2/20 0.100000\n",
+        ),
+        (
+            "ranksum --tail greater f.csv",
+            SIX,
+            "test ranksum\ngroup 3 x\ngroup 3 y\nstatistic 30/2\ntotal 20\n\
+             greater 1/20 0.050000\n",
+        ),
+        (
+            "ansari f.csv",
+            SPREAD,
+            "test ansari\ngroup 2 x\ngroup 2 y\nstatistic 4/1\ntotal 6\nless 6/6 1.000000\n\
+             greater 1/6 0.166667\ntwo 2/6 0.333333\n",
+        ),
+        (
+            "mood f.csv --tail=less",
+            SPREAD,
+            "test mood\ngroup 2 x\ngroup 2 y\nstatistic 2/4\ntotal 6\nless 1/6 0.166667\n",
+        ),
+        (
+            "savage f.csv",
+            b"group,value\nx,1\nx,2\ny,3\n",
+            "test savage\ngroup 2 x\ngroup 1 y\nstatistic 11/6\ntotal 3\nless 3/3 1.000000\n\
+             greater 1/3 0.333333\ntwo 1/3 0.333333\n",
+        ),
+        (
+            "median f.csv --tail two",
+            TIED,
+            "test median\ngroup 3 x\ngroup 3 y\nstatistic 14/6\ntotal 20\ntwo 6/20 0.300000\n",
+        ),
+        (
+            "raw f.csv",
+            b"group,value\nx,-0.5\ny,1.25\ny,2\n",
+            "test raw\ngroup 1 x\ngroup 2 y\nstatistic 325/100\ntotal 3\nless 3/3 1.000000\n\
+             greater 1/3 0.333333\ntwo 1/3 0.333333\n",
+        ),
+        (
+            "--help",
+            b"",
+            "usage: exact TEST FILE [options]\ntests: ranksum ansari mood savage median raw\n\
+             options: --tail all|less|greater|two\n         --order LABELS\n         \
+             --columns LIST --separator comma|semicolon|tab\n",
         ),
     ];
     for (words, file, report) in table {
@@ -143,17 +177,14 @@ fn refuses_data(rt: HostRuntime) -> Result<(), AllocError> {
             b"group,value\nx,1\nx,2\n",
             "refused: row 3: ends too early\n",
         ),
-        (
-            b"\"\",\"group\",\"value\"\n\"1\",\"x\",4.17\n",
-            "refused: row 1: field count\n",
-        ),
+        (ROW_NAMES, "refused: row 1: field count\n"),
         (b"group,value\n ,1\n", "refused: row 2 field 1: missing\n"),
     ];
     for (file, line) in table {
         expect(
             &rt,
             rt.alloc(),
-            "ranksum f.csv",
+            "ranksum f.csv --order=z,w",
             file,
             Status::BadData,
             line,
@@ -164,32 +195,33 @@ fn refuses_data(rt: HostRuntime) -> Result<(), AllocError> {
 
 #[test]
 fn refuses_words(rt: HostRuntime) -> Result<(), AllocError> {
-    for words in [
-        "",
-        "ranksum",
-        "spearman f.csv",
-        "ranksum f.csv g.csv",
-        "ranksum f.csv --columns=2,2",
-        "ranksum f.csv --separator=comma --separator=comma",
-        "ranksum f.csv --tail=less",
+    for (words, line) in [
+        ("", "refused: command line\n"),
+        ("ranksum", "refused: command line\n"),
+        ("ranksum f.csv g.csv", "refused: command line\n"),
+        ("ranksum f.csv --plain --nodes", "refused: command line\n"),
+        ("spearman f.csv", "refused: value of TEST\n"),
+        ("ranksum f.csv --tail both", "refused: value of --tail\n"),
+        (
+            "ranksum f.csv --columns 2,2",
+            "refused: value of --columns\n",
+        ),
+        (
+            "ranksum f.csv --columns 2,4 --order x,z",
+            "refused: --columns does not fit the data\n",
+        ),
+        (
+            "ranksum f.csv --order x,z",
+            "refused: --order does not fit the data\n",
+        ),
+        (
+            "ranksum f.csv --order x,y,z",
+            "refused: --order does not fit the data\n",
+        ),
     ] {
-        expect(
-            &rt,
-            rt.alloc(),
-            words,
-            SIX,
-            Status::Usage,
-            "refused: command line\n",
-        )?;
+        expect(&rt, rt.alloc(), words, SIX, Status::Usage, line)?;
     }
-    expect(
-        &rt,
-        rt.alloc(),
-        "ranksum f.csv --columns=2,4",
-        SIX,
-        Status::Usage,
-        "refused: --columns does not fit the data\n",
-    )
+    Ok(())
 }
 
 // The values from 1 to `last`, those up to 65 in the group x and the others in y.
@@ -204,70 +236,88 @@ fn numbered(alloc: Global, last: u64) -> Result<Vec<u8>, AllocError> {
     Ok(text)
 }
 
-#[test]
-fn counts_up_to_the_limit(rt: HostRuntime) -> Result<(), AllocError> {
-    expect(
-        &rt,
-        rt.alloc(),
-        "ranksum f.csv",
-        &numbered(rt.alloc(), 130)?,
-        Status::Done,
-        "test ranksum\ngroup 65 x\ngroup 65 y\nstatistic 12740/2\n\
-         total 95067625827960698145584333020095113100\n\
-         less 95067625827960698145584333020095113100/\
-         95067625827960698145584333020095113100 1.000000\n\
-         greater 1/95067625827960698145584333020095113100 0.000000\n\
-         two 2/95067625827960698145584333020095113100 0.000000\n",
-    )?;
-    expect(
-        &rt,
-        rt.alloc(),
-        "ranksum f.csv",
-        &numbered(rt.alloc(), 131)?,
-        Status::TooWide,
-        "refused: too wide: total\n",
-    )?;
-    let long = vec![in rt.alloc(); b'x'; 1_048_577usize]?;
-    expect(
-        &rt,
-        rt.alloc(),
-        "ranksum f.csv",
-        &long,
-        Status::BadData,
-        "refused: file longer than 1048576 bytes\n",
-    )
-}
-
-// A file of so many rows of data: the last is in the group y, all others in x, and all values are
-// 1.
-fn one_apart(alloc: Global, rows: usize) -> Result<Vec<u8>, AllocError> {
+// A file of one row so many times, and then of another.
+fn repeated(
+    alloc: Global,
+    first: (&[u8], usize),
+    second: (&[u8], usize),
+) -> Result<Vec<u8>, AllocError> {
     let mut text = Vec::from_slice(alloc, b"group,value\n")?;
-    for _row in 1..rows {
-        text.extend_from_slice(b"x,1\n")?;
+    for (row, times) in [first, second] {
+        for _row in 0..times {
+            text.extend_from_slice(row)?;
+        }
     }
-    text.extend_from_slice(b"y,1\n")?;
     Ok(text)
 }
 
 #[test]
-fn takes_ten_thousand_rows(rt: HostRuntime) -> Result<(), AllocError> {
-    expect(
-        &rt,
-        rt.alloc(),
-        "ranksum f.csv",
-        &one_apart(rt.alloc(), 10_000)?,
-        Status::Done,
-        "test ranksum\ngroup 9999 x\ngroup 1 y\nstatistic 10001/2\ntotal 10000\n\
-         less 10000/10000 1.000000\ngreater 10000/10000 1.000000\ntwo 10000/10000 1.000000\n",
-    )?;
-    expect(
-        &rt,
-        rt.alloc(),
-        "ranksum f.csv",
-        &one_apart(rt.alloc(), 10_001)?,
-        Status::BadData,
-        "refused: row 10002: too many rows\n",
-    )
+fn reaches_the_limits(rt: HostRuntime) -> Result<(), AllocError> {
+    let alloc = rt.alloc();
+    let nearly: &[u8] = b"x,900000000000000000.000000000000000001\n";
+    let whole: &[u8] = b"x,900000000000000000\n";
+    let more: &[u8] = b"y,900000000000000001\n";
+    for (words, file, status, told) in [
+        (
+            "ranksum f.csv",
+            numbered(alloc, 130)?,
+            Status::Done,
+            "test ranksum\ngroup 65 x\ngroup 65 y\nstatistic 12740/2\n\
+             total 95067625827960698145584333020095113100\n\
+             less 95067625827960698145584333020095113100/\
+             95067625827960698145584333020095113100 1.000000\n\
+             greater 1/95067625827960698145584333020095113100 0.000000\n\
+             two 2/95067625827960698145584333020095113100 0.000000\n",
+        ),
+        (
+            "ranksum f.csv",
+            numbered(alloc, 131)?,
+            Status::TooWide,
+            "refused: too wide: total\n",
+        ),
+        (
+            "raw f.csv",
+            repeated(alloc, (nearly, 10), (more, 10))?,
+            Status::TooWide,
+            "refused: too wide: statistic\n",
+        ),
+        (
+            "raw f.csv",
+            repeated(alloc, (whole, 10), (more, 10))?,
+            Status::Done,
+            "test raw\ngroup 10 x\ngroup 10 y\nstatistic 9000000000000000010/1\ntotal 184756\n\
+             less 184756/184756 1.000000\ngreater 1/184756 0.000005\ntwo 2/184756 0.000011\n",
+        ),
+        (
+            "ranksum f.csv",
+            repeated(alloc, (b"x,1\n", 9_999), (b"y,1\n", 1))?,
+            Status::Done,
+            "test ranksum\ngroup 9999 x\ngroup 1 y\nstatistic 10001/2\ntotal 10000\n\
+             less 10000/10000 1.000000\ngreater 10000/10000 1.000000\n\
+             two 10000/10000 1.000000\n",
+        ),
+        (
+            "savage f.csv",
+            repeated(alloc, (b"x,1\n", 9_999), (b"y,1\n", 1))?,
+            Status::TooWide,
+            "refused: too wide: statistic\n",
+        ),
+        (
+            "ranksum f.csv",
+            repeated(alloc, (b"x,1\n", 10_000), (b"y,1\n", 1))?,
+            Status::BadData,
+            "refused: row 10002: too many rows\n",
+        ),
+        (
+            "ranksum f.csv",
+            vec![in alloc; b'x'; 1_048_577usize]?,
+            Status::BadData,
+            "refused: file longer than 1048576 bytes\n",
+        ),
+    ] {
+        expect(&rt, alloc, words, &file, status, told)?;
+    }
+    Ok(())
 }
 
 // Runs over six values with a source, an `out` and an `err` whose calls of these numbers fail.
@@ -321,45 +371,4 @@ fn tells_faults(rt: HostRuntime) -> Result<(), AllocError> {
         "",
         "refused: read fa",
     )
-}
-
-#[test]
-fn numbers_its_statuses(rt: HostRuntime) {
-    let numbers = [
-        Status::Done,
-        Status::Usage,
-        Status::BadData,
-        Status::TooWide,
-        Status::ReadFault,
-        Status::WriteFault,
-        Status::NoMemory,
-    ]
-    .map(Status::number);
-    assert!(rt; numbers == [0, 2, 3, 4, 5, 6, 7]);
-}
-
-// Each numerator of the merged list is the sum over a walk through all labellings.
-#[test]
-fn agrees_with_the_walk(rt: HostRuntime) -> Result<(), Fail> {
-    for file in [
-        "g,v\nx,1\nx,2\nx,3\ny,4\ny,5\ny,6\n",
-        "g,v\nx,1\nx,2\nx,2\ny,2\ny,3\ny,3\n",
-        "g,v\nx,5\nx,5\ny,5\n",
-        "g,v\nx,4.17\nx,5.58\ny,6.31\ny,5.87\n",
-        "g,v\nb,0.5\na,-3\na,2\nb,2\na,1e3\nb,-7\na,0.5\na,2\nb,11\n",
-        "g,v\nx,3\ny,1\ny,4\ny,1\ny,5\ny,9\ny,2\ny,6\n",
-    ] {
-        let rows = records(rt.alloc(), file.as_bytes(), b',')?;
-        let groups = groups(rt.alloc(), &rows, &Picks::Natural, 2)?;
-        let answer = rank_sum(rt.alloc(), &groups).expect(&rt, "an answer");
-        let walked = Walked::of(rt.alloc(), &groups)?.expect(&rt, "few subjects");
-        for (tail, numerator) in [
-            (Tail::Less, answer.less),
-            (Tail::Greater, answer.greater),
-            (Tail::Two, answer.two),
-        ] {
-            assert!(rt; walked.tail(rt.alloc(), tail)? == numerator, "of {file:?}");
-        }
-    }
-    Ok(())
 }

@@ -1,37 +1,20 @@
-use Rattle.std.proofs.Common.{Err, ap}
-use Rattle.exact_run.proofs.Exactly.{comes-exactly, not-refused}
-use Rattle.exact_run.proofs.Telling.{tells, tells-write_fault}
+use Rattle.exact_run.proofs.Promised.{promised-done, promised-refused, promised-write_fault}
+use Rattle.exact_run.proofs.Words.{words-status}
 use Rattle.exact_run.proofs.command.run.Goals as goal
 
-pub returns-in-Ok-write_all-clause-usage : goal.returns-in-Ok-write_all-clause-usage
-returns-in-Ok-write_all-clause-usage g c = not-refused _ _ _ _ (λ e. cc) (λ e. cc) c.in-Ok.ensures.report
+pub returns-in-Ok-write_all-clause-promises : goal.returns-in-Ok-write_all-clause-promises
+returns-in-Ok-write_all-clause-promises g c =
+    let whole = rw c.as_slice.ensures at c.in-Ok-write_all.ensures.ok in
+    promised-done _ c.in-Ok.report _ _ _ _ _ c.in-Ok.ensures.comes whole
 
-pub returns-in-Ok-clause-usage : goal.returns-in-Ok-clause-usage
-returns-in-Ok-clause-usage g c = rw c.refuse.ensures.status (not-refused _ _ _ _ (λ e. cc) (λ e. cc) c.in-Ok.ensures.report)
+pub returns-in-Ok-clause-promises : goal.returns-in-Ok-clause-promises
+returns-in-Ok-clause-promises g c =
+    let prefix = rw c.as_slice.ensures at c.in-Err-write_all.ensures.err in
+    rw c.refuse.ensures.status (promised-write_fault _ c.in-Ok.report _ _ _ _ _ c.in-Ok.ensures.comes c.in-Err-write_all.ensures.fault prefix c.refuse.ensures.line)
 
-pub returns-clause-usage : goal.returns-clause-usage
-returns-clause-usage g c = rw c.refuse-in-Err.ensures.status (comes-exactly _ _ _ _ c.in-Err.refusal (λ e. cc) (λ e. cc) c.in-Err.ensures.refused)
+pub returns-clause-promises : goal.returns-clause-promises
+returns-clause-promises g c =
+    rw c.refuse-in-Err.ensures.status (promised-refused c.in-Err.refusal _ _ _ _ _ _ c.in-Err.ensures.comes c.refuse-in-Err.ensures.line)
 
-pub returns-in-Ok-write_all-clause-bad_data : goal.returns-in-Ok-write_all-clause-bad_data
-returns-in-Ok-write_all-clause-bad_data g c = not-refused _ _ _ _ (λ e. cc) (λ e. cc) c.in-Ok.ensures.report
-
-pub returns-in-Ok-clause-bad_data : goal.returns-in-Ok-clause-bad_data
-returns-in-Ok-clause-bad_data g c = rw c.refuse.ensures.status (not-refused _ _ _ _ (λ e. cc) (λ e. cc) c.in-Ok.ensures.report)
-
-pub returns-clause-bad_data : goal.returns-clause-bad_data
-returns-clause-bad_data g c = rw c.refuse-in-Err.ensures.status (comes-exactly _ _ _ _ c.in-Err.refusal (λ e. cc) (λ e. cc) c.in-Err.ensures.refused)
-
-pub returns-in-Ok-write_all-clause-too_wide : goal.returns-in-Ok-write_all-clause-too_wide
-returns-in-Ok-write_all-clause-too_wide g c = not-refused _ _ _ _ (λ e. cc) (λ e. cc) c.in-Ok.ensures.report
-
-pub returns-in-Ok-clause-too_wide : goal.returns-in-Ok-clause-too_wide
-returns-in-Ok-clause-too_wide g c = rw c.refuse.ensures.status (not-refused _ _ _ _ (λ e. cc) (λ e. cc) c.in-Ok.ensures.report)
-
-pub returns-clause-too_wide : goal.returns-clause-too_wide
-returns-clause-too_wide g c = rw c.refuse-in-Err.ensures.status (comes-exactly _ _ _ _ c.in-Err.refusal (λ e. cc) (λ e. cc) c.in-Err.ensures.refused)
-
-pub returns-in-Ok-clause-line : goal.returns-in-Ok-clause-line
-returns-in-Ok-clause-line g c = λ other. tells-write_fault _ _ _ _ c.refuse.ensures.status c.refuse.ensures.line
-
-pub returns-clause-line : goal.returns-clause-line
-returns-clause-line g c = λ other. tells _ _ _ _ _ _ c.in-Err.refusal c.refuse-in-Err.ensures.status (λ e. c.in-Err.ensures.words.1 (ap Err e)) c.in-Err.ensures.refused c.refuse-in-Err.ensures.line
+pub returns-clause-words : goal.returns-clause-words
+returns-clause-words g c = λ fault is. rw c.refuse-in-Err.ensures.status (words-status c.in-Err.refusal fault (c.in-Err.ensures.words fault is))

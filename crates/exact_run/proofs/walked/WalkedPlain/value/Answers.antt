@@ -1,7 +1,0 @@
-use Rattle.std.proofs.Common.{rules}
-use Rattle.exact_run.specs.RankSum.{rank_sum_of}
-use Rattle.exact_run.proofs.walked.WalkedPlain.value.Goals as goal
-
-pub returns : goal.returns
-unfolding rank_sum_of
-returns c = search rules

@@ -1,0 +1,51 @@
+-- What each step of a run answers: the wanted result, or a refusal with its cause.
+use Rattle.std.specs.Prelude.{◌≡◌, ⊤, Option, Some, None, IfSome, Result, Ok, Err}
+use Rattle.weights.specs.Conditional.{ConditionalTest}
+use Rattle.weights.specs.declared.tails.Tail.{Tail}
+use Rattle.weights.specs.declared.tails.Tails.{Tails}
+use Rattle.weights.specs.declared.wide.PrepareFault.{PrepareFault}
+use Rattle.stage_network.specs.Network.{Network}
+use Rattle.settings.specs.declared.names.OptionName.TheVariants as option
+use Rattle.settings.specs.declared.settings.Settings.{Settings}
+use Rattle.report.specs.declared.headings.Extra.{Extra}
+use Rattle.report.specs.declared.headings.Sizes.{Sizes}
+use Rattle.report.specs.declared.refusals.Refusal.{Refusal}
+use Rattle.report.specs.declared.refusals.Refusal.TheVariants as refusal
+use Rattle.exact_run.specs.Outcome.{Outcome, report_for}
+use Rattle.exact_run.specs.Questions.{prepare_refusal, question_about}
+
+-- a refusal of data is the wanted one, or want of memory
+abbrev pub IsCauseOf : {X : Type 0} → Result X Refusal → Refusal → Type 0
+IsCauseOf wanted refusal.NoMemory = ⊤
+IsCauseOf wanted refusal.ReadFault = ⊥
+IsCauseOf wanted refusal.WriteFault = ⊥
+IsCauseOf wanted (refusal.Usage fault) = ⊥
+IsCauseOf wanted cause = wanted ≡ Err cause
+
+-- a result is the wanted one, where memory does not run out
+abbrev pub Meets : {X : Type 0} → Result X Refusal → Result X Refusal → Type 0
+Meets wanted (Ok value) = wanted ≡ Ok value
+Meets wanted (Err cause) = IsCauseOf wanted cause
+
+-- Where a source is read: the known outcome, or a read fault, or want of memory. A refusal of the
+-- words is always known.
+abbrev pub IsCauseIn : Type 0 → Option Outcome → Refusal → Type 0
+IsCauseIn rose known refusal.NoMemory = ⊤
+IsCauseIn rose known refusal.ReadFault = rose
+IsCauseIn rose known refusal.WriteFault = ⊥
+IsCauseIn rose known (refusal.Usage fault) = known ≡ Some (Err (refusal.Usage fault))
+IsCauseIn rose known cause = IfSome known (λ outcome. outcome ≡ Err cause)
+
+abbrev pub ComesTo : Type 0 → Option Outcome → Outcome → Type 0
+ComesTo rose known (Ok text) = IfSome known (λ outcome. outcome ≡ Ok text)
+ComesTo rose known (Err cause) = IsCauseIn rose known cause
+
+-- what a prepared problem, or why it is not prepared, comes to
+abbrev pub prepared_outcome : {V : Type 0} → (V → ConditionalTest) → (V → Tail → Network)
+    → Settings → Sizes → Extra → Option Tails → Result V PrepareFault → Outcome
+prepared_outcome test_of network_of settings sizes extra None prepared =
+    Err (refusal.Unfit option.Tail)
+prepared_outcome test_of network_of settings sizes extra (Some tails) (Err fault) =
+    Err (prepare_refusal fault)
+prepared_outcome test_of network_of settings sizes extra (Some tails) (Ok problem) =
+    Ok (report_for settings tails (question_about test_of network_of problem sizes extra))

@@ -1,0 +1,131 @@
+// The report of a prepared problem: the same for all tests.
+ghost use Rattle.std.specs.Prelude.{◌≡◌, None, Some, IfOk};
+ghost use Rattle.weights.specs.Wide.{too_wide};
+ghost use Rattle.stage_network.specs.Follows.{HasTails};
+ghost use Rattle.exact_run.specs.CauseSteps.{Meets, prepared_outcome};
+ghost use Rattle.exact_run.specs.Outcome.{asked, only, report_for, spread_of, tails_in, way_of};
+ghost use Rattle.exact_run.specs.Questions.{question_about};
+
+use crate::refusing::prepare_refusal;
+use report::{Extra, Refusal, Sizes, Title, compose};
+use settings::{OptionName, Settings, TailChoice};
+use stage_network::{Prepared, Spread, Way, answer, distribution};
+use std::alloc::Global;
+use weights::{Bytes, NoMemory, PrepareFault, Tails};
+
+// These tails, where the test has them.
+fn only(has: bool, tails: Tails) -> Option<Tails>
+    ensures { result ≡ only has tails }
+{
+    if has { Some(tails) } else { None }
+}
+
+const NONE: Tails = Tails {
+    less: false,
+    greater: false,
+    two: false,
+};
+
+// The tails that are asked of those that a test has.
+fn asked(choice: TailChoice, has: Tails) -> Option<Tails>
+    ensures { result ≡ asked choice has }
+{
+    match choice {
+        TailChoice::All => Some(has),
+        TailChoice::Less => only(has.less, Tails { less: true, ..NONE }),
+        TailChoice::Greater => only(
+            has.greater,
+            Tails {
+                greater: true,
+                ..NONE
+            },
+        ),
+        TailChoice::Two => only(has.two, Tails { two: true, ..NONE }),
+    }
+}
+
+fn way_of(plain: bool) -> Way
+    ensures { result ≡ way_of plain }
+{
+    if plain { Way::Plain } else { Way::Network }
+}
+
+// The distribution, where it is asked.
+fn spread_of<P: Prepared>(
+    alloc: Global,
+    shown: bool,
+    way: Way,
+    problem: &P,
+) -> Result<Option<Spread>, NoMemory>
+    ensures { IfOk result (λ spread. spread ≡ spread_of shown (P.test problem.now)) }
+{
+    if !shown {
+        return Ok(None);
+    }
+    let spread = distribution(alloc, problem, way)?;
+    Ok(Some(spread))
+}
+
+// What a report says of the data.
+#[derive(Drop)]
+pub(crate) struct Heading {
+    pub sizes: Sizes,
+    pub extra: Extra,
+}
+
+// The report of a problem, for tails that it has.
+fn report_for<P: Prepared>(
+    alloc: Global,
+    settings: &Settings,
+    heading: &Heading,
+    tails: Tails,
+    problem: &P,
+) -> Result<Bytes, NoMemory>
+    requires has { HasTails (P.test problem.now) tails }
+    requires fits { too_wide (P.test problem.now) ≡ None }
+    ensures { let about = question_about P.test P.network problem.now in
+        let question = about heading.now.sizes heading.now.extra in
+        IfOk result (λ text. text ≡ report_for settings.now tails question) }
+{
+    let way = way_of(settings.plain);
+    let answer = answer(alloc, problem, tails, way)?;
+    let spread = spread_of(alloc, settings.distribution, way, problem)?;
+    let text = compose(
+        alloc,
+        Title::Test(settings.test),
+        &heading.sizes,
+        heading.extra,
+        &answer,
+        settings.nodes,
+        spread.as_ref(),
+    )?;
+    Ok(text)
+}
+
+/// The report of a test that has these tails, where it is prepared and has the asked ones, or the
+/// refusal.
+pub(crate) fn report_on<P: Prepared + Drop>(
+    alloc: Global,
+    settings: &Settings,
+    heading: &Heading,
+    has: Tails,
+    prepared: Result<P, PrepareFault>,
+) -> Result<Bytes, Refusal>
+    requires has { IfOk prepared (λ problem. has ≡ tails_in (P.test problem)) }
+    requires fits { IfOk prepared (λ problem. too_wide (P.test problem) ≡ None) }
+    ensures { let tails = asked settings.now.tail has in
+        let outcome = prepared_outcome P.test P.network settings.now in
+        Meets (outcome heading.now.sizes heading.now.extra tails prepared) result }
+{
+    let Some(tails) = asked(settings.tail, has) else {
+        return Err(Refusal::Unfit(OptionName::Tail));
+    };
+    let problem = match prepared {
+        Ok(problem) => problem,
+        Err(fault) => return Err(prepare_refusal(fault)),
+    };
+    match report_for(alloc, settings, heading, tails, &problem) {
+        Ok(text) => Ok(text),
+        Err(NoMemory) => Err(Refusal::NoMemory),
+    }
+}
