@@ -32,8 +32,8 @@ pub fn weight_bounds(past: u128, rest: u128, margins: &[u64], columns: &[u64]) -
     (past * least, past * greatest)
 }
 
-// Writes sizes in their order from the greatest on.
-fn fall(sizes: &[u64], room: &mut [u64])
+/// Writes sizes in their order from the greatest on.
+pub fn fall(sizes: &[u64], room: &mut [u64])
     requires { length room.old ≡ length sizes.now }
     ensures { room.new ≡ falling sizes.now }
 {
@@ -89,8 +89,9 @@ fn times_filled_in_turn(product: u128, units: u64, rows: &[u64], cap: u128) -> u
     weight
 }
 
-// A product times the weight of the most even division, or the cap where that is less.
-fn times_evenly_divided(product: u128, units: u64, rows: u64, cap: u128) -> u128
+/// A product times the weight of the most even division of some units over rows, or the cap where
+/// that is less.
+pub fn times_evenly_divided(product: u128, units: u64, rows: u64, cap: u128) -> u128
     requires rows { 1 ≤ rows }
     requires some { 1 ≤ product }
     requires most { product ≤ cap }

@@ -9,5 +9,5 @@ mod pairings;
 mod tests;
 
 pub use boxes::box_bounds;
-pub use fillings::weight_bounds;
+pub use fillings::{fall, times_evenly_divided, weight_bounds};
 pub use pairings::{Later, Part, greatest_linear, least_linear};

@@ -35,7 +35,8 @@ fn size_in(number: i128) -> u64
     number as u64
 }
 
-fn read_sizes(front: &[i128], sizes: &mut [u64])
+/// Writes the sizes that the numbers of a key stand for.
+pub fn read_sizes(front: &[i128], sizes: &mut [u64])
     requires sizes { AreSizes front.now }
     requires room { length sizes.old ≡ length front.now }
     ensures { sizes.new ≡ sizes_in front.now }

@@ -15,7 +15,9 @@ mod tests;
 mod units;
 mod ways;
 
+pub use keys::read_sizes;
 pub use label_stages::LabelStages;
 pub use later_scores::LaterScores;
-pub use linear::LinearMeasure;
+pub use linear::{LinearMeasure, score_choice};
 pub use measure::Measure;
+pub use ways::Ways;

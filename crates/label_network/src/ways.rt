@@ -13,7 +13,8 @@ use weights::{MAX, NoMemory, multinomial};
 // How many entries a table has at most. Two rows whose total fits need fewer.
 const TABLE_ROOM: usize = 1 << 17;
 
-// The ways to choose fewer than `width` of fewer than `most`, row by row.
+/// The numbers of labellings of subjects of some rows, and of any fewer: by a table of the ways to
+/// choose fewer than `width` of fewer than `most`, row by row, and by division beyond it.
 #[derive(Drop)]
 pub struct Ways {
     width: usize,
