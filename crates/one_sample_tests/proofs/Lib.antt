@@ -1,0 +1,6 @@
+mod PlusSums
+mod MarkSums
+mod MarkNetwork
+mod FittingMarks
+mod FittingSamples
+mod Vectors

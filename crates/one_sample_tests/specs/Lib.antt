@@ -1,0 +1,3 @@
+pub mod SignedSamples
+pub mod SignNetwork
+pub mod SampleSteps

@@ -1,0 +1,49 @@
+//! Tests of one sample by the signs of its differences: `signedrank`, `sign` and `rawsigned` of
+//! pairs, and `mcnemar` of the discordant pairs of a table.
+#![tactic(auto)]
+
+ghost use Rattle.std.specs.Prelude.{◌≡◌, ◌≤◌, IfOk};
+ghost use Rattle.weights.specs.Conditional.{distribution};
+ghost use Rattle.stage_network.specs.Follows.{answer_of, open_keys};
+ghost use Rattle.one_sample_tests.specs.SignedSamples.{one_sample_test};
+ghost use Rattle.one_sample_tests.specs.SignNetwork.{one_sample_network};
+
+mod kinds;
+mod mark_stages;
+mod marks;
+mod one_sample;
+mod scored_marks;
+#[cfg(test)]
+mod tests;
+mod ways;
+
+pub use kinds::SignKind;
+pub use one_sample::{OneSample, prepare_mcnemar, prepare_pairs, used_pairs};
+use stage_network::{Answer, Spread, Way};
+use std::alloc::Global;
+use weights::{NoMemory, Tails};
+
+/// The answer of a test of one sample for any of the three tails, by either way: the observed sum
+/// of the scores of the plus marks, its scale, the number of lists of marks, and of each asked tail
+/// how many lists have a sum that is at least as extreme.
+pub fn answer(
+    alloc: Global,
+    problem: &OneSample,
+    tails: Tails,
+    way: Way,
+) -> Result<Answer, NoMemory>
+    ensures answer { let opened = open_keys (one_sample_network problem.now) in
+        IfOk result (λ answer.
+        answer ≡ answer_of (one_sample_test problem.now) opened tails way) }
+    ensures some { IfOk result (λ answer. 1 ≤ answer.total) }
+{
+    stage_network::answer(alloc, problem, tails, way)
+}
+
+/// The distribution of the sum of the scores of the plus marks: each value that it takes,
+/// ascending, with the number of lists of marks that have it, by either way.
+pub fn distribution(alloc: Global, problem: &OneSample, way: Way) -> Result<Spread, NoMemory>
+    ensures { IfOk result (λ spread. spread ≡ distribution (one_sample_test problem.now)) }
+{
+    stage_network::distribution(alloc, problem, way)
+}

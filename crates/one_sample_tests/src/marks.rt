@@ -1,0 +1,86 @@
+// The differences that are used, their absolute values, their signs, and sums over plus marks.
+ghost use Rattle.std.specs.Prelude.{◌≡◌, ◌≤◌, ◌+◌, ◌+ℤ◌, pos, nat_abs, nat_eq, unsigned_abs, if◌then◌else◌, IfOk};
+ghost use Rattle.weights.specs.declared.TheConstants.{MAX};
+ghost use Rattle.weights.specs.Labellings.{sign_lists};
+ghost use Rattle.enumerate.specs.Walk.{BeginsWith};
+ghost use Rattle.scores.specs.Scores.{absolute_sum};
+ghost use Rattle.one_sample_tests.specs.SignedSamples.{magnitudes, nonzero, plus_sum, signs_of};
+ghost use Rattle.one_sample_tests.specs.SampleSteps.{AreDifferences};
+
+use std::alloc::Global;
+use weights::{Bytes, Ints, NoMemory};
+
+/// The differences that are not zero, in their order.
+pub(crate) fn nonzero(alloc: Global, differences: &[i128]) -> Result<Ints, NoMemory>
+    ensures { IfOk result (λ used. used ≡ nonzero differences.now) }
+{
+    let mut used = Ints::empty(alloc);
+    for difference in differences {
+        if *difference != 0 {
+            used.push(*difference)?;
+        }
+    }
+    Ok(used)
+}
+
+// The absolute value of a difference.
+fn magnitude(difference: i128) -> i128
+    requires { nat_abs difference ≤ MAX }
+    ensures { result ≡ pos (nat_abs difference) }
+{
+    difference.unsigned_abs() as i128
+}
+
+/// The absolute values of differences.
+pub(crate) fn magnitudes(alloc: Global, differences: &[i128]) -> Result<Ints, NoMemory>
+    requires { AreDifferences differences.now }
+    ensures { IfOk result (λ sizes. sizes ≡ magnitudes differences.now) }
+{
+    let mut sizes = Ints::empty(alloc);
+    for difference in differences {
+        sizes.push(magnitude(*difference))?;
+    }
+    Ok(sizes)
+}
+
+/// Which differences are positive.
+pub(crate) fn signs(alloc: Global, differences: &[i128]) -> Result<Bytes, NoMemory>
+    ensures { IfOk result (λ marks. marks ≡ signs_of differences.now) }
+{
+    let mut marks = Bytes::empty(alloc);
+    for difference in differences {
+        marks.push(u8::from(*difference > 0))?;
+    }
+    Ok(marks)
+}
+
+/// The first list of so many marks, all of them minus.
+pub(crate) fn first_marks(alloc: Global, count: usize) -> Result<Bytes, NoMemory>
+    ensures { IfOk result (BeginsWith (sign_lists count)) }
+{
+    let mut marks = Bytes::empty(alloc);
+    for _mark in 0..count {
+        marks.push(0)?;
+    }
+    Ok(marks)
+}
+
+// A sum with the score of one more subject, where its mark is plus.
+fn plus_marked(sum: i128, score: i128, mark: u8) -> i128
+    requires { unsigned_abs sum + unsigned_abs score ≤ MAX }
+    ensures { result ≡ sum +ℤ (if nat_eq mark 1 then score else pos 0) }
+{
+    if mark == 1 { sum + score } else { sum }
+}
+
+/// The sum of the scores of the plus marks.
+pub(crate) fn plus_sum(scores: &[i128], marks: &[u8]) -> i128
+    requires { absolute_sum scores.now ≤ MAX }
+    ensures { result ≡ plus_sum scores.now marks.now }
+{
+    let mut sum: i128 = 0;
+    for i in 0..scores.len().min(marks.len()) {
+        sum = plus_marked(sum, scores[i], marks[i]);
+    }
+    sum
+}

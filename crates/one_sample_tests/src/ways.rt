@@ -1,0 +1,60 @@
+// Both ways to the answer of a test of one sample.
+use crate::mark_stages::MarkStages;
+use crate::marks::{first_marks, plus_sum};
+use crate::one_sample::OneSample;
+use enumerate::{Plain, next_signs};
+use stage_network::{AdditiveStages, Judge, Prepared};
+use std::alloc::Global;
+use weights::{Bytes, Frame, NoMemory, Tail};
+
+impl Plain for OneSample {
+    ghost use Rattle.one_sample_tests.specs.SignedSamples.{one_sample_test};
+
+    ghost test = { one_sample_test };
+
+    fn first(&self, alloc: Global) -> Result<Bytes, NoMemory> {
+        first_marks(alloc, self.made().scores.len())
+    }
+
+    fn next(&self, labels: &mut Bytes) -> bool {
+        next_signs(labels.as_mut_slice())
+    }
+
+    fn weight(&self, _labels: &[u8]) -> u128 {
+        1
+    }
+
+    fn extreme(&self, labels: &[u8], tail: Tail) -> bool {
+        self.frame().rule(tail).passes(self.value(labels))
+    }
+
+    fn value(&self, labels: &[u8]) -> i128 {
+        plus_sum(self.made().scores.as_slice(), labels)
+    }
+}
+
+impl Prepared for OneSample {
+    ghost use Rattle.one_sample_tests.specs.SignNetwork.{one_sample_network};
+
+    type Built = AdditiveStages<MarkStages>;
+
+    ghost network = { one_sample_network };
+
+    fn frame(&self) -> Frame {
+        self.made().frame
+    }
+
+    fn has_tail(&self, _tail: Tail) -> bool {
+        true
+    }
+
+    fn stages_of(&self, alloc: Global, tail: Tail) -> Result<Self::Built, NoMemory> {
+        let made = self.made();
+        let judge = Judge {
+            tail,
+            rule: made.frame.rule(tail),
+        };
+        let groups = made.groups.copy()?;
+        AdditiveStages::new(alloc, MarkStages { groups, judge })
+    }
+}
