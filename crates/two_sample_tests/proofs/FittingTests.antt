@@ -39,13 +39,14 @@ use Rattle.label_network.specs.Linear.{IsLinear}
 use Rattle.label_network.proofs.LabelFollows.{label_follows}
 use Rattle.label_network.proofs.Later.{length-subjects}
 use Rattle.label_network.proofs.LinearNarrows.{linear_measure}
-use Rattle.two_sample_tests.specs.Columns.{column_scores, column_sizes, row_scores, two_sample_meaning, two_sample_network}
+use Rattle.pooled_columns.specs.PooledColumns.{column_scores, column_sizes, pooled_values}
+use Rattle.two_sample_tests.specs.Columns.{row_scores, two_sample_meaning, two_sample_network}
 use Rattle.two_sample_tests.specs.SampleSteps.{AreFitting, IsMadeOf}
 use Rattle.two_sample_tests.specs.SubjectSteps.{AreBounded, AreSubjects, IsScoredBy}
 use Rattle.two_sample_tests.specs.declared.scored_samples.ScoredSubjects.{ScoredSubjects}
-use Rattle.two_sample_tests.specs.TwoSamples.{TwoSamples, pooled_scores, pooled_values, score_test, second_sum, two_sample_test}
-use Rattle.two_sample_tests.proofs.PooledValues.{length-pooled, pooled-rises}
-use Rattle.two_sample_tests.proofs.TieColumns.{grouped}
+use Rattle.two_sample_tests.specs.TwoSamples.{TwoSamples, pooled_scores, score_test, second_sum, two_sample_test}
+use Rattle.pooled_columns.proofs.PooledValues.{length-pooled, pooled-rises}
+use Rattle.pooled_columns.proofs.TieColumns.{grouped}
 use Rattle.two_sample_tests.proofs.ScoreSums.{by-marks, second-within, sizes-are, total-within}
 use Rattle.two_sample_tests.proofs.ColumnValues.{value-is}
 

@@ -1,5 +1,3 @@
-mod PooledValues
-mod TieColumns
 mod ScoreSums
 mod ColumnValues
 mod FittingTests

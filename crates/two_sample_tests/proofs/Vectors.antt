@@ -7,8 +7,8 @@ use Rattle.midranks.specs.Midranks.{doubled_midrank, number_below, number_equal}
 use Rattle.midranks.specs.Ties.{tie_groups}
 use Rattle.sample_reader.specs.PooledSample.{paired_subjects}
 use Rattle.scores.specs.declared.kinds.ScoreKind.TheVariants.{Wilcoxon}
-use Rattle.two_sample_tests.specs.Columns.{column_scores, column_sizes}
-use Rattle.two_sample_tests.specs.TwoSamples.{TwoSamples, pooled_values, two_sample_test}
+use Rattle.pooled_columns.specs.PooledColumns.{column_scores, column_sizes, pooled_values}
+use Rattle.two_sample_tests.specs.TwoSamples.{TwoSamples, two_sample_test}
 
 -- the values 1 2 2 in the first group and 2 3 3 in the second, in units of 1
 abbrev tied : TwoSamples

@@ -9,8 +9,8 @@ use Rattle.weights.specs.declared.wide.PrepareFault.{PrepareFault}
 use Rattle.weights.specs.declared.wide.PrepareFault.TheVariants.{TooWide, NoMemory}
 use Rattle.record_reader.specs.declared.TheConstants.{MOST_ROWS}
 use Rattle.sample_reader.specs.Groups.{group_sizes}
-use Rattle.two_sample_tests.specs.Columns.{column_scores, column_sizes}
-use Rattle.two_sample_tests.specs.TwoSamples.{TwoSamples, pooled_scores, pooled_values, two_sample_test}
+use Rattle.pooled_columns.specs.PooledColumns.{column_scores, column_sizes, pooled_values}
+use Rattle.two_sample_tests.specs.TwoSamples.{TwoSamples, pooled_scores, two_sample_test}
 use Rattle.two_sample_tests.specs.declared.scored_samples.ScoredSamples.{ScoredSamples}
 
 -- two samples, both with some subjects, and a total and a bound that pass no limit

@@ -1,22 +1,15 @@
 -- Subjects in ascending order, and their scores.
-use Rattle.std.specs.Prelude.{◌≡◌, ⊤, ℕ, ℤ, pos, ◌*◌, ◌<◌, ◌≤◌, List, [], ◌∷◌, length, map, drop, slice_index_or, nat_eq, Result, Ok, Err, if◌then◌else◌}
+use Rattle.std.specs.Prelude.{◌≡◌, ⊤, ℕ, ℤ, ◌*◌, ◌<◌, ◌≤◌, List, length, map, nat_eq, Result, Ok, Err, if◌then◌else◌}
 use Rattle.weights.specs.declared.TheConstants.{MAX}
 use Rattle.weights.specs.declared.wide.WideOf.TheVariants.{Total, Statistic}
 use Rattle.weights.specs.declared.wide.PrepareFault.{PrepareFault}
 use Rattle.weights.specs.declared.wide.PrepareFault.TheVariants.{TooWide, NoMemory}
 use Rattle.midranks.specs.declared.TheConstants.{MOST_VALUES}
-use Rattle.midranks.specs.declared.ties.Tie.{Tie}
 use Rattle.scores.specs.Scores.{AreScores, absolute_sum, score_sum}
 use Rattle.scores.specs.declared.kinds.ScoreKind.{ScoreKind}
 use Rattle.sample_reader.specs.PooledSample.{values_of}
 use Rattle.sample_reader.specs.declared.subjects.Subject.{Subject}
 use Rattle.two_sample_tests.specs.declared.scored_samples.ScoredSubjects.{ScoredSubjects}
-
--- group by group, the first of its scores
-abbrev pub first_scores : List Tie → List ℤ → List ℤ
-first_scores [] scores = []
-first_scores (t ∷ ties) scores =
-    slice_index_or scores 0 (pos 0) ∷ first_scores ties (drop t.count scores)
 
 -- 1 for each subject of the second sample, and 0 for each other
 abbrev pub second_marks : List Subject → List ℕ

@@ -10,7 +10,8 @@ use Rattle.scores.specs.Scores.{absolute_sum, scale_of, score_list}
 use Rattle.label_network.specs.LaterSums.{total_score}
 use Rattle.scores.specs.declared.kinds.ScoreKind.{ScoreKind}
 use Rattle.sample_reader.specs.Groups.{GroupData, group_sizes}
-use Rattle.sample_reader.specs.PooledSample.{labels_of, pooled, values_of}
+use Rattle.sample_reader.specs.PooledSample.{labels_of, pooled}
+use Rattle.pooled_columns.specs.PooledColumns.{pooled_values}
 
 -- the sum of the scores of the second sample, whose subjects have the label 1
 abbrev pub second_sum : List ℤ → List ℕ → ℤ
@@ -42,10 +43,7 @@ abbrev pub samples_of : ScoreKind → List (List ℕ) → List ℕ → List ℤ 
 samples_of kind labels members values =
     record { kind = kind; groups = record { labels = labels; members = members; values = values } }
 
--- the values of the pooled sample, ascending, and their scores
-abbrev pub pooled_values : GroupData → List ℤ
-pooled_values groups = values_of (pooled groups)
-
+-- the scores of the pooled sample, ascending
 abbrev pub pooled_scores : TwoSamples → List ℤ
 pooled_scores samples = score_list samples.kind (pooled_values samples.groups)
 

@@ -8,7 +8,6 @@ ghost use Rattle.stage_network.specs.Follows.{answer_of, open_keys};
 ghost use Rattle.two_sample_tests.specs.TwoSamples.{two_sample_test};
 ghost use Rattle.two_sample_tests.specs.Columns.{two_sample_network};
 
-mod columns;
 mod scored_samples;
 mod sums;
 #[cfg(test)]

@@ -10,8 +10,8 @@ ghost use Rattle.two_sample_tests.specs.TwoSamples.{second_sum};
 ghost use Rattle.two_sample_tests.specs.SubjectSteps.{AreBounded, IsScoredBy, second_marks};
 ghost use Rattle.two_sample_tests.specs.SampleSteps.{IsMadeOf};
 
-use crate::columns::{Columns, columns_of};
 use crate::sums::{second_sum, times, total_score};
+use pooled_columns::{Columns, columns_of};
 use sample_reader::{Groups, Subject, pooled_subjects, values};
 use scores::{ScoreFault, ScoreKind, Scored, scored};
 use std::alloc::Global;

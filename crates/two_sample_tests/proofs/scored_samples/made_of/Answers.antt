@@ -9,12 +9,13 @@ use Rattle.sample_reader.specs.Data.{data_of}
 use Rattle.sample_reader.specs.Groups.{group_sizes}
 use Rattle.sample_reader.specs.PooledSample.{pooled}
 use Rattle.two_sample_tests.specs.SampleSteps.{AreFitting}
-use Rattle.two_sample_tests.specs.SubjectSteps.{AreSubjects, IsScoredBy, first_scores}
-use Rattle.two_sample_tests.specs.Columns.{column_sizes}
-use Rattle.two_sample_tests.specs.TwoSamples.{TwoSamples, pooled_values, two_sample_test}
+use Rattle.pooled_columns.specs.ColumnSteps.{first_scores}
+use Rattle.pooled_columns.specs.PooledColumns.{column_sizes, pooled_values}
+use Rattle.two_sample_tests.specs.SubjectSteps.{AreSubjects, IsScoredBy}
+use Rattle.two_sample_tests.specs.TwoSamples.{TwoSamples, two_sample_test}
 use Rattle.two_sample_tests.proofs.FittingTests.{are-bounded, few-pooled, fitting-of, framed, made-refused, some-scores}
-use Rattle.two_sample_tests.proofs.PooledValues.{pooled-rises}
-use Rattle.two_sample_tests.proofs.TieColumns.{first_scores-are}
+use Rattle.pooled_columns.proofs.PooledValues.{pooled-rises}
+use Rattle.pooled_columns.proofs.TieColumns.{first_scores-are}
 use Rattle.two_sample_tests.proofs.scored_samples.made_of.Goals as goal
 
 pub scored_subjects-requires : goal.scored_subjects-requires

@@ -8,8 +8,8 @@ use Rattle.midranks.specs.Ties.{tie_groups, with_one_more}
 use Rattle.midranks.specs.declared.ties.Tie.{Tie}
 use Rattle.midranks.proofs.TieLemmas.{groups-counts, past, same-from_test}
 use Rattle.label_network.specs.LaterSums.{subjects}
-use Rattle.two_sample_tests.specs.SubjectSteps.{first_scores}
-use Rattle.two_sample_tests.proofs.PooledValues.{Rises}
+use Rattle.pooled_columns.specs.ColumnSteps.{first_scores}
+use Rattle.pooled_columns.proofs.PooledValues.{Rises}
 
 -- a value is not above the first group's
 abbrev Leads : ℤ → List Tie → Type 0

@@ -2,7 +2,7 @@ use Rattle.std.proofs.Common.{◌≡◌, ◌+◌, ◌<◌, arith, get_or, drop, 
 use Rattle.std.proofs.lemmas.List.Sums.{sum_by-drop_more}
 use Rattle.midranks.specs.Ties.{values_in}
 use Rattle.midranks.specs.declared.ties.Tie.{Tie}
-use Rattle.two_sample_tests.proofs.columns.first_scores.Goals as goal
+use Rattle.pooled_columns.proofs.columns.first_scores.Goals as goal
 
 pub first_of-requires : goal.first_of-requires
 first_of-requires c =

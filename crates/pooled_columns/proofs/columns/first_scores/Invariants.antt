@@ -1,7 +1,7 @@
 use Rattle.std.proofs.Common.{◌≡◌, ◌++◌, drop, length}
 use Rattle.midranks.specs.Ties.{values_in}
-use Rattle.two_sample_tests.specs.SubjectSteps.{first_scores}
-use Rattle.two_sample_tests.proofs.columns.first_scores.Given as goal
+use Rattle.pooled_columns.specs.ColumnSteps.{first_scores}
+use Rattle.pooled_columns.proofs.columns.first_scores.Given as goal
 
 abbrev pub invariant-loop-tie : goal.invariant-loop-tie
 invariant-loop-tie l = record {

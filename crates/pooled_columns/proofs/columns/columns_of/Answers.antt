@@ -4,7 +4,7 @@ use Rattle.midranks.specs.Ties.{tie_groups}
 use Rattle.midranks.specs.declared.ties.Tie.{Tie}
 use Rattle.midranks.proofs.Places.{values_in-groups}
 use Rattle.midranks.proofs.TieLemmas.{groups-counts}
-use Rattle.two_sample_tests.proofs.columns.columns_of.Goals as goal
+use Rattle.pooled_columns.proofs.columns.columns_of.Goals as goal
 
 pub first_scores-requires-clause-some : goal.first_scores-requires-clause-some
 first_scores-requires-clause-some c =

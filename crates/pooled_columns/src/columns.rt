@@ -1,9 +1,9 @@
-// The columns of the network.
+// The columns of values in ascending order.
 ghost use Rattle.std.specs.Prelude.{◌≡◌, ◌<◌, length, map, pos, slice_index_or, IfOk};
 ghost use Rattle.std.specs.List.{All};
 ghost use Rattle.midranks.specs.Ties.{tie_groups, values_in};
-ghost use Rattle.two_sample_tests.specs.Columns.{column_sizes};
-ghost use Rattle.two_sample_tests.specs.SubjectSteps.{first_scores};
+ghost use Rattle.pooled_columns.specs.PooledColumns.{column_sizes};
+ghost use Rattle.pooled_columns.specs.ColumnSteps.{first_scores};
 
 use midranks::{Tie, tie_groups};
 use std::alloc::Global;
@@ -11,7 +11,7 @@ use weights::{Ints, NoMemory, Nums};
 
 /// A column for each distinct value, ascending: how many subjects have it, and its score.
 #[derive(Drop)]
-pub(crate) struct Columns {
+pub struct Columns {
     pub sizes: Nums,
     pub scores: Ints,
 }
@@ -50,12 +50,16 @@ fn first_scores(alloc: Global, ties: &[Tie], scores: &[i128]) -> Result<Ints, No
     Ok(firsts)
 }
 
+/// The sizes alone of the columns of values in ascending order.
+pub fn column_sizes(alloc: Global, values: &[i128]) -> Result<Nums, NoMemory>
+    ensures { IfOk result (λ sizes. sizes ≡ column_sizes values.now) }
+{
+    let groups = tie_groups(alloc, values)?;
+    sizes(alloc, groups.as_slice())
+}
+
 /// The columns of values in ascending order with these scores.
-pub(crate) fn columns_of(
-    alloc: Global,
-    values: &[i128],
-    scores: &[i128],
-) -> Result<Columns, NoMemory>
+pub fn columns_of(alloc: Global, values: &[i128], scores: &[i128]) -> Result<Columns, NoMemory>
     requires { length scores.now ≡ length values.now }
     ensures sizes { IfOk result (λ columns. columns.sizes ≡ column_sizes values.now) }
     ensures scores { let ties = tie_groups values.now in

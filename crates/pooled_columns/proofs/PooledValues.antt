@@ -12,7 +12,7 @@ use Rattle.midranks.proofs.TieLemmas.{all-weaker}
 use Rattle.sample_reader.specs.Groups.{GroupData}
 use Rattle.sample_reader.specs.PooledSample.{ascending_by, insert_by, paired_subjects, pooled, subject_cmp, values_of}
 use Rattle.sample_reader.specs.declared.subjects.Subject.{Subject}
-use Rattle.two_sample_tests.specs.TwoSamples.{pooled_values}
+use Rattle.pooled_columns.specs.PooledColumns.{pooled_values}
 
 -- no value is below an earlier one
 abbrev pub Rises : List ℤ → Type 0

@@ -1,0 +1,3 @@
+pub mod PooledValues
+pub mod PooledLabels
+pub mod TieColumns

@@ -1,0 +1,2 @@
+pub mod PooledColumns
+pub mod ColumnSteps
