@@ -1,0 +1,90 @@
+-- What the measure of points knows at each of its keys.
+use Rattle.std.proofs.Common.{◌≡◌, ℕ, ◌+◌, ◌-◌, ◌*◌, ◌≤◌, List, [], ◌∷◌, length, min, take, sym, ◌∙◌, ap, arith}
+use Rattle.std.specs.Prelude.{ℤ, pos, ◌+ℤ◌, nat_abs, unsigned_abs, slice_index}
+use Rattle.std.specs.List.{sum, Contains}
+use Rattle.std.proofs.lemmas.Int.{ints}
+use Rattle.std.proofs.lemmas.List.{length-take}
+use Rattle.std.proofs.lemmas.List.Sums.{sum_by-take-drop}
+use Rattle.weights.specs.declared.TheConstants.{MAX}
+use Rattle.weights.specs.declared.tails.Tail.{Tail}
+use Rattle.weights.specs.declared.rules.Rule.{Rule}
+use Rattle.weights.specs.Rules.{RuleFits}
+use Rattle.weights.proofs.ChoiceLists.{IsChoice}
+use Rattle.label_network.specs.LabelSteps.{AreSizes}
+use Rattle.label_network.specs.Linear.{score_of, so_far}
+use Rattle.label_network.specs.Meanings.{IsPlace, allowed, sizes_in}
+use Rattle.label_network.proofs.Later.{fits-length}
+use Rattle.label_network.proofs.Narrowing.{IsLeft, chosen}
+use Rattle.label_network.proofs.Rows.{length-abs}
+use Rattle.label_network.proofs.Sizes.{sizes-of_pos}
+use Rattle.k_sample_tests.specs.declared.used_pairs.UsedPair.{UsedPair}
+use Rattle.k_sample_tests.specs.PairCounts.{column_points, open_points, pairs_meaning, sure_points}
+use Rattle.k_sample_tests.specs.Umbrella.{subject_pairs}
+use Rattle.k_sample_tests.specs.UmbrellaSteps.{IsCounting}
+use Rattle.k_sample_tests.proofs.PairFits.{pairs-most, points-most}
+use Rattle.k_sample_tests.proofs.PairPoints.{IsPartial, middle-is, open-is, reached_left, reached_partial}
+
+module _ (qs : List UsedPair) (rows columns : List ℕ) (tail : Tail) (rule : Rule) (h : IsCounting qs rows columns rule) where
+  module _ (g : ℕ) (f p : List ℤ) (a : IsPlace (pairs_meaning qs rows columns tail rule) g f p) where
+    pub left : IsLeft (pairs_meaning qs rows columns tail rule) g (sizes_in f)
+    left = reached_left qs rows columns tail rule h g (sizes_in f) p a.reached
+
+    pub partial_is : IsPartial qs rows g (sizes_in f) p
+    partial_is = reached_partial qs rows columns tail rule h g (sizes_in f) p a.reached
+
+    pub long : length f ≡ length rows
+    long = sym (length-abs f) ∙ fits-length (sizes_in f) rows left.within
+
+    pub few : sum (sizes_in f) ≤ 10000
+    few = omega (arith, left.whole, h.level, h.few, sum_by-take-drop (λ v. v) columns g)
+
+    pub sizes : AreSizes f
+    sizes = sizes-of_pos (sizes_in f) (omega (arith, few)) f a.whole
+
+    all-few : 2 * subject_pairs qs rows ≤ 12800000000
+    all-few = omega (arith, pairs-most qs rows h.pairs_are.few h.few)
+
+    pub low-fits : unsigned_abs (so_far p) + sure_points qs rows (sizes_in f) ≤ 12800000000
+    low-fits = omega (arith, partial_is.most, all-few)
+
+    pub high-fits : unsigned_abs (so_far p) + (sure_points qs rows (sizes_in f) + open_points qs (sizes_in f)) ≤ 12800000000
+    high-fits = omega (arith, partial_is.most, all-few)
+
+    whole-sum : (s : ℤ) (n : ℕ) → s ≡ pos (nat_abs s) → s +ℤ pos n ≡ pos (nat_abs s + n)
+    whole-sum s n e = omega (arith, ints, e)
+
+    pub low-rule : RuleFits rule (so_far p +ℤ pos (sure_points qs rows (sizes_in f)))
+    low-rule = rw (whole-sum (so_far p) (sure_points qs rows (sizes_in f)) partial_is.whole) (h.rule_fits _ (omega (arith, partial_is.most)))
+
+    pub high-rule : RuleFits rule (so_far p +ℤ pos (sure_points qs rows (sizes_in f) + open_points qs (sizes_in f)))
+    high-rule = rw (whole-sum (so_far p) (sure_points qs rows (sizes_in f) + open_points qs (sizes_in f)) partial_is.whole) (h.rule_fits _ (omega (arith, partial_is.most)))
+
+    -- a choice for a column
+    module _ (x : List ℕ) (o : Contains (allowed (pairs_meaning qs rows columns tail rule) g (sizes_in f)) x) where
+      pub choice : IsChoice (slice_index columns g) (sizes_in f) x
+      choice = chosen (slice_index columns g) (sizes_in f) x o
+
+      pub added-fits : unsigned_abs (so_far p) + column_points qs rows (sizes_in f) x ≤ MAX
+      added-fits = omega (arith, low-fits, points-most rows (sizes_in f) x h.few left.within choice.fitting qs h.pairs_are.few)
+
+  -- what the outlook says
+  module _ (r : List ℕ) (low high : ℤ) (e : low ∷ high ∷ [] ≡ pos (sure_points qs rows r) ∷ pos (sure_points qs rows r + open_points qs r) ∷ []) where
+    pub least-is : low ≡ pos (sure_points qs rows r)
+    least-is = ap (λ l. score_of l 0) e
+
+    pub greatest-is : high ≡ pos (sure_points qs rows r + open_points qs r)
+    greatest-is = ap (λ l. score_of l 1) e
+
+-- the middle, less and more the open pairs
+pub around : (qs : List UsedPair) (rows r : List ℕ) (beside middle : ℕ) → beside ≡ subject_pairs qs r → middle ≡ column_points qs rows r r → (beside ≤ middle) × (middle - beside ≡ sure_points qs rows r) × (middle + beside ≡ sure_points qs rows r + open_points qs r)
+around qs rows r beside middle e f =
+    let whole = middle-is qs rows r in
+    let twice = open-is qs r in
+    (omega (arith, e, f, whole), omega (arith, e, f, whole), omega (arith, e, f, whole, twice))
+
+-- the front of eight numbers
+pub room-of : (n : ℕ) → n ≤ 8 → length {A = ℕ} (take n (0 ∷ 0 ∷ 0 ∷ 0 ∷ 0 ∷ 0 ∷ 0 ∷ 0 ∷ [])) ≡ n
+room-of n h = length-take n (0 ∷ 0 ∷ 0 ∷ 0 ∷ 0 ∷ 0 ∷ 0 ∷ 0 ∷ []) ∙ within n h
+  where
+    within : (n : ℕ) → n ≤ 8 → min n 8 ≡ n
+    within n h = omega (arith, h)

@@ -1,0 +1,23 @@
+use Rattle.std.proofs.Common.{rules, ◌≡◌, ◌∙◌, arith, ap, FitsSigned}
+use Rattle.std.specs.Prelude.{pos}
+use mir.Syntax.{w128}
+use Rattle.std.proofs.lemmas.Int.{to_z-of_z}
+use Rattle.label_network.proofs.Narrowing.{fits-self}
+use Rattle.k_sample_tests.specs.UmbrellaSteps.{points_from}
+use Rattle.k_sample_tests.proofs.PairFits.{pairs-most}
+use Rattle.k_sample_tests.proofs.Placing.{points-bounded}
+use Rattle.k_sample_tests.proofs.pair_points.labelling_points.Goals as goal
+
+pub place_columns-requires-clause-left : goal.place_columns-requires-clause-left
+place_columns-requires-clause-left c = rw c.copy_from_slice.ensures.after (fits-self c.args.rows.now)
+
+pub whole-requires : goal.whole-requires
+whole-requires c =
+    let points : c.place_columns.result ≡ points_from c.args.pairs.now c.args.rows.now c.args.rows.now c.args.columns.now c.args.labels.now = c.place_columns.ensures ∙ ap (λ left. points_from c.args.pairs.now c.args.rows.now left c.args.columns.now c.args.labels.now) c.copy_from_slice.ensures.after in
+    omega (arith, points, points-bounded c.args.pairs.now c.args.rows.now c.args.columns.now c.args.labels.now c.requires.labels, pairs-most c.args.pairs.now c.args.rows.now c.requires.pairs.few c.requires.few)
+
+pub returns : goal.returns
+returns c =
+    let points : c.place_columns.result ≡ points_from c.args.pairs.now c.args.rows.now c.args.rows.now c.args.columns.now c.args.labels.now = c.place_columns.ensures ∙ ap (λ left. points_from c.args.pairs.now c.args.rows.now left c.args.columns.now c.args.labels.now) c.copy_from_slice.ensures.after in
+    let s : FitsSigned w128 c.whole.result = search rules in
+    to_z-of_z w128 c.whole.result s ∙ c.whole.ensures ∙ ap pos points

@@ -1,0 +1,67 @@
+-- The network of a test of ordered samples: a stage is a distinct value, ascending, with the
+-- subjects that have it, and its choice says how many of them are of each group. A key's partial
+-- counts the pairs of subjects that are both placed.
+use Rattle.std.specs.Prelude.{ℕ, ◌+◌, ◌-◌, ◌*◌, pos, ◌+ℤ◌, List, [], ◌∷◌, length, slice_index}
+use Rattle.std.specs.List.{sum_by}
+use Rattle.weights.specs.declared.tails.Tail.{Tail}
+use Rattle.weights.specs.declared.rules.Rule.{Rule}
+use Rattle.weights.specs.Rules.{rule_of}
+use Rattle.sample_reader.specs.Groups.{group_sizes}
+use Rattle.stage_network.specs.Network.{Network}
+use Rattle.label_network.specs.LabelNetwork.{label_network}
+use Rattle.label_network.specs.Linear.{so_far}
+use Rattle.label_network.specs.Meanings.{Meaning}
+use Rattle.pooled_columns.specs.PooledColumns.{column_sizes, pooled_values}
+use Rattle.k_sample_tests.specs.declared.used_pairs.UsedPair.{UsedPair}
+use Rattle.k_sample_tests.specs.Umbrella.{PeakedGroups, umbrella_test, used_pairs}
+
+-- how many subjects of group i have lesser values
+abbrev pub placed : List ℕ → List ℕ → ℕ → ℕ
+placed rows r i = slice_index rows i - slice_index r i
+
+-- what the subjects of a column add: each subject of a greater group with those placed before it,
+-- and with those beside it, which are equal
+abbrev pub column_points : List UsedPair → List ℕ → List ℕ → List ℕ → ℕ
+column_points pairs rows r x =
+    sum_by (λ q. 2 * (placed rows r q.lesser * slice_index x q.greater)
+    + slice_index x q.lesser * slice_index x q.greater) pairs
+
+-- each placed subject of a lesser group is less than each remaining one of the greater
+abbrev pub sure_points : List UsedPair → List ℕ → List ℕ → ℕ
+sure_points pairs rows r =
+    sum_by (λ q. 2 * (placed rows r q.lesser * slice_index r q.greater)) pairs
+
+-- the pairs of remaining subjects can add 2 each, or nothing
+abbrev pub open_points : List UsedPair → List ℕ → ℕ
+open_points pairs r =
+    sum_by (λ q. 2 * (slice_index r q.lesser * slice_index r q.greater)) pairs
+
+-- The count over the used pairs of groups, from what is sure to what all open pairs can add.
+abbrev pub pairs_meaning : List UsedPair → List ℕ → List ℕ → Tail → Rule → Meaning
+pairs_meaning pairs rows columns tail rule = record {
+  columns = columns;
+  rows = rows;
+  slots = 1;
+  step_width = 1;
+  outlook_width = 2;
+  first = pos 0 ∷ [];
+  step = λ g r x. pos (column_points pairs rows r x) ∷ [];
+  advance = λ g r x p. (so_far p +ℤ pos (column_points pairs rows r x)) ∷ [];
+  outlook = λ g r.
+      pos (sure_points pairs rows r)
+      ∷ pos (sure_points pairs rows r + open_points pairs r) ∷ [];
+  value = so_far;
+  low = λ g r p. so_far p +ℤ pos (sure_points pairs rows r);
+  high = λ g r p. so_far p +ℤ pos (sure_points pairs rows r + open_points pairs r);
+  tail = tail;
+  rule = rule;
+}
+
+abbrev pub umbrella_meaning : PeakedGroups → Tail → Meaning
+umbrella_meaning samples tail =
+    let sizes = group_sizes samples.groups in
+    pairs_meaning (used_pairs samples.peak (length sizes)) sizes
+    (column_sizes (pooled_values samples.groups)) tail (rule_of (umbrella_test samples) tail)
+
+abbrev pub umbrella_network : PeakedGroups → Tail → Network
+umbrella_network samples tail = label_network (umbrella_meaning samples tail)

@@ -1,0 +1,177 @@
+// Worked rows, published values, both ways, and refusals.
+use crate::{Umbrella, answer_umbrella, distribution_umbrella, prepare_umbrella};
+use record_reader::{Picks, records};
+use sample_reader::{Groups, groups};
+use stage_network::{Answer, TailSum, Way};
+use std::alloc::{AllocError, Global};
+use std::process::Abort;
+use std::test::Fail;
+use weights::{PrepareFault, Tails, WideOf};
+
+const ALL: Tails = Tails {
+    less: true,
+    greater: true,
+    two: true,
+};
+
+const LABELS: [u8; 9] = *b"abcdefghi";
+
+// A file of groups, whose values stand between blanks, one group after another.
+fn file_of(alloc: Global, samples: &[&str]) -> Result<Vec<u8>, AllocError> {
+    let mut file = Vec::from_slice(alloc, b"sample,value\n")?;
+    for (sample, label) in samples.iter().zip(LABELS.iter()) {
+        for value in sample.split_whitespace() {
+            file.push(*label)?;
+            file.push(b',')?;
+            file.extend_from_slice(value.as_bytes())?;
+            file.push(b'\n')?;
+        }
+    }
+    Ok(file)
+}
+
+// The groups of a file.
+fn groups_of(alloc: Global, file: &[u8]) -> Result<Groups, Fail> {
+    let rows = records(alloc, file, b',')?;
+    let groups = groups(alloc, &rows, &Picks::Natural, 8)?;
+    Ok(groups)
+}
+
+// Their test with a peak.
+fn prepared(alloc: Global, peak: u64, samples: &[&str]) -> Result<Umbrella, Fail> {
+    let file = file_of(alloc, samples)?;
+    let groups = groups_of(alloc, &file)?;
+    Ok(prepare_umbrella(alloc, peak, &groups)?)
+}
+
+// Its answer.
+fn solved(alloc: Global, peak: u64, samples: &[&str], way: Way) -> Result<Answer, Fail> {
+    let problem = prepared(alloc, peak, samples)?;
+    Ok(answer_umbrella(alloc, &problem, ALL, way)?)
+}
+
+// The numerators of the three tails.
+fn numerators(answer: &Answer) -> Option<[u128; 3]> {
+    Some([answer.less?.sum, answer.greater?.sum, answer.two?.sum])
+}
+
+// Whether an answer has this statistic, scale and total, and these numerators.
+fn expect(rt: &impl Abort, found: &Answer, head: (i128, u128, u128), tails: [u128; 3]) {
+    assert_eq!(rt; (found.statistic, found.scale, found.total), head);
+    assert_eq!(rt; numerators(found), Some(tails));
+}
+
+#[test]
+fn worked_rows(rt: HostRuntime) -> Result<(), Fail> {
+    let found = solved(rt.alloc(), 2, &["1 2", "3 4"], Way::Network)?;
+    expect(&rt, &found, (8, 2, 6), [6, 1, 2]);
+    let found = solved(rt.alloc(), 2, &["1", "3", "2"], Way::Network)?;
+    expect(&rt, &found, (4, 2, 6), [6, 2, 4]);
+    Ok(())
+}
+
+// Of 1 2 and 3 4 the first key is open, from 0 to 8, and so is that with the least value in the
+// first group, from 4 to 8. With both there all completions have 8, and no other key comes to it.
+#[test]
+fn keys_that_are_open(rt: HostRuntime) -> Result<(), Fail> {
+    let found = solved(rt.alloc(), 2, &["1 2", "3 4"], Way::Network)?;
+    assert_eq!(rt; found.greater, Some(TailSum { sum: 1, opened: 2 }));
+    let walked = solved(rt.alloc(), 2, &["1 2", "3 4"], Way::Plain)?;
+    assert_eq!(rt; walked.greater, Some(TailSum { sum: 1, opened: 0 }));
+    Ok(())
+}
+
+// The motivational effect of knowledge of performance, and Wechsler scores by age with the peak at
+// 35 to 54 years (Hollander and Wolfe, Nonparametric Statistical Methods, tables 6.6 and 6.8). The
+// first P-value agrees with that of jt.test in the package kSamples.
+const NONE: &str = "40 35 38 43 44 41";
+
+const ROUGH: &str = "38 40 47 44 40 42";
+
+const ACCURATE: &str = "48 40 45 43 46 44";
+
+const AGES: [&str; 5] = [
+    "8.62 9.94 10.06",
+    "9.85 10.43 11.31",
+    "9.98 10.69 11.40",
+    "9.12 9.89 10.57",
+    "4.80 9.18 9.27",
+];
+
+#[test]
+fn published_values(rt: HostRuntime) -> Result<(), Fail> {
+    let found = solved(rt.alloc(), 3, &[NONE, ROUGH, ACCURATE], Way::Network)?;
+    expect(&rt, &found, (158, 2, 17153136), [16830660, 359641, 719282]);
+    let found = solved(rt.alloc(), 3, &AGES, Way::Network)?;
+    let tails = [167263404, 1449756, 2899512];
+    expect(&rt, &found, (90, 2, 168168000), tails);
+    Ok(())
+}
+
+// Eight groups of one subject each, that rise: one labelling of 40,320 is as great.
+#[test]
+fn eight_groups(rt: HostRuntime) -> Result<(), Fail> {
+    let rising = ["1", "2", "3", "4", "5", "6", "7", "8"];
+    let found = solved(rt.alloc(), 8, &rising, Way::Network)?;
+    expect(&rt, &found, (56, 2, 40320), [40320, 1, 2]);
+    Ok(())
+}
+
+// Where all values are equal, every labelling is in every tail.
+#[test]
+fn equal_values(rt: HostRuntime) -> Result<(), Fail> {
+    let found = solved(rt.alloc(), 2, &["5 5", "5", "5 5 5"], Way::Network)?;
+    expect(&rt, &found, (5, 2, 60), [60, 60, 60]);
+    Ok(())
+}
+
+// Whether both ways give one answer and one distribution.
+fn agree(rt: &impl Abort, alloc: Global, peak: u64, samples: &[&str]) -> Result<(), Fail> {
+    let found = solved(alloc, peak, samples, Way::Network)?;
+    let walked = solved(alloc, peak, samples, Way::Plain)?;
+    assert_eq!(rt; numerators(&found), numerators(&walked), "peak {peak}");
+    let problem = prepared(alloc, peak, samples)?;
+    let lines = distribution_umbrella(alloc, &problem, Way::Network)?;
+    let visited = distribution_umbrella(alloc, &problem, Way::Plain)?;
+    assert_eq!(rt; lines.as_slice(), visited.as_slice(), "peak {peak}");
+    Ok(())
+}
+
+// For every peak, also past the last group and before the first.
+#[test]
+fn both_ways(rt: HostRuntime) -> Result<(), Fail> {
+    for peak in 0..5 {
+        agree(&rt, rt.alloc(), peak, &["1 2 2", "2 3", "1 3"])?;
+        agree(&rt, rt.alloc(), peak, &["-1.5 0", "0", "0 7", "3"])?;
+        agree(&rt, rt.alloc(), peak, &["4 4", "4 4 4"])?;
+    }
+    Ok(())
+}
+
+// A file of two samples of these sizes, whose values are all equal.
+fn many(alloc: Global, first: usize, second: usize) -> Result<Vec<u8>, AllocError> {
+    let mut file = Vec::from_slice(alloc, b"sample,value\n")?;
+    for _subject in 0..first {
+        file.extend_from_slice(b"x,1\n")?;
+    }
+    for _subject in 0..second {
+        file.extend_from_slice(b"y,1\n")?;
+    }
+    Ok(file)
+}
+
+// Why the test of samples of these sizes is not prepared, where it is not.
+fn fault(alloc: Global, first: usize, second: usize) -> Result<Option<PrepareFault>, Fail> {
+    let file = many(alloc, first, second)?;
+    let groups = groups_of(alloc, &file)?;
+    Ok(prepare_umbrella(alloc, 2, &groups).err())
+}
+
+// Half of 130 subjects are chosen in fewer ways than 2^127, half of 131 in more.
+#[test]
+fn limits(rt: HostRuntime) -> Result<(), Fail> {
+    assert_eq!(rt; fault(rt.alloc(), 65, 65)?, None);
+    let wide = Some(PrepareFault::TooWide(WideOf::Total));
+    assert_eq!(rt; fault(rt.alloc(), 65, 66)?, wide);
+    Ok(())
+}

@@ -1,0 +1,67 @@
+// Both ways to the answer of a test of ordered groups.
+use crate::pair_counts::PairCounts;
+use crate::pair_points::labelling_points;
+use crate::umbrella::Umbrella;
+use enumerate::{Plain, first_labelling, next_labelling};
+use label_network::LabelStages;
+use stage_network::{Judge, Prepared};
+use std::alloc::Global;
+use weights::{Bytes, Frame, NoMemory, Tail};
+
+impl Plain for Umbrella {
+    ghost use Rattle.k_sample_tests.specs.Umbrella.{umbrella_test};
+
+    ghost test = { umbrella_test };
+
+    fn first(&self, alloc: Global) -> Result<Bytes, NoMemory> {
+        first_labelling(alloc, self.made().sizes.as_slice())
+    }
+
+    fn next(&self, labels: &mut Bytes) -> bool {
+        next_labelling(labels.as_mut_slice())
+    }
+
+    fn weight(&self, _labels: &[u8]) -> u128 {
+        1
+    }
+
+    fn extreme(&self, labels: &[u8], tail: Tail) -> bool {
+        self.frame().rule(tail).passes(self.value(labels))
+    }
+
+    fn value(&self, labels: &[u8]) -> i128 {
+        let made = self.made();
+        labelling_points(
+            made.pairs.as_slice(),
+            made.sizes.as_slice(),
+            made.columns.as_slice(),
+            labels,
+        )
+    }
+}
+
+impl Prepared for Umbrella {
+    ghost use Rattle.k_sample_tests.specs.PairCounts.{umbrella_network};
+
+    type Built = LabelStages<PairCounts>;
+
+    ghost network = { umbrella_network };
+
+    fn frame(&self) -> Frame {
+        self.made().frame
+    }
+
+    fn has_tail(&self, _tail: Tail) -> bool {
+        true
+    }
+
+    fn stages_of(&self, alloc: Global, tail: Tail) -> Result<Self::Built, NoMemory> {
+        let made = self.made();
+        let rule = made.frame.rule(tail);
+        let rows = made.sizes.as_slice();
+        let columns = made.columns.as_slice();
+        let judge = Judge { tail, rule };
+        let measure = PairCounts::new(alloc, made.pairs.as_slice(), rows, columns, judge)?;
+        LabelStages::new(alloc, columns, rows, measure)
+    }
+}
