@@ -1,0 +1,13 @@
+pub mod Arranged
+pub mod PageOrder
+pub mod TreatmentSums
+pub mod Lines
+pub mod Staged
+pub mod SquareLaws
+pub mod PageLaws
+pub mod Rows
+pub mod Fitting
+pub mod Steps
+pub mod Walking
+pub mod CutSteps
+pub mod Vectors

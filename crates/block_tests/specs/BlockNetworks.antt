@@ -1,0 +1,115 @@
+-- The networks of the tests of blocks: a stage is a block, in the order of the file, and a choice
+-- is an arrangement of its cells. For Friedman's and Cochran's tests a key has the treatments' sums
+-- so far, ascending, since the order of the treatments changes no square. For Page's test a key is
+-- what the earlier blocks add, and arrangements of a block that add the same are one choice.
+use Rattle.std.specs.Prelude.{ℕ, ◌+◌, ◌-◌, pos, List, [], ◌∷◌, length, map, reverse, true, false, slice_index, slice_index_or}
+use Rattle.std.specs.List.{range_with_len}
+use Rattle.weights.specs.Conditional.{ConditionalTest, by_distance, distribution, unit_weight}
+use Rattle.weights.specs.Labellings.{labellings}
+use Rattle.weights.specs.Rules.{rule_of}
+use Rattle.weights.specs.declared.lines.Line.{Line}
+use Rattle.weights.specs.declared.rules.Rule.{Rule}
+use Rattle.weights.specs.declared.tails.Tail.{Tail}
+use Rattle.enumerate.specs.Walk.{members_after}
+use Rattle.stage_network.specs.Addends.{Addends, additive_network}
+use Rattle.stage_network.specs.Network.{Network}
+use Rattle.stage_network.specs.declared.additive.SumValue.TheVariants.{First, Squares}
+use Rattle.block_tests.specs.BlockTests.{BlockTests, block_counts, block_test, greater_alone, page_sum}
+use Rattle.block_tests.specs.declared.kinds.BlockKind.{BlockKind}
+use Rattle.block_tests.specs.declared.kinds.BlockKind.TheVariants.{Friedman, Page, Cochran}
+
+-- the counts of the cells of block g
+abbrev pub block_at : List (List ℕ) → ℕ → List ℕ
+block_at blocks g = slice_index_or blocks g []
+
+-- the first arrangement, in which the cells ascend
+abbrev pub first_arrangement : List ℕ → List ℕ
+first_arrangement counts = slice_index_or (labellings counts) 0 []
+
+abbrev pub least_cell : List ℕ → ℕ
+least_cell counts = slice_index (first_arrangement counts) 0
+
+abbrev pub greatest_cell : List ℕ → ℕ
+greatest_cell counts =
+    slice_index (first_arrangement counts) (length (first_arrangement counts) - 1)
+
+-- ---- the sums of all treatments, and their squares
+
+abbrev pub square_addends : ℕ → ℕ → List (List ℕ) → Tail → Rule → Addends
+square_addends bound k blocks tail rule = record {
+  count = length blocks;
+  slots = k;
+  choice_width = k;
+  choices = λ g. labellings (block_at blocks g);
+  later = λ g c. members_after c (labellings (block_at blocks g));
+  weight = λ g c. 1;
+  adds = λ g c. map pos c;
+  least = λ g. pos (least_cell (block_at blocks g));
+  most = λ g. pos (greatest_cell (block_at blocks g));
+  sorted = true;
+  value = Squares bound;
+  tail = tail;
+  rule = rule;
+}
+
+-- ---- Page's sum
+
+-- what the arrangements of one block add: its distribution is asked alone
+abbrev pub arrangement_test : List ℕ → ConditionalTest
+arrangement_test counts = record {
+  reference = labellings counts;
+  statistic = λ cells. pos (page_sum 1 cells);
+  observed = first_arrangement counts;
+  weight = unit_weight;
+  has_tail = greater_alone;
+  two_sided = by_distance 0 (pos 0);
+  scale = 1;
+  bound = 0;
+}
+
+-- the sums that they add, ascending, each with the number of arrangements that add it
+abbrev pub page_lines : List ℕ → List Line
+page_lines counts = distribution (arrangement_test counts)
+
+abbrev pub no_line : Line
+no_line = record { value = pos 0; weight = 0 }
+
+-- the line that a choice names by its place
+abbrev pub line_of : List ℕ → List ℕ → Line
+line_of counts choice = slice_index_or (page_lines counts) (slice_index choice 0) no_line
+
+-- so many places from one on, each as a choice
+abbrev pub places_from : ℕ → ℕ → List (List ℕ)
+places_from i n = map (λ place. place ∷ []) (range_with_len i n)
+
+-- a block adds least where its cells descend, and most where they ascend
+abbrev pub page_addends : List (List ℕ) → Tail → Rule → Addends
+page_addends blocks tail rule = record {
+  count = length blocks;
+  slots = 1;
+  choice_width = 1;
+  choices = λ g. places_from 0 (length (page_lines (block_at blocks g)));
+  later = λ g c. places_from (slice_index c 0 + 1)
+      (length (page_lines (block_at blocks g)) - (slice_index c 0 + 1));
+  weight = λ g c. (line_of (block_at blocks g) c).weight;
+  adds = λ g c. (line_of (block_at blocks g) c).value ∷ [];
+  least = λ g. pos (page_sum 1 (reverse (first_arrangement (block_at blocks g))));
+  most = λ g. pos (page_sum 1 (first_arrangement (block_at blocks g)));
+  sorted = false;
+  value = First;
+  tail = tail;
+  rule = rule;
+}
+
+-- ---- the networks
+
+abbrev pub addends_of : BlockKind → ℕ → ℕ → List (List ℕ) → Tail → Rule → Addends
+addends_of Friedman bound k = square_addends bound k
+addends_of Page bound k = page_addends
+addends_of Cochran bound k = square_addends bound k
+
+abbrev pub block_network : BlockTests → Tail → Network
+block_network tests tail =
+    let test = block_test tests in
+    additive_network (addends_of tests.kind test.bound tests.blocks.treatments
+    (block_counts tests) tail (rule_of test tail))

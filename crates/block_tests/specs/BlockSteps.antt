@@ -1,0 +1,48 @@
+-- What is kept of one block, and of the cells of blocks while they are ranked.
+use Rattle.std.specs.Prelude.{◌≡◌, ℕ, ◌*◌, ◌≤◌, ◌≤ℤ◌, ◌^◌, ℤ, pos, List, [], ◌∷◌, length, map}
+use Rattle.std.specs.List.{All, concat, sum, sum_by}
+use Rattle.weights.specs.Labellings.{number_of_labellings}
+use Rattle.weights.specs.Rules.{RuleFits}
+use Rattle.weights.specs.declared.TheConstants.{MAX}
+use Rattle.weights.specs.declared.rules.Rule.{Rule}
+use Rattle.record_reader.specs.declared.TheConstants.{MOST_ROWS}
+use Rattle.block_tests.specs.BlockNetworks.{first_arrangement}
+
+-- a block of at most eight cells, which is known by their counts
+pub record IsBlock (counts first : List ℕ) (number : ℕ) : Type 0 where
+  pub first_is : first ≡ first_arrangement counts
+  pub number_is : number ≡ number_of_labellings counts
+  pub fits : number_of_labellings counts ≤ MAX
+  pub few : sum counts ≤ 8
+
+-- counts of the cells of k treatments, 2 to 8, each cell at most 16
+pub record IsWhole (k : ℕ) (counts : List ℕ) : Type 0 where
+  pub treatments : sum counts ≡ k
+  pub few : length counts ≤ 17
+
+-- the first arrangements of blocks, joined
+abbrev pub first_cells : List (List ℕ) → List ℕ
+first_cells blocks = concat (map first_arrangement blocks)
+
+-- how many rearrangements blocks have
+abbrev pub ways_of : List (List ℕ) → ℕ
+ways_of [] = 1
+ways_of (counts ∷ blocks) = number_of_labellings counts * ways_of blocks
+
+-- the sum of all their cells
+abbrev pub cells_sum : List (List ℕ) → ℕ
+cells_sum blocks = sum_by (λ counts. sum (first_arrangement counts)) blocks
+
+-- a statistic of at most 2 ^ 60
+abbrev pub IsSmall : ℤ → Type 0
+IsSmall v = (pos 0 ≤ℤ v) × (v ≤ℤ pos (2 ^ 60))
+
+-- Blocks of k treatments that have a lawful network: their rearrangements pass no limit, nor do the
+-- numbers that the rule computes.
+pub record AreStages (k : ℕ) (blocks : List (List ℕ)) (rule : Rule) : Type 0 where
+  pub some : 1 ≤ k
+  pub narrow : k ≤ 8
+  pub few : length blocks ≤ MOST_ROWS
+  pub whole : All (IsWhole k) blocks
+  pub ways_fit : ways_of blocks ≤ MAX
+  pub rule_fits : (v : ℤ) → IsSmall v → RuleFits rule v

@@ -1,0 +1,4 @@
+pub mod BlockTests
+pub mod BlockNetworks
+pub mod BlockSteps
+pub mod PreparedSteps

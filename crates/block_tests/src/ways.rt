@@ -1,0 +1,111 @@
+// Both ways to the answer of a test of blocks.
+ghost use Rattle.std.specs.Prelude.{◌≡◌, ◌≤◌, IfOk};
+ghost use Rattle.weights.specs.declared.TheConstants.{MAX};
+ghost use Rattle.block_tests.specs.BlockNetworks.{page_addends, square_addends};
+ghost use Rattle.block_tests.specs.BlockSteps.{AreStages, cells_sum};
+ghost use Rattle.block_tests.specs.BlockTests.{block_counts, block_test, squared};
+
+use crate::block_test::BlockTest;
+use crate::kinds::BlockKind;
+use crate::page::{PageBlocks, page_blocks};
+use crate::squares::{SquareBlocks, block_copies};
+use crate::walk::{first_member, next_member};
+use enumerate::Plain;
+use stage_network::{AdditiveStages, Judge, OneOf, Prepared};
+use std::alloc::Global;
+use weights::{Bytes, Frame, NoMemory, Tail};
+
+impl Plain for BlockTest {
+    ghost use Rattle.block_tests.specs.BlockTests.{block_test};
+
+    ghost test = { block_test };
+
+    fn first(&self, alloc: Global) -> Result<Bytes, NoMemory> {
+        first_member(alloc, self.blocks())
+    }
+
+    fn next(&self, labels: &mut Bytes) -> bool {
+        next_member(self.blocks(), self.treatments(), labels.as_mut_slice())
+    }
+
+    fn weight(&self, _labels: &[u8]) -> u128 {
+        1
+    }
+
+    fn extreme(&self, labels: &[u8], tail: Tail) -> bool {
+        self.frame().rule(tail).passes(self.value(labels))
+    }
+
+    fn value(&self, labels: &[u8]) -> i128 {
+        self.statistic_of(labels)
+    }
+}
+
+// The network of a test whose treatments' sums are squared.
+fn square_stages(
+    alloc: Global,
+    test: &BlockTest,
+    judge: Judge,
+) -> Result<AdditiveStages<SquareBlocks>, NoMemory>
+    requires stages { let k = test.now.blocks.treatments in
+        AreStages k (block_counts test.now) judge.rule }
+    requires bounded { let bound = (block_test test.now).bound in
+        squared (cells_sum (block_counts test.now)) ≤ bound }
+    requires fits { (block_test test.now).bound ≤ MAX }
+    ensures { let bound = (block_test test.now).bound in
+        let k = test.now.blocks.treatments in
+        let a = square_addends bound k (block_counts test.now) judge.tail judge.rule in
+        IfOk result (λ s.
+        square_addends s.bound s.treatments s.blocks.items s.judge.tail s.judge.rule ≡ a) }
+{
+    let blocks = block_copies(alloc, test.blocks())?;
+    let inside = SquareBlocks::new(blocks, test.treatments(), test.bound(), judge);
+    AdditiveStages::new(alloc, inside)
+}
+
+// The network of Page's test.
+fn page_stages(
+    alloc: Global,
+    test: &BlockTest,
+    judge: Judge,
+) -> Result<AdditiveStages<PageBlocks>, NoMemory>
+    requires { let k = test.now.blocks.treatments in
+        AreStages k (block_counts test.now) judge.rule }
+    ensures { let a = page_addends (block_counts test.now) judge.tail judge.rule in
+        IfOk result (λ s. page_addends s.blocks.items s.judge.tail s.judge.rule ≡ a) }
+{
+    let blocks = page_blocks(alloc, test.blocks())?;
+    let inside = PageBlocks::new(blocks, test.treatments(), judge);
+    AdditiveStages::new(alloc, inside)
+}
+
+impl Prepared for BlockTest {
+    ghost use Rattle.block_tests.specs.BlockNetworks.{block_network};
+
+    type Built = OneOf<AdditiveStages<SquareBlocks>, AdditiveStages<PageBlocks>>;
+
+    ghost network = { block_network };
+
+    fn frame(&self) -> Frame {
+        self.frame_made()
+    }
+
+    fn has_tail(&self, tail: Tail) -> bool {
+        self.kind() == BlockKind::Page || tail == Tail::Greater
+    }
+
+    fn stages_of(&self, alloc: Global, tail: Tail) -> Result<Self::Built, NoMemory> {
+        let rule = self.frame_made().rule(tail);
+        let judge = Judge { tail, rule };
+        match self.kind() {
+            BlockKind::Page => {
+                let stages = page_stages(alloc, self, judge)?;
+                Ok(OneOf::Second(stages))
+            }
+            BlockKind::Friedman | BlockKind::Cochran => {
+                let stages = square_stages(alloc, self, judge)?;
+                Ok(OneOf::First(stages))
+            }
+        }
+    }
+}
