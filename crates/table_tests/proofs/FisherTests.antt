@@ -1,0 +1,281 @@
+-- What holds of Fisher's test of a table whose total passes no limit.
+use Rattle.std.proofs.Common.{◌≡◌, ℕ, zero, suc, ◌+◌, ◌-◌, ◌*◌, ◌<◌, ◌≤◌, Bool, true, false, cond, List, [], ◌∷◌, length, map, take, drop, get_or, Some, None, refl, sym, ◌∙◌, ap, subst, arith, nat_eq}
+use Rattle.std.specs.Prelude.{ℤ, pos, ◌+ℤ◌, ◌*ℤ◌, Contains}
+use Rattle.std.specs.List.{count_by, range_with_len, sum, sum_by}
+use Rattle.std.proofs.Math.Nat.{mul-le-mul}
+use Rattle.std.proofs.lemmas.Bool.{eqb-true, le-leb, le-ltb, lt-ltb}
+use Rattle.std.proofs.lemmas.Int.{ints}
+use Rattle.std.proofs.lemmas.List.FromFn.{get_or-map-range_with_len}
+use Rattle.std.proofs.lemmas.List.Sums.{get_or-le-sum_by, sum-map, sum_by-cons}
+use Rattle.weights.specs.declared.tails.Tail.{Tail}
+use Rattle.weights.specs.declared.tails.Tail.TheVariants.{Less, Greater, Two}
+use Rattle.weights.specs.declared.rules.Rule.{Rule}
+use Rattle.weights.specs.declared.rules.Rule.TheVariants.{AtMost}
+use Rattle.weights.specs.declared.TheConstants.{MAX}
+use Rattle.weights.specs.declared.wide.WideOf.TheVariants.{Total}
+use Rattle.weights.specs.Conditional.{ConditionalTest, by_rarity, observed_statistic, total, unit_weight}
+use Rattle.weights.specs.Frames.{IsFrameOf, IsShown, RulesFit}
+use Rattle.weights.specs.declared.frames.Frame.{Frame}
+use Rattle.weights.specs.Grouped.{columns_of, fits, minus, table_weight}
+use Rattle.weights.specs.Labellings.{counts_of, labellings, number_of_labellings}
+use Rattle.weights.specs.Rules.{RuleFits, measured, rule_of}
+use Rattle.weights.specs.Wide.{too_wide}
+use Rattle.weights.proofs.FirstLabel.{number_of_labellings-positive}
+use Rattle.weights.proofs.Members.{labelling_from, same_refl}
+use Rattle.weights.proofs.Sized.{first_and}
+use Rattle.weights.proofs.Sums.{sum_by-one}
+use Rattle.weights.proofs.Tables as tables
+use Rattle.completion_bounds.proofs.TableWeights.{table-all}
+use Rattle.stage_network.specs.Follows.{Follows}
+use Rattle.label_network.specs.Endings.{labelling_value, partial_after}
+use Rattle.label_network.specs.Linear.{IsLinear, row_sum, so_far}
+use Rattle.label_network.proofs.LabelFollows.{label_follows}
+use Rattle.label_network.proofs.LinearNarrows.{linear_measure}
+use Rattle.table_reader.specs.TableLayout.{TableData}
+use Rattle.table_tests.specs.FisherExact.{first_cell, fisher_test, has_fisher_tail, rarity}
+use Rattle.table_tests.specs.TableNetworks.{first_cell_meaning, first_scores, fisher_network, rarity_meaning}
+use Rattle.table_tests.specs.Tables.{cell, column_of, column_sums, columns_in, is_two_by_two, observed_labels, row_sums}
+use Rattle.table_tests.specs.TableSteps.{AreColumns, IsTable, table_sum}
+use Rattle.table_tests.specs.Weighing.{past_of, weight_meaning}
+use Rattle.table_tests.specs.WeightSteps.{IsWeighing}
+use Rattle.table_tests.proofs.LinearTests.{all-weigh, at_least-fits, at_most-fits, is-linear, past-limit}
+use Rattle.table_tests.proofs.MarginSums.{column-few, length-columns, length-rows, level, subjects-few}
+use Rattle.table_tests.proofs.Observed.{observed-columns}
+use Rattle.table_tests.proofs.Products.{product-table, product-value}
+use Rattle.table_tests.proofs.WeightNarrows.{weight_measure}
+
+-- the test, where it is told whether the table has two rows and two columns
+abbrev fisher_by : Bool → TableData → ConditionalTest
+fisher_by two_by_two t = record {
+  reference = labellings (row_sums t);
+  statistic = λ labels. cond two_by_two (pos (first_cell (column_sums t) labels)) (pos (rarity t labels));
+  observed = observed_labels t;
+  weight = unit_weight;
+  has_tail = has_fisher_tail two_by_two;
+  two_sided = by_rarity (rarity t);
+  scale = cond two_by_two 1 (number_of_labellings (row_sums t));
+  bound = 1;
+}
+
+shown-by : (b : Bool) (t : TableData) → IsShown (fisher_by b t)
+shown-by true t = record { has = refl; statistic_is = λ r. refl; weighty = all-weigh (labellings (row_sums t)) }
+shown-by false t = record { has = refl; statistic_is = λ r. refl; weighty = all-weigh (labellings (row_sums t)) }
+
+pub rule-fits : (t : TableData) (tail : Tail) (v : ℤ) → RuleFits (rule_of (fisher_test t) tail) v
+rule-fits t Less v = at_most-fits (observed_statistic (fisher_test t)) v
+rule-fits t Greater v = at_least-fits (observed_statistic (fisher_test t)) v
+rule-fits t Two v = at_most-fits (pos (rarity t (observed_labels t))) v
+
+pub rules-fit : (t : TableData) → RulesFit (fisher_test t)
+rules-fit t = record { fits = λ tail r m. rule-fits t tail (measured (fisher_test t) tail r) }
+
+pub shown : (t : TableData) → IsShown (fisher_test t)
+shown t = shown-by (is_two_by_two t) t
+
+pub total-is : (t : TableData) → total (fisher_test t) ≡ number_of_labellings (row_sums t)
+total-is t = sum_by-one (labellings (row_sums t))
+
+pub total-some : (t : TableData) → 1 ≤ total (fisher_test t)
+total-some t = omega (arith, total-is t, number_of_labellings-positive (row_sums t))
+
+pub total-wide : (t : TableData) → (number_of_labellings (row_sums t) ≤ MAX → ⊥) → too_wide (fisher_test t) ≡ Some Total
+total-wide t wide = rw (lt-ltb MAX (total (fisher_test t)) (omega (arith, past-limit (number_of_labellings (row_sums t)) wide, total-is t))) refl
+
+-- the observed table is one of those with its sums
+
+mapped-fits : (f g : ℕ → ℕ) → ((i : ℕ) → f i ≤ g i) → (is : List ℕ) → fits (map f is) (map g is) ≡ true
+mapped-fits f g h [] = refl
+mapped-fits f g h (i ∷ is) = rw (le-leb (f i) (g i) (h i), mapped-fits f g h is) refl
+
+mapped-minus : (f g h : ℕ → ℕ) → ((i : ℕ) → g i ≡ f i + h i) → (is : List ℕ) → minus (map g is) (map f is) ≡ map h is
+mapped-minus f g h e [] = refl
+mapped-minus f g h e (i ∷ is) =
+    let left : g i - f i ≡ h i = omega (arith, e i) in
+    rw (left, mapped-minus f g h e is) refl
+
+mapped-long : (f g : ℕ → ℕ) (is : List ℕ) → length (map f is) ≡ length (map g is)
+mapped-long f g [] = refl
+mapped-long f g (i ∷ is) = ap suc (mapped-long f g is)
+
+is-table : (x : ℕ → ℕ → ℕ) (is js : List ℕ) → tables.IsTable (map (λ j. sum_by (λ i. x i j) is) js) (map (λ i. sum_by (λ j. x i j) js) is) (map (λ j. map (λ i. x i j) is) js)
+is-table x is [] = tt
+is-table x is (j ∷ js) = (
+  record {
+    long = mapped-long (λ i. x i j) (λ i. sum_by (λ j. x i j) (j ∷ js)) is;
+    whole = sum-map (λ i. x i j) is;
+    fitting = mapped-fits (λ i. x i j) (λ i. sum_by (λ j. x i j) (j ∷ js)) (λ i. omega (arith, sum_by-cons (λ j. x i j) j js)) is;
+  },
+  subst (λ r. tables.IsTable (map (λ j. sum_by (λ i. x i j) is) js) r (map (λ j. map (λ i. x i j) is) js)) (sym (mapped-minus (λ i. x i j) (λ i. sum_by (λ j. x i j) (j ∷ js)) (λ i. sum_by (λ j. x i j) js) (λ i. sum_by-cons (λ j. x i j) j js) is)) (is-table x is js),
+)
+
+pub observed-rarity : (t : TableData) → rarity t (observed_labels t) ≡ table_weight (columns_in t)
+observed-rarity t = ap table_weight (observed-columns t)
+
+head-cell : (k : ℕ) (cs xs : List ℕ) → 1 ≤ k → 1 ≤ length cs → get_or (get_or (columns_of k cs xs) 0 []) 0 0 ≡ first_cell cs xs
+head-cell zero cs xs h l = absurd (omega (arith, h))
+head-cell (suc k) [] xs h l = absurd (omega (arith, l))
+head-cell (suc k) (c ∷ cs) xs h l = refl
+
+pub observed-first : (t : TableData) → 2 ≤ t.rows → 2 ≤ t.columns → first_cell (column_sums t) (observed_labels t) ≡ get_or t.cells 0 0
+observed-first t rows columns =
+    let column : get_or (columns_in t) 0 [] ≡ column_of t 0 = get_or-map-range_with_len (column_of t) 0 t.columns 0 0 [] (omega (arith, columns)) (omega arith) in
+    let first : get_or (column_of t 0) 0 0 ≡ cell t 0 0 = get_or-map-range_with_len (λ i. cell t i 0) 0 t.rows 0 0 0 (omega (arith, rows)) (omega arith) in
+    let place : 0 * t.columns + 0 ≡ 0 = omega arith in
+    sym (head-cell t.rows (column_sums t) (observed_labels t) (omega (arith, rows)) (omega (arith, length-columns t, columns)))
+    ∙ ap (λ table. get_or (get_or table 0 []) 0 0) (observed-columns t)
+    ∙ ap (λ x. get_or x 0 0) column ∙ first ∙ ap (λ n. get_or t.cells n 0) place
+
+-- two rows and two columns
+pub square : (t : TableData) → is_two_by_two t ≡ true → (t.rows ≡ 2) × (t.columns ≡ 2)
+square t e = let both = first_and (nat_eq t.rows 2) (nat_eq t.columns 2) e in (eqb-true t.rows 2 both.0, eqb-true t.columns 2 both.1)
+
+pub both-tails : (t : TableData) (tail : Tail) → is_two_by_two t ≡ true → has_fisher_tail (is_two_by_two t) tail ≡ true
+both-tails t Less e = e
+both-tails t Greater e = e
+both-tails t Two e = refl
+
+-- what is said of the test
+pub framed : (t : TableData) (b : Bool) (weight first all : ℕ) (frame : Frame) → IsTable t → b ≡ is_two_by_two t → weight ≡ table_weight (columns_in t) → first ≡ get_or t.cells 0 0 → all ≡ number_of_labellings (row_sums t)
+    → frame.statistic ≡ cond b (pos first) (pos weight) → frame.scale ≡ cond b 1 all → frame.total ≡ all → frame.two ≡ AtMost (pos weight) → IsFrameOf (fisher_test t) frame
+framed t b weight first all frame i two e f g statistic scale whole both =
+    let statistic-is : cond b (pos first) (pos weight) ≡ cond (is_two_by_two t) (pos (first_cell (column_sums t) (observed_labels t))) (pos (rarity t (observed_labels t))) =
+    ap (λ x. cond x (pos first) (pos weight)) two
+    ∙ ap (λ n. cond (is_two_by_two t) (pos n) (pos weight)) (f ∙ sym (observed-first t i.two_rows i.two_columns))
+    ∙ ap (λ n. cond (is_two_by_two t) (pos (first_cell (column_sums t) (observed_labels t))) (pos n)) (e ∙ sym (observed-rarity t)) in
+    record {
+      statistic = statistic ∙ statistic-is;
+      scale = scale ∙ ap (λ x. cond x 1 all) two ∙ ap (cond (is_two_by_two t) 1) g;
+      total = whole ∙ g ∙ sym (total-is t);
+      two = both ∙ ap (λ n. AtMost (pos n)) (e ∙ sym (observed-rarity t));
+    }
+
+-- what a network of weights ends at
+weight-from : (rows columns : List ℕ) (tail : Tail) (rule : Rule) (table : List (List ℕ)) (g : ℕ) (r : List ℕ) (p : List ℤ) → so_far p ≡ pos (past_of p)
+    → so_far (partial_after (weight_meaning rows columns tail rule) g r p table) ≡ pos (past_of p * table_weight table)
+weight-from rows columns tail rule [] g r p e = e ∙ ap pos (times-one (past_of p))
+  where
+    times-one : (a : ℕ) → a ≡ a * 1
+    times-one a = omega arith
+weight-from rows columns tail rule (x ∷ table) g r p e =
+    weight-from rows columns tail rule table (g + 1) (minus r x) (pos (past_of p * number_of_labellings x) ∷ []) refl
+    ∙ ap pos (grouped (past_of p) (number_of_labellings x) (table_weight table))
+  where
+    grouped : (a b c : ℕ) → (a * b) * c ≡ a * (b * c)
+    grouped a b c = grind arith
+
+weight-value : (rows columns : List ℕ) (tail : Tail) (rule : Rule) (xs : List ℕ) → labelling_value (weight_meaning rows columns tail rule) xs ≡ pos (table_weight (columns_of (length rows) columns xs))
+weight-value rows columns tail rule xs = weight-from rows columns tail rule (columns_of (length rows) columns xs) 0 rows (pos 1 ∷ []) refl ∙ ap pos (one-times (table_weight (columns_of (length rows) columns xs)))
+  where
+    one-times : (a : ℕ) → 1 * a ≡ a
+    one-times a = omega arith
+
+-- what the network of the first cell ends at
+first-sum : (a b : ℕ) (z : ℤ) → (pos 1 *ℤ ((pos a *ℤ pos 1) +ℤ ((pos b *ℤ pos 0) +ℤ pos 0))) +ℤ ((pos 0 *ℤ z) +ℤ pos 0) ≡ pos a
+first-sum a b z = omega (arith, ints)
+
+first-two : (cs xs : List ℕ) → length cs ≡ 2 → table_sum first_scores first_scores (columns_of 2 cs xs) ≡ pos (first_cell cs xs)
+first-two [] xs e = absurd (omega (arith, e))
+first-two (c ∷ []) xs e = absurd (omega (arith, e))
+first-two (c ∷ d ∷ []) xs e = first-sum (count_by (λ l. nat_eq l 0) (take c xs)) (count_by (λ l. nat_eq l 1) (take c xs)) (row_sum first_scores (counts_of 2 (take d (drop c xs))))
+first-two (c ∷ d ∷ b ∷ cs) xs e = absurd (omega (arith, e))
+
+module _ (t : TableData) (i : IsTable t) where
+  even : sum (column_sums t) ≡ sum (row_sums t)
+  even = sym (level t)
+
+  pub few-labels : length (row_sums t) ≤ 8
+  few-labels = omega (arith, length-rows t, i.few_rows)
+
+  pub some-labels : 2 ≤ length (row_sums t)
+  some-labels = omega (arith, length-rows t, i.two_rows)
+
+  pub some-cells : 0 < length t.cells
+  some-cells =
+      let most : 2 * 2 ≤ t.rows * t.columns = mul-le-mul i.two_rows i.two_columns in
+      omega (arith, most, i.one_each)
+
+  pub some-columns : 0 < length (column_sums t)
+  some-columns = omega (arith, length-columns t, i.two_columns)
+
+  pub bounded : total (fisher_test t) ≤ MAX
+  bounded = omega (arith, total-is t, i.total_fits)
+
+  pub not-wide : too_wide (fisher_test t) ≡ None
+  not-wide = rw (le-ltb MAX (total (fisher_test t)) bounded) refl
+
+  pub observed-few : table_weight (columns_in t) ≤ MAX
+  observed-few = omega (arith, table-all (row_sums t) (column_sums t) (columns_in t) (is-table (λ i j. cell t i j) (range_with_len 0 t.rows) (range_with_len 0 t.columns)), i.total_fits)
+
+  -- of a labelling
+  module _ (xs : List ℕ) (m : Contains (labellings (row_sums t)) xs) where
+    pub are-columns : AreColumns (column_sums t) xs
+    are-columns = record {
+      level = even ∙ sym (labelling_from (row_sums t) xs m).over.long;
+      few_columns = omega (arith, length-columns t, i.few_columns);
+      few = column-few t i;
+    }
+
+    pub rarity-few : rarity t xs ≤ MAX
+    rarity-few =
+        let l = labelling_from (row_sums t) xs m in
+        let given : tables.IsTable (column_sums t) (row_sums t) (columns_of (length (row_sums t)) (column_sums t) xs) =
+        tables.columns-table (length (row_sums t)) (column_sums t) (row_sums t) xs refl even l.over (rw l.counted (same_refl (row_sums t))) in
+        let most : table_weight (columns_of (length (row_sums t)) (column_sums t) xs) ≤ number_of_labellings (row_sums t) = table-all (row_sums t) (column_sums t) (columns_of (length (row_sums t)) (column_sums t) xs) given in
+        subst (λ k. table_weight (columns_of k (column_sums t) xs) ≤ MAX) (length-rows t) (omega (arith, most, i.total_fits))
+
+    -- the first column's subjects are there
+    pub first-within : get_or (column_sums t) 0 0 ≤ length xs
+    first-within = omega (arith, get_or-le-sum_by (λ v. v) (column_sums t) 0 0 some-columns, are-columns.level)
+
+  pub weighing : (rule : Rule) → rule ≡ rule_of (fisher_test t) Two → IsWeighing (row_sums t) (column_sums t) rule
+  weighing rule e = record {
+    some = omega (arith, some-labels);
+    few = few-labels;
+    level = even;
+    units = omega (arith, subjects-few t i);
+    total_fits = i.total_fits;
+    rule_fits = λ v h. subst (λ x. RuleFits x v) (sym e) (rule-fits t Two v);
+  }
+
+  pub linear-of : (tail : Tail) (rule : Rule) → is_two_by_two t ≡ true → rule ≡ rule_of (fisher_test t) tail → IsLinear first_scores (row_sums t) first_scores (column_sums t) rule
+  linear-of tail rule two e =
+      is-linear (row_sums t) (column_sums t) first_scores first_scores (observed_labels t) even (subjects-few t i) (omega arith) (omega arith)
+      (omega (arith, length-rows t, (square t two).0)) (omega (arith, length-columns t, (square t two).1)) few-labels rule
+      (λ v h. subst (λ x. RuleFits x v) (sym e) (rule-fits t tail v))
+
+  follows-weight : Follows (fisher_test t) Two (fisher_network t Two)
+  follows-weight =
+      label_follows (rarity_meaning t Two) (weight_measure (row_sums t) (column_sums t) Two (rule_of (fisher_test t) Two) even (omega (arith, some-labels)) (omega (arith, subjects-few t i))) (fisher_test t) Two (record {
+        tail_is = refl;
+        rule_is = refl;
+        reference = refl;
+        alike = λ xs. refl;
+        values = λ xs m. ap (λ k. pos (table_weight (columns_of k (column_sums t) xs))) (sym (length-rows t)) ∙ sym (weight-value (row_sums t) (column_sums t) Two (rule_of (fisher_test t) Two) xs);
+      })
+
+  first-value : (tail : Tail) → is_two_by_two t ≡ true → (xs : List ℕ) → pos (first_cell (column_sums t) xs) ≡ labelling_value (first_cell_meaning t tail) xs
+  first-value tail two xs =
+      sym (product-table first_scores first_scores (column_sums t) xs ∙ first-two (column_sums t) xs (length-columns t ∙ (square t two).1))
+      ∙ product-value first_scores (row_sums t) first_scores (column_sums t) tail (rule_of (fisher_test t) tail) (omega (arith, length-rows t, (square t two).0)) (omega (arith, length-columns t, (square t two).1)) xs
+
+  statistic-first : is_two_by_two t ≡ true → (xs : List ℕ) → (fisher_test t).statistic xs ≡ pos (first_cell (column_sums t) xs)
+  statistic-first two xs = rw two refl
+
+  pub follows : (tail : Tail) → has_fisher_tail (is_two_by_two t) tail ≡ true → Follows (fisher_test t) tail (fisher_network t tail)
+  follows Less two =
+      label_follows (first_cell_meaning t Less) (linear_measure first_scores (row_sums t) first_scores (column_sums t) Less (rule_of (fisher_test t) Less) (linear-of Less (rule_of (fisher_test t) Less) two refl)) (fisher_test t) Less (record {
+        tail_is = refl;
+        rule_is = refl;
+        reference = refl;
+        alike = λ xs. refl;
+        values = λ xs m. statistic-first two xs ∙ first-value Less two xs;
+      })
+  follows Greater two =
+      label_follows (first_cell_meaning t Greater) (linear_measure first_scores (row_sums t) first_scores (column_sums t) Greater (rule_of (fisher_test t) Greater) (linear-of Greater (rule_of (fisher_test t) Greater) two refl)) (fisher_test t) Greater (record {
+        tail_is = refl;
+        rule_is = refl;
+        reference = refl;
+        alike = λ xs. refl;
+        values = λ xs m. statistic-first two xs ∙ first-value Greater two xs;
+      })
+  follows Two two = follows-weight

@@ -1,0 +1,11 @@
+mod MarginSums
+mod Observed
+mod Products
+mod LinearTests
+mod WeightNarrows
+mod WeightKeys
+mod FilledColumns
+mod FisherTests
+mod ColumnSums
+mod Built
+mod Vectors

@@ -1,0 +1,33 @@
+use Rattle.std.proofs.Common.{◌≡◌, ◌∙◌, refl, sym, ap}
+use Rattle.std.proofs.lemmas.Result.{IfOk-weaker}
+use Rattle.weights.specs.declared.tails.Tail.TheVariants.{Two}
+use Rattle.table_tests.specs.TableNetworks.{rarity_meaning}
+use Rattle.table_tests.specs.Weighing.{weight_meaning}
+use Rattle.table_tests.specs.declared.weight_measure.WeightMeasure.{WeightMeasure}
+use Rattle.table_tests.proofs.Built.{margin-of}
+use Rattle.table_tests.proofs.FisherTests.{few-labels, follows, some-labels, weighing}
+use Rattle.table_tests.proofs.fisher_table.FisherTable.by_weight.Goals as goal
+
+pub new-requires : goal.new-requires
+new-requires c =
+    let made = c.made-made.ensures in
+    rw (c.as_slice-rows.ensures ∙ made.margins.rows, c.as_slice-columns.ensures ∙ made.margins.columns) (weighing c.args.self.now made.fitting c.made-made.result.now.frame.two made.frame.two)
+
+pub new-requires-2 : goal.new-requires-2
+new-requires-2 c =
+    let made = c.made-made.ensures in
+    let given = rw (c.as_slice-rows.ensures ∙ made.margins.rows, c.as_slice-columns.ensures ∙ made.margins.columns, made.frame.two) at c.in_ok-measure.ensures in
+    margin-of _ (rarity_meaning c.args.self.now Two) c.as_slice-columns.result.now c.as_slice-rows.result.now given (c.as_slice-columns.ensures ∙ made.margins.columns) (c.as_slice-rows.ensures ∙ made.margins.rows) refl
+    (some-labels c.args.self.now made.fitting) (few-labels c.args.self.now made.fitting) made.fitting.total_fits
+
+pub returns-clause-built : goal.returns-clause-built
+returns-clause-built c =
+    let made = c.made-made.ensures in
+    let given = rw (c.as_slice-rows.ensures ∙ made.margins.rows, c.as_slice-columns.ensures ∙ made.margins.columns, made.frame.two) at c.in_ok-measure.ensures in
+    IfOk-weaker c.new-2.result (λ m. m ≡ c.in_ok-measure.measure) _ (λ m e. sym (ap (λ (m : WeightMeasure). weight_meaning m.rows.items m.columns.items m.judge.tail m.judge.rule) e ∙ given)) c.new-2.ensures
+
+pub returns-in_err-measure-clause-follows : goal.returns-in_err-measure-clause-follows
+returns-in_err-measure-clause-follows c = follows c.args.self.now c.made-made.ensures.fitting Two refl
+
+pub returns-clause-follows : goal.returns-clause-follows
+returns-clause-follows c = follows c.args.self.now c.made-made.ensures.fitting Two refl

@@ -1,0 +1,43 @@
+-- The linear-by-linear association test of ordered rows and columns (Mantel, 1963; Agresti,
+-- Categorical Data Analysis): the scores of a subject's row and of its column are multiplied and
+-- summed over the subjects, conditionally on the sums of the table's rows and columns.
+use Rattle.std.specs.Prelude.{ℕ, ℤ, pos, ◌*◌, ◌+ℤ◌, ◌*ℤ◌, List, [], ◌∷◌}
+use Rattle.std.specs.List.{sum}
+use Rattle.weights.specs.Conditional.{ConditionalTest, by_distance, every_tail, unit_weight}
+use Rattle.weights.specs.Labellings.{labellings}
+use Rattle.completion_bounds.specs.Pairings.{greatest_score}
+use Rattle.label_network.specs.LaterSums.{subjects}
+use Rattle.label_network.specs.Linear.{row_sum, score_of}
+use Rattle.table_reader.specs.TableLayout.{TableData}
+use Rattle.table_tests.specs.Tables.{column_sums, observed_labels, row_sums}
+
+-- A table with a score for each row and for each column.
+pub record ScoredTable : Type 0 where
+  pub table : TableData
+  pub row_scores : List ℤ
+  pub column_scores : List ℤ
+
+-- the sum over subjects with these column scores and labels of row score times column score
+abbrev pub product_sum : List ℤ → List ℤ → List ℕ → ℤ
+product_sum us [] labels = pos 0
+product_sum us (v ∷ vs) [] = pos 0
+product_sum us (v ∷ vs) (l ∷ labels) = (score_of us l *ℤ v) +ℤ product_sum us vs labels
+
+-- all ways to label the subjects with the rows' sizes, and that sum; with N subjects its mean is
+-- 1/N of the sum of all subjects' row scores times the sum of their column scores
+abbrev pub product_test : List ℕ → List ℕ → List ℤ → List ℤ → List ℕ → ConditionalTest
+product_test rows columns us vs observed = record {
+  reference = labellings rows;
+  statistic = product_sum us (subjects vs columns);
+  observed = observed;
+  weight = unit_weight;
+  has_tail = every_tail;
+  two_sided = by_distance (sum rows) (row_sum us rows *ℤ row_sum vs columns);
+  scale = 1;
+  bound = 2 * (sum rows * sum rows) * (greatest_score us * greatest_score vs);
+}
+
+abbrev pub linear_test : ScoredTable → ConditionalTest
+linear_test scored =
+    product_test (row_sums scored.table) (column_sums scored.table)
+    scored.row_scores scored.column_scores (observed_labels scored.table)

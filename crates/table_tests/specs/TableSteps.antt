@@ -1,0 +1,85 @@
+-- What the bodies compute of a table, column by column, and what is kept of a prepared one.
+use Rattle.std.specs.Prelude.{◌≡◌, ℕ, ◌*◌, ◌<◌, ◌≤◌, ℤ, pos, ◌+ℤ◌, ◌*ℤ◌, List, [], ◌∷◌, length, slice_index}
+use Rattle.std.specs.List.{sum}
+use Rattle.weights.specs.declared.TheConstants.{MAX}
+use Rattle.weights.specs.Frames.{IsFrameOf}
+use Rattle.weights.specs.Labellings.{number_of_labellings}
+use Rattle.completion_bounds.specs.Pairings.{greatest_score}
+use Rattle.label_network.specs.Linear.{row_sum}
+use Rattle.table_reader.specs.Counts.{AreCounts}
+use Rattle.table_reader.specs.TableLayout.{TableData}
+use Rattle.table_tests.specs.declared.TheConstants.{MOST_SCORE}
+use Rattle.table_tests.specs.declared.margins.Margins.{Margins}
+use Rattle.table_tests.specs.declared.linear_table.Products.{Products}
+use Rattle.table_tests.specs.declared.fisher_table.Weighed.{Weighed}
+use Rattle.table_tests.specs.FisherExact.{fisher_test}
+use Rattle.table_tests.specs.LinearByLinear.{ScoredTable, linear_test}
+use Rattle.table_tests.specs.Tables.{column_sums, is_two_by_two, row_sums}
+
+-- the sum over the columns of their score times the summed row scores of their counts
+abbrev pub table_sum : List ℤ → List ℤ → List (List ℕ) → ℤ
+table_sum us [] table = pos 0
+table_sum us (v ∷ vs) [] = pos 0
+table_sum us (v ∷ vs) (x ∷ table) = (v *ℤ row_sum us x) +ℤ table_sum us vs table
+
+-- no score is greater than may be
+abbrev pub AreScores : List ℤ → Type 0
+AreScores us = greatest_score us ≤ MOST_SCORE
+
+-- the most subjects that a column has
+abbrev pub most_subjects : ℕ
+most_subjects = 8 * 1000000
+
+-- a bound of what a column adds to a sum of products
+abbrev pub most_added : ℕ
+most_added = MOST_SCORE * (MOST_SCORE * most_subjects)
+
+-- the sums of the rows and of the columns
+pub record AreMargins (table : TableData) (margins : Margins) : Type 0 where
+  pub rows : margins.rows ≡ row_sums table
+  pub columns : margins.columns ≡ column_sums table
+
+-- a table of a shape that its tests take
+pub record IsTable (table : TableData) : Type 0 where
+  pub two_rows : 2 ≤ table.rows
+  pub few_rows : table.rows ≤ 8
+  pub two_columns : 2 ≤ table.columns
+  pub few_columns : table.columns ≤ 64
+  pub one_each : length table.cells ≡ table.rows * table.columns
+  pub total_fits : number_of_labellings (row_sums table) ≤ MAX
+  pub counts : AreCounts table.cells
+
+-- columns of subjects, and their labels
+pub record AreColumns (columns labels : List ℕ) : Type 0 where
+  pub level : sum columns ≡ length labels
+  pub few_columns : length columns ≤ 64
+  pub few : (j : ℕ) → j < length columns → slice_index columns j ≤ most_subjects
+
+abbrev pub table_of : ℕ → ℕ → List ℕ → TableData
+table_of rows columns cells = record { rows = rows; columns = columns; cells = cells }
+
+abbrev pub scored_of : TableData → List ℤ → List ℤ → ScoredTable
+scored_of table us vs = record { table = table; row_scores = us; column_scores = vs }
+
+-- a table with a score for each row and for each column
+pub record AreFitting (scored : ScoredTable) : Type 0 where
+  pub table : IsTable scored.table
+  pub rows_level : length scored.row_scores ≡ scored.table.rows
+  pub columns_level : length scored.column_scores ≡ scored.table.columns
+  pub row_sizes : AreScores scored.row_scores
+  pub column_sizes : AreScores scored.column_scores
+
+-- what is made of such a table
+pub record IsScored (scored : ScoredTable) (made : Products) : Type 0 where
+  pub margins : AreMargins scored.table made.margins
+  pub row_scores : made.row_scores ≡ scored.row_scores
+  pub column_scores : made.column_scores ≡ scored.column_scores
+  pub frame : IsFrameOf (linear_test scored) made.frame
+  pub fitting : AreFitting scored
+
+-- what is made of a table
+pub record IsWeighed (table : TableData) (made : Weighed) : Type 0 where
+  pub margins : AreMargins table made.margins
+  pub two_by_two : made.two_by_two ≡ is_two_by_two table
+  pub frame : IsFrameOf (fisher_test table) made.frame
+  pub fitting : IsTable table

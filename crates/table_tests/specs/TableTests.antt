@@ -1,0 +1,17 @@
+-- The tests of a table.
+use Rattle.weights.specs.Conditional.{ConditionalTest}
+use Rattle.weights.specs.declared.tails.Tail.{Tail}
+use Rattle.stage_network.specs.Network.{Network}
+use Rattle.table_tests.specs.FisherExact.{fisher_test}
+use Rattle.table_tests.specs.LinearByLinear.{linear_test}
+use Rattle.table_tests.specs.TableNetworks.{fisher_network, linear_network}
+use Rattle.table_tests.specs.declared.table_test.TableTest.{TableTest}
+use Rattle.table_tests.specs.declared.table_test.TableTest.TheVariants.{Fisher, Linear}
+
+abbrev pub table_test : TableTest → ConditionalTest
+table_test (Fisher table) = fisher_test table
+table_test (Linear scored) = linear_test scored
+
+abbrev pub table_network : TableTest → Tail → Network
+table_network (Fisher table) tail = fisher_network table tail
+table_network (Linear scored) tail = linear_network scored tail

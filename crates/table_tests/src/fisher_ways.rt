@@ -1,0 +1,150 @@
+// Both ways to the answer of Fisher's test.
+ghost use Rattle.std.specs.Prelude.{◌≡◌, pos, true, IfOk, Contains};
+ghost use Rattle.weights.specs.declared.tails.Tail.TheVariants as side;
+ghost use Rattle.weights.specs.Labellings.{labellings};
+ghost use Rattle.weights.specs.Rules.{measured};
+ghost use Rattle.stage_network.specs.Follows.{Follows};
+ghost use Rattle.label_network.specs.Linear.{linear_meaning};
+ghost use Rattle.table_tests.specs.FisherExact.{fisher_test, first_cell, rarity};
+ghost use Rattle.table_tests.specs.TableNetworks.{first_cell_meaning, fisher_network, rarity_meaning};
+ghost use Rattle.table_tests.specs.Tables.{column_sums, is_two_by_two, row_sums};
+ghost use Rattle.table_tests.specs.Weighing.{weight_meaning};
+
+use crate::fisher_table::{FisherTable, held};
+use crate::sums::{count_label, front, labelled_weight};
+use crate::weight_measure::WeightMeasure;
+use enumerate::{Plain, first_labelling, next_labelling};
+use label_network::{LabelStages, LinearMeasure};
+use stage_network::{Judge, OneOf, Prepared};
+use std::alloc::Global;
+use weights::{Bytes, Frame, NoMemory, Tail};
+
+impl FisherTable {
+    // The weight of the table that a labelling gives.
+    fn rarity(&self, labels: &[u8]) -> i128
+        requires { Contains (labellings (row_sums self.now)) labels.now }
+        ensures { result ≡ pos (rarity self.now labels.now) }
+    {
+        let made = self.made();
+        let columns = made.margins.columns.as_slice();
+        held(labelled_weight(made.margins.rows.len(), columns, labels))
+    }
+
+    // Its first cell.
+    fn first_cell(&self, labels: &[u8]) -> i128
+        requires { Contains (labellings (row_sums self.now)) labels.now }
+        ensures { result ≡ pos (first_cell (column_sums self.now) labels.now) }
+    {
+        let columns = self.made().margins.columns.as_slice();
+        count_label(front(labels, columns[0]), 0) as i128
+    }
+
+    // What a tail measures of a labelling.
+    fn measure(&self, labels: &[u8], tail: Tail) -> i128
+        requires { Contains (labellings (row_sums self.now)) labels.now }
+        ensures { result ≡ measured (fisher_test self.now) tail labels.now }
+    {
+        match tail {
+            Tail::Two => self.rarity(labels),
+            Tail::Less | Tail::Greater => self.value(labels),
+        }
+    }
+
+    // The network of the first cell.
+    fn by_first_cell(
+        &self,
+        alloc: Global,
+        tail: Tail,
+    ) -> Result<LabelStages<LinearMeasure>, NoMemory>
+        requires { is_two_by_two self.now ≡ true }
+        ensures built { let meaning = first_cell_meaning self.now tail in
+            IfOk result (λ m. meaning ≡ linear_meaning m.scores.items m.rows.items
+            m.later.scores.items m.later.columns.items m.judge.tail m.judge.rule) }
+        ensures follows { Follows (fisher_test self.now) tail (fisher_network self.now tail) }
+    {
+        let made = self.made();
+        let rule = made.frame.rule(tail);
+        let rows = made.margins.rows.as_slice();
+        let columns = made.margins.columns.as_slice();
+        let judge = Judge { tail, rule };
+        let measure = LinearMeasure::new(alloc, &[1, 0], rows, &[1, 0], columns, judge)?;
+        LabelStages::new(alloc, columns, rows, measure)
+    }
+
+    // The network of the table's weight.
+    fn by_weight(&self, alloc: Global) -> Result<LabelStages<WeightMeasure>, NoMemory>
+        ensures built { let meaning = rarity_meaning self.now side.Two in
+            IfOk result (λ m. meaning ≡ weight_meaning m.rows.items m.columns.items
+            m.judge.tail m.judge.rule) }
+        ensures follows { let network = fisher_network self.now side.Two in
+            Follows (fisher_test self.now) side.Two network }
+    {
+        let made = self.made();
+        let rule = made.frame.two;
+        let rows = made.margins.rows.as_slice();
+        let columns = made.margins.columns.as_slice();
+        let judge = Judge {
+            tail: Tail::Two,
+            rule,
+        };
+        let measure = WeightMeasure::new(alloc, rows, columns, judge)?;
+        LabelStages::new(alloc, columns, rows, measure)
+    }
+}
+
+impl Plain for FisherTable {
+    ghost use Rattle.table_tests.specs.FisherExact.{fisher_test};
+
+    ghost test = { fisher_test };
+
+    fn first(&self, alloc: Global) -> Result<Bytes, NoMemory> {
+        first_labelling(alloc, self.made().margins.rows.as_slice())
+    }
+
+    fn next(&self, labels: &mut Bytes) -> bool {
+        next_labelling(labels.as_mut_slice())
+    }
+
+    fn weight(&self, _labels: &[u8]) -> u128 {
+        1
+    }
+
+    fn extreme(&self, labels: &[u8], tail: Tail) -> bool {
+        self.frame().rule(tail).passes(self.measure(labels, tail))
+    }
+
+    fn value(&self, labels: &[u8]) -> i128 {
+        if self.made().two_by_two {
+            self.first_cell(labels)
+        } else {
+            self.rarity(labels)
+        }
+    }
+}
+
+impl Prepared for FisherTable {
+    ghost use Rattle.table_tests.specs.TableNetworks.{fisher_network};
+
+    type Built = OneOf<LabelStages<LinearMeasure>, LabelStages<WeightMeasure>>;
+
+    ghost network = { fisher_network };
+
+    fn frame(&self) -> Frame {
+        self.made().frame
+    }
+
+    fn has_tail(&self, tail: Tail) -> bool {
+        match tail {
+            Tail::Two => true,
+            Tail::Less | Tail::Greater => self.made().two_by_two,
+        }
+    }
+
+    fn stages_of(&self, alloc: Global, tail: Tail) -> Result<Self::Built, NoMemory> {
+        match tail {
+            Tail::Less => Ok(OneOf::First(self.by_first_cell(alloc, tail)?)),
+            Tail::Greater => Ok(OneOf::First(self.by_first_cell(alloc, tail)?)),
+            Tail::Two => Ok(OneOf::Second(self.by_weight(alloc)?)),
+        }
+    }
+}

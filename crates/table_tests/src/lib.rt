@@ -1,0 +1,58 @@
+//! Tests of a table of counts, given the sums of its rows and of its columns: `fisher`, which
+//! measures how probable the table is, and the first cell of a table of 2 by 2; and `linear`, which
+//! measures how scores of the rows go with scores of the columns.
+#![tactic(auto)]
+
+ghost use Rattle.std.specs.Prelude.{◌≡◌, ◌≤◌, IfOk};
+ghost use Rattle.weights.specs.Conditional.{distribution};
+ghost use Rattle.stage_network.specs.Follows.{HasTails, answer_of, open_keys};
+ghost use Rattle.table_tests.specs.TableTests.{table_network, table_test};
+
+mod fillings;
+mod fisher_table;
+mod fisher_ways;
+mod linear_table;
+mod linear_ways;
+mod margins;
+mod sums;
+mod table_test;
+#[cfg(test)]
+mod tests;
+mod weight_measure;
+
+pub use fisher_table::{FisherTable, fisher_tails};
+pub use linear_table::LinearTable;
+use stage_network::{Answer, Spread, Way};
+use std::alloc::Global;
+pub use table_test::{TableTest, prepare_fisher, prepare_linear};
+pub use weight_measure::WeightMeasure;
+use weights::{NoMemory, Tails};
+
+/// The greatest absolute score of a row or a column.
+pub const MOST_SCORE: u64 = 1_000_000_000;
+
+/// The answer of a test of a table for tails that it has, by either way: the observed statistic,
+/// its scale, the number of labellings, and of each asked tail how many labellings are at least as
+/// extreme. All tests have all tails, but `fisher` of a table that is not 2 by 2 has the tail on
+/// both sides alone.
+pub fn answer(
+    alloc: Global,
+    problem: &TableTest,
+    tails: Tails,
+    way: Way,
+) -> Result<Answer, NoMemory>
+    requires { HasTails (table_test problem.now) tails }
+    ensures answer { let opened = open_keys (table_network problem.now) in
+        IfOk result (λ answer. answer ≡ answer_of (table_test problem.now) opened tails way) }
+    ensures some { IfOk result (λ answer. 1 ≤ answer.total) }
+{
+    stage_network::answer(alloc, problem, tails, way)
+}
+
+/// The distribution of the statistic of a test of a table: each value that it takes, ascending,
+/// with the number of labellings that have it, by either way.
+pub fn distribution(alloc: Global, problem: &TableTest, way: Way) -> Result<Spread, NoMemory>
+    ensures { IfOk result (λ spread. spread ≡ distribution (table_test problem.now)) }
+{
+    stage_network::distribution(alloc, problem, way)
+}

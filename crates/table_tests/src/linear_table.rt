@@ -1,0 +1,136 @@
+// A table with scores that is prepared for its test.
+ghost use Rattle.std.specs.Prelude.{◌≡◌, length, IfOk};
+ghost use Rattle.weights.specs.Frames.{IsFrameOf};
+ghost use Rattle.weights.specs.Labellings.{number_of_labellings};
+ghost use Rattle.weights.specs.Wide.{Prepares};
+ghost use Rattle.table_reader.specs.Data.{table_data_of};
+ghost use Rattle.table_tests.specs.LinearByLinear.{linear_test};
+ghost use Rattle.table_tests.specs.TableSteps.{AreFitting, AreMargins, AreScores, IsScored, scored_of};
+
+use crate::margins::{Margins, margins_of};
+use crate::sums::{observed_sum, times, total_of};
+use label_network::score_choice;
+use std::alloc::Global;
+use std::marker::Model;
+use table_reader::Table;
+use weights::{Frame, Ints, NoMemory, Nums, PrepareFault, Rule, WideOf, multinomial};
+
+/// What is made of a table with scores.
+#[derive(Drop)]
+pub(crate) struct Products {
+    pub margins: Margins,
+    pub row_scores: Ints,
+    pub column_scores: Ints,
+    /// The observed statistic, its scale, the total and the rule of both sides.
+    pub frame: Frame,
+}
+
+/// The linear-by-linear test of a table whose data are checked. It is seen as the table and the
+/// scores that it was prepared of.
+#[derive(Drop)]
+pub struct LinearTable {
+    // The table, by which contracts name it.
+    rows: u64,
+    columns: u64,
+    cells: Nums,
+    made: Products,
+}
+
+impl Model for LinearTable {
+    ghost use Rattle.table_tests.specs.LinearByLinear.{ScoredTable};
+    ghost use Rattle.table_tests.specs.TableSteps.{IsScored, scored_of, table_of};
+
+    ghost Value = { ScoredTable };
+
+    ghost view = { λ t. scored_of (table_of t.rows t.columns t.cells)
+        t.made.row_scores t.made.column_scores };
+
+    ghost invariant = { λ t. IsScored (scored_of (table_of t.rows t.columns t.cells)
+        t.made.row_scores t.made.column_scores) t.made };
+}
+
+// Scores as they are computed with.
+fn widened(alloc: Global, scores: &[i64]) -> Result<Ints, NoMemory>
+    ensures { IfOk result (λ wide. wide ≡ scores.now) }
+{
+    let mut wide = Ints::empty(alloc);
+    for score in scores {
+        wide.push(i128::from(*score))?;
+    }
+    Ok(wide)
+}
+
+// What is said of the test of a table with these sums, scores and total.
+fn frame_of(
+    table: &Table,
+    margins: &Margins,
+    row_scores: &[i128],
+    column_scores: &[i128],
+    total: u128,
+) -> Frame
+    requires fitting { AreFitting
+        (scored_of (table_data_of table.now) row_scores.now column_scores.now) }
+    requires margins { AreMargins (table_data_of table.now) margins.now }
+    requires total { total ≡ number_of_labellings margins.now.rows }
+    ensures { IsFrameOf (linear_test
+        (scored_of (table_data_of table.now) row_scores.now column_scores.now)) result }
+{
+    let rows = margins.rows.as_slice();
+    let columns = margins.columns.as_slice();
+    let statistic = observed_sum(table, row_scores, column_scores);
+    let centre = times(
+        score_choice(row_scores, rows),
+        score_choice(column_scores, columns),
+    );
+    let subjects = total_of(rows);
+    Frame {
+        statistic,
+        scale: 1,
+        total,
+        two: Rule::far(subjects as u128, centre, statistic),
+    }
+}
+
+impl LinearTable {
+    /// Prepares a table with a score for each row and for each column.
+    pub(crate) fn prepare(
+        alloc: Global,
+        table: &Table,
+        row_scores: &[i64],
+        column_scores: &[i64],
+    ) -> Result<LinearTable, PrepareFault>
+        requires rows_level { length row_scores.now ≡ table.now.rows }
+        requires columns_level { length column_scores.now ≡ table.now.columns }
+        requires rows { AreScores row_scores.now }
+        requires columns { AreScores column_scores.now }
+        ensures { Prepares linear_test
+            (scored_of (table_data_of table.now) row_scores.now column_scores.now) result }
+    {
+        let margins = margins_of(alloc, table)?;
+        let Some(total) = multinomial(margins.rows.as_slice()) else {
+            return Err(PrepareFault::TooWide(WideOf::Total));
+        };
+        let us = widened(alloc, row_scores)?;
+        let vs = widened(alloc, column_scores)?;
+        let cells = table.cells.copy()?;
+        let frame = frame_of(table, &margins, us.as_slice(), vs.as_slice(), total);
+        Ok(LinearTable {
+            rows: table.rows,
+            columns: table.columns,
+            cells,
+            made: Products {
+                margins,
+                row_scores: us,
+                column_scores: vs,
+                frame,
+            },
+        })
+    }
+
+    /// What was made of the table.
+    pub(crate) fn made(&self) -> &Products
+        ensures { IsScored self.now result.now }
+    {
+        &self.made
+    }
+}

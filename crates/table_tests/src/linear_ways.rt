@@ -1,0 +1,68 @@
+// Both ways to the answer of the linear-by-linear test.
+use crate::linear_table::LinearTable;
+use crate::sums::labelled_sum;
+use enumerate::{Plain, first_labelling, next_labelling};
+use label_network::{LabelStages, LinearMeasure};
+use stage_network::{Judge, Prepared};
+use std::alloc::Global;
+use weights::{Bytes, Frame, NoMemory, Tail};
+
+impl Plain for LinearTable {
+    ghost use Rattle.table_tests.specs.LinearByLinear.{linear_test};
+
+    ghost test = { linear_test };
+
+    fn first(&self, alloc: Global) -> Result<Bytes, NoMemory> {
+        first_labelling(alloc, self.made().margins.rows.as_slice())
+    }
+
+    fn next(&self, labels: &mut Bytes) -> bool {
+        next_labelling(labels.as_mut_slice())
+    }
+
+    fn weight(&self, _labels: &[u8]) -> u128 {
+        1
+    }
+
+    fn extreme(&self, labels: &[u8], tail: Tail) -> bool {
+        self.frame().rule(tail).passes(self.value(labels))
+    }
+
+    fn value(&self, labels: &[u8]) -> i128 {
+        let made = self.made();
+        labelled_sum(
+            made.row_scores.as_slice(),
+            made.column_scores.as_slice(),
+            made.margins.columns.as_slice(),
+            labels,
+        )
+    }
+}
+
+impl Prepared for LinearTable {
+    ghost use Rattle.table_tests.specs.TableNetworks.{linear_network};
+
+    type Built = LabelStages<LinearMeasure>;
+
+    ghost network = { linear_network };
+
+    fn frame(&self) -> Frame {
+        self.made().frame
+    }
+
+    fn has_tail(&self, _tail: Tail) -> bool {
+        true
+    }
+
+    fn stages_of(&self, alloc: Global, tail: Tail) -> Result<Self::Built, NoMemory> {
+        let made = self.made();
+        let rule = made.frame.rule(tail);
+        let rows = made.margins.rows.as_slice();
+        let columns = made.margins.columns.as_slice();
+        let row_scores = made.row_scores.as_slice();
+        let column_scores = made.column_scores.as_slice();
+        let judge = Judge { tail, rule };
+        let measure = LinearMeasure::new(alloc, row_scores, rows, column_scores, columns, judge)?;
+        LabelStages::new(alloc, columns, rows, measure)
+    }
+}

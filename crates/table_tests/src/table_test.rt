@@ -1,0 +1,128 @@
+// The tests of a table, under one type.
+ghost use Rattle.std.specs.Prelude.{◌≡◌, length};
+ghost use Rattle.weights.specs.Wide.{Prepares};
+ghost use Rattle.table_reader.specs.Data.{table_data_of};
+ghost use Rattle.table_tests.specs.TableTests.{table_test};
+ghost use Rattle.table_tests.specs.TableSteps.{AreScores, scored_of};
+
+use crate::fisher_table::FisherTable;
+use crate::linear_table::LinearTable;
+use crate::weight_measure::WeightMeasure;
+use enumerate::Plain;
+use label_network::{LabelStages, LinearMeasure};
+use stage_network::{OneOf, Prepared};
+use std::alloc::Global;
+use table_reader::Table;
+use weights::{Bytes, Frame, NoMemory, PrepareFault, Tail};
+
+/// A test of a table whose data are checked.
+#[derive(Drop)]
+pub enum TableTest {
+    /// Fisher's exact test.
+    Fisher(FisherTable),
+    /// The linear-by-linear test.
+    Linear(LinearTable),
+}
+
+/// Prepares Fisher's exact test of a table.
+///
+/// # Errors
+/// `TooWide(Total)` where there are more labellings of the subjects than `weights::MAX`. Or else
+/// `NoMemory` where memory runs out.
+pub fn prepare_fisher(alloc: Global, table: &Table) -> Result<TableTest, PrepareFault>
+    ensures { Prepares table_test (TableTest.Fisher (table_data_of table.now)) result }
+{
+    Ok(TableTest::Fisher(FisherTable::prepare(alloc, table)?))
+}
+
+/// Prepares the linear-by-linear test of a table with these scores of its rows and its columns.
+///
+/// # Errors
+/// `TooWide(Total)` where there are more labellings of the subjects than `weights::MAX`. Or else
+/// `NoMemory` where memory runs out.
+pub fn prepare_linear(
+    alloc: Global,
+    table: &Table,
+    row_scores: &[i64],
+    column_scores: &[i64],
+) -> Result<TableTest, PrepareFault>
+    requires rows_level { length row_scores.now ≡ table.now.rows }
+    requires columns_level { length column_scores.now ≡ table.now.columns }
+    requires rows { AreScores row_scores.now }
+    requires columns { AreScores column_scores.now }
+    ensures { let scored = scored_of (table_data_of table.now) row_scores.now column_scores.now in
+        Prepares table_test (TableTest.Linear scored) result }
+{
+    let linear = LinearTable::prepare(alloc, table, row_scores, column_scores)?;
+    Ok(TableTest::Linear(linear))
+}
+
+impl Plain for TableTest {
+    ghost use Rattle.table_tests.specs.TableTests.{table_test};
+
+    ghost test = { table_test };
+
+    fn first(&self, alloc: Global) -> Result<Bytes, NoMemory> {
+        match self {
+            TableTest::Fisher(table) => table.first(alloc),
+            TableTest::Linear(table) => table.first(alloc),
+        }
+    }
+
+    fn next(&self, labels: &mut Bytes) -> bool {
+        match self {
+            TableTest::Fisher(table) => table.next(labels),
+            TableTest::Linear(table) => table.next(labels),
+        }
+    }
+
+    fn weight(&self, labels: &[u8]) -> u128 {
+        match self {
+            TableTest::Fisher(table) => table.weight(labels),
+            TableTest::Linear(table) => table.weight(labels),
+        }
+    }
+
+    fn extreme(&self, labels: &[u8], tail: Tail) -> bool {
+        match self {
+            TableTest::Fisher(table) => table.extreme(labels, tail),
+            TableTest::Linear(table) => table.extreme(labels, tail),
+        }
+    }
+
+    fn value(&self, labels: &[u8]) -> i128 {
+        match self {
+            TableTest::Fisher(table) => table.value(labels),
+            TableTest::Linear(table) => table.value(labels),
+        }
+    }
+}
+
+impl Prepared for TableTest {
+    ghost use Rattle.table_tests.specs.TableTests.{table_network};
+
+    type Built = OneOf<LabelStages<LinearMeasure>, LabelStages<WeightMeasure>>;
+
+    ghost network = { table_network };
+
+    fn frame(&self) -> Frame {
+        match self {
+            TableTest::Fisher(table) => table.frame(),
+            TableTest::Linear(table) => table.frame(),
+        }
+    }
+
+    fn has_tail(&self, tail: Tail) -> bool {
+        match self {
+            TableTest::Fisher(table) => table.has_tail(tail),
+            TableTest::Linear(table) => table.has_tail(tail),
+        }
+    }
+
+    fn stages_of(&self, alloc: Global, tail: Tail) -> Result<Self::Built, NoMemory> {
+        match self {
+            TableTest::Fisher(table) => table.stages_of(alloc, tail),
+            TableTest::Linear(table) => Ok(OneOf::First(table.stages_of(alloc, tail)?)),
+        }
+    }
+}
