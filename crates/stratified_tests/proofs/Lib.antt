@@ -1,0 +1,7 @@
+mod CellSums
+mod Multiples
+mod StrataLaws
+mod FittingStrata
+mod StrataWalk
+mod Loops
+mod Vectors

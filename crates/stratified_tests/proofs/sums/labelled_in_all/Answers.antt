@@ -1,0 +1,18 @@
+use Rattle.std.proofs.Common.{◌≡◌, ◌≤◌, ◌*◌, ◌∙◌, ap, arith, refl}
+use Rattle.stratified_tests.specs.StrataNetwork.{stratum_at}
+use Rattle.stratified_tests.specs.StrataSteps.{labelled}
+use Rattle.stratified_tests.proofs.Loops.{one-within, product-next, product-within}
+use Rattle.stratified_tests.proofs.sums.labelled_in_all.Goals as goal
+
+pub returns-in_err-labelled : goal.returns-in_err-labelled
+returns-in_err-labelled c =
+    rw c.from_residual.ensures (λ whole. c.in_err-labelled.ensures (omega (arith, one-within c.args.strata.now c.loop-stratum.stratum-index c.loop-stratum.all c.loop-stratum-test.true c.loop-stratum.invariant, whole)))
+
+pub returns-in_err-all : goal.returns-in_err-all
+returns-in_err-all c =
+    rw c.from_residual-in_err-all.ensures (λ whole. c.in_err-all.ensures (rw c.in_ok-labelled.ensures.1 (omega (arith, product-within c.args.strata.now c.loop-stratum.stratum-index c.loop-stratum.all c.loop-stratum-test.true c.loop-stratum.invariant, whole))))
+
+pub loop-stratum-preserved : goal.loop-stratum-preserved
+loop-stratum-preserved c =
+    let told = rw c.in_ok-labelled.ensures.1 at c.in_ok-all.ensures in
+    rw told.1 (product-next c.args.strata.now c.loop-stratum.stratum-index c.loop-stratum.all c.loop-stratum-test.true c.loop-stratum.invariant told.0)

@@ -1,0 +1,4 @@
+pub mod Strata
+pub mod StrataTests
+pub mod StrataNetwork
+pub mod StrataSteps

@@ -1,0 +1,111 @@
+// Strata that are prepared for their test.
+ghost use Rattle.std.specs.Prelude.{◌≡◌, ◌≤◌, ◌*◌, length, pos};
+ghost use Rattle.std.specs.List.{sum_by};
+ghost use Rattle.weights.specs.Conditional.{distance};
+ghost use Rattle.weights.specs.Wide.{Prepares};
+ghost use Rattle.weights.specs.declared.TheConstants.{MAX};
+ghost use Rattle.record_reader.specs.declared.TheConstants.{MOST_ROWS};
+ghost use Rattle.stratified_tests.specs.Strata.{size, strata_of};
+ghost use Rattle.stratified_tests.specs.StrataTests.{centre_by, multiple_of, strata_test};
+ghost use Rattle.stratified_tests.specs.StrataSteps.{AreMade, AreSmall};
+
+use crate::stratum::{Stratum, strata_of};
+use crate::sums::{centre_by, labelled_in_all, multiple_of, own_sum, subjects};
+use std::alloc::Global;
+use std::marker::Model;
+use table_reader::Strata;
+use weights::{Frame, List, Nums, PrepareFault, Rule, WideOf, bounded_product};
+
+/// What is made of strata.
+#[derive(Drop)]
+pub(crate) struct MadeStrata {
+    pub strata: List<Stratum>,
+    /// The observed statistic, its scale, the total and the rule of both sides.
+    pub frame: Frame,
+}
+
+/// A test of strata whose data are checked. It is seen as the cells that it was prepared of, four
+/// for each stratum.
+#[derive(Drop)]
+pub struct StrataTest {
+    // What it was prepared of, by which contracts name it.
+    cells: Nums,
+    made: MadeStrata,
+}
+
+impl Model for StrataTest {
+    ghost use Rattle.std.specs.Prelude.{ℕ, List};
+    ghost use Rattle.stratified_tests.specs.Strata.{strata_of};
+    ghost use Rattle.stratified_tests.specs.StrataSteps.{AreMade};
+
+    ghost Value = { List ℕ };
+
+    ghost view = { λ t. t.cells };
+
+    ghost invariant = { λ t. AreMade (strata_of t.cells) t.made };
+}
+
+// What is said of the test, with a multiple of the strata's sizes and so many labellings.
+fn frame_of(strata: &[Stratum], multiple: u128, total: u128) -> Frame
+    requires small { AreSmall strata.now }
+    requires few { length strata.now ≤ MOST_ROWS }
+    requires most { multiple ≤ MAX }
+    requires fits { multiple * sum_by size strata.now ≤ MAX }
+    ensures { let centre = pos (centre_by multiple strata.now) in
+        let statistic = pos (sum_by (λ s. s.a) strata.now) in
+        result ≡ record {
+          statistic = statistic;
+          scale = 1;
+          total = total;
+          two = Rule.Far multiple centre (distance multiple centre statistic);
+        } }
+{
+    let statistic = own_sum(strata) as i128;
+    let centre = centre_by(multiple, strata) as i128;
+    Frame {
+        statistic,
+        scale: 1,
+        total,
+        two: Rule::far(multiple, centre, statistic),
+    }
+}
+
+/// Prepares the exact test of strata: the sum of the first cells, over all labellings of each
+/// stratum's subjects with the sums of its rows.
+///
+/// # Errors
+/// `TooWide(Total)` where there are more labellings than `weights::MAX`. Or else
+/// `TooWide(Statistic)` where the number of subjects times the least common multiple of the
+/// strata's sizes passes it. Or else `NoMemory` where memory runs out.
+pub fn prepare(alloc: Global, strata: &Strata) -> Result<StrataTest, PrepareFault>
+    ensures { Prepares strata_test strata.now.cells result }
+{
+    let tables = strata_of(alloc, strata.cells.as_slice())?;
+    let Some(total) = labelled_in_all(tables.as_slice()) else {
+        return Err(PrepareFault::TooWide(WideOf::Total));
+    };
+    let Some(multiple) = multiple_of(tables.as_slice()) else {
+        return Err(PrepareFault::TooWide(WideOf::Statistic));
+    };
+    let Some(_bound) = bounded_product(multiple, subjects(tables.as_slice()) as u128) else {
+        return Err(PrepareFault::TooWide(WideOf::Statistic));
+    };
+    let frame = frame_of(tables.as_slice(), multiple, total);
+    let cells = strata.cells.copy()?;
+    Ok(StrataTest {
+        cells,
+        made: MadeStrata {
+            strata: tables,
+            frame,
+        },
+    })
+}
+
+impl StrataTest {
+    /// What was made of the strata.
+    pub(crate) fn made(&self) -> &MadeStrata
+        ensures { AreMade (strata_of self.now) result.now }
+    {
+        &self.made
+    }
+}

@@ -1,0 +1,135 @@
+// Sums, products and multiples over strata.
+ghost use Rattle.std.specs.Prelude.{◌≡◌, ◌<◌, ◌≤◌, ◌*◌, ◌/◌, length, nat_eq, if◌then◌else◌, SomeIff};
+ghost use Rattle.std.specs.List.{sum_by};
+ghost use Rattle.weights.specs.Numbers.{lcm};
+ghost use Rattle.weights.specs.declared.TheConstants.{MAX};
+ghost use Rattle.record_reader.specs.declared.TheConstants.{MOST_ROWS};
+ghost use Rattle.stratified_tests.specs.Strata.{first_column, first_row, size};
+ghost use Rattle.stratified_tests.specs.StrataTests.{centre_by, first_cell, first_cells, multiple_of};
+ghost use Rattle.stratified_tests.specs.StrataSteps.{AreSmall, IsSmall, labelled, labelled_in_all};
+
+use crate::stratum::Stratum;
+use weights::{bounded_product, lcm, multinomial};
+
+/// How many labellings a stratum has, or None exactly where they pass the greatest weight.
+pub(crate) fn labelled(stratum: Stratum) -> Option<u128>
+    requires { IsSmall stratum }
+    ensures { SomeIff result (labelled stratum ≤ MAX) (labelled stratum) }
+{
+    multinomial(&[stratum.first_row(), stratum.second_row()])
+}
+
+/// How many labellings all strata have, or None exactly where they pass the greatest weight.
+pub(crate) fn labelled_in_all(strata: &[Stratum]) -> Option<u128>
+    requires { AreSmall strata.now }
+    ensures { let all = labelled_in_all strata.now in SomeIff result (all ≤ MAX) all }
+{
+    let mut all = 1;
+    for stratum in strata {
+        all = bounded_product(all, labelled(*stratum)?)?;
+    }
+    Some(all)
+}
+
+// A multiple with that of one more size, where it is not 0.
+fn with_size(size: u64, multiple: u128) -> Option<u128>
+    requires { multiple ≤ MAX }
+    ensures { let all = if nat_eq size 0 then multiple else lcm size multiple in
+        SomeIff result (all ≤ MAX) all }
+{
+    if size == 0 {
+        Some(multiple)
+    } else {
+        lcm(size as u128, multiple)
+    }
+}
+
+/// The least common multiple of the sizes that are not 0, or None exactly where it passes the
+/// greatest statistic.
+pub(crate) fn multiple_of(strata: &[Stratum]) -> Option<u128>
+    requires { AreSmall strata.now }
+    ensures { let all = multiple_of strata.now in SomeIff result (all ≤ MAX) all }
+{
+    let mut multiple = 1;
+    for done in 0..strata.len() {
+        multiple = with_size(strata[strata.len() - done - 1].size(), multiple)?;
+    }
+    Some(multiple)
+}
+
+/// How many subjects all strata have.
+pub(crate) fn subjects(strata: &[Stratum]) -> u64
+    requires small { AreSmall strata.now }
+    requires few { length strata.now ≤ MOST_ROWS }
+    ensures { result ≡ sum_by size strata.now }
+{
+    let mut all = 0;
+    for stratum in strata {
+        all += stratum.size();
+    }
+    all
+}
+
+/// The sum of the first cells.
+pub(crate) fn own_sum(strata: &[Stratum]) -> u64
+    requires small { AreSmall strata.now }
+    requires few { length strata.now ≤ MOST_ROWS }
+    ensures { result ≡ sum_by (λ s. s.a) strata.now }
+{
+    let mut all = 0;
+    for stratum in strata {
+        all += stratum.a;
+    }
+    all
+}
+
+// So many times the mean of a stratum's first cell.
+fn centre_of(multiple: u128, stratum: Stratum) -> u128
+    requires small { IsSmall stratum }
+    requires fits { multiple * size stratum ≤ MAX }
+    ensures { let product = first_row stratum * first_column stratum in
+        result ≡ multiple / size stratum * product }
+{
+    let size = stratum.size();
+    if size == 0 {
+        return 0;
+    }
+    multiple / size as u128 * (stratum.first_row() as u128 * stratum.first_column() as u128)
+}
+
+/// So many times the mean of the sum of the first cells.
+pub(crate) fn centre_by(multiple: u128, strata: &[Stratum]) -> u128
+    requires small { AreSmall strata.now }
+    requires fits { multiple * sum_by size strata.now ≤ MAX }
+    ensures { result ≡ centre_by multiple strata.now }
+{
+    let mut centre = 0;
+    for stratum in strata {
+        centre += centre_of(multiple, *stratum);
+    }
+    centre
+}
+
+// The first cell of the table that a stratum's labels give.
+fn first_cell(stratum: Stratum, labels: &[u8]) -> u64
+    requires { IsSmall stratum }
+    ensures { result ≡ first_cell stratum labels.now }
+{
+    let column = labels.len().min(stratum.first_column() as usize);
+    labels[..column].iter().filter(|label| **label == 0).count() as u64
+}
+
+/// The sum of the first cells of the tables that labels give.
+pub(crate) fn first_cells(strata: &[Stratum], labels: &[u8]) -> u64
+    requires small { AreSmall strata.now }
+    requires few { length strata.now ≤ MOST_ROWS }
+    ensures { result ≡ first_cells strata.now labels.now }
+{
+    let mut sum = 0;
+    let mut later = labels;
+    for stratum in strata {
+        sum += first_cell(*stratum, later);
+        later = &later[later.len().min(stratum.size() as usize)..];
+    }
+    sum
+}

@@ -1,0 +1,61 @@
+// Both ways to the answer of a test of strata.
+use crate::strata_stages::StrataStages;
+use crate::strata_test::StrataTest;
+use crate::sums::first_cells;
+use crate::walk::{first_member, next_member};
+use enumerate::Plain;
+use stage_network::{AdditiveStages, Judge, Prepared};
+use std::alloc::Global;
+use weights::{Bytes, Frame, NoMemory, Tail};
+
+impl Plain for StrataTest {
+    ghost use Rattle.stratified_tests.specs.StrataTests.{strata_test};
+
+    ghost test = { strata_test };
+
+    fn first(&self, alloc: Global) -> Result<Bytes, NoMemory> {
+        first_member(alloc, self.made().strata.as_slice())
+    }
+
+    fn next(&self, labels: &mut Bytes) -> bool {
+        next_member(self.made().strata.as_slice(), labels.as_mut_slice())
+    }
+
+    fn weight(&self, _labels: &[u8]) -> u128 {
+        1
+    }
+
+    fn extreme(&self, labels: &[u8], tail: Tail) -> bool {
+        self.frame().rule(tail).passes(self.value(labels))
+    }
+
+    fn value(&self, labels: &[u8]) -> i128 {
+        first_cells(self.made().strata.as_slice(), labels) as i128
+    }
+}
+
+impl Prepared for StrataTest {
+    ghost use Rattle.stratified_tests.specs.StrataNetwork.{strata_network};
+
+    type Built = AdditiveStages<StrataStages>;
+
+    ghost network = { strata_network };
+
+    fn frame(&self) -> Frame {
+        self.made().frame
+    }
+
+    fn has_tail(&self, _tail: Tail) -> bool {
+        true
+    }
+
+    fn stages_of(&self, alloc: Global, tail: Tail) -> Result<Self::Built, NoMemory> {
+        let made = self.made();
+        let judge = Judge {
+            tail,
+            rule: made.frame.rule(tail),
+        };
+        let strata = made.strata.copy()?;
+        AdditiveStages::new(alloc, StrataStages { strata, judge })
+    }
+}
