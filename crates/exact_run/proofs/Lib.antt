@@ -1,7 +1,9 @@
 pub mod Asking
+pub mod MadeValues
 pub mod Orders
 pub mod Promised
 pub mod Readings
 pub mod Showable
+pub mod TableScores
 mod Vectors
 pub mod Words

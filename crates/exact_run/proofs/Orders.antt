@@ -14,7 +14,7 @@ use Rattle.sample_reader.specs.Groups.{GroupData}
 use Rattle.sample_reader.specs.Orders.{reordered}
 use Rattle.settings.specs.declared.names.OptionName.TheVariants as option
 use Rattle.report.specs.declared.refusals.Refusal.TheVariants as refusal
-use Rattle.exact_run.specs.Questions.{in_order, is_order_of}
+use Rattle.exact_run.specs.GroupQuestions.{in_order, is_order_of}
 
 there : (order : List (List ℕ)) (label : List ℕ) → Contains order label → list_any (bytes_eq label) order ≡ true
 there order label has = list_any_at (bytes_eq label) order has.0 label has.1 (rw has.2 ((bytes_eq-Decides label label).1 refl))

@@ -22,7 +22,7 @@ long-outcome settings None long = tt
 long-outcome settings (Some bytes) long = rw (lt-ltb LONGEST_FILE (length bytes) long) refl
 
 -- what meets an outcome comes to it, where it is the known one
-known-outcome : (rose : Type 0) (outcome : Outcome) (known : Option Outcome) (result : Outcome) → IfSome known (λ o. o ≡ outcome) → Meets outcome result → ComesTo rose known result
+pub known-outcome : (rose : Type 0) (outcome : Outcome) (known : Option Outcome) (result : Outcome) → IfSome known (λ o. o ≡ outcome) → Meets outcome result → ComesTo rose known result
 known-outcome rose outcome known (Err refusal.NoMemory) same meets = tt
 known-outcome rose outcome known (Err refusal.ReadFault) same meets = absurd meets
 known-outcome rose outcome known (Err refusal.WriteFault) same meets = meets

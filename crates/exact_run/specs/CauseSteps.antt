@@ -6,13 +6,13 @@ use Rattle.weights.specs.declared.tails.Tails.{Tails}
 use Rattle.weights.specs.declared.wide.PrepareFault.{PrepareFault}
 use Rattle.stage_network.specs.Network.{Network}
 use Rattle.settings.specs.declared.names.OptionName.TheVariants as option
-use Rattle.settings.specs.declared.settings.Settings.{Settings}
 use Rattle.report.specs.declared.headings.Extra.{Extra}
 use Rattle.report.specs.declared.headings.Sizes.{Sizes}
 use Rattle.report.specs.declared.refusals.Refusal.{Refusal}
 use Rattle.report.specs.declared.refusals.Refusal.TheVariants as refusal
 use Rattle.exact_run.specs.Outcome.{Outcome, report_for}
-use Rattle.exact_run.specs.Questions.{prepare_refusal, question_about}
+use Rattle.exact_run.specs.Question.{prepare_refusal, question_about}
+use Rattle.exact_run.specs.declared.reports.Asking.{Asking}
 
 -- a refusal of data is the wanted one, or want of memory
 abbrev pub IsCauseOf : {X : Type 0} → Result X Refusal → Refusal → Type 0
@@ -42,10 +42,10 @@ ComesTo rose known (Err cause) = IsCauseIn rose known cause
 
 -- what a prepared problem, or why it is not prepared, comes to
 abbrev pub prepared_outcome : {V : Type 0} → (V → ConditionalTest) → (V → Tail → Network)
-    → Settings → Sizes → Extra → Option Tails → Result V PrepareFault → Outcome
-prepared_outcome test_of network_of settings sizes extra None prepared =
+    → Asking → Sizes → Extra → Option Tails → Result V PrepareFault → Outcome
+prepared_outcome test_of network_of asking sizes extra None prepared =
     Err (refusal.Unfit option.Tail)
-prepared_outcome test_of network_of settings sizes extra (Some tails) (Err fault) =
+prepared_outcome test_of network_of asking sizes extra (Some tails) (Err fault) =
     Err (prepare_refusal fault)
-prepared_outcome test_of network_of settings sizes extra (Some tails) (Ok problem) =
-    Ok (report_for settings tails (question_about test_of network_of problem sizes extra))
+prepared_outcome test_of network_of asking sizes extra (Some tails) (Ok problem) =
+    Ok (report_for asking tails (question_about test_of network_of problem sizes extra))

@@ -1,4 +1,11 @@
+pub mod Question
+pub mod PairQuestions
+pub mod GroupQuestions
+pub mod BlockQuestions
+pub mod TableQuestions
+pub mod StrataQuestions
 pub mod Questions
+pub mod MadeData
 pub mod Outcome
 pub mod Promises
 pub mod CauseSteps

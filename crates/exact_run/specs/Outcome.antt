@@ -6,6 +6,7 @@ use Rattle.outside.specs.declared.source.TheConstants.{LONGEST_FILE}
 use Rattle.weights.specs.Conditional.{ConditionalTest, distribution}
 use Rattle.weights.specs.Wide.{too_wide}
 use Rattle.weights.specs.declared.lines.Line.{Line}
+use Rattle.weights.specs.declared.tails.Tail.{Tail}
 use Rattle.weights.specs.declared.tails.Tail.TheVariants as tail
 use Rattle.weights.specs.declared.tails.Tails.{Tails}
 use Rattle.weights.specs.declared.wide.WideOf.{WideOf}
@@ -28,7 +29,10 @@ use Rattle.report.specs.Report.{report_text}
 use Rattle.report.specs.declared.headings.Title.TheVariants as title
 use Rattle.report.specs.declared.refusals.Refusal.{Refusal}
 use Rattle.report.specs.declared.refusals.Refusal.TheVariants as refusal
-use Rattle.exact_run.specs.Questions.{Question, question_of}
+use Rattle.exact_run.specs.MadeData.{made_question}
+use Rattle.exact_run.specs.Question.{Question}
+use Rattle.exact_run.specs.Questions.{question_of}
+use Rattle.exact_run.specs.declared.reports.Asking.{Asking}
 
 -- the text of the report, or why there is none
 abbrev pub Outcome : Type 0
@@ -36,13 +40,13 @@ Outcome = Result (List ℕ) Refusal
 
 -- ---- a question
 
+-- the tails of which this holds
+abbrev pub tails_by : (Tail → Bool) → Tails
+tails_by has = record { less = has tail.Less; greater = has tail.Greater; two = has tail.Two }
+
 -- the tails that a test has
 abbrev pub tails_in : ConditionalTest → Tails
-tails_in test = record {
-  less = test.has_tail tail.Less;
-  greater = test.has_tail tail.Greater;
-  two = test.has_tail tail.Two;
-}
+tails_in test = tails_by test.has_tail
 
 abbrev pub less_alone : Tails
 less_alone = record { less = true; greater = false; two = false }
@@ -71,34 +75,55 @@ way_of plain = if plain then way.Plain else way.Network
 abbrev pub spread_of : Bool → ConditionalTest → Option (List Line)
 spread_of shown test = if shown then Some (distribution test) else None
 
+-- what the settings ask of a report
+abbrev pub asking_of : Settings → Asking
+asking_of settings = record {
+  title = title.Test settings.test;
+  tail = settings.tail;
+  distribution = settings.distribution;
+  plain = settings.plain;
+  nodes = settings.nodes;
+}
+
+-- what is asked of the report on made data: all tails
+abbrev pub asking_of_made : ℕ → Asking
+asking_of_made number = record {
+  title = title.Drill number;
+  tail = choice.All;
+  distribution = false;
+  plain = false;
+  nodes = false;
+}
+
 -- the report of a question for some tails
-abbrev pub report_for : Settings → Tails → Question → List ℕ
-report_for settings tails question =
-    report_text (title.Test settings.test) question.sizes question.extra
-    (answer_of question.test question.opened tails (way_of settings.plain))
-    settings.nodes (spread_of settings.distribution question.test)
+abbrev pub report_for : Asking → Tails → Question → List ℕ
+report_for asking tails question =
+    report_text asking.title question.sizes question.extra
+    (answer_of question.test question.opened tails (way_of asking.plain))
+    asking.nodes (spread_of asking.distribution question.test)
 
 -- what is too wide is refused
-abbrev pub told : Settings → Tails → Option WideOf → Question → Outcome
-told settings tails (Some what) question = Err (refusal.TooWide what)
-told settings tails None question = Ok (report_for settings tails question)
+abbrev pub told : Asking → Tails → Option WideOf → Question → Outcome
+told asking tails (Some what) question = Err (refusal.TooWide what)
+told asking tails None question = Ok (report_for asking tails question)
 
 -- tails that the test does not have are refused before
-abbrev pub outcome_of_asked : Settings → Option Tails → Question → Outcome
-outcome_of_asked settings None question = Err (refusal.Unfit option.Tail)
-outcome_of_asked settings (Some tails) question =
-    told settings tails (too_wide question.test) question
+abbrev pub outcome_of_asked : Asking → Option Tails → Question → Outcome
+outcome_of_asked asking None question = Err (refusal.Unfit option.Tail)
+outcome_of_asked asking (Some tails) question =
+    told asking tails (too_wide question.test) question
 
 -- The order of refusals, for all tests: tails that do not fit, then the total, then the bound.
-abbrev pub outcome_of_question : Settings → Question → Outcome
-outcome_of_question settings question =
-    outcome_of_asked settings (asked settings.tail (tails_in question.test)) question
+abbrev pub outcome_of_question : Asking → Question → Outcome
+outcome_of_question asking question =
+    outcome_of_asked asking (asked asking.tail (tails_in question.test)) question
 
 -- ---- a file
 
 -- faults of the data, and other options that do not fit them, are refused before
 abbrev pub outcome_of_rows : Settings → List (List (List ℕ)) → Outcome
-outcome_of_rows settings rows = and_then (outcome_of_question settings) (question_of settings rows)
+outcome_of_rows settings rows =
+    and_then (outcome_of_question (asking_of settings)) (question_of settings rows)
 
 -- and the length of the file before these
 unfoldable pub outcome_of_bytes : Settings → List ℕ → Outcome
@@ -113,14 +138,15 @@ abbrev pub usage_refusal : UsageFault → Refusal
 usage_refusal usage.NoMemory = refusal.NoMemory
 usage_refusal fault = refusal.Usage fault
 
--- the outcome of a command line; no words ask for made data yet
+-- the outcome of a command line
 abbrev pub outcome_of_command : Result CommandLine UsageFault → (List ℕ → Option (List ℕ))
     → Option Outcome
 outcome_of_command (Err fault) held = Some (Err (usage_refusal fault))
 outcome_of_command (Ok command.Help) held = Some (Ok help)
 outcome_of_command (Ok (command.Test settings)) held =
     option_map (outcome_of_bytes settings) (held settings.file)
-outcome_of_command (Ok (command.Drill number)) held = Some (Err (refusal.Unfit option.Test))
+outcome_of_command (Ok (command.Drill number)) held =
+    Some (outcome_of_question (asking_of_made number) (made_question number))
 
 -- the outcome of words and of a source, where the words alone decide it or the source tells what it
 -- holds

@@ -12,13 +12,14 @@ ghost use Rattle.exact_run.specs.CauseSteps.{ComesTo, Meets};
 ghost use Rattle.exact_run.specs.Outcome.{names_file, outcome_of, outcome_of_bytes, usage_refusal as refusal_of};
 ghost use Rattle.exact_run.specs.Promises.{IsBeforeWriting, Promises, WritesLine, status_of};
 
+use crate::made_data::made_report;
 use crate::questions::report_in;
 use crate::refusing::usage_refusal;
 use crate::status::Status;
 use outside::{ReadFail, Sink, Source, read_all, write_all};
 use record_reader::records;
 use report::{Refusal, refusal_line};
-use settings::{CommandLine, OptionName, Settings, help_text, read};
+use settings::{CommandLine, Settings, help_text, read};
 use std::alloc::Global;
 use weights::Bytes;
 
@@ -64,7 +65,7 @@ fn report_from<S: Source>(
     }
 }
 
-// The report that the words and the source ask for, or the refusal. No words ask for made data yet.
+// The report that the words and the source ask for, or the refusal.
 fn report_for<S: Source>(alloc: Global, words: &[String], source: &mut S) -> Result<Bytes, Refusal>
     ensures comes { let known = outcome_of (map string_bytes words.now) (S.held source.old) in
         ComesTo (Rose (S.faults source.old) (S.faults source.new)) known result }
@@ -77,7 +78,7 @@ fn report_for<S: Source>(alloc: Global, words: &[String], source: &mut S) -> Res
     match read(alloc, words) {
         Ok(CommandLine::Help) => help(alloc),
         Ok(CommandLine::Test(settings)) => report_from(alloc, &settings, source),
-        Ok(CommandLine::Drill(_)) => Err(Refusal::Unfit(OptionName::Test)),
+        Ok(CommandLine::Drill(number)) => made_report(alloc, number),
         Err(fault) => Err(usage_refusal(fault)),
     }
 }
@@ -93,9 +94,10 @@ fn refuse<E: Sink>(refusal: Refusal, err: &mut E) -> Status
 }
 
 /// Runs the command that the words name; they are those after the program's own name. `TEST FILE`
-/// with options in any place writes the report of the test for the data of the file; `--help` alone
-/// writes the help text. The file is read from `source`; the report is composed whole, and then
-/// written to `out` by one call of `write_all`. Where there is none, one line to `err` says why.
+/// with options in any place writes the report of the test for the data of the file; `drill` with a
+/// number writes that of made data, and `--help` alone the help text, both without the source. The
+/// report is composed whole, and then written to `out` by one call of `write_all`. Where there is
+/// none, one line to `err` says why.
 pub fn run<S: Source, O: Sink, E: Sink>(
     alloc: Global,
     words: &[String],

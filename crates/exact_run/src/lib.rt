@@ -1,14 +1,21 @@
 //! One run of `exact`: from the words and the bytes that come in to the bytes that go out.
 #![tactic(auto)]
 
+mod block_reports;
 mod command;
+mod group_reports;
+mod made_data;
+mod pair_reports;
 mod questions;
 mod refusing;
 mod reports;
 mod status;
+mod strata_reports;
+mod sums;
+mod table_reports;
 #[cfg(test)]
 mod tests;
-mod two_samples;
 
 pub use command::run;
+pub use made_data::made_groups;
 pub use status::Status;

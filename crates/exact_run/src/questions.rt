@@ -3,7 +3,13 @@ ghost use Rattle.settings.specs.Usable.{AreUsable};
 ghost use Rattle.exact_run.specs.CauseSteps.{Meets};
 ghost use Rattle.exact_run.specs.Outcome.{outcome_of_rows};
 
-use crate::two_samples::two_sample_report;
+use crate::block_reports::block_report;
+use crate::group_reports::{ordered_report, two_sample_report, umbrella_report};
+use crate::pair_reports::pair_report;
+use crate::strata_reports::strata_report;
+use crate::table_reports::{fisher_report, linear_report, mcnemar_report};
+use block_tests::BlockKind;
+use one_sample_tests::SignKind;
 use record_reader::Rows;
 use report::Refusal;
 use scores::ScoreKind;
@@ -18,12 +24,24 @@ pub(crate) fn report_in(alloc: Global, settings: &Settings, rows: &Rows) -> Resu
     ensures { Meets (outcome_of_rows settings.now rows.now) result }
 {
     match settings.test {
+        TestName::SignedRank => pair_report(alloc, SignKind::SignedRank, settings, rows),
+        TestName::Sign => pair_report(alloc, SignKind::Sign, settings, rows),
+        TestName::RawSigned => pair_report(alloc, SignKind::RawSigned, settings, rows),
+        TestName::Mcnemar => mcnemar_report(alloc, settings, rows),
         TestName::RankSum => two_sample_report(alloc, ScoreKind::Wilcoxon, settings, rows),
         TestName::Ansari => two_sample_report(alloc, ScoreKind::Ansari, settings, rows),
         TestName::Mood => two_sample_report(alloc, ScoreKind::Mood, settings, rows),
         TestName::Savage => two_sample_report(alloc, ScoreKind::Savage, settings, rows),
         TestName::Median => two_sample_report(alloc, ScoreKind::Median, settings, rows),
         TestName::Raw => two_sample_report(alloc, ScoreKind::Raw, settings, rows),
+        TestName::Jt => ordered_report(alloc, settings, rows),
+        TestName::Umbrella => umbrella_report(alloc, settings, rows),
+        TestName::Friedman => block_report(alloc, BlockKind::Friedman, settings, rows),
+        TestName::Page => block_report(alloc, BlockKind::Page, settings, rows),
+        TestName::Cochran => block_report(alloc, BlockKind::Cochran, settings, rows),
+        TestName::Fisher => fisher_report(alloc, settings, rows),
+        TestName::Linear => linear_report(alloc, settings, rows),
+        TestName::Strata => strata_report(alloc, settings, rows),
         _ => Err(Refusal::Unfit(OptionName::Test)),
     }
 }

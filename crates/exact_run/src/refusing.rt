@@ -1,7 +1,7 @@
 // The refusals that the faults of the crates below come to.
 ghost use Rattle.std.specs.Prelude.{◌≡◌};
 ghost use Rattle.exact_run.specs.Outcome.{usage_refusal};
-ghost use Rattle.exact_run.specs.Questions.{layout_refusal, prepare_refusal};
+ghost use Rattle.exact_run.specs.Question.{layout_refusal, prepare_refusal};
 
 use record_reader::LayoutFault;
 use report::Refusal;

@@ -3,8 +3,8 @@ ghost use Rattle.std.specs.Prelude.{◌≡◌, None, Some, IfOk};
 ghost use Rattle.weights.specs.Wide.{too_wide};
 ghost use Rattle.stage_network.specs.Follows.{HasTails};
 ghost use Rattle.exact_run.specs.CauseSteps.{Meets, prepared_outcome};
-ghost use Rattle.exact_run.specs.Outcome.{asked, only, report_for, spread_of, tails_in, way_of};
-ghost use Rattle.exact_run.specs.Questions.{question_about};
+ghost use Rattle.exact_run.specs.Outcome.{asked, asking_of, asking_of_made, only, report_for, spread_of, tails_in, way_of};
+ghost use Rattle.exact_run.specs.Question.{question_about};
 
 use crate::refusing::prepare_refusal;
 use report::{Extra, Refusal, Sizes, Title, compose};
@@ -26,6 +26,19 @@ const NONE: Tails = Tails {
     two: false,
 };
 
+/// All tails.
+pub(crate) const ALL: Tails = Tails {
+    less: true,
+    greater: true,
+    two: true,
+};
+
+/// The tail of great values alone.
+pub(crate) const GREATER: Tails = Tails {
+    greater: true,
+    ..NONE
+};
+
 // The tails that are asked of those that a test has.
 fn asked(choice: TailChoice, has: Tails) -> Option<Tails>
     ensures { result ≡ asked choice has }
@@ -33,13 +46,7 @@ fn asked(choice: TailChoice, has: Tails) -> Option<Tails>
     match choice {
         TailChoice::All => Some(has),
         TailChoice::Less => only(has.less, Tails { less: true, ..NONE }),
-        TailChoice::Greater => only(
-            has.greater,
-            Tails {
-                greater: true,
-                ..NONE
-            },
-        ),
+        TailChoice::Greater => only(has.greater, GREATER),
         TailChoice::Two => only(has.two, Tails { two: true, ..NONE }),
     }
 }
@@ -66,7 +73,45 @@ fn spread_of<P: Prepared>(
     Ok(Some(spread))
 }
 
-// What a report says of the data.
+/// What is asked of a report.
+#[derive(Clone, Copy)]
+pub(crate) struct Asking {
+    pub title: Title,
+    pub tail: TailChoice,
+    pub distribution: bool,
+    pub plain: bool,
+    pub nodes: bool,
+}
+
+impl Asking {
+    /// What the settings ask.
+    pub(crate) fn of(settings: &Settings) -> Asking
+        ensures { result ≡ asking_of settings.now }
+    {
+        Asking {
+            title: Title::Test(settings.test),
+            tail: settings.tail,
+            distribution: settings.distribution,
+            plain: settings.plain,
+            nodes: settings.nodes,
+        }
+    }
+
+    /// What is asked of made data.
+    pub(crate) fn of_made(number: u64) -> Asking
+        ensures { result ≡ asking_of_made number }
+    {
+        Asking {
+            title: Title::Drill(number),
+            tail: TailChoice::All,
+            distribution: false,
+            plain: false,
+            nodes: false,
+        }
+    }
+}
+
+/// What a report says of the data.
 #[derive(Drop)]
 pub(crate) struct Heading {
     pub sizes: Sizes,
@@ -76,7 +121,7 @@ pub(crate) struct Heading {
 // The report of a problem, for tails that it has.
 fn report_for<P: Prepared>(
     alloc: Global,
-    settings: &Settings,
+    asking: Asking,
     heading: &Heading,
     tails: Tails,
     problem: &P,
@@ -85,18 +130,18 @@ fn report_for<P: Prepared>(
     requires fits { too_wide (P.test problem.now) ≡ None }
     ensures { let about = question_about P.test P.network problem.now in
         let question = about heading.now.sizes heading.now.extra in
-        IfOk result (λ text. text ≡ report_for settings.now tails question) }
+        IfOk result (λ text. text ≡ report_for asking tails question) }
 {
-    let way = way_of(settings.plain);
+    let way = way_of(asking.plain);
     let answer = answer(alloc, problem, tails, way)?;
-    let spread = spread_of(alloc, settings.distribution, way, problem)?;
+    let spread = spread_of(alloc, asking.distribution, way, problem)?;
     let text = compose(
         alloc,
-        Title::Test(settings.test),
+        asking.title,
         &heading.sizes,
         heading.extra,
         &answer,
-        settings.nodes,
+        asking.nodes,
         spread.as_ref(),
     )?;
     Ok(text)
@@ -106,25 +151,25 @@ fn report_for<P: Prepared>(
 /// refusal.
 pub(crate) fn report_on<P: Prepared + Drop>(
     alloc: Global,
-    settings: &Settings,
+    asking: Asking,
     heading: &Heading,
     has: Tails,
     prepared: Result<P, PrepareFault>,
 ) -> Result<Bytes, Refusal>
     requires has { IfOk prepared (λ problem. has ≡ tails_in (P.test problem)) }
     requires fits { IfOk prepared (λ problem. too_wide (P.test problem) ≡ None) }
-    ensures { let tails = asked settings.now.tail has in
-        let outcome = prepared_outcome P.test P.network settings.now in
+    ensures { let tails = asked asking.tail has in
+        let outcome = prepared_outcome P.test P.network asking in
         Meets (outcome heading.now.sizes heading.now.extra tails prepared) result }
 {
-    let Some(tails) = asked(settings.tail, has) else {
+    let Some(tails) = asked(asking.tail, has) else {
         return Err(Refusal::Unfit(OptionName::Tail));
     };
     let problem = match prepared {
         Ok(problem) => problem,
         Err(fault) => return Err(prepare_refusal(fault)),
     };
-    match report_for(alloc, settings, heading, tails, &problem) {
+    match report_for(alloc, asking, heading, tails, &problem) {
         Ok(text) => Ok(text),
         Err(NoMemory) => Err(Refusal::NoMemory),
     }

@@ -144,9 +144,15 @@ fn reports(rt: HostRuntime) -> Result<(), AllocError> {
         (
             "--help",
             b"",
-            "usage: exact TEST FILE [options]\ntests: ranksum ansari mood savage median raw\n\
-             options: --tail all|less|greater|two\n         --order LABELS\n         \
-             --columns LIST --separator comma|semicolon|tab\n",
+            "usage: exact TEST FILE [options]\n       exact drill --number K\n\
+             tests: signedrank sign rawsigned mcnemar\n       \
+             ranksum ansari mood savage median raw\n       \
+             jt umbrella friedman page cochran\n       fisher linear strata\n\
+             options: --tail all|less|greater|two\n         \
+             --order LABELS --peak P\n         \
+             --row-scores LIST --column-scores LIST\n         \
+             --columns LIST --separator comma|semicolon|tab\n         \
+             --distribution --plain --nodes\n",
         ),
     ];
     for (words, file, report) in table {

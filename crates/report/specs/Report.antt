@@ -9,9 +9,7 @@ use Rattle.weights.specs.declared.tails.Tail.TheVariants.{Less, Greater, Two}
 use Rattle.weights.specs.declared.lines.Line.{Line}
 use Rattle.stage_network.specs.declared.sums.TailSum.{TailSum}
 use Rattle.stage_network.specs.declared.answers.Answer.{Answer}
-use Rattle.scores.specs.declared.kinds.ScoreKind.{ScoreKind}
-use Rattle.scores.specs.declared.kinds.ScoreKind.TheVariants.{Wilcoxon, Ansari, Mood, Savage, Median, Raw}
-use Rattle.settings.specs.Names.{test_word}
+use Rattle.settings.specs.Names.{score_word, test_word}
 use Rattle.report.specs.Decimals.{six_decimals}
 use Rattle.report.specs.declared.headings.Title.{Title}
 use Rattle.report.specs.declared.headings.Title.TheVariants.{Test, Drill}
@@ -55,15 +53,6 @@ size_lines (Table rows columns sum) =
     ++ decimal sum)
 size_lines (Strata strata sum) =
     line (codes "strata " ++ decimal strata ++ codes " sum " ++ decimal sum)
-
--- the word that names a kind of scores
-abbrev pub score_word : ScoreKind → List ℕ
-score_word Wilcoxon = codes "wilcoxon"
-score_word Ansari = codes "ansari"
-score_word Mood = codes "mood"
-score_word Savage = codes "savage"
-score_word Median = codes "median"
-score_word Raw = codes "raw"
 
 -- what a test has beside the sizes
 unfoldable pub extra_lines : Extra → List ℕ

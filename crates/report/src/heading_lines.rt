@@ -1,11 +1,11 @@
 // The lines of a report above the numbers of the answer.
 ghost use Rattle.std.specs.Prelude.{◌≡◌, ◌++◌, OnOk};
-ghost use Rattle.report.specs.Report.{extra_lines, group_line, group_lines, score_word, size_lines, title_line};
+ghost use Rattle.report.specs.Report.{extra_lines, group_line, group_lines, size_lines, title_line};
 
 use crate::headings::{Extra, Sizes, Title};
 use crate::pieces::{end_line, push_label, push_number, push_words};
 use sample_reader::Labels;
-use scores::ScoreKind;
+use settings::score_word;
 use weights::{Bytes, NoMemory};
 
 // Adds the line that says what was run.
@@ -68,20 +68,6 @@ pub(crate) fn push_sizes(text: &mut Bytes, sizes: &Sizes) -> Result<(), NoMemory
     }
 }
 
-// The word that names a kind of scores.
-fn word_of(kind: ScoreKind) -> &'static str
-    ensures { result.now ≡ score_word kind }
-{
-    match kind {
-        ScoreKind::Wilcoxon => "wilcoxon",
-        ScoreKind::Ansari => "ansari",
-        ScoreKind::Mood => "mood",
-        ScoreKind::Savage => "savage",
-        ScoreKind::Median => "median",
-        ScoreKind::Raw => "raw",
-    }
-}
-
 // Adds what a test has beside the sizes.
 #[tactic(auto, unfolding(crate::specs::Report::extra_lines))]
 pub(crate) fn push_extra(text: &mut Bytes, extra: Extra) -> Result<(), NoMemory>
@@ -89,7 +75,7 @@ pub(crate) fn push_extra(text: &mut Bytes, extra: Extra) -> Result<(), NoMemory>
 {
     match extra {
         Extra::None => Ok(()),
-        Extra::Scores(kind) => push_words(text, "scores ", word_of(kind)),
+        Extra::Scores(kind) => push_words(text, "scores ", score_word(kind)),
         Extra::Peak(peak) => end_line(text, "peak ", peak),
     }
 }

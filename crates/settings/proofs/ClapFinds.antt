@@ -11,12 +11,12 @@ use Rattle.clap.specs.declared.parser.matches.ArgMatches.{ArgMatches}
 use Rattle.clap.proofs.WalkLemmas.{first_value-rows}
 use Rattle.record_reader.specs.Layouts.{and_then}
 use Rattle.settings.specs.declared.names.OptionName.{OptionName}
-use Rattle.settings.specs.declared.names.OptionName.TheVariants.{Tail, Order, Columns, Separator}
+use Rattle.settings.specs.declared.names.OptionName.TheVariants.{Tail, Order, Peak, RowScores, ColumnScores, Columns, Separator, Number, Distribution, Plain, Nodes}
 use Rattle.settings.specs.declared.names.UsageFault.{UsageFault}
 use Rattle.settings.specs.declared.settings.Settings.{Settings}
 use Rattle.settings.specs.ClapLine.{clap_line, exact_app, value_found}
 use Rattle.settings.specs.Names.{option_word}
-use Rattle.settings.specs.Options.{OptionForm, listed_options, with_option, with_options}
+use Rattle.settings.specs.Options.{listed_names, with_option, with_options}
 use Rattle.settings.specs.WordSteps.{IsSound, Pair, are_listed, are_new, is_listed}
 use Rattle.settings.specs.Words.{Given, value_in}
 use Rattle.settings.proofs.ClapWalk.{matches-line, takes-line, placed, placed-new, row_found, row_found-uses, row_of_use, row_with}
@@ -30,8 +30,15 @@ apart : (option : OptionName) → is_listed option ≡ true
     → record { test : AreApart (option_word option) (codes "TEST"); file : AreApart (option_word option) (codes "FILE") }
 apart Tail listed = record { test = (refl, refl); file = (refl, refl) }
 apart Order listed = record { test = (refl, refl); file = (refl, refl) }
+apart Peak listed = record { test = (refl, refl); file = (refl, refl) }
+apart RowScores listed = record { test = (refl, refl); file = (refl, refl) }
+apart ColumnScores listed = record { test = (refl, refl); file = (refl, refl) }
 apart Columns listed = record { test = (refl, refl); file = (refl, refl) }
 apart Separator listed = record { test = (refl, refl); file = (refl, refl) }
+apart Number listed = record { test = (refl, refl); file = (refl, refl) }
+apart Distribution listed = record { test = (refl, refl); file = (refl, refl) }
+apart Plain listed = record { test = (refl, refl); file = (refl, refl) }
+apart Nodes listed = record { test = (refl, refl); file = (refl, refl) }
 apart _ listed = absurd cc
 
 -- no option has the row of another id
@@ -87,29 +94,26 @@ value-line uses test file option new listed here =
 pub takes-given : (given : Given) (test file : Text) → IsSound given → takes exact_app (clap_line given.uses test file) ≡ true
 takes-given given test file sound = takes-line given.uses test file sound.once sound.listed
 
-abbrev pub are_listed_options : List OptionForm → Bool
-are_listed_options options = list_all (λ (option : OptionForm). is_listed option.name) options
-
 -- settings depend on the values of the listed options alone
-with_options-same : (options : List OptionForm) (first second : OptionName → Option Text) (settings : Settings) → are_listed_options options ≡ true
-    → ((option : OptionName) → is_listed option ≡ true → first option ≡ second option) → with_options options first settings ≡ with_options options second settings
+with_options-same : (names : List OptionName) (first second : OptionName → Option Text) (settings : Settings) → list_all is_listed names ≡ true
+    → ((option : OptionName) → is_listed option ≡ true → first option ≡ second option) → with_options names first settings ≡ with_options names second settings
 with_options-same [] first second settings listed same = refl
-with_options-same (option ∷ options) first second settings listed same =
-    rw (same option.name (and_parts (is_listed option.name) (are_listed_options options) listed).0)
-    (by_first (with_option option (second option.name) settings)
-    (λ more. with_options-same options first second more (and_parts (is_listed option.name) (are_listed_options options) listed).1 same))
+with_options-same (name ∷ names) first second settings listed same =
+    rw (same name (and_parts (is_listed name) (list_all is_listed names) listed).0)
+    (by_first (with_option name (second name) settings)
+    (λ more. with_options-same names first second more (and_parts (is_listed name) (list_all is_listed names) listed).1 same))
   where
-    by_first : (next : Result Settings UsageFault) → ((more : Settings) → with_options options first more ≡ with_options options second more)
-        → and_then (with_options options first) next ≡ and_then (with_options options second) next
+    by_first : (next : Result Settings UsageFault) → ((more : Settings) → with_options names first more ≡ with_options names second more)
+        → and_then (with_options names first) next ≡ and_then (with_options names second) next
     by_first (Err fault) rest = refl
     by_first (Ok more) rest = rest more
 
 -- the settings with what `clap` finds are those with what is given
 pub found-given : (given : Given) (test file : Text) (matches : ArgMatches) (settings : Settings) → IsSound given
     → rows_of (found_of matches) ≡ matches_of exact_app (clap_line given.uses test file)
-    → with_options listed_options (value_found matches) settings ≡ with_options listed_options (value_in given.uses) settings
+    → with_options listed_names (value_found matches) settings ≡ with_options listed_names (value_in given.uses) settings
 found-given given test file matches settings sound rows =
-    with_options-same listed_options (value_found matches) (value_in given.uses) settings refl
+    with_options-same listed_names (value_found matches) (value_in given.uses) settings refl
     (λ option listed. first_value-rows (found_of matches) (option_word option)
     ∙ ap (first_of (option_word option)) rows
     ∙ value-line given.uses test file option sound.once sound.listed listed)

@@ -16,7 +16,7 @@ use Rattle.clap.specs.declared.builder.value_parser.Reading.TheVariants.{AsWritt
 use Rattle.clap.specs.declared.parser.matches.ValueSource.TheVariants.{CommandLine}
 use Rattle.clap.proofs.OnLiterals.{clap_on_literals}
 use Rattle.settings.specs.declared.names.OptionName.{OptionName}
-use Rattle.settings.specs.declared.names.OptionName.TheVariants.{Tail, Order, Columns, Separator}
+use Rattle.settings.specs.declared.names.OptionName.TheVariants.{Tail, Order, Peak, RowScores, ColumnScores, Columns, Separator, Number, Distribution, Plain, Nodes}
 use Rattle.settings.specs.ClapLine.{clap_line, exact_app, spelled}
 use Rattle.settings.specs.Names.{option_word}
 use Rattle.settings.specs.Words.{is_same, value_in}
@@ -60,16 +60,30 @@ step : (option : OptionName) (text : Text) (rows : List Row) → is_listed optio
 unfolding clap_on_literals
 step Tail text rows listed = refl
 step Order text rows listed = refl
+step Peak text rows listed = refl
+step RowScores text rows listed = refl
+step ColumnScores text rows listed = refl
 step Columns text rows listed = refl
 step Separator text rows listed = refl
+step Number text rows listed = refl
+step Distribution text rows listed = refl
+step Plain text rows listed = refl
+step Nodes text rows listed = refl
 step _ text rows listed = absurd cc
 
 pass : (option : OptionName) (text : Text) (rows : List Row) → is_listed option ≡ true → turn_passes shape [] (at rows) (spelled (option, text)) ≡ true
 unfolding clap_on_literals
 pass Tail text rows listed = rw or_true refl
 pass Order text rows listed = rw or_true refl
+pass Peak text rows listed = rw or_true refl
+pass RowScores text rows listed = rw or_true refl
+pass ColumnScores text rows listed = rw or_true refl
 pass Columns text rows listed = rw or_true refl
 pass Separator text rows listed = rw or_true refl
+pass Number text rows listed = rw or_true refl
+pass Distribution text rows listed = rw or_true refl
+pass Plain text rows listed = rw or_true refl
+pass Nodes text rows listed = rw or_true refl
 pass _ text rows listed = absurd cc
 
 -- ---- rows

@@ -6,8 +6,9 @@ use Rattle.std.specs.Option.{ok_or}
 use Rattle.std.proofs.lemmas.Slice.Eq.{bytes_eq-Decides}
 use Rattle.record_reader.specs.Layouts.{and_then}
 use Rattle.settings.specs.Faults.{MeetsAs}
-use Rattle.settings.specs.Names.{option_word}
-use Rattle.settings.specs.Words.{Given, ended, is_equals_sign, is_plain, is_same, listed_names, none_given, option_named, value_in, with_any, with_dashes, with_next, with_positional, with_use, with_word, with_words}
+use Rattle.settings.specs.Names.{is_flag, option_word}
+use Rattle.settings.specs.Options.{listed_names}
+use Rattle.settings.specs.Words.{Given, ended, is_equals_sign, is_plain, is_same, none_given, option_named, value_in, with_any, with_dashes, with_name, with_next, with_positional, with_use, with_value, with_word, with_words}
 use Rattle.settings.specs.WordSteps.{IsListedNext, IsSound, given_in, Pair, are_listed, are_new, is_listed}
 use Rattle.settings.specs.declared.names.OptionName.{OptionName}
 use Rattle.settings.specs.declared.names.UsageFault.{UsageFault}
@@ -89,23 +90,36 @@ with_positional-IsSound word given more sound found = by_tests (is_some given.fi
         let same : record given { test = Some word } ≡ more = cc in
         subst IsSound same (record { once = sound.once; listed = sound.listed; next = sound.next })
 
-with_dashes-IsSound : (word : List ℕ) (given more : Given) → IsSound given → with_dashes word given ≡ Ok more → IsSound more
-with_dashes-IsSound word given more sound found =
-    by_test (list_any is_equals_sign word) found
+with_value-IsSound : (text : List ℕ) (given more : Given) (option : OptionName) → is_listed option ≡ true → IsSound given → with_value text given option ≡ Ok more → IsSound more
+with_value-IsSound text given more option here sound found = by_test (is_flag option) found
   where
-    by_name : (name : Option OptionName) → ((option : OptionName) → name ≡ Some option → is_listed option ≡ true) → and_then (with_use (after_first is_equals_sign word) given) (ok_or name Form) ≡ Ok more → IsSound more
-    by_name None listed found = absurd cc
-    by_name (Some option) listed found = with_use-IsSound (after_first is_equals_sign word) given more option (listed option refl) sound found
+    by_test : (flag : Bool) → cond flag (Err Form) (with_use text given option) ≡ Ok more → IsSound more
+    by_test true found = absurd cc
+    by_test false found = with_use-IsSound text given more option here sound found
 
-    by_name_alone : (name : Option OptionName) → ((option : OptionName) → name ≡ Some option → is_listed option ≡ true) → and_then (λ option. Ok (record given { next = ValueOf option })) (ok_or name Form) ≡ Ok more → IsSound more
-    by_name_alone None listed found = absurd cc
-    by_name_alone (Some option) listed found =
+with_name-IsSound : (given more : Given) (option : OptionName) → is_listed option ≡ true → IsSound given → with_name given option ≡ Ok more → IsSound more
+with_name-IsSound given more option here sound found = by_test (is_flag option) found
+  where
+    by_test : (flag : Bool) → cond flag (with_use [] given option) (Ok (record given { next = ValueOf option })) ≡ Ok more → IsSound more
+    by_test true found = with_use-IsSound [] given more option here sound found
+    by_test false found =
         let same : record given { next = ValueOf option } ≡ more = cc in
-        subst IsSound same (record { once = sound.once; listed = sound.listed; next = listed option refl })
+        subst IsSound same (record { once = sound.once; listed = sound.listed; next = here })
 
-    by_test : (cut : Bool) → cond cut (and_then (with_use (after_first is_equals_sign word) given) (ok_or (option_named (before_first is_equals_sign word)) Form)) (and_then (λ option. Ok (record given { next = ValueOf option })) (ok_or (option_named word) Form)) ≡ Ok more → IsSound more
-    by_test true found = by_name (option_named (before_first is_equals_sign word)) (named-is_listed (before_first is_equals_sign word)) found
-    by_test false found = by_name_alone (option_named word) (named-is_listed word) found
+with_dashes-IsSound : (word : List ℕ) (given more : Given) → IsSound given → with_dashes word given ≡ Ok more → IsSound more
+with_dashes-IsSound word given more sound found = by_test (list_any is_equals_sign word) found
+  where
+    by_name : (next : OptionName → Result Given UsageFault) (name : Option OptionName) → ((option : OptionName) → name ≡ Some option → is_listed option ≡ true)
+        → ((option : OptionName) → is_listed option ≡ true → next option ≡ Ok more → IsSound more) → and_then next (ok_or name Form) ≡ Ok more → IsSound more
+    by_name next None listed goes_on found = absurd cc
+    by_name next (Some option) listed goes_on found = goes_on option (listed option refl) found
+
+    by_test : (cut : Bool) → cond cut (and_then (with_value (after_first is_equals_sign word) given) (ok_or (option_named (before_first is_equals_sign word)) Form)) (and_then (with_name given) (ok_or (option_named word) Form)) ≡ Ok more → IsSound more
+    by_test true found =
+        by_name (with_value (after_first is_equals_sign word) given) (option_named (before_first is_equals_sign word)) (named-is_listed (before_first is_equals_sign word))
+        (λ option here. with_value-IsSound (after_first is_equals_sign word) given more option here sound) found
+    by_test false found =
+        by_name (with_name given) (option_named word) (named-is_listed word) (λ option here. with_name-IsSound given more option here sound) found
 
 with_any-IsSound : (word : List ℕ) (given more : Given) → IsSound given → with_any word given ≡ Ok more → IsSound more
 with_any-IsSound word given more sound found = by_tests (bytes_eq word (codes "--")) (is_plain word) found

@@ -1,28 +1,32 @@
 -- Settings that words give can be used.
-use Rattle.std.proofs.Common.{◌≡◌, ◌≢◌, ◌≤◌, ◌&&◌, ◌||◌, ◌∷◌, ℕ, All, AllPairs, Bool, true, false, not, List, [], ℤ, pos, negsuc, Option, Some, None, IfOk, IfSome, Ok, Err, Result, arith, codes, cond, eqb, inl, inr, length, nat_le, option_and_then, option_map, refl, subst, bytes_eq}
+use Rattle.std.proofs.Common.{◌≡◌, ◌≢◌, ◌≤◌, ◌&&◌, ◌||◌, ◌∷◌, ℕ, All, AllPairs, Bool, true, false, not, List, [], ℤ, pos, Option, Some, None, IfOk, IfSome, Ok, Err, Result, arith, codes, cond, inl, inr, length, map, nat_abs, nat_le, option_and_then, option_map, refl, slice_index_or, subst, bytes_eq, unwrap_or}
 use Rattle.std.proofs.lemmas.Bool.{and_parts, not-true}
-use Rattle.std.proofs.lemmas.Bool.Decides.{nat_tests}
+use Rattle.std.proofs.lemmas.Bool.Decides.{Decides-int_eq, nat_tests}
 use Rattle.std.proofs.lemmas.Int.{ints}
-use Rattle.std.proofs.lemmas.List.Elements.{All-cons, All-nil}
+use Rattle.std.proofs.lemmas.List.{length-map}
+use Rattle.std.proofs.lemmas.List.Elements.{All-cons, All-head, All-nil, All-tail}
 use Rattle.std.proofs.lemmas.List.Kept.{AllPairs-cons}
 use Rattle.std.proofs.lemmas.Slice.Eq.{bytes_eq-Decides}
 use Rattle.std.specs.Bool.{⊤}
 use Rattle.std.specs.List.{list_any, slice_split}
 use Rattle.std.specs.Option.{ok_or}
+use Rattle.std.specs.Ordering.{int_eq}
 use Rattle.number_text.specs.ListTexts.{IsWithin, fitting, is_comma, items_of, list_of}
 use Rattle.number_text.proofs.ListItems.{items_of-within}
-use Rattle.record_reader.specs.Layouts.{MayList, and_then}
+use Rattle.record_reader.specs.Layouts.{MayList, MayPick, and_then, with_value}
 use Rattle.record_reader.specs.Records.{IsSeparator, comma, semicolon, tab}
+use Rattle.record_reader.specs.declared.layouts.Shape.{Shape}
 use Rattle.record_reader.specs.declared.picks.Picks.TheVariants.{Listed}
 use Rattle.settings.specs.Faults.{Meets}
-use Rattle.settings.specs.Meaning.{meaning_for, meaning_of_given, meaning_of_test}
-use Rattle.settings.specs.Options.{OptionForm, columns_option, listed_options, order_option, separator_option, setting, settings_without_options, suited, tail_option, with_option, with_options}
-use Rattle.settings.specs.Tests.{test_named}
-use Rattle.settings.specs.Usable.{AreLabels, AreUsable, IsUsable}
-use Rattle.settings.specs.Values.{are_distinct, are_labels, columns_of, is_empty, labels_in, order_of, separator_of, tail_of, two_different}
+use Rattle.settings.specs.Meaning.{command_of, is_complete, meaning_for, meaning_of_given, meaning_of_test, settings_of}
+use Rattle.settings.specs.Options.{form_of, listed_names, setting, settings_without_options, suited, with_option, with_options}
+use Rattle.settings.specs.Tests.{reads_file, shape_of, test_named}
+use Rattle.settings.specs.Usable.{AreLabels, AreUsable, AreWithin, IsDrillNumber, IsUsable}
+use Rattle.settings.specs.Values.{are_distinct, are_labels, at_least, column_scores_form, columns_of, distinct_fields, fields_form, is_empty, labels_in, number_form, number_of, numbers_of, order_of, peak_form, row_scores_form, scores_of, separator_of, tail_of}
 use Rattle.settings.specs.Words.{Given, none_given, value_in, with_words}
 use Rattle.settings.specs.declared.command_line.CommandLine.{CommandLine}
-use Rattle.settings.specs.declared.command_line.CommandLine.TheVariants.{Test}
+use Rattle.settings.specs.declared.command_line.CommandLine.TheVariants.{Test, Drill}
+use Rattle.settings.specs.declared.lists.ListForm.{ListForm}
 use Rattle.settings.specs.declared.names.OptionName.{OptionName}
 use Rattle.settings.specs.declared.names.OptionName.TheVariants as option
 use Rattle.settings.specs.declared.names.TestName.{TestName}
@@ -30,58 +34,113 @@ use Rattle.settings.specs.declared.names.UsageFault.{UsageFault}
 use Rattle.settings.specs.declared.names.UsageFault.TheVariants.{Form, Value, Pairing}
 use Rattle.settings.specs.declared.settings.Settings.{Settings}
 use Rattle.settings.specs.declared.tails.TailChoice.{TailChoice}
+use Rattle.scores.specs.declared.kinds.ScoreKind.{ScoreKind}
+
+if_some : {X : Type 0} (P : X → Type 0) (found : Option X) → ((value : X) → found ≡ Some value → P value) → IfSome found P
+if_some P None fact = tt
+if_some P (Some value) fact = fact value refl
+
+-- ---- lists of numbers
+
+-- the numbers of a list are those of its form
+record AreOf (form : ListForm) (numbers : List ℤ) : Type 0 where
+  few : length numbers ≤ form.most
+  some : form.fewest ≤ length numbers
+  within : AreWithin form numbers
+
+numbers-AreOf : (form : ListForm) (text : List ℕ) (numbers : List ℤ) → numbers_of form text ≡ Some numbers → AreOf form numbers
+unfolding list_of
+numbers-AreOf form text numbers found =
+    by_items (items_of form.low form.high (slice_split is_comma text)) (items_of-within form.low form.high (slice_split is_comma text)) found
+  where
+    by_count : (some : Bool) (all : List ℤ) → nat_le (length all) form.most ≡ true → AreWithin form all → nat_le form.fewest (length all) ≡ some → cond some (Some all) None ≡ Some numbers → AreOf form numbers
+    by_count true all few within some found =
+        let same : all ≡ numbers = cc in
+        subst (AreOf form) same (record { few = grind (arith, nat_tests); some = grind (arith, nat_tests); within = within })
+    by_count false all few within some found = absurd cc
+
+    by_fit : (fits : Bool) (all : List ℤ) → AreWithin form all → nat_le (length all) form.most ≡ fits → option_and_then (at_least form.fewest) (cond fits (Some all) None) ≡ Some numbers → AreOf form numbers
+    by_fit true all within few found = by_count (nat_le form.fewest (length all)) all few within refl found
+    by_fit false all within few found = absurd cc
+
+    by_items : (all : Option (List ℤ)) → ((some : List ℤ) → all ≡ Some some → AreWithin form some) → option_and_then (at_least form.fewest) (option_and_then (fitting form.most) all) ≡ Some numbers → AreOf form numbers
+    by_items None within found = absurd cc
+    by_items (Some all) within found = by_fit (nat_le (length all) form.most) all (within all refl) refl found
+
+numbers_of-AreWithin : (form : ListForm) (text : List ℕ) → IfSome (numbers_of form text) (AreWithin form)
+numbers_of-AreWithin form text = if_some (AreWithin form) (numbers_of form text) (λ numbers found. (numbers-AreOf form text numbers found).within)
+
+number_of-IsDrillNumber : (text : List ℕ) → IfSome (number_of number_form text) IsDrillNumber
+number_of-IsDrillNumber text = by_numbers (numbers_of number_form text) (numbers-AreOf number_form text)
+  where
+    small : (number : ℤ) → IsWithin (pos 0) (pos 2147483647) number → nat_abs number ≤ 2147483647
+    small number within = grind (arith, ints)
+
+    by_numbers : (found : Option (List ℤ)) → ((numbers : List ℤ) → found ≡ Some numbers → AreOf number_form numbers) → IfSome (option_map (λ numbers. nat_abs (slice_index_or numbers 0 (pos 0))) found) IsDrillNumber
+    by_numbers None are = tt
+    by_numbers (Some []) are = omega arith
+    by_numbers (Some (number ∷ numbers)) are = small number (All-head (IsWithin (pos 0) (pos 2147483647)) number numbers (are (number ∷ numbers) refl).within)
 
 -- ---- columns
-
--- each number of a list that is given lies between the bounds
-list_of-within : (low high : ℤ) (room : ℕ) (text : List ℕ) (items : List ℤ) → list_of low high room text ≡ Some items → All (IsWithin low high) items
-unfolding list_of
-list_of-within low high room text items found =
-    by_items (items_of low high (slice_split is_comma text)) (items_of-within low high (slice_split is_comma text)) found
-  where
-    by_fit : (fits : Bool) (all : List ℤ) → All (IsWithin low high) all → cond fits (Some all) None ≡ Some items → All (IsWithin low high) items
-    by_fit true all within found =
-        let same : all ≡ items = cc in
-        subst (All (IsWithin low high)) same within
-    by_fit false all within found = absurd cc
-
-    by_items : (all : Option (List ℤ)) → ((some : List ℤ) → all ≡ Some some → All (IsWithin low high) some) → option_and_then (fitting room) all ≡ Some items → All (IsWithin low high) items
-    by_items None within found = absurd cc
-    by_items (Some all) within found = by_fit (nat_le (length all) room) all (within all refl) found
-
-from_one : (column : ℕ) → IsWithin (pos 1) (pos 1000) (pos column) → 1 ≤ column
-from_one column within = omega (arith, ints)
 
 AllPairs-nil : {X : Type 0} (R : X → X → Type 0) → AllPairs R []
 AllPairs-nil R = λ i j d below inside. absurd (omega arith)
 
--- two different numbers between the bounds may be listed
-two_different-MayList : (items : List ℤ) → All (IsWithin (pos 1) (pos 1000)) items → IfSome (two_different items) (MayList 2 2)
-two_different-MayList [] within = tt
-two_different-MayList (negsuc first ∷ rest) within = tt
-two_different-MayList (pos first ∷ []) within = tt
-two_different-MayList (pos first ∷ negsuc second ∷ rest) within = tt
-two_different-MayList (pos first ∷ pos second ∷ third ∷ rest) within = tt
-two_different-MayList (pos first ∷ pos second ∷ []) within = by_test (eqb first second) refl
-  where
-    by_test : (same : Bool) → eqb first second ≡ same → IfSome (cond same None (Some (first ∷ second ∷ []))) (MayList 2 2)
-    by_test true test = tt
-    by_test false test = record {
-      wide_enough = omega arith;
-      narrow_enough = omega arith;
-      from_one = All-cons (λ field. 1 ≤ field) first (second ∷ []) (from_one first (within 0 (pos 0) (omega arith)))
-          (All-cons (λ field. 1 ≤ field) second [] (from_one second (within 1 (pos 0) (omega arith))) (All-nil (λ field. 1 ≤ field)));
-      distinct = AllPairs-cons ◌≢◌ first (second ∷ [])
-          (All-cons (λ y. first ≢ y) second [] (λ same. grind (arith, nat_tests)) (All-nil (λ y. first ≢ y)))
-          (AllPairs-cons ◌≢◌ second [] (All-nil (λ y. second ≢ y)) (AllPairs-nil ◌≢◌));
-    }
+abbrev IsField : ℤ → Type 0
+IsField = IsWithin (pos 1) (pos 1000)
 
-columns_of-MayList : (text : List ℕ) → IfSome (columns_of text) (MayList 2 2)
-columns_of-MayList text = by_list (list_of (pos 1) (pos 1000) 2 text) (list_of-within (pos 1) (pos 1000) 2 text)
+from_one : (numbers : List ℤ) → All IsField numbers → All (λ field. 1 ≤ field) (map nat_abs numbers)
+from_one [] within = All-nil (λ field. 1 ≤ field)
+from_one (number ∷ numbers) within =
+    All-cons (λ field. 1 ≤ field) (nat_abs number) (map nat_abs numbers) (here number (All-head IsField number numbers within)) (from_one numbers (All-tail IsField number numbers within))
   where
-    by_list : (items : Option (List ℤ)) → ((some : List ℤ) → items ≡ Some some → All (IsWithin (pos 1) (pos 1000)) some) → IfSome (option_and_then two_different items) (MayList 2 2)
-    by_list None within = tt
-    by_list (Some items) within = two_different-MayList items (within items refl)
+    here : (number : ℤ) → IsField number → 1 ≤ nat_abs number
+    here number within = grind (arith, ints)
+
+-- numbers from 1 differ as their magnitudes do
+other_fields : (number : ℤ) (numbers : List ℤ) → IsField number → All IsField numbers → list_any (int_eq number) numbers ≡ false → All (λ field. nat_abs number ≢ field) (map nat_abs numbers)
+other_fields number [] here within none = All-nil (λ field. nat_abs number ≢ field)
+other_fields number (other ∷ numbers) here within none =
+    by_test (int_eq number other) (other_fields number numbers here (All-tail IsField other numbers within)) refl none
+  where
+    apart : (first second : ℤ) → IsField first → IsField second → int_eq first second ≡ false → nat_abs first ≢ nat_abs second
+    apart first second one two test same =
+        let equal : first ≡ second = grind (arith, ints) in
+        let yes : int_eq first second ≡ true = (Decides-int_eq first second).1 equal in
+        cc
+
+    by_test : (equal : Bool) → (list_any (int_eq number) numbers ≡ false → All (λ field. nat_abs number ≢ field) (map nat_abs numbers)) → int_eq number other ≡ equal → (equal || list_any (int_eq number) numbers) ≡ false → All (λ field. nat_abs number ≢ field) (nat_abs other ∷ map nat_abs numbers)
+    by_test true more test none = absurd cc
+    by_test false more test none =
+        All-cons (λ field. nat_abs number ≢ field) (nat_abs other) (map nat_abs numbers)
+        (apart number other here (All-head IsField other numbers within) test)
+        (more none)
+
+different_fields : (numbers : List ℤ) → All IsField numbers → are_distinct int_eq numbers ≡ true → AllPairs ◌≢◌ (map nat_abs numbers)
+different_fields [] within distinct = AllPairs-nil ◌≢◌
+different_fields (number ∷ numbers) within distinct =
+    let alone = not (list_any (int_eq number) numbers) in
+    AllPairs-cons ◌≢◌ (nat_abs number) (map nat_abs numbers)
+    (other_fields number numbers (All-head IsField number numbers within) (All-tail IsField number numbers within) (not-true _ (and_parts alone (are_distinct int_eq numbers) distinct).0))
+    (different_fields numbers (All-tail IsField number numbers within) (and_parts alone (are_distinct int_eq numbers) distinct).1)
+
+columns_of-MayList : (shape : Shape) (text : List ℕ) → IfSome (columns_of shape text) (MayList shape.narrowest shape.widest)
+columns_of-MayList shape text = by_numbers (numbers_of (fields_form shape) text) (numbers-AreOf (fields_form shape) text)
+  where
+    by_test : (numbers : List ℤ) → AreOf (fields_form shape) numbers → (distinct : Bool) → are_distinct int_eq numbers ≡ distinct → IfSome (cond distinct (Some (map nat_abs numbers)) None) (MayList shape.narrowest shape.widest)
+    by_test numbers are false test = tt
+    by_test numbers are true test =
+        let as_many : length (map nat_abs numbers) ≡ length numbers = length-map numbers nat_abs in
+        record {
+          wide_enough = omega (arith, as_many, are.some);
+          narrow_enough = omega (arith, as_many, are.few);
+          from_one = from_one numbers are.within;
+          distinct = different_fields numbers are.within test;
+        }
+
+    by_numbers : (found : Option (List ℤ)) → ((numbers : List ℤ) → found ≡ Some numbers → AreOf (fields_form shape) numbers) → IfSome (option_and_then distinct_fields found) (MayList shape.narrowest shape.widest)
+    by_numbers None are = tt
+    by_numbers (Some numbers) are = by_test numbers (are numbers refl) (are_distinct int_eq numbers) refl
 
 -- ---- labels
 
@@ -102,27 +161,27 @@ is_filled : (label : List ℕ) → is_empty label ≡ false → label ≢ []
 is_filled [] test same = cc
 is_filled (byte ∷ bytes) test same = cc
 
-distinct_labels : (labels : List (List ℕ)) → are_distinct labels ≡ true → AllPairs ◌≢◌ labels
+distinct_labels : (labels : List (List ℕ)) → are_distinct bytes_eq labels ≡ true → AllPairs ◌≢◌ labels
 distinct_labels [] distinct = AllPairs-nil ◌≢◌
 distinct_labels (label ∷ labels) distinct =
     let alone = not (list_any (bytes_eq label) labels) in
     AllPairs-cons ◌≢◌ label labels
-    (none_of (bytes_eq label) labels (λ other. label ≢ other) (differs label) (not-true _ (and_parts alone (are_distinct labels) distinct).0))
-    (distinct_labels labels (and_parts alone (are_distinct labels) distinct).1)
+    (none_of (bytes_eq label) labels (λ other. label ≢ other) (differs label) (not-true _ (and_parts alone (are_distinct bytes_eq labels) distinct).0))
+    (distinct_labels labels (and_parts alone (are_distinct bytes_eq labels) distinct).1)
 
 are_labels-AreLabels : (labels : List (List ℕ)) → are_labels labels ≡ true → AreLabels labels
 are_labels-AreLabels labels test =
     let few = nat_le 2 (length labels) && nat_le (length labels) 8 in
     let filled = not (list_any is_empty labels) in
-    let counted : few ≡ true = (and_parts few (filled && are_distinct labels) test).0 in
-    let others : (filled && are_distinct labels) ≡ true = (and_parts few (filled && are_distinct labels) test).1 in
+    let counted : few ≡ true = (and_parts few (filled && are_distinct bytes_eq labels) test).0 in
+    let others : (filled && are_distinct bytes_eq labels) ≡ true = (and_parts few (filled && are_distinct bytes_eq labels) test).1 in
     let two : nat_le 2 (length labels) ≡ true = (and_parts (nat_le 2 (length labels)) (nat_le (length labels) 8) counted).0 in
     let eight : nat_le (length labels) 8 ≡ true = (and_parts (nat_le 2 (length labels)) (nat_le (length labels) 8) counted).1 in
     record {
       from_two = grind (arith, nat_tests);
       to_eight = grind (arith, nat_tests);
-      filled = none_of is_empty labels (λ label. label ≢ []) is_filled (not-true _ (and_parts filled (are_distinct labels) others).0);
-      distinct = distinct_labels labels (and_parts filled (are_distinct labels) others).1;
+      filled = none_of is_empty labels (λ label. label ≢ []) is_filled (not-true _ (and_parts filled (are_distinct bytes_eq labels) others).0);
+      distinct = distinct_labels labels (and_parts filled (are_distinct bytes_eq labels) others).1;
     }
 
 order_of-AreLabels : (text : List ℕ) → IfSome (order_of text) AreLabels
@@ -146,120 +205,150 @@ separator_of-IsSeparator word = by_tests (bytes_eq word (codes "comma")) (bytes_
 -- ---- options
 
 -- an option keeps settings that can be used
-Keeps : OptionForm → Type 0
-Keeps option = (text : List ℕ) (settings more : Settings) → AreUsable settings → option.set text settings ≡ Some more → AreUsable more
+Keeps : OptionName → Type 0
+Keeps name = (text : List ℕ) (settings more : Settings) → AreUsable settings → (form_of name).set text settings ≡ Some more → AreUsable more
 
 -- an option keeps them where each of its values does
-setting_keeps : {X : Type 0} (value_of : List ℕ → Option X) (put : X → Settings → Settings) (P : X → Type 0) → ((text : List ℕ) → IfSome (value_of text) P)
-    → ((value : X) (settings : Settings) → P value → AreUsable settings → AreUsable (put value settings))
-    → (text : List ℕ) (settings more : Settings) → AreUsable settings → setting value_of put text settings ≡ Some more → AreUsable more
-setting_keeps {X = X} value_of put P fits keeps text settings more usable found = by_value (value_of text) (fits text) found
+setting_keeps : {X : Type 0} (value_of : List ℕ → Option X) (put : X → Settings → Settings) (P : X → Type 0) (text : List ℕ) (settings more : Settings) → IfSome (value_of text) P
+    → ((value : X) → P value → AreUsable (put value settings)) → setting value_of put text settings ≡ Some more → AreUsable more
+setting_keeps {X = X} value_of put P text settings more fits keeps found = by_value (value_of text) fits found
   where
     by_value : (value : Option X) → IfSome value P → option_map (λ v. put v settings) value ≡ Some more → AreUsable more
     by_value None fit found = absurd cc
     by_value (Some value) fit found =
         let same : put value settings ≡ more = cc in
-        subst AreUsable same (keeps value settings fit usable)
+        subst AreUsable same (keeps value fit)
 
-tail_keeps : Keeps tail_option
+any_value : {X : Type 0} (found : Option X) → IfSome found (λ _. Unit {0})
+any_value None = tt
+any_value (Some value) = tt
+
+flag_keeps : (raised more : Settings) → AreUsable raised → Some raised ≡ Some more → AreUsable more
+flag_keeps raised more usable found =
+    let same : raised ≡ more = cc in
+    subst AreUsable same usable
+
+-- some values may be any
+plainly : (settings : Settings) (tail : TailChoice) (scores : ScoreKind) (peak : ℕ) (distribution plain nodes : Bool) → AreUsable settings
+    → AreUsable (record settings { tail = tail; scores = scores; peak = peak; distribution = distribution; plain = plain; nodes = nodes })
+plainly settings tail scores peak distribution plain nodes usable =
+    record { order = usable.order; row_scores = usable.row_scores; column_scores = usable.column_scores; picks = usable.picks; separator = usable.separator; number = usable.number }
+
+each_keeps : (name : OptionName) → Keeps name
 unfolding Keeps
-tail_keeps =
-    setting_keeps tail_of (λ tail settings. record settings { tail = tail }) (λ _. Unit {0}) tail_of-fits
-    (λ tail settings fit usable. record { order = usable.order; picks = usable.picks; separator = usable.separator })
-  where
-    any_fits : (tail : Option TailChoice) → IfSome tail (λ _. Unit {0})
-    any_fits None = tt
-    any_fits (Some tail) = tt
+each_keeps option.Test text settings more usable found = absurd cc
+each_keeps option.Tail text settings more usable found =
+    setting_keeps tail_of (λ tail s. record s { tail = tail }) (λ _. Unit {0}) text settings more (any_value (tail_of text))
+    (λ tail fit. plainly settings tail settings.scores settings.peak settings.distribution settings.plain settings.nodes usable) found
+each_keeps option.Scores text settings more usable found =
+    setting_keeps scores_of (λ kind s. record s { scores = kind }) (λ _. Unit {0}) text settings more (any_value (scores_of text))
+    (λ kind fit. plainly settings settings.tail kind settings.peak settings.distribution settings.plain settings.nodes usable) found
+each_keeps option.Order text settings more usable found =
+    setting_keeps order_of (λ order s. record s { order = order }) AreLabels text settings more (order_of-AreLabels text)
+    (λ order fit. record { order = inr fit; row_scores = usable.row_scores; column_scores = usable.column_scores; picks = usable.picks; separator = usable.separator; number = usable.number }) found
+each_keeps option.Peak text settings more usable found =
+    setting_keeps (number_of peak_form) (λ peak s. record s { peak = peak }) (λ _. Unit {0}) text settings more (any_value (number_of peak_form text))
+    (λ peak fit. plainly settings settings.tail settings.scores peak settings.distribution settings.plain settings.nodes usable) found
+each_keeps option.RowScores text settings more usable found =
+    setting_keeps (numbers_of row_scores_form) (λ scores s. record s { row_scores = scores }) (AreWithin row_scores_form) text settings more (numbers_of-AreWithin row_scores_form text)
+    (λ scores fit. record { order = usable.order; row_scores = fit; column_scores = usable.column_scores; picks = usable.picks; separator = usable.separator; number = usable.number }) found
+each_keeps option.ColumnScores text settings more usable found =
+    setting_keeps (numbers_of column_scores_form) (λ scores s. record s { column_scores = scores }) (AreWithin column_scores_form) text settings more (numbers_of-AreWithin column_scores_form text)
+    (λ scores fit. record { order = usable.order; row_scores = usable.row_scores; column_scores = fit; picks = usable.picks; separator = usable.separator; number = usable.number }) found
+each_keeps option.Columns text settings more usable found =
+    let shape = shape_of settings.test in
+    setting_keeps (columns_of shape) (λ columns s. record s { picks = Listed columns }) (MayList shape.narrowest shape.widest) text settings more (columns_of-MayList shape text)
+    (λ columns fit. record { order = usable.order; row_scores = usable.row_scores; column_scores = usable.column_scores; picks = fit; separator = usable.separator; number = usable.number }) found
+each_keeps option.Separator text settings more usable found =
+    setting_keeps separator_of (λ separator s. record s { separator = separator }) IsSeparator text settings more (separator_of-IsSeparator text)
+    (λ separator fit. record { order = usable.order; row_scores = usable.row_scores; column_scores = usable.column_scores; picks = usable.picks; separator = fit; number = usable.number }) found
+each_keeps option.Number text settings more usable found =
+    setting_keeps (number_of number_form) (λ number s. record s { number = number }) IsDrillNumber text settings more (number_of-IsDrillNumber text)
+    (λ number fit. record { order = usable.order; row_scores = usable.row_scores; column_scores = usable.column_scores; picks = usable.picks; separator = usable.separator; number = fit }) found
+each_keeps option.Distribution text settings more usable found =
+    flag_keeps (record settings { distribution = true }) more (plainly settings settings.tail settings.scores settings.peak true settings.plain settings.nodes usable) found
+each_keeps option.Plain text settings more usable found =
+    flag_keeps (record settings { plain = true }) more (plainly settings settings.tail settings.scores settings.peak settings.distribution true settings.nodes usable) found
+each_keeps option.Nodes text settings more usable found =
+    flag_keeps (record settings { nodes = true }) more (plainly settings settings.tail settings.scores settings.peak settings.distribution settings.plain true usable) found
 
-    tail_of-fits : (text : List ℕ) → IfSome (tail_of text) (λ _. Unit {0})
-    tail_of-fits text = any_fits (tail_of text)
-
-order_keeps : Keeps order_option
+with_option-AreUsable : (name : OptionName) (value : Option (List ℕ)) (settings more : Settings) → AreUsable settings → with_option name value settings ≡ Ok more → AreUsable more
 unfolding Keeps
-order_keeps =
-    setting_keeps order_of (λ order settings. record settings { order = order }) AreLabels order_of-AreLabels
-    (λ order settings fit usable. record { order = inr fit; picks = usable.picks; separator = usable.separator })
-
-columns_keep : Keeps columns_option
-unfolding Keeps
-columns_keep =
-    setting_keeps columns_of (λ columns settings. record settings { picks = Listed columns }) (MayList 2 2) columns_of-MayList
-    (λ columns settings fit usable. record { order = usable.order; picks = fit; separator = usable.separator })
-
-separator_keeps : Keeps separator_option
-unfolding Keeps
-separator_keeps =
-    setting_keeps separator_of (λ separator settings. record settings { separator = separator }) IsSeparator separator_of-IsSeparator
-    (λ separator settings fit usable. record { order = usable.order; picks = usable.picks; separator = fit })
-
-KeepAll : List OptionForm → Type 0
-KeepAll [] = ⊤
-KeepAll (option ∷ options) = Keeps option × KeepAll options
-
-with_option-AreUsable : (option : OptionForm) (value : Option (List ℕ)) (settings more : Settings) → Keeps option → AreUsable settings → with_option option value settings ≡ Ok more → AreUsable more
-unfolding Keeps
-with_option-AreUsable option None settings more keeps usable found =
+with_option-AreUsable name None settings more usable found =
     let same : settings ≡ more = cc in
     subst AreUsable same usable
-with_option-AreUsable option (Some text) settings more keeps usable found = by_pairing (option.goes_with settings.test) found
+with_option-AreUsable name (Some text) settings more usable found = by_pairing ((form_of name).goes_with settings.test) found
   where
-    by_suit : (suits : Bool) (next : Settings) → AreUsable next → cond suits (Ok next) (Err (Pairing option.name next.test)) ≡ Ok more → AreUsable more
+    by_suit : (suits : Bool) (next : Settings) → AreUsable next → cond suits (Ok next) (Err (Pairing name next.test)) ≡ Ok more → AreUsable more
     by_suit true next usable_next found =
         let same : next ≡ more = cc in
         subst AreUsable same usable_next
     by_suit false next usable_next found = absurd cc
 
-    by_value : (value : Option Settings) → ((next : Settings) → value ≡ Some next → AreUsable next) → and_then (suited option) (ok_or value (Value option.name)) ≡ Ok more → AreUsable more
+    by_value : (value : Option Settings) → ((next : Settings) → value ≡ Some next → AreUsable next) → and_then (suited name) (ok_or value (Value name)) ≡ Ok more → AreUsable more
     by_value None kept found = absurd cc
-    by_value (Some next) kept found = by_suit (option.suits next) next (kept next refl) found
+    by_value (Some next) kept found = by_suit ((form_of name).suits next) next (kept next refl) found
 
-    by_pairing : (goes : Bool) → cond goes (and_then (suited option) (ok_or (option.set text settings) (Value option.name))) (Err (Pairing option.name settings.test)) ≡ Ok more → AreUsable more
-    by_pairing true found = by_value (option.set text settings) (λ next. keeps text settings next usable) found
+    by_pairing : (goes : Bool) → cond goes (and_then (suited name) (ok_or ((form_of name).set text settings) (Value name))) (Err (Pairing name settings.test)) ≡ Ok more → AreUsable more
+    by_pairing true found = by_value ((form_of name).set text settings) (λ next. each_keeps name text settings next usable) found
     by_pairing false found = absurd cc
 
-with_options-AreUsable : (options : List OptionForm) (values : OptionName → Option (List ℕ)) (settings last : Settings) → KeepAll options → AreUsable settings → with_options options values settings ≡ Ok last → AreUsable last
-unfolding KeepAll
-with_options-AreUsable [] values settings last keep usable found =
+with_options-AreUsable : (names : List OptionName) (values : OptionName → Option (List ℕ)) (settings last : Settings) → AreUsable settings → with_options names values settings ≡ Ok last → AreUsable last
+with_options-AreUsable [] values settings last usable found =
     let same : settings ≡ last = cc in
     subst AreUsable same usable
-with_options-AreUsable (option ∷ options) values settings last keep usable found =
-    by_first (with_option option (values option.name) settings) (λ more. with_option-AreUsable option (values option.name) settings more keep.0 usable) (λ more. with_options-AreUsable options values more last keep.1) found
+with_options-AreUsable (name ∷ names) values settings last usable found =
+    by_first (with_option name (values name) settings) (λ more. with_option-AreUsable name (values name) settings more usable) (λ more. with_options-AreUsable names values more last) found
   where
-    by_first : (first : Result Settings UsageFault) → ((more : Settings) → first ≡ Ok more → AreUsable more) → ((more : Settings) → AreUsable more → with_options options values more ≡ Ok last → AreUsable last) → and_then (with_options options values) first ≡ Ok last → AreUsable last
+    by_first : (first : Result Settings UsageFault) → ((more : Settings) → first ≡ Ok more → AreUsable more) → ((more : Settings) → AreUsable more → with_options names values more ≡ Ok last → AreUsable last) → and_then (with_options names values) first ≡ Ok last → AreUsable last
     by_first (Err fault) next rest found = absurd cc
     by_first (Ok more) next rest found = rest more (next more refl) found
 
-all_keep : KeepAll listed_options
-unfolding KeepAll
-all_keep = (tail_keeps, (order_keeps, (columns_keep, (separator_keeps, tt))))
-
 start-AreUsable : (test : TestName) (file : List ℕ) → AreUsable (settings_without_options test file)
-start-AreUsable test file = record { order = inl refl; picks = tt; separator = inl refl }
+start-AreUsable test file = record {
+  order = inl refl;
+  row_scores = All-nil (IsWithin row_scores_form.low row_scores_form.high);
+  column_scores = All-nil (IsWithin column_scores_form.low column_scores_form.high);
+  picks = tt;
+  separator = inl refl;
+  number = omega arith;
+}
 
 -- ---- the command line
 
-meaning_for-IsUsable : (given : Given) (test : TestName) (file : List ℕ) (line : CommandLine) → meaning_for given test file ≡ Ok line → IsUsable line
-meaning_for-IsUsable given test file line found =
-    by_settings (with_options listed_options (value_in given.uses) (settings_without_options test file)) (λ last. with_options-AreUsable listed_options (value_in given.uses) (settings_without_options test file) last all_keep (start-AreUsable test file)) found
+command_of-IsUsable : (settings : Settings) → AreUsable settings → IsUsable (command_of settings)
+command_of-IsUsable settings usable = by_test (reads_file settings.test)
   where
-    by_settings : (all : Result Settings UsageFault) → ((last : Settings) → all ≡ Ok last → AreUsable last) → and_then (λ settings. Ok (Test settings)) all ≡ Ok line → IsUsable line
+    by_test : (reads : Bool) → IsUsable (cond reads (Test settings) (Drill settings.number))
+    by_test true = usable
+    by_test false = usable.number
+
+meaning_for-IsUsable : (given : Given) (test : TestName) (line : CommandLine) → meaning_for given test ≡ Ok line → IsUsable line
+meaning_for-IsUsable given test line found = by_test (is_complete test given) found
+  where
+    by_settings : (all : Result Settings UsageFault) → ((last : Settings) → all ≡ Ok last → AreUsable last) → with_value command_of all ≡ Ok line → IsUsable line
     by_settings (Err fault) usable found = absurd cc
     by_settings (Ok last) usable found =
-        let same : Test last ≡ line = cc in
-        subst IsUsable same (usable last refl)
+        let same : command_of last ≡ line = cc in
+        subst IsUsable same (command_of-IsUsable last (usable last refl))
+
+    by_test : (complete : Bool) → cond complete (with_value command_of (settings_of given test)) (Err Form) ≡ Ok line → IsUsable line
+    by_test true found =
+        let start = settings_without_options test (unwrap_or given.file []) in
+        by_settings (settings_of given test) (λ last. with_options-AreUsable listed_names (value_in given.uses) start last (start-AreUsable test (unwrap_or given.file []))) found
+    by_test false found = absurd cc
 
 -- a value that a result goes on with
 goes_on : {X : Type 0} (next : X → Result CommandLine UsageFault) (first : Result X UsageFault) (line : CommandLine) → ((value : X) → next value ≡ Ok line → IsUsable line) → and_then next first ≡ Ok line → IsUsable line
 goes_on next (Err fault) line usable found = absurd cc
 goes_on next (Ok value) line usable found = usable value found
 
-pub meaning_of_given-IsUsable : (words : List (List ℕ)) (line : CommandLine) → and_then meaning_of_given (with_words words none_given) ≡ Ok line → IsUsable line
+meaning_of_given-IsUsable : (words : List (List ℕ)) (line : CommandLine) → and_then meaning_of_given (with_words words none_given) ≡ Ok line → IsUsable line
 meaning_of_given-IsUsable words line found =
     goes_on meaning_of_given (with_words words none_given) line
     (λ given. goes_on (meaning_of_test given) (ok_or given.test Form) line
-    (λ word. goes_on (λ test. and_then (meaning_for given test) (ok_or given.file Form)) (ok_or (test_named word) (Value option.Test)) line
-    (λ test. goes_on (meaning_for given test) (ok_or given.file Form) line
-    (λ file. meaning_for-IsUsable given test file line))))
+    (λ word. goes_on (meaning_for given) (ok_or (test_named word) (Value option.Test)) line
+    (λ test. meaning_for-IsUsable given test line)))
     found
 
 -- an answer that meets it

@@ -1,15 +1,14 @@
 -- Worked command lines, at which the definitions compute.
-use Rattle.std.proofs.Common.{◌≡◌, ◌∷◌, [], Ok, Err, codes, refl}
+use Rattle.std.proofs.Common.{◌≡◌, ◌∷◌, [], Ok, Err, codes, negsuc, pos, refl, true}
 use Rattle.number_text.specs.ListTexts.{list_of}
 use Rattle.record_reader.specs.declared.picks.Picks.TheVariants.{Listed}
 use Rattle.settings.specs.Meaning.{meaning_of}
-use Rattle.settings.specs.Options.{settings_without_options, tail_option, with_option}
-use Rattle.settings.specs.declared.command_line.CommandLine.TheVariants.{Help, Test}
+use Rattle.settings.specs.Options.{settings_without_options}
+use Rattle.settings.specs.declared.command_line.CommandLine.TheVariants.{Help, Test, Drill}
 use Rattle.settings.specs.declared.names.OptionName.TheVariants as option
 use Rattle.settings.specs.declared.names.TestName.TheVariants as test
 use Rattle.settings.specs.declared.names.UsageFault.TheVariants.{Form, Value, Pairing}
 use Rattle.settings.specs.declared.tails.TailChoice.TheVariants.{Less}
-use Rattle.std.specs.Prelude.{Some}
 
 help_alone : meaning_of (codes "--help" ∷ []) ≡ Ok Help
 help_alone = refl
@@ -45,8 +44,36 @@ test_before_file = refl
 tail_before_separator : meaning_of (codes "ranksum" ∷ codes "f" ∷ codes "--separator=" ∷ codes "--tail=" ∷ []) ≡ Err (Value option.Tail)
 tail_before_separator = refl
 
-value_before_pairing : with_option tail_option (Some (codes "up")) (settings_without_options test.Kw (codes "f")) ≡ Err (Value option.Tail)
+value_before_pairing : meaning_of (codes "friedman" ∷ codes "f" ∷ codes "--tail=up" ∷ []) ≡ Err (Value option.Tail)
 value_before_pairing = refl
 
-no_such_tail : with_option tail_option (Some (codes "less")) (settings_without_options test.Kw (codes "f")) ≡ Err (Pairing option.Tail test.Kw)
+no_such_tail : meaning_of (codes "friedman" ∷ codes "f" ∷ codes "--tail=less" ∷ []) ≡ Err (Pairing option.Tail test.Friedman)
 no_such_tail = refl
+
+option_of_another_test : meaning_of (codes "ranksum" ∷ codes "f" ∷ codes "--peak" ∷ codes "1" ∷ []) ≡ Err (Pairing option.Peak test.RankSum)
+option_of_another_test = refl
+
+no_peak : meaning_of (codes "umbrella" ∷ codes "f" ∷ []) ≡ Err Form
+no_peak = refl
+
+plain_with_nodes : meaning_of (codes "ranksum" ∷ codes "f" ∷ codes "--plain" ∷ codes "--nodes" ∷ []) ≡ Err Form
+plain_with_nodes = refl
+
+flag_with_value : meaning_of (codes "ranksum" ∷ codes "f" ∷ codes "--nodes=" ∷ []) ≡ Err Form
+flag_with_value = refl
+
+flags : meaning_of (codes "sign" ∷ codes "--nodes" ∷ codes "f" ∷ codes "--distribution" ∷ [])
+    ≡ Ok (Test (record (settings_without_options test.Sign (codes "f")) { distribution = true; nodes = true }))
+flags = refl
+
+lists_of_scores : meaning_of (codes "linear" ∷ codes "f" ∷ codes "--row-scores=-1, +1" ∷ codes "--column-scores" ∷ codes "0,1,3" ∷ [])
+    ≡ Ok (Test (record (settings_without_options test.Linear (codes "f")) { row_scores = negsuc 0 ∷ pos 1 ∷ []; column_scores = pos 0 ∷ pos 1 ∷ pos 3 ∷ [] }))
+unfolding list_of
+lists_of_scores = refl
+
+made_data : meaning_of (codes "drill" ∷ codes "--number=-0" ∷ []) ≡ Ok (Drill 0)
+unfolding list_of
+made_data = refl
+
+made_data_of_a_file : meaning_of (codes "drill" ∷ codes "f" ∷ codes "--number=1" ∷ []) ≡ Err Form
+made_data_of_a_file = refl

@@ -1,35 +1,60 @@
 -- What the words of the command line mean, or the first fault of their use.
-use Rattle.std.specs.Prelude.{ℕ, Bool, false, List, [], ◌∷◌, Result, Ok, codes, if◌then◌else◌}
+use Rattle.std.specs.Prelude.{ℕ, Bool, true, false, not, ◌&&◌, List, [], ◌∷◌, Result, Ok, Err, codes, is_some, unwrap_or, if◌then◌else◌}
+use Rattle.std.specs.List.{list_all}
 use Rattle.std.specs.Option.{ok_or}
 use Rattle.std.specs.Str.{bytes_eq}
-use Rattle.record_reader.specs.Layouts.{and_then}
-use Rattle.settings.specs.Options.{listed_options, settings_without_options, with_options}
-use Rattle.settings.specs.Tests.{test_named}
+use Rattle.record_reader.specs.Layouts.{and_then, with_value}
+use Rattle.settings.specs.Options.{listed_names, settings_without_options, with_options}
+use Rattle.settings.specs.Tests.{needs, reads_file, test_named}
 use Rattle.settings.specs.Words.{Given, none_given, value_in, with_words}
 use Rattle.settings.specs.declared.command_line.CommandLine.{CommandLine}
-use Rattle.settings.specs.declared.command_line.CommandLine.TheVariants.{Help, Test}
+use Rattle.settings.specs.declared.command_line.CommandLine.TheVariants.{Help, Test, Drill}
+use Rattle.settings.specs.declared.names.OptionName.{OptionName}
 use Rattle.settings.specs.declared.names.OptionName.TheVariants as option
 use Rattle.settings.specs.declared.names.TestName.{TestName}
 use Rattle.settings.specs.declared.names.UsageFault.{UsageFault}
 use Rattle.settings.specs.declared.names.UsageFault.TheVariants.{Form, Value}
+use Rattle.settings.specs.declared.settings.Settings.{Settings}
 
 -- the one word `--help`
 abbrev pub is_help : List (List ℕ) → Bool
 is_help (word ∷ []) = bytes_eq word (codes "--help")
 is_help words = false
 
--- the settings of a test and a file, with the options that are given
-abbrev pub meaning_for : Given → TestName → List ℕ → Result CommandLine UsageFault
-meaning_for given test file =
-    and_then (λ settings. Ok (Test settings))
-    (with_options listed_options (value_in given.uses) (settings_without_options test file))
+abbrev pub is_given : Given → OptionName → Bool
+is_given given name = is_some (value_in given.uses name)
 
--- the test is listed, and its file is there
+-- the option is there, where the test cannot do without it
+abbrev pub has_needed : TestName → Given → OptionName → Bool
+has_needed test given name = if needs test name then is_given given name else true
+
+-- FILE is there exactly where the test reads a file, the options are there that the test cannot do
+-- without, and open keys are not asked for where all rearrangements are to be listed
+abbrev pub is_complete : TestName → Given → Bool
+is_complete test given =
+    (if reads_file test then is_some given.file else not (is_some given.file))
+    && (list_all (has_needed test given) listed_names
+    && not (is_given given option.Plain && is_given given option.Nodes))
+
+-- the settings of a test, with the options that are given
+abbrev pub settings_of : Given → TestName → Result Settings UsageFault
+settings_of given test =
+    with_options listed_names (value_in given.uses)
+    (settings_without_options test (unwrap_or given.file []))
+
+-- the command that settings stand for: a test of the data of a file, or of made data
+abbrev pub command_of : Settings → CommandLine
+command_of settings =
+    if reads_file settings.test then Test settings else Drill settings.number
+
+abbrev pub meaning_for : Given → TestName → Result CommandLine UsageFault
+meaning_for given test =
+    if is_complete test given then with_value command_of (settings_of given test) else Err Form
+
+-- the test is listed
 abbrev pub meaning_of_test : Given → List ℕ → Result CommandLine UsageFault
 meaning_of_test given word =
-    and_then
-    (λ test. and_then (meaning_for given test) (ok_or given.file Form))
-    (ok_or (test_named word) (Value option.Test))
+    and_then (meaning_for given) (ok_or (test_named word) (Value option.Test))
 
 -- the test is there
 abbrev pub meaning_of_given : Given → Result CommandLine UsageFault

@@ -1,5 +1,7 @@
--- The words that name tests and options.
-use Rattle.std.specs.Prelude.{ℕ, List, codes}
+-- The words that name tests, options and kinds of scores.
+use Rattle.std.specs.Prelude.{ℕ, Bool, true, false, List, codes}
+use Rattle.scores.specs.declared.kinds.ScoreKind.{ScoreKind}
+use Rattle.scores.specs.declared.kinds.ScoreKind.TheVariants as scores
 use Rattle.settings.specs.declared.names.OptionName.{OptionName}
 use Rattle.settings.specs.declared.names.OptionName.TheVariants.{Test, Tail, Scores, Order, Peak, RowScores, ColumnScores, Columns, Separator, Number, Distribution, Plain, Nodes}
 use Rattle.settings.specs.declared.names.TestName.{TestName}
@@ -43,3 +45,19 @@ option_word Number = codes "number"
 option_word Distribution = codes "distribution"
 option_word Plain = codes "plain"
 option_word Nodes = codes "nodes"
+
+-- flags are options without a value
+abbrev pub is_flag : OptionName → Bool
+is_flag Distribution = true
+is_flag Plain = true
+is_flag Nodes = true
+is_flag _ = false
+
+-- the bytes of the word that names a kind of scores
+abbrev pub score_word : ScoreKind → List ℕ
+score_word scores.Wilcoxon = codes "wilcoxon"
+score_word scores.Ansari = codes "ansari"
+score_word scores.Mood = codes "mood"
+score_word scores.Savage = codes "savage"
+score_word scores.Median = codes "median"
+score_word scores.Raw = codes "raw"

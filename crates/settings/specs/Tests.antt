@@ -1,16 +1,32 @@
 -- What is known of each test by its name.
-use Rattle.std.specs.Prelude.{ℕ, Bool, true, false, not, List, [], ◌∷◌, Option}
-use Rattle.std.specs.List.{find}
+use Rattle.std.specs.Prelude.{ℕ, Bool, true, false, not, List, [], ◌∷◌, ◌++◌, Option}
+use Rattle.std.specs.List.{find, flat_map}
 use Rattle.std.specs.Str.{bytes_eq}
+use Rattle.record_reader.specs.declared.layouts.Shape.{Shape}
+use Rattle.sample_reader.specs.CellLayouts.{block_shape, pair_shape}
+use Rattle.sample_reader.specs.GroupLayout.{group_shape}
+use Rattle.table_reader.specs.StrataLayout.{strata_shape}
+use Rattle.table_reader.specs.TableLayout.{any_table_shape, two_by_two_shape}
 use Rattle.settings.specs.Names.{test_word}
+use Rattle.settings.specs.declared.names.OptionName.{OptionName}
+use Rattle.settings.specs.declared.names.OptionName.TheVariants as option
 use Rattle.settings.specs.declared.names.TestName.{TestName}
-use Rattle.settings.specs.declared.names.TestName.TheVariants.{RankSum, Ansari, Mood, Savage, Median, Raw, Kw, Jt, Umbrella, Friedman, Cochran, Drill}
+use Rattle.settings.specs.declared.names.TestName.TheVariants.{SignedRank, Sign, RawSigned, Mcnemar, RankSum, Ansari, Mood, Savage, Median, Raw, Kw, Jt, Umbrella, Friedman, Page, Cochran, Fisher, Linear, Strata, Drill}
 use Rattle.settings.specs.declared.tails.TailChoice.{TailChoice}
 use Rattle.settings.specs.declared.tails.TailChoice.TheVariants.{Less, Two}
 
+-- the tests of data of a file, by rows of the help text
+abbrev pub test_rows : List (List TestName)
+test_rows =
+    (SignedRank ∷ Sign ∷ RawSigned ∷ Mcnemar ∷ [])
+    ∷ (RankSum ∷ Ansari ∷ Mood ∷ Savage ∷ Median ∷ Raw ∷ [])
+    ∷ (Jt ∷ Umbrella ∷ Friedman ∷ Page ∷ Cochran ∷ [])
+    ∷ (Fisher ∷ Linear ∷ Strata ∷ [])
+    ∷ []
+
 -- the tests that can be asked for
 abbrev pub listed_tests : List TestName
-listed_tests = RankSum ∷ Ansari ∷ Mood ∷ Savage ∷ Median ∷ Raw ∷ []
+listed_tests = flat_map (λ row. row) test_rows ++ Drill ∷ []
 
 -- the test that a word names
 abbrev pub test_named : List ℕ → Option TestName
@@ -20,6 +36,20 @@ test_named word = find (λ test. bytes_eq (test_word test) word) listed_tests
 abbrev pub reads_file : TestName → Bool
 reads_file Drill = false
 reads_file _ = true
+
+-- the shape of the file's layout: how many fields of a row are read
+abbrev pub shape_of : TestName → Shape
+shape_of SignedRank = pair_shape
+shape_of Sign = pair_shape
+shape_of RawSigned = pair_shape
+shape_of Mcnemar = two_by_two_shape
+shape_of Friedman = block_shape
+shape_of Page = block_shape
+shape_of Cochran = block_shape
+shape_of Fisher = any_table_shape
+shape_of Linear = any_table_shape
+shape_of Strata = strata_shape
+shape_of _ = group_shape
 
 -- the statistic depends on the order of the groups
 abbrev pub orders_groups : TestName → Bool
@@ -45,3 +75,9 @@ abbrev pub has_tail : TestName → TailChoice → Bool
 has_tail test Less = not (has_greater_alone test)
 has_tail test Two = not (has_greater_alone test)
 has_tail test _ = true
+
+-- the test cannot do without the option
+abbrev pub needs : TestName → OptionName → Bool
+needs Umbrella option.Peak = true
+needs Drill option.Number = true
+needs _ _ = false

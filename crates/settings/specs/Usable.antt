@@ -1,9 +1,14 @@
 -- What settings keep to, so that they can be used.
-use Rattle.std.specs.Prelude.{◌≡◌, ◌≢◌, ◌≤◌, ◌⊎◌, ⊤, ℕ, All, AllPairs, List, [], length}
+use Rattle.std.specs.Prelude.{◌≡◌, ◌≢◌, ◌≤◌, ◌⊎◌, ⊤, ℕ, ℤ, All, AllPairs, List, [], length}
+use Rattle.number_text.specs.ListTexts.{IsWithin}
 use Rattle.record_reader.specs.Layouts.{MayPick}
 use Rattle.record_reader.specs.Records.{IsSeparator}
+use Rattle.record_reader.specs.declared.layouts.Shape.{Shape}
+use Rattle.settings.specs.Tests.{shape_of}
+use Rattle.settings.specs.Values.{column_scores_form, row_scores_form}
 use Rattle.settings.specs.declared.command_line.CommandLine.{CommandLine}
-use Rattle.settings.specs.declared.command_line.CommandLine.TheVariants.{Test}
+use Rattle.settings.specs.declared.command_line.CommandLine.TheVariants.{Help, Test, Drill}
+use Rattle.settings.specs.declared.lists.ListForm.{ListForm}
 use Rattle.settings.specs.declared.settings.Settings.{Settings}
 
 -- 2 to 8 labels, none empty, no two equal
@@ -13,14 +18,27 @@ pub record AreLabels (labels : List (List ℕ)) : Type 0 where
   pub filled : All (λ label. label ≢ []) labels
   pub distinct : AllPairs ◌≢◌ labels
 
--- settings that can be used: no order of the groups or one, two fields to be read if they are
--- listed, and a separator
+-- each number is one that a list of this form may have
+abbrev pub AreWithin : ListForm → List ℤ → Type 0
+AreWithin form numbers = All (IsWithin form.low form.high) numbers
+
+-- the number of made data
+abbrev pub IsDrillNumber : ℕ → Type 0
+IsDrillNumber number = number ≤ 2147483647
+
+-- Settings that can be used: no order of the groups or one, scores that are not too great, as many
+-- fields as the layout has where they are listed, and a separator.
 pub record AreUsable (settings : Settings) : Type 0 where
   pub order : (settings.order ≡ []) ⊎ AreLabels settings.order
-  pub picks : MayPick 2 2 settings.picks
+  pub row_scores : AreWithin row_scores_form settings.row_scores
+  pub column_scores : AreWithin column_scores_form settings.column_scores
+  pub picks :
+      let shape = shape_of settings.test in MayPick shape.narrowest shape.widest settings.picks
   pub separator : IsSeparator settings.separator
+  pub number : IsDrillNumber settings.number
 
 -- the settings of a command line can be used
 abbrev pub IsUsable : CommandLine → Type 0
+IsUsable Help = ⊤
 IsUsable (Test settings) = AreUsable settings
-IsUsable _ = ⊤
+IsUsable (Drill number) = IsDrillNumber number

@@ -1,23 +1,24 @@
--- What words give by their form alone: options with their values, and at most two positional words.
+-- What words give by their form alone: options with their values, flags, and at most two positional
+-- words.
 --
--- Options and positional words stand in any order. The value of an option follows an equals sign,
--- or is the next word. A word that begins with `-` is an option, but for `-` alone, which is like
--- any other word, and for `--`, after which all words are positional.
-use Rattle.std.specs.Prelude.{◌==◌, ℕ, Bool, false, not, ◌||◌, List, [], ◌∷◌, ◌++◌, Option, Some, None, Result, Ok, Err, codes, drop, if◌then◌else◌, is_some, map, take}
+-- All of these stand in any order. The value of an option follows an equals sign, or is the next
+-- word; a flag stands alone. A word that begins with `-` is an option or a flag, but for `-` alone,
+-- which is like any other word, and for `--`, after which all words are positional.
+use Rattle.std.specs.Prelude.{◌==◌, ℕ, Bool, false, not, ◌||◌, List, [], ◌∷◌, ◌++◌, Option, Some, None, Result, Ok, Err, codes, drop, if◌then◌else◌, is_some, take}
 use Rattle.std.specs.List.{after_first, before_first, find, list_any}
 use Rattle.std.specs.Option.{ok_or}
 use Rattle.std.specs.Str.{bytes_eq}
 use Rattle.record_reader.specs.Layouts.{and_then}
-use Rattle.settings.specs.Names.{option_word}
-use Rattle.settings.specs.Options.{listed_options}
+use Rattle.settings.specs.Names.{is_flag, option_word}
+use Rattle.settings.specs.Options.{listed_names}
 use Rattle.settings.specs.declared.names.OptionName.{OptionName}
 use Rattle.settings.specs.declared.names.UsageFault.{UsageFault}
 use Rattle.settings.specs.declared.names.UsageFault.TheVariants.{Form}
 use Rattle.settings.specs.declared.words.Next.{Next}
 use Rattle.settings.specs.declared.words.Next.TheVariants.{Any, ValueOf, Positional}
 
--- What the words give so far: the options with the texts of their values, the first and the second
--- positional word, and what the next word is.
+-- What the words give so far: the options with the texts of their values, which flags do not have,
+-- the first and the second positional word, and what the next word is.
 pub record Given : Type 0 where
   pub uses : List (OptionName × List ℕ)
   pub test : Option (List ℕ)
@@ -37,10 +38,6 @@ abbrev pub value_in : List (OptionName × List ℕ) → OptionName → Option (L
 value_in [] option = None
 value_in ((given, text) ∷ uses) option =
     if is_same given option then Some text else value_in uses option
-
--- the names of the options that may be given
-abbrev pub listed_names : List OptionName
-listed_names = map (λ option. option.name) listed_options
 
 -- the option that a text names, behind two dashes
 abbrev pub option_named : List ℕ → Option OptionName
@@ -78,14 +75,23 @@ with_positional word given =
     else if is_some given.test then Ok (record given { file = Some word })
     else Ok (record given { test = Some word })
 
--- an option with its value behind the first equals sign, or without it
+-- an option with its value behind an equals sign
+abbrev pub with_value : List ℕ → Given → OptionName → Result Given UsageFault
+with_value text given option = if is_flag option then Err Form else with_use text given option
+
+-- a flag, or an option whose value is the next word
+abbrev pub with_name : Given → OptionName → Result Given UsageFault
+with_name given option =
+    if is_flag option then with_use [] given option
+    else Ok (record given { next = ValueOf option })
+
+-- an option with its value behind the first equals sign, or what stands without it
 abbrev pub with_dashes : List ℕ → Given → Result Given UsageFault
 with_dashes word given =
     if list_any is_equals_sign word
-    then and_then (with_use (after_first is_equals_sign word) given)
+    then and_then (with_value (after_first is_equals_sign word) given)
     (ok_or (option_named (before_first is_equals_sign word)) Form)
-    else and_then (λ option. Ok (record given { next = ValueOf option }))
-    (ok_or (option_named word) Form)
+    else and_then (with_name given) (ok_or (option_named word) Form)
 
 abbrev pub with_any : List ℕ → Given → Result Given UsageFault
 with_any word given =

@@ -1,17 +1,18 @@
 // What the words of the command line mean.
-ghost use Rattle.std.specs.Prelude.{◌≡◌, true, IfOk, Ok, map, string_bytes};
+ghost use Rattle.std.specs.Prelude.{◌≡◌, true, IfOk, Ok, [], map, string_bytes, unwrap_or};
 ghost use Rattle.settings.specs.Faults.{Meets};
 ghost use Rattle.record_reader.specs.Layouts.{and_then};
 ghost use Rattle.settings.specs.Help.{help};
-ghost use Rattle.settings.specs.Meaning.{is_help, meaning_of, meaning_of_given};
-ghost use Rattle.settings.specs.Words.{none_given, value_in, with_words};
-ghost use Rattle.settings.specs.WordSteps.{IsSound, given_in, pair_of};
-ghost use Rattle.settings.specs.Options.{listed_options, with_options};
+ghost use Rattle.std.specs.List.{list_all};
+ghost use Rattle.settings.specs.Meaning.{command_of, has_needed, is_complete, is_help, meaning_of, meaning_of_given, settings_of};
+ghost use Rattle.settings.specs.Words.{none_given, with_words};
+ghost use Rattle.settings.specs.WordSteps.{IsSound, given_in};
+ghost use Rattle.settings.specs.Options.{listed_names, with_options};
 ghost use Rattle.settings.specs.Usable.{IsUsable};
 ghost use Rattle.settings.specs.ClapLine.{value_found};
 
 use crate::clap_line::{clap_line, matches_in};
-use crate::names::{OptionName, TestName, UsageFault};
+use crate::names::{OPTIONS, OptionName, TestName, UsageFault};
 use crate::settings::{FileName, Settings};
 use crate::words::{WordsSoFar, words_given};
 use clap::ArgMatches;
@@ -24,7 +25,7 @@ pub enum CommandLine {
     Help,
     /// A test of the data of a file.
     Test(Settings),
-    /// The rank sum test of made data, by their number; no words ask for it yet.
+    /// The rank sum test of made data, by their number, which is at most 2,147,483,647.
     Drill(u64),
 }
 
@@ -34,26 +35,33 @@ pub fn help_text() -> &'static str
 {
     concat!(
         "usage: exact TEST FILE [options]\n",
-        "tests: ranksum ansari mood savage median raw\n",
+        "       exact drill --number K\n",
+        "tests: signedrank sign rawsigned mcnemar\n",
+        "       ranksum ansari mood savage median raw\n",
+        "       jt umbrella friedman page cochran\n",
+        "       fisher linear strata\n",
         "options: --tail all|less|greater|two\n",
-        "         --order LABELS\n",
+        "         --order LABELS --peak P\n",
+        "         --row-scores LIST --column-scores LIST\n",
         "         --columns LIST --separator comma|semicolon|tab\n",
+        "         --distribution --plain --nodes\n",
     )
 }
 
-/// Reads the words after the program's name: TEST, FILE and options in any order, or `--help`
-/// alone, for which it takes no memory.
+/// Reads the words after the program's name: TEST, FILE, options and flags in any order, or
+/// `--help` alone, for which it takes no memory.
 ///
 /// The value of an option is the next word, or follows an equals sign. A value that begins with `-`
-/// needs the sign, unless it is `-` alone. After the word `--` all words are positional. No option
-/// is abbreviated or given twice, and there are two positional words at most.
+/// needs the sign, unless it is `-` alone. A flag has no value. After the word `--` all words are
+/// positional. No option is abbreviated or given twice, and there are two positional words at most.
 ///
 /// # Errors
 /// The first of these faults. `Form` where the words do not have this form, or TEST is missing;
-/// `Value(OptionName::Test)` where TEST names none of the tests; `Form` where FILE is missing; and
-/// then for each option, in the order of the help text, `Pairing` where the test does not take it,
-/// `Value` where its value is not of its form, and for `--tail` `Pairing` where the test never has
-/// the tail. Or else `NoMemory` where memory runs out.
+/// `Value(OptionName::Test)` where TEST names none of the tests; `Form` where FILE is missing, or
+/// is there with `drill`, where an option is missing that the test cannot do without, and where both
+/// `--plain` and `--nodes` are there; and then for each option, in the order of the help text,
+/// `Pairing` where the test does not take it, `Value` where its value is not of its form, and for
+/// `--tail` `Pairing` where the test never has the tail. Or else `NoMemory` where memory runs out.
 pub fn read(alloc: Global, words: &[String]) -> Result<CommandLine, UsageFault>
     ensures meaning { Meets (meaning_of (map string_bytes words.now)) result }
     ensures help { is_help (map string_bytes words.now) ≡ true → result ≡ Ok CommandLine.Help }
@@ -73,9 +81,11 @@ fn read_given(alloc: Global, words: &[String]) -> Result<CommandLine, UsageFault
     let given = words_given(alloc, words)?;
     let word = given.test.ok_or(UsageFault::Form)?;
     let test = TestName::named(word).ok_or(UsageFault::Value(OptionName::Test))?;
-    let file = given.file.ok_or(UsageFault::Form)?;
-    let settings = Settings::without_options(alloc, test, FileName::copy_of(alloc, file)?);
-    Ok(CommandLine::Test(with_given(alloc, settings, &given, word, file)?))
+    if !given.is_complete(test) {
+        return Err(UsageFault::Form);
+    }
+    let settings = settings_of(alloc, &given, test, word)?;
+    Ok(command_of(settings))
 }
 
 // Whether the words are `--help` alone.
@@ -88,34 +98,82 @@ fn is_help(words: &[String]) -> bool
     }
 }
 
-// The settings with the options that are given, read by `clap`.
-fn with_given(
-    alloc: Global,
-    settings: Settings,
-    given: &WordsSoFar<'_>,
-    test: &str,
-    file: &str,
-) -> Result<Settings, UsageFault>
-    requires { IsSound (given_in given.now) }
-    ensures { Meets (with_options listed_options (value_in (map pair_of given.now.uses.items))
-        settings) result }
-{
-    let line = clap_line(alloc, &given.uses, test, file)?;
-    let matches = matches_in(alloc, &line)?;
-    with_matches(alloc, settings, &matches)
+impl<'a> WordsSoFar<'a> {
+    // The word FILE, which is empty where it is not given.
+    fn file_or_empty(&self) -> &'a str
+        ensures { result.now ≡ unwrap_or (given_in self.now).file [] }
+    {
+        match self.file {
+            Some(file) => file,
+            None => "",
+        }
+    }
+
+    // Whether the test can be asked for with what is given and what is not.
+    fn is_complete(&self, test: TestName) -> bool
+        ensures { result ≡ is_complete test (given_in self.now) }
+    {
+        let file_fits = if test.reads_file() {
+            self.file.is_some()
+        } else {
+            self.file.is_none()
+        };
+        file_fits
+            && self.has_needed(test)
+            && !(self.has(OptionName::Plain) && self.has(OptionName::Nodes))
+    }
+
+    // Whether the options are there that the test cannot do without.
+    fn has_needed(&self, test: TestName) -> bool
+        ensures { result ≡ list_all (has_needed test (given_in self.now)) listed_names }
+    {
+        OPTIONS
+            .iter()
+            .all(|option| !test.needs(*option) || self.has(*option))
+    }
 }
 
-// The settings with the options that are found.
+// The settings of a test with the options that are given, read by `clap`.
+fn settings_of(
+    alloc: Global,
+    given: &WordsSoFar<'_>,
+    test: TestName,
+    word: &str,
+) -> Result<Settings, UsageFault>
+    requires { IsSound (given_in given.now) }
+    ensures { Meets (settings_of (given_in given.now) test) result }
+{
+    let file = given.file_or_empty();
+    let name = FileName::copy_of(alloc, file)?;
+    let settings = Settings::without_options(alloc, test, name);
+    let line = clap_line(alloc, &given.uses, word, file)?;
+    let matches = matches_in(alloc, &line)?;
+    with_matches(alloc, &OPTIONS, settings, &matches)
+}
+
+// The settings with those of the options that are found.
 fn with_matches(
     alloc: Global,
+    options: &[OptionName],
     settings: Settings,
     matches: &ArgMatches<'_>,
 ) -> Result<Settings, UsageFault>
-    ensures { Meets (with_options listed_options (value_found matches.now) settings) result }
+    ensures { Meets (with_options options.now (value_found matches.now) settings) result }
 {
-    settings
-        .with_tail(matches.get_str(OptionName::Tail.word()))?
-        .with_order(alloc, matches.get_str(OptionName::Order.word()))?
-        .with_columns(alloc, matches.get_str(OptionName::Columns.word()))?
-        .with_separator(matches.get_str(OptionName::Separator.word()))
+    let mut settings = settings;
+    for option in options {
+        settings = settings.with_option(alloc, *option, matches.get_str(option.word()))?;
+    }
+    Ok(settings)
+}
+
+// The command that settings stand for.
+fn command_of(settings: Settings) -> CommandLine
+    ensures { result ≡ command_of settings }
+{
+    if settings.test.reads_file() {
+        CommandLine::Test(settings)
+    } else {
+        CommandLine::Drill(settings.number)
+    }
 }

@@ -3,6 +3,7 @@
 
 mod clap_line;
 mod command_line;
+mod lists;
 mod names;
 mod settings;
 mod tails;
@@ -15,3 +16,4 @@ pub use command_line::{CommandLine, help_text, read};
 pub use names::{OptionName, TestName, UsageFault};
 pub use settings::{FileName, Nums64, Settings};
 pub use tails::TailChoice;
+pub use values::score_word;

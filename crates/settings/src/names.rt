@@ -1,8 +1,11 @@
 // The names of tests and options, and what is wrong with words.
 ghost use Rattle.std.specs.Prelude.{◌≡◌};
-ghost use Rattle.settings.specs.Names.{option_word, test_word};
-ghost use Rattle.settings.specs.Tests.{has_greater_alone, has_tail, orders_groups, reads_file, test_named};
+ghost use Rattle.settings.specs.Names.{is_flag, option_word, test_word};
+ghost use Rattle.settings.specs.Options.{form_of};
+ghost use Rattle.settings.specs.Tests.{has_greater_alone, has_tail, needs, orders_groups, reads_file, shape_of, test_named};
+ghost use Rattle.settings.specs.Values.{fields_form};
 
+use crate::lists::ListForm;
 use crate::tails::TailChoice;
 use std::alloc::AllocFailed;
 use thiserror::Error;
@@ -108,21 +111,41 @@ pub enum UsageFault {
 }
 
 // The tests that can be asked for.
-const TESTS: [TestName; 6] = [
+const TESTS: [TestName; 19] = [
+    TestName::SignedRank,
+    TestName::Sign,
+    TestName::RawSigned,
+    TestName::Mcnemar,
     TestName::RankSum,
     TestName::Ansari,
     TestName::Mood,
     TestName::Savage,
     TestName::Median,
     TestName::Raw,
+    TestName::Jt,
+    TestName::Umbrella,
+    TestName::Friedman,
+    TestName::Page,
+    TestName::Cochran,
+    TestName::Fisher,
+    TestName::Linear,
+    TestName::Strata,
+    TestName::Drill,
 ];
 
-// The options that can be given.
-pub(crate) const OPTIONS: [OptionName; 4] = [
+// The options and flags that can be given, in the order in which their faults are told.
+pub(crate) const OPTIONS: [OptionName; 11] = [
     OptionName::Tail,
     OptionName::Order,
+    OptionName::Peak,
+    OptionName::RowScores,
+    OptionName::ColumnScores,
     OptionName::Columns,
     OptionName::Separator,
+    OptionName::Number,
+    OptionName::Distribution,
+    OptionName::Plain,
+    OptionName::Nodes,
 ];
 
 impl TestName {
@@ -185,6 +208,51 @@ impl TestName {
         )
     }
 
+    // Whether it takes the option.
+    pub(crate) fn takes(self, option: OptionName) -> bool
+        ensures { result ≡ (form_of option).goes_with self }
+    {
+        match option {
+            OptionName::Test => false,
+            OptionName::Scores => matches!(self, TestName::Kw),
+            OptionName::Order => self.orders_groups(),
+            OptionName::Peak => matches!(self, TestName::Umbrella),
+            OptionName::RowScores | OptionName::ColumnScores => matches!(self, TestName::Linear),
+            OptionName::Number => matches!(self, TestName::Drill),
+            _ => self.reads_file(),
+        }
+    }
+
+    // Whether it cannot do without the option.
+    pub(crate) fn needs(self, option: OptionName) -> bool
+        ensures { result ≡ needs self option }
+    {
+        match self {
+            TestName::Umbrella => matches!(option, OptionName::Peak),
+            TestName::Drill => matches!(option, OptionName::Number),
+            _ => false,
+        }
+    }
+
+    // The form of a list of fields of its layout.
+    pub(crate) fn fields(self) -> ListForm
+        ensures { result ≡ fields_form (shape_of self) }
+    {
+        let (fewest, most) = match self {
+            TestName::SignedRank | TestName::Sign | TestName::RawSigned => (1, 2),
+            TestName::Friedman | TestName::Page | TestName::Cochran => (2, 8),
+            TestName::Fisher | TestName::Linear => (2, 64),
+            TestName::Strata => (5, 5),
+            _ => (2, 2),
+        };
+        ListForm {
+            low: 1,
+            high: 1000,
+            fewest,
+            most,
+        }
+    }
+
     // Whether great values of its statistic alone are extreme.
     fn has_greater_alone(self) -> bool
         ensures { result ≡ has_greater_alone self }
@@ -227,6 +295,16 @@ impl OptionName {
             OptionName::Plain => "plain",
             OptionName::Nodes => "nodes",
         }
+    }
+
+    // Whether it is a flag: an option without a value.
+    pub(crate) fn is_flag(self) -> bool
+        ensures { result ≡ is_flag self }
+    {
+        matches!(
+            self,
+            OptionName::Distribution | OptionName::Plain | OptionName::Nodes
+        )
     }
 }
 

@@ -1,18 +1,21 @@
 // What a run is asked for.
 ghost use Rattle.std.specs.Prelude.{◌≡◌, IfOk, Ok, Err, if◌then◌else◌};
+ghost use Rattle.std.specs.Option.{ok_or};
 ghost use Rattle.settings.specs.Faults.{Meets};
-ghost use Rattle.settings.specs.Options.{columns_option, order_option, separator_option, settings_without_options, tail_option, with_option};
+ghost use Rattle.settings.specs.Options.{form_of, settings_without_options, suited, with_option};
+ghost use Rattle.settings.specs.Values.{column_scores_form, number_form, peak_form, row_scores_form};
 ghost use Rattle.settings.specs.WordSteps.{text_of};
 
+use crate::lists::{ListForm, columns_in, number_of, numbers_of};
 use crate::names::{OptionName, TestName, UsageFault};
 use crate::tails::TailChoice;
-use crate::values::{columns_of, order_of, separator_of};
+use crate::values::{order_of, scores_of, separator_of};
 use record_reader::Picks;
 use sample_reader::Labels;
 use scores::ScoreKind;
 use std::alloc::Global;
 use std::marker::Model;
-use weights::{List, NoMemory, Nums};
+use weights::{List, NoMemory};
 
 /// A list of signed numbers of 64 bits.
 pub type Nums64 = List<i64>;
@@ -73,6 +76,8 @@ pub struct Settings {
     pub picks: Picks,
     /// The byte between two fields: a comma by default, a semicolon or a tab.
     pub separator: u8,
+    /// The number of made data, where the test is of such data; else 0.
+    pub number: u64,
     /// Whether the distribution is asked for.
     pub distribution: bool,
     /// Whether all rearrangements are to be listed.
@@ -81,16 +86,35 @@ pub struct Settings {
     pub nodes: bool,
 }
 
-// An option that is given goes with the test.
-fn check_pairing(option: OptionName, test: TestName, goes: bool) -> Result<(), UsageFault>
-    ensures { result ≡ (if goes then Ok tt else Err (UsageFault.Pairing option test)) }
-{
-    if goes {
-        Ok(())
-    } else {
-        Err(UsageFault::Pairing(option, test))
-    }
-}
+// The number of a group.
+const PEAK: ListForm = ListForm {
+    low: 1,
+    high: 8,
+    fewest: 1,
+    most: 1,
+};
+
+// The scores of the rows of a table.
+const ROW_SCORES: ListForm = ListForm {
+    low: -1_000_000_000,
+    high: 1_000_000_000,
+    fewest: 2,
+    most: 8,
+};
+
+// The scores of its columns.
+const COLUMN_SCORES: ListForm = ListForm {
+    most: 64,
+    ..ROW_SCORES
+};
+
+// The number of made data.
+const NUMBER: ListForm = ListForm {
+    low: 0,
+    high: 2_147_483_647,
+    fewest: 1,
+    most: 1,
+};
 
 impl Settings {
     // The settings where no option is given.
@@ -108,69 +132,80 @@ impl Settings {
             column_scores: Nums64::empty(alloc),
             picks: Picks::Natural,
             separator: b',',
+            number: 0,
             distribution: false,
             plain: false,
             nodes: false,
         }
     }
 
-    // With the value of `--tail`, where it is given.
-    pub(crate) fn with_tail(mut self, value: Option<&str>) -> Result<Settings, UsageFault>
-        ensures { Meets (with_option tail_option (text_of value.entry) self) result }
-    {
-        let Some(text) = value else {
-            return Ok(self);
-        };
-        check_pairing(OptionName::Tail, self.test, self.test.reads_file())?;
-        self.tail = TailChoice::named(text).ok_or(UsageFault::Value(OptionName::Tail))?;
-        check_pairing(OptionName::Tail, self.test, self.test.has_tail(self.tail))?;
-        Ok(self)
-    }
-
-    // With the value of `--order`, where it is given.
-    pub(crate) fn with_order(
-        mut self,
+    // With the value of an option, where it is given.
+    pub(crate) fn with_option(
+        self,
         alloc: Global,
+        name: OptionName,
         value: Option<&str>,
     ) -> Result<Settings, UsageFault>
-        ensures { Meets (with_option order_option (text_of value.entry) self) result }
+        ensures { Meets (with_option name (text_of value.entry) self) result }
     {
         let Some(text) = value else {
             return Ok(self);
         };
-        check_pairing(OptionName::Order, self.test, self.test.orders_groups())?;
-        self.order = order_of(alloc, text)?;
-        Ok(self)
+        if !self.test.takes(name) {
+            return Err(UsageFault::Pairing(name, self.test));
+        }
+        let settings = self.with_text(alloc, name, text)?;
+        settings.suited(name)
     }
 
-    // With the value of `--columns`, where it is given.
-    pub(crate) fn with_columns(
+    // Where the test goes with the value of the option too.
+    fn suited(self, name: OptionName) -> Result<Settings, UsageFault>
+        ensures { result ≡ suited name self }
+    {
+        let suits = match name {
+            OptionName::Tail => self.test.has_tail(self.tail),
+            _ => true,
+        };
+        if suits {
+            Ok(self)
+        } else {
+            Err(UsageFault::Pairing(name, self.test))
+        }
+    }
+
+    // With the value of this text.
+    fn with_text(
         mut self,
         alloc: Global,
-        value: Option<&str>,
+        name: OptionName,
+        text: &str,
     ) -> Result<Settings, UsageFault>
-        ensures { Meets (with_option columns_option (text_of value.entry) self) result }
+        ensures { let more = (form_of name).set text.now self in
+            Meets (ok_or more (UsageFault.Value name)) result }
     {
-        let Some(text) = value else {
-            return Ok(self);
-        };
-        check_pairing(OptionName::Columns, self.test, self.test.reads_file())?;
-        let columns = columns_of(text).ok_or(UsageFault::Value(OptionName::Columns))?;
-        let mut picks = Nums::empty(alloc);
-        picks.append(&columns)?;
-        self.picks = Picks::Listed(picks);
-        Ok(self)
-    }
-
-    // With the value of `--separator`, where it is given.
-    pub(crate) fn with_separator(mut self, value: Option<&str>) -> Result<Settings, UsageFault>
-        ensures { Meets (with_option separator_option (text_of value.entry) self) result }
-    {
-        let Some(text) = value else {
-            return Ok(self);
-        };
-        check_pairing(OptionName::Separator, self.test, self.test.reads_file())?;
-        self.separator = separator_of(text).ok_or(UsageFault::Value(OptionName::Separator))?;
+        let fault = UsageFault::Value(name);
+        match name {
+            OptionName::Test => return Err(fault),
+            OptionName::Tail => self.tail = TailChoice::named(text).ok_or(fault)?,
+            OptionName::Scores => self.scores = scores_of(text).ok_or(fault)?,
+            OptionName::Order => self.order = order_of(alloc, text)?,
+            OptionName::Peak => self.peak = number_of(name, PEAK, text)?,
+            OptionName::RowScores => {
+                self.row_scores = numbers_of(alloc, name, ROW_SCORES, text)?;
+            }
+            OptionName::ColumnScores => {
+                self.column_scores = numbers_of(alloc, name, COLUMN_SCORES, text)?;
+            }
+            OptionName::Columns => {
+                let fields = self.test.fields();
+                self.picks = Picks::Listed(columns_in(alloc, name, fields, text)?);
+            }
+            OptionName::Separator => self.separator = separator_of(text).ok_or(fault)?,
+            OptionName::Number => self.number = number_of(name, NUMBER, text)?,
+            OptionName::Distribution => self.distribution = true,
+            OptionName::Plain => self.plain = true,
+            OptionName::Nodes => self.nodes = true,
+        }
         Ok(self)
     }
 }

@@ -1,7 +1,9 @@
 // Worked command lines, with a bar between two words.
-use crate::settings::{FileName, Settings};
-use crate::{CommandLine, OptionName, TailChoice, TestName, UsageFault, read};
+use crate::settings::Settings;
+use crate::values::scores_of;
+use crate::{CommandLine, OptionName, TailChoice, TestName, UsageFault, help_text, read};
 use record_reader::Picks;
+use scores::ScoreKind;
 use std::alloc::{AllocError, Global};
 use std::test::Fail;
 
@@ -126,6 +128,116 @@ fn reads_orders(rt: HostRuntime) -> Result<(), Fail> {
 }
 
 #[test]
+fn reads_columns(rt: HostRuntime) -> Result<(), Fail> {
+    for (line, fields) in [
+        ("sign|f|--columns=3", [3].as_slice()),
+        ("sign|f|--columns= 2 , 1", &[2, 1]),
+        ("mcnemar|f|--columns=2,1", &[2, 1]),
+        (
+            "page|f|--columns=1,2,3,4,5,6,7,8",
+            &[1, 2, 3, 4, 5, 6, 7, 8],
+        ),
+        ("strata|f|--columns=5,4,3,2,1", &[5, 4, 3, 2, 1]),
+        (
+            "fisher|f|--columns=9,8,7,6,5,4,3,2,1",
+            &[9, 8, 7, 6, 5, 4, 3, 2, 1],
+        ),
+        ("jt|f|--columns", &[]),
+        ("sign|f|--columns=1,2,3", &[]),
+        ("mcnemar|f|--columns=1", &[]),
+        ("mcnemar|f|--columns=1,2,3", &[]),
+        ("page|f|--columns=1,2,3,4,5,6,7,8,9", &[]),
+        ("page|f|--columns=4", &[]),
+        ("strata|f|--columns=1,2,3,4", &[]),
+        ("fisher|f|--columns=1,2,3,2", &[]),
+        ("linear|f|--columns=0,1", &[]),
+    ] {
+        let found = settings_of(rt.alloc(), line);
+        let listed = match &found {
+            Some(settings) => picked(settings),
+            None => &[],
+        };
+        assert_eq!(rt; listed, fields, "at {line}");
+    }
+    Ok(())
+}
+
+#[test]
+fn reads_values(rt: HostRuntime) -> Result<(), Fail> {
+    for (word, kind) in [
+        ("wilcoxon", Some(ScoreKind::Wilcoxon)),
+        ("ansari", Some(ScoreKind::Ansari)),
+        ("mood", Some(ScoreKind::Mood)),
+        ("savage", Some(ScoreKind::Savage)),
+        ("median", Some(ScoreKind::Median)),
+        ("raw", Some(ScoreKind::Raw)),
+        ("Raw", None),
+        ("", None),
+    ] {
+        assert_eq!(rt; scores_of(word), kind, "at {word}");
+    }
+    for (line, peak) in [
+        ("umbrella|f|--peak=1", 1),
+        ("umbrella|--peak|+8|f", 8),
+        ("umbrella|f|--peak= 03 ", 3),
+    ] {
+        let settings = settings_of(rt.alloc(), line).ok_or(line)?;
+        assert_eq!(rt; settings.peak, peak, "at {line}");
+    }
+    for (line, rows, columns) in [
+        ("linear|f", [].as_slice(), [].as_slice()),
+        ("linear|f|--row-scores|+1,-0", &[1, 0], &[]),
+        (
+            "linear|f|--column-scores=-1000000000,1000000000,0",
+            &[],
+            &[-1_000_000_000, 1_000_000_000, 0],
+        ),
+        (
+            "linear|f|--row-scores=1,1,1,1,1,1,1,1|--column-scores=2, 3",
+            &[1, 1, 1, 1, 1, 1, 1, 1],
+            &[2, 3],
+        ),
+    ] {
+        let settings = settings_of(rt.alloc(), line).ok_or(line)?;
+        assert_eq!(rt; settings.row_scores.as_slice(), rows, "at {line}");
+        assert_eq!(rt; settings.column_scores.as_slice(), columns, "at {line}");
+    }
+    for (line, distribution, plain, nodes) in [
+        ("sign|f", false, false, false),
+        ("--distribution|sign|f", true, false, false),
+        ("sign|--plain|f|--distribution", true, true, false),
+        ("sign|f|--nodes", false, false, true),
+    ] {
+        let settings = settings_of(rt.alloc(), line).ok_or(line)?;
+        assert_eq!(rt; settings.distribution, distribution, "at {line}");
+        assert_eq!(rt; settings.plain, plain, "at {line}");
+        assert_eq!(rt; settings.nodes, nodes, "at {line}");
+    }
+    Ok(())
+}
+
+fn drilled(alloc: Global, line: &str) -> Option<u64> {
+    let words = words_of(alloc, line).ok()?;
+    match read(alloc, &words).ok()? {
+        CommandLine::Drill(number) => Some(number),
+        _ => None,
+    }
+}
+
+#[test]
+fn reads_drills(rt: HostRuntime) -> Result<(), Fail> {
+    for (line, number) in [
+        ("drill|--number|0", 0),
+        ("drill|--number=-0", 0),
+        ("--number= +007|drill", 7),
+        ("--number=2147483647|--|drill", 2_147_483_647),
+    ] {
+        assert_eq!(rt; drilled(rt.alloc(), line), Some(number), "at {line}");
+    }
+    Ok(())
+}
+
+#[test]
 fn refuses_other_words(rt: HostRuntime) -> Result<(), Fail> {
     let form = UsageFault::Form;
     let test = UsageFault::Value(OptionName::Test);
@@ -133,6 +245,9 @@ fn refuses_other_words(rt: HostRuntime) -> Result<(), Fail> {
     let order = UsageFault::Value(OptionName::Order);
     let columns = UsageFault::Value(OptionName::Columns);
     let separator = UsageFault::Value(OptionName::Separator);
+    let peak = UsageFault::Value(OptionName::Peak);
+    let rows = UsageFault::Value(OptionName::RowScores);
+    let number = UsageFault::Value(OptionName::Number);
     for (line, fault) in [
         ("ranksum", form),
         ("ranksum|f|g", form),
@@ -143,40 +258,68 @@ fn refuses_other_words(rt: HostRuntime) -> Result<(), Fail> {
         ("ranksum|f|-t", form),
         ("ranksum|f|--tai=less", form),
         ("ranksum|f|--=less", form),
-        ("ranksum|f|--peak=1", form),
-        ("ranksum|f|--nodes", form),
+        ("ranksum|f|--nodes=", form),
+        ("ranksum|f|--plain=1", form),
+        ("ranksum|f|--nodes|--nodes", form),
+        ("ranksum|f|--nodes|--plain", form),
         ("ranksum|f|--tail", form),
         ("ranksum|f|--order|-x,y", form),
+        ("linear|f|--row-scores|-1,1", form),
         ("ranksum|--tail|--|f", form),
         ("ranksum|f|--tail=less|--tail|less", form),
         ("kw|f|--tail=x|--tail=x", form),
+        ("ranksum|f|--scores=raw", form),
         ("--tail=less", form),
+        ("umbrella|f", form),
+        ("umbrella|--peak=1", form),
+        ("drill", form),
+        ("drill|f|--number=1", form),
+        ("drill|--tail=x", form),
         ("", test),
         ("kw|f", test),
-        ("drill", test),
+        ("spearman|f|--plain|--nodes", test),
         ("Ranksum|f", test),
         ("--|--help", test),
         ("ranksum|f|--tail=", tail),
         ("ranksum|f|--tail|", tail),
         ("ranksum|f|--tail|-", tail),
         ("ranksum|f|--tail= less", tail),
+        ("page|f|--tail=x", tail),
+        ("friedman|f|--tail=x", tail),
         ("ranksum|f|--order=", order),
         ("ranksum|f|--order=x", order),
         ("ranksum|f|--order=x, ,y", order),
         ("ranksum|f|--order=x,y, x", order),
         ("ranksum|f|--order=1,2,3,4,5,6,7,8,9", order),
+        ("umbrella|f|--peak=0", peak),
+        ("umbrella|f|--peak=9", peak),
+        ("umbrella|f|--peak=1,2", peak),
+        ("umbrella|f|--peak|", peak),
+        ("linear|f|--row-scores=1", rows),
+        ("linear|f|--row-scores=1,2,3,4,5,6,7,8,9", rows),
+        ("linear|f|--row-scores=1,1000000001", rows),
+        ("linear|f|--row-scores=-1000000001,1", rows),
+        ("linear|f|--row-scores=1,2.0", rows),
+        (
+            "linear|f|--column-scores=1",
+            UsageFault::Value(OptionName::ColumnScores),
+        ),
         ("ranksum|f|--columns=1", columns),
         ("ranksum|f|--columns=1,2,3", columns),
         ("ranksum|f|--columns=2,02", columns),
         ("ranksum|f|--columns=0,1", columns),
         ("ranksum|f|--columns=1,1001", columns),
         ("ranksum|f|--separator=;", separator),
+        ("drill|--number=-1", number),
+        ("drill|--number=2147483648", number),
+        ("drill|--number=", number),
         (
             "ranksum|f|--separator=x|--columns=1|--order=x|--tail=x",
             tail,
         ),
         ("ranksum|f|--separator=x|--columns=1|--order=x", order),
         ("ranksum|f|--separator=x|--columns=1", columns),
+        ("umbrella|f|--separator=x|--peak=x", peak),
     ] {
         assert_eq!(rt; fault_of(rt.alloc(), line), Some(fault), "at {line}");
     }
@@ -184,32 +327,66 @@ fn refuses_other_words(rt: HostRuntime) -> Result<(), Fail> {
     Ok(())
 }
 
-fn settings_for(alloc: Global, test: TestName) -> Option<Settings> {
-    let file = FileName::copy_of(alloc, "f").ok()?;
-    Some(Settings::without_options(alloc, test, file))
-}
-
 #[test]
 fn pairs_tests_with_options(rt: HostRuntime) -> Result<(), Fail> {
-    let pairing = UsageFault::Pairing(OptionName::Tail, TestName::Kw);
-    for (text, fault) in [
-        ("less", Some(pairing)),
-        ("two", Some(pairing)),
-        ("greater", None),
-        ("x", Some(UsageFault::Value(OptionName::Tail))),
+    for (line, option, test) in [
+        ("cochran|f|--tail=less", OptionName::Tail, TestName::Cochran),
+        (
+            "friedman|f|--tail=two",
+            OptionName::Tail,
+            TestName::Friedman,
+        ),
+        ("page|f|--order=x,y", OptionName::Order, TestName::Page),
+        ("sign|f|--order=", OptionName::Order, TestName::Sign),
+        ("jt|f|--peak=1", OptionName::Peak, TestName::Jt),
+        (
+            "fisher|f|--row-scores=1,2",
+            OptionName::RowScores,
+            TestName::Fisher,
+        ),
+        (
+            "strata|f|--column-scores=1,2",
+            OptionName::ColumnScores,
+            TestName::Strata,
+        ),
+        ("mood|f|--number=1", OptionName::Number, TestName::Mood),
+        (
+            "drill|--number=1|--tail=x",
+            OptionName::Tail,
+            TestName::Drill,
+        ),
+        (
+            "drill|--number=x|--columns=x",
+            OptionName::Columns,
+            TestName::Drill,
+        ),
+        (
+            "drill|--number=1|--separator=",
+            OptionName::Separator,
+            TestName::Drill,
+        ),
+        (
+            "drill|--number=1|--distribution",
+            OptionName::Distribution,
+            TestName::Drill,
+        ),
+        (
+            "drill|--number=1|--plain",
+            OptionName::Plain,
+            TestName::Drill,
+        ),
+        (
+            "drill|--number=1|--nodes",
+            OptionName::Nodes,
+            TestName::Drill,
+        ),
     ] {
-        let settings = settings_for(rt.alloc(), TestName::Kw).ok_or(text)?;
-        assert_eq!(rt; settings.with_tail(Some(text)).err(), fault, "at {text}");
+        let pairing = UsageFault::Pairing(option, test);
+        assert_eq!(rt; fault_of(rt.alloc(), line), Some(pairing), "at {line}");
     }
-    let drill = settings_for(rt.alloc(), TestName::Drill).ok_or("drill")?;
-    let pairing = UsageFault::Pairing(OptionName::Columns, TestName::Drill);
-    assert_eq!(rt;
-        drill.with_columns(rt.alloc(), Some("x")).err(),
-        Some(pairing)
-    );
-    let kw = settings_for(rt.alloc(), TestName::Kw).ok_or("kw")?;
-    let pairing = UsageFault::Pairing(OptionName::Order, TestName::Kw);
-    assert_eq!(rt; kw.with_order(rt.alloc(), Some("x,y")).err(), Some(pairing));
+    for line in ["friedman|f|--tail=greater", "cochran|f|--tail=all"] {
+        assert_eq!(rt; fault_of(rt.alloc(), line), None, "at {line}");
+    }
     Ok(())
 }
 
@@ -217,7 +394,11 @@ fn pairs_tests_with_options(rt: HostRuntime) -> Result<(), Fail> {
 fn asks_for_help(rt: HostRuntime) -> Result<(), Fail> {
     let words = words_of(rt.alloc(), "--help")?;
     match read(rt.alloc(), &words) {
-        Ok(CommandLine::Help) => Ok(()),
+        Ok(CommandLine::Help) => {}
         _ => panic!(rt; "no help"),
     }
+    for option in ["order", "peak", "number", "separator", "nodes", "plain"] {
+        assert!(rt; help_text().contains(option), "at {option}");
+    }
+    Ok(())
 }

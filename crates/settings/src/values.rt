@@ -3,12 +3,14 @@ ghost use Rattle.std.specs.Prelude.{◌≡◌, ◌<◌, ◌+◌, IfOk, drop, len
 ghost use Rattle.std.specs.List.{list_any};
 ghost use Rattle.std.specs.Option.{ok_or};
 ghost use Rattle.settings.specs.Faults.{Meets};
-ghost use Rattle.settings.specs.Values.{are_distinct, are_labels, columns_of, is_empty, labels_in, order_of, separator_of};
+ghost use Rattle.settings.specs.Names.{score_word};
+ghost use Rattle.settings.specs.Values.{are_distinct, are_labels, is_empty, labels_in, order_of, scores_of, separator_of};
 ghost use Rattle.settings.specs.declared.names.OptionName.TheVariants as option;
 
 use crate::names::{OptionName, UsageFault};
-use number_text::{read_list, trim};
+use number_text::trim;
 use sample_reader::Labels;
+use scores::ScoreKind;
 use std::alloc::Global;
 use weights::NoMemory;
 
@@ -24,17 +26,37 @@ pub(crate) fn separator_of(word: &str) -> Option<u8>
     }
 }
 
-// The two fields that a list picks.
-pub(crate) fn columns_of(text: &str) -> Option<[u64; 2]>
-    ensures { result ≡ columns_of text.now }
+const SCORE_KINDS: [ScoreKind; 6] = [
+    ScoreKind::Wilcoxon,
+    ScoreKind::Ansari,
+    ScoreKind::Mood,
+    ScoreKind::Savage,
+    ScoreKind::Median,
+    ScoreKind::Raw,
+];
+
+/// The word of the command line that names a kind of scores.
+pub fn score_word(kind: ScoreKind) -> &'static str
+    ensures { result.now ≡ score_word kind }
 {
-    let mut columns = [0; 2];
-    let count = read_list(text.as_bytes(), 1, 1000, &mut columns)?;
-    let [first, second] = columns;
-    if count != 2 || first == second {
-        return None;
+    match kind {
+        ScoreKind::Wilcoxon => "wilcoxon",
+        ScoreKind::Ansari => "ansari",
+        ScoreKind::Mood => "mood",
+        ScoreKind::Savage => "savage",
+        ScoreKind::Median => "median",
+        ScoreKind::Raw => "raw",
     }
-    Some([first as u64, second as u64])
+}
+
+// The kind of scores that a word names.
+pub(crate) fn scores_of(word: &str) -> Option<ScoreKind>
+    ensures { result ≡ scores_of word.now }
+{
+    SCORE_KINDS
+        .iter()
+        .find(|kind| score_word(**kind) == word)
+        .copied()
 }
 
 // The labels that a text lists.
@@ -78,7 +100,7 @@ fn has_empty(labels: &Labels) -> bool
 }
 
 fn are_distinct(labels: &Labels) -> bool
-    ensures { result ≡ are_distinct labels.now }
+    ensures { result ≡ are_distinct bytes_eq labels.now }
 {
     for number in 0..labels.len() {
         if stands_after(labels, number) {

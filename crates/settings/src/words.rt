@@ -2,7 +2,7 @@
 ghost use Rattle.std.specs.Prelude.{◌≡◌, IfOk, IsTrue, map, string_bytes, is_some, slice_range};
 ghost use Rattle.std.specs.List.{list_any};
 ghost use Rattle.settings.specs.Faults.{MeetsAs};
-ghost use Rattle.settings.specs.Words.{ended, is_plain, none_given, option_named, value_in, with_any, with_dashes, with_positional, with_use, with_word, with_words};
+ghost use Rattle.settings.specs.Words.{ended, is_plain, none_given, option_named, value_in, with_any, with_dashes, with_name, with_positional, with_use, with_value, with_word, with_words};
 ghost use Rattle.settings.specs.WordSteps.{IsSound, given_in, pair_of};
 
 use crate::names::{OPTIONS, OptionName, UsageFault};
@@ -19,7 +19,7 @@ pub(crate) enum Next {
     Positional,
 }
 
-// An option with the text of its value.
+// An option with the text of its value, which is empty for a flag.
 #[derive(Clone, Copy)]
 pub(crate) struct Use<'a> {
     pub option: OptionName,
@@ -123,19 +123,35 @@ impl<'a> WordsSoFar<'a> {
         Ok(self)
     }
 
-    fn with_dashes(mut self, word: &'a str) -> Result<WordsSoFar<'a>, UsageFault>
+    fn with_dashes(self, word: &'a str) -> Result<WordsSoFar<'a>, UsageFault>
         ensures { MeetsAs given_in (with_dashes word.entry.now (given_in self.entry)) result }
     {
         match word.split_once('=') {
             Some((name, text)) => {
                 let option = option_named(name).ok_or(UsageFault::Form)?;
-                self.with_use(option, text)
+                self.with_value(option, text)
             }
-            None => {
-                self.next = Next::ValueOf(option_named(word).ok_or(UsageFault::Form)?);
-                Ok(self)
-            }
+            None => self.with_name(option_named(word).ok_or(UsageFault::Form)?),
         }
+    }
+
+    fn with_value(self, option: OptionName, text: &'a str) -> Result<WordsSoFar<'a>, UsageFault>
+        ensures { MeetsAs given_in (with_value text.entry.now (given_in self.entry) option) result }
+    {
+        if option.is_flag() {
+            return Err(UsageFault::Form);
+        }
+        self.with_use(option, text)
+    }
+
+    fn with_name(mut self, option: OptionName) -> Result<WordsSoFar<'a>, UsageFault>
+        ensures { MeetsAs given_in (with_name (given_in self.entry) option) result }
+    {
+        if option.is_flag() {
+            return self.with_use(option, "");
+        }
+        self.next = Next::ValueOf(option);
+        Ok(self)
     }
 
     fn with_use(mut self, option: OptionName, text: &'a str) -> Result<WordsSoFar<'a>, UsageFault>
@@ -150,7 +166,7 @@ impl<'a> WordsSoFar<'a> {
     }
 
     // Whether the option is given.
-    fn has(&self, option: OptionName) -> bool
+    pub(crate) fn has(&self, option: OptionName) -> bool
         ensures { result ≡ is_some (value_in (map pair_of self.now.uses.items) option) }
     {
         self.uses

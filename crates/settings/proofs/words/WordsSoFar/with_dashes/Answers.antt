@@ -17,4 +17,4 @@ pub returns-in_ok-ok_or-in-None : goal.returns-in_ok-ok_or-in-None
 returns-in_ok-ok_or-in-None c =
     let end : position_or_len is_equals_sign c.args.word.now ≡ length c.args.word.now = search rules in
     let named : option_named c.args.word.now ≡ Some c.in_ok-ok_or-in-None.field-0 = search rules in
-    rw (nowhere is_equals_sign c.args.word.now end, named)
+    rw (nowhere is_equals_sign c.args.word.now end, named) c.with_name.ensures

@@ -3,7 +3,7 @@ use Rattle.std.proofs.lemmas.List.Sorted.{length_permutation}
 use Rattle.sample_reader.specs.Data.{data_of}
 use Rattle.sample_reader.specs.Groups.{GroupData}
 use Rattle.exact_run.proofs.Orders.{in_order-fits, in_order-unfit}
-use Rattle.exact_run.proofs.two_samples.in_order.Goals as goal
+use Rattle.exact_run.proofs.group_reports.in_order.Goals as goal
 
 pub returns-in-Ok-clause-ok : goal.returns-in-Ok-clause-ok
 returns-in-Ok-clause-ok c =

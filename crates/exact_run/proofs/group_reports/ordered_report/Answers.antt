@@ -1,0 +1,16 @@
+use Rattle.std.proofs.Common.{length}
+use Rattle.sample_reader.specs.Data.{data_of}
+use Rattle.report.specs.declared.headings.Extra.TheVariants as extra
+use Rattle.k_sample_tests.specs.PairCounts.{umbrella_network}
+use Rattle.k_sample_tests.specs.Umbrella.{umbrella_test}
+use Rattle.exact_run.specs.GroupQuestions.{group_rows}
+use Rattle.exact_run.specs.Outcome.{asking_of}
+use Rattle.exact_run.proofs.Asking.{asked_outcome}
+use Rattle.exact_run.proofs.group_reports.ordered_report.Goals as goal
+
+pub returns : goal.returns
+returns c =
+    let groups = data_of c.in_ok-groups.groups in
+    rw c.in_ok-groups.ensures.ok
+    (asked_outcome umbrella_test umbrella_network (asking_of c.args.settings.now) (group_rows groups) extra.None
+    (record { peak = length groups.labels; groups = groups }) _ _ (rw c.len.ensures at c.prepare_umbrella-problem.ensures) (rw (c.of.ensures, c.sizes_of.ensures) at c.report_on.ensures))

@@ -1,0 +1,24 @@
+use Rattle.std.proofs.Common.{◌∙◌, ap, subst}
+use Rattle.sample_reader.specs.Groups.{GroupData}
+use Rattle.report.specs.declared.headings.Extra.TheVariants as extra
+use Rattle.report.specs.declared.headings.Sizes.{Sizes}
+use Rattle.scores.specs.declared.kinds.ScoreKind.TheVariants.{Wilcoxon}
+use Rattle.two_sample_tests.specs.Columns.{two_sample_network}
+use Rattle.two_sample_tests.specs.TwoSamples.{TwoSamples, two_sample_test}
+use Rattle.exact_run.specs.CauseSteps.{Meets, prepared_outcome}
+use Rattle.exact_run.specs.GroupQuestions.{group_rows}
+use Rattle.exact_run.specs.MadeData.{made_groups}
+use Rattle.exact_run.specs.Outcome.{asked, asking_of_made, tails_in}
+use Rattle.exact_run.proofs.Asking.{asked_outcome}
+use Rattle.exact_run.proofs.made_data.made_report.Goals as goal
+
+pub returns : goal.returns
+returns c =
+    let groups = made_groups c.args.number in
+    let asking = asking_of_made c.args.number in
+    let samples : TwoSamples = record { kind = Wilcoxon; groups = groups } in
+    let sizes = c.sizes_of.ensures ∙ ap group_rows c.in-Ok.ensures.groups in
+    asked_outcome two_sample_test two_sample_network asking (group_rows groups) extra.None
+    samples _ _ (rw c.in-Ok.ensures.groups at c.prepare-problem.ensures)
+    (subst (λ (s : Sizes). Meets (prepared_outcome two_sample_test two_sample_network asking s extra.None (asked asking.tail (tails_in (two_sample_test samples))) c.prepare-problem.result) c.report_on.result)
+    sizes (rw c.of_made.ensures at c.report_on.ensures))

@@ -1,0 +1,87 @@
+-- What is asked of groups: the tests of two samples, and of several ones.
+use Rattle.std.specs.Prelude.{ℕ, Bool, List, [], length, bytes_eq, nat_eq, nat_le, Result, Ok, Err, ◌&&◌, if◌then◌else◌}
+use Rattle.std.specs.List.{list_all, list_any}
+use Rattle.record_reader.specs.Layouts.{and_then, with_fault, with_value}
+use Rattle.sample_reader.specs.GroupLayout.{groups_in}
+use Rattle.sample_reader.specs.Groups.{GroupData, group_sizes}
+use Rattle.sample_reader.specs.Orders.{reordered}
+use Rattle.scores.specs.declared.kinds.ScoreKind.{ScoreKind}
+use Rattle.settings.specs.declared.names.OptionName.TheVariants as option
+use Rattle.settings.specs.declared.settings.Settings.{Settings}
+use Rattle.report.specs.declared.headings.Extra.TheVariants as extra
+use Rattle.report.specs.declared.headings.Sizes.{Sizes}
+use Rattle.report.specs.declared.headings.Sizes.TheVariants as sizes
+use Rattle.report.specs.declared.refusals.Refusal.{Refusal}
+use Rattle.report.specs.declared.refusals.Refusal.TheVariants as refusal
+use Rattle.two_sample_tests.specs.Columns.{two_sample_network}
+use Rattle.two_sample_tests.specs.TwoSamples.{two_sample_test}
+use Rattle.k_sample_tests.specs.PairCounts.{umbrella_network}
+use Rattle.k_sample_tests.specs.Umbrella.{umbrella_test}
+use Rattle.exact_run.specs.Question.{Question, layout_refusal, question_about}
+
+-- ---- groups
+
+-- the order has as many labels, and each of the labels stands in it: labels without repeats are
+-- only put into another order
+abbrev pub is_order_of : List (List ℕ) → List (List ℕ) → Bool
+is_order_of labels order =
+    nat_eq (length labels) (length order)
+    && list_all (λ label. list_any (bytes_eq label) order) labels
+
+-- the groups in the order that is asked, if one is asked; else in that of the file
+abbrev pub in_order : List (List ℕ) → GroupData → Result GroupData Refusal
+in_order [] groups = Ok groups
+in_order order groups =
+    if is_order_of groups.labels order then Ok (reordered order groups)
+    else Err (refusal.Unfit option.Order)
+
+-- at most so many groups, in the order used
+abbrev pub groups_of : ℕ → Settings → List (List (List ℕ)) → Result GroupData Refusal
+groups_of most settings rows =
+    and_then (in_order settings.order)
+    (with_fault layout_refusal (groups_in most settings.picks rows))
+
+abbrev pub group_rows : GroupData → Sizes
+group_rows groups = sizes.Groups groups.labels (group_sizes groups)
+
+-- ---- two samples
+
+-- their test by the scores of a kind
+abbrev pub two_sample_question : ScoreKind → GroupData → Question
+two_sample_question kind groups =
+    question_about two_sample_test two_sample_network (record { kind = kind; groups = groups })
+    (group_rows groups) extra.None
+
+abbrev pub two_samples_of : ScoreKind → Settings → List (List (List ℕ)) → Result Question Refusal
+two_samples_of kind settings rows =
+    with_value (two_sample_question kind) (groups_of 2 settings rows)
+
+-- ---- several samples
+
+-- groups that are ordered have their peak at the last one
+abbrev pub ordered_question : GroupData → Question
+ordered_question groups =
+    question_about umbrella_test umbrella_network
+    (record { peak = length groups.labels; groups = groups }) (group_rows groups) extra.None
+
+abbrev pub ordered_of : Settings → List (List (List ℕ)) → Result Question Refusal
+ordered_of settings rows = with_value ordered_question (groups_of 8 settings rows)
+
+-- the peak is the number of a group, from 1
+abbrev pub has_peak : ℕ → GroupData → Bool
+has_peak peak groups = nat_le 1 peak && nat_le peak (length groups.labels)
+
+abbrev pub peaked_question : ℕ → GroupData → Question
+peaked_question peak groups =
+    question_about umbrella_test umbrella_network (record { peak = peak; groups = groups })
+    (group_rows groups) (extra.Peak peak)
+
+-- the groups rise up to the peak and fall behind it
+abbrev pub umbrella_question : ℕ → GroupData → Result Question Refusal
+umbrella_question peak groups =
+    if has_peak peak groups then Ok (peaked_question peak groups)
+    else Err (refusal.Unfit option.Peak)
+
+abbrev pub umbrella_of : Settings → List (List (List ℕ)) → Result Question Refusal
+umbrella_of settings rows =
+    and_then (umbrella_question settings.peak) (groups_of 8 settings rows)

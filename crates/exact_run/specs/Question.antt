@@ -1,0 +1,44 @@
+-- A question about the data of a file, and why there may be none.
+use Rattle.std.specs.Prelude.{ℕ}
+use Rattle.weights.specs.Conditional.{ConditionalTest}
+use Rattle.weights.specs.declared.tails.Tail.{Tail}
+use Rattle.weights.specs.declared.wide.PrepareFault.{PrepareFault}
+use Rattle.weights.specs.declared.wide.PrepareFault.TheVariants as prepare
+use Rattle.stage_network.specs.Follows.{open_keys}
+use Rattle.stage_network.specs.Network.{Network}
+use Rattle.record_reader.specs.declared.faults.LayoutFault.{LayoutFault}
+use Rattle.record_reader.specs.declared.faults.LayoutFault.TheVariants as layout
+use Rattle.settings.specs.declared.names.OptionName.TheVariants as option
+use Rattle.report.specs.declared.headings.Extra.{Extra}
+use Rattle.report.specs.declared.headings.Sizes.{Sizes}
+use Rattle.report.specs.declared.refusals.Refusal.{Refusal}
+use Rattle.report.specs.declared.refusals.Refusal.TheVariants as refusal
+
+-- A test of data, how many open keys its network has for each tail, and what a report says of the
+-- data.
+pub record Question : Type 0 where
+  pub test : ConditionalTest
+  pub opened : Tail → ℕ
+  pub sizes : Sizes
+  pub extra : Extra
+
+-- the question that a prepared problem answers
+abbrev pub question_about : {V : Type 0} → (V → ConditionalTest) → (V → Tail → Network) → V
+    → Sizes → Extra → Question
+question_about test_of network_of value sizes extra = record {
+  test = test_of value;
+  opened = open_keys (network_of value);
+  sizes = sizes;
+  extra = extra;
+}
+
+-- the refusal of a layout's fault
+abbrev pub layout_refusal : LayoutFault → Refusal
+layout_refusal layout.Columns = refusal.Unfit option.Columns
+layout_refusal (layout.At fault) = refusal.Row fault
+layout_refusal layout.NoMemory = refusal.NoMemory
+
+-- the refusal of a problem that is not prepared
+abbrev pub prepare_refusal : PrepareFault → Refusal
+prepare_refusal (prepare.TooWide what) = refusal.TooWide what
+prepare_refusal prepare.NoMemory = refusal.NoMemory

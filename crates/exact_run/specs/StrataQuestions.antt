@@ -1,0 +1,25 @@
+-- What is asked of strata of tables of two rows and two columns.
+use Rattle.std.specs.Prelude.{ℕ, ◌/◌, List, length, Result}
+use Rattle.std.specs.List.{sum}
+use Rattle.record_reader.specs.Layouts.{with_fault, with_value}
+use Rattle.table_reader.specs.StrataLayout.{strata_in}
+use Rattle.settings.specs.declared.settings.Settings.{Settings}
+use Rattle.report.specs.declared.headings.Extra.TheVariants as extra
+use Rattle.report.specs.declared.headings.Sizes.{Sizes}
+use Rattle.report.specs.declared.headings.Sizes.TheVariants as sizes
+use Rattle.report.specs.declared.refusals.Refusal.{Refusal}
+use Rattle.stratified_tests.specs.StrataNetwork.{strata_network}
+use Rattle.stratified_tests.specs.StrataTests.{strata_test}
+use Rattle.exact_run.specs.Question.{Question, layout_refusal, question_about}
+
+-- each stratum has four cells
+abbrev pub strata_sizes : List ℕ → Sizes
+strata_sizes cells = sizes.Strata (length cells / 4) (sum cells)
+
+abbrev pub strata_question : List ℕ → Question
+strata_question cells =
+    question_about strata_test strata_network cells (strata_sizes cells) extra.None
+
+abbrev pub strata_of : Settings → List (List (List ℕ)) → Result Question Refusal
+strata_of settings rows =
+    with_value strata_question (with_fault layout_refusal (strata_in settings.picks rows))

@@ -1,0 +1,75 @@
+-- What is asked of tables of counts.
+use Rattle.std.specs.Prelude.{ℕ, ◌==◌, Bool, true, false, List, [], length, ℤ, pos, map, Result, Ok, Err, if◌then◌else◌}
+use Rattle.std.specs.List.{range_with_len, sum}
+use Rattle.record_reader.specs.Layouts.{and_then, with_fault, with_value}
+use Rattle.table_reader.specs.TableLayout.{TableData, table_in}
+use Rattle.settings.specs.declared.names.OptionName.{OptionName}
+use Rattle.settings.specs.declared.names.OptionName.TheVariants as option
+use Rattle.settings.specs.declared.settings.Settings.{Settings}
+use Rattle.report.specs.declared.headings.Extra.TheVariants as extra
+use Rattle.report.specs.declared.headings.Sizes.{Sizes}
+use Rattle.report.specs.declared.headings.Sizes.TheVariants as sizes
+use Rattle.report.specs.declared.refusals.Refusal.{Refusal}
+use Rattle.report.specs.declared.refusals.Refusal.TheVariants as refusal
+use Rattle.one_sample_tests.specs.SignNetwork.{one_sample_network}
+use Rattle.one_sample_tests.specs.SignedSamples.{discordant, one_sample_test}
+use Rattle.table_tests.specs.TableSteps.{scored_of}
+use Rattle.table_tests.specs.TableTests.{table_network, table_test}
+use Rattle.table_tests.specs.declared.table_test.TableTest.TheVariants.{Fisher, Linear}
+use Rattle.exact_run.specs.Question.{Question, layout_refusal, question_about}
+
+-- the table of the rows: one of two rows and two columns, or any
+abbrev pub table_of : Bool → Settings → List (List (List ℕ)) → Result TableData Refusal
+table_of two_by_two settings rows =
+    with_fault layout_refusal (table_in two_by_two settings.picks rows)
+
+abbrev pub table_sizes : TableData → Sizes
+table_sizes table = sizes.Table table.rows table.columns (sum table.cells)
+
+-- ---- McNemar's test
+
+abbrev pub mcnemar_question : TableData → Question
+mcnemar_question table =
+    question_about one_sample_test one_sample_network (discordant table) (table_sizes table)
+    extra.None
+
+abbrev pub mcnemar_of : Settings → List (List (List ℕ)) → Result Question Refusal
+mcnemar_of settings rows = with_value mcnemar_question (table_of true settings rows)
+
+-- ---- Fisher's exact test
+
+abbrev pub fisher_question : TableData → Question
+fisher_question table =
+    question_about table_test table_network (Fisher table) (table_sizes table) extra.None
+
+abbrev pub fisher_of : Settings → List (List (List ℕ)) → Result Question Refusal
+fisher_of settings rows = with_value fisher_question (table_of false settings rows)
+
+-- ---- the linear-by-linear test
+
+-- the scores that are given, or 1, 2, 3 and so on
+abbrev pub scores_or_numbers : ℕ → List ℤ → List ℤ
+scores_or_numbers count [] = map pos (range_with_len 1 count)
+scores_or_numbers count scores = scores
+
+-- as many scores, or the option does not fit
+abbrev pub fitting_scores : OptionName → ℕ → List ℤ → Result (List ℤ) Refusal
+fitting_scores name count given =
+    let scores = scores_or_numbers count given in
+    if length scores == count then Ok scores else Err (refusal.Unfit name)
+
+abbrev pub linear_question : TableData → List ℤ → List ℤ → Question
+linear_question table row_scores column_scores =
+    question_about table_test table_network (Linear (scored_of table row_scores column_scores))
+    (table_sizes table) extra.None
+
+-- the scores of rows are looked at before those of columns
+abbrev pub scored_question : Settings → TableData → Result Question Refusal
+scored_question settings table =
+    and_then
+    (λ row_scores. with_value (linear_question table row_scores)
+    (fitting_scores option.ColumnScores table.columns settings.column_scores))
+    (fitting_scores option.RowScores table.rows settings.row_scores)
+
+abbrev pub linear_of : Settings → List (List (List ℕ)) → Result Question Refusal
+linear_of settings rows = and_then (scored_question settings) (table_of false settings rows)

@@ -1,0 +1,88 @@
+// The reports of the tests of treatments in blocks.
+ghost use Rattle.std.specs.Prelude.{◌≡◌, Ok, IfErr, IfOk};
+ghost use Rattle.record_reader.specs.Layouts.{MayPick, and_then, with_fault};
+ghost use Rattle.sample_reader.specs.Data.{block_data_of};
+ghost use Rattle.block_tests.specs.BlockTests.{TakesCells, has_tail};
+ghost use Rattle.exact_run.specs.BlockQuestions.{block_sizes, blocks_of, blocks_read};
+ghost use Rattle.exact_run.specs.CauseSteps.{IsCauseOf, Meets};
+ghost use Rattle.exact_run.specs.Outcome.{asking_of, outcome_of_question, tails_by};
+ghost use Rattle.exact_run.specs.Question.{layout_refusal};
+
+use crate::refusing::layout_refusal;
+use crate::reports::{ALL, Asking, GREATER, Heading, report_on};
+use block_tests::{BlockKind, prepare};
+use record_reader::Rows;
+use report::{Extra, Refusal, Sizes};
+use sample_reader::{Blocks, binary_blocks, blocks};
+use settings::Settings;
+use std::alloc::Global;
+use weights::{Bytes, Tails};
+
+// The blocks that a test reads, or the refusal of their fault.
+fn blocks_read(
+    alloc: Global,
+    kind: BlockKind,
+    settings: &Settings,
+    rows: &Rows,
+) -> Result<Blocks, Refusal>
+    requires { MayPick 2 8 settings.now.picks }
+    ensures ok { let found = blocks_read kind settings.now.picks rows.now in
+        IfOk result (λ blocks. with_fault layout_refusal found ≡ Ok (block_data_of blocks)) }
+    ensures cells { IfOk result (λ blocks. TakesCells kind blocks.cells) }
+    ensures err { let found = blocks_read kind settings.now.picks rows.now in
+        IfErr result (IsCauseOf (with_fault layout_refusal found)) }
+{
+    let read = match kind {
+        BlockKind::Cochran => binary_blocks(alloc, rows, &settings.picks),
+        _ => blocks(alloc, rows, &settings.picks),
+    };
+    match read {
+        Ok(blocks) => Ok(blocks),
+        Err(fault) => Err(layout_refusal(fault)),
+    }
+}
+
+// The tails that a test has.
+fn tails_of(kind: BlockKind) -> Tails
+    ensures { result ≡ tails_by (has_tail kind) }
+{
+    match kind {
+        BlockKind::Page => ALL,
+        _ => GREATER,
+    }
+}
+
+fn sizes_of(blocks: &Blocks) -> Sizes
+    ensures { result ≡ block_sizes (block_data_of blocks.now) }
+{
+    Sizes::Blocks {
+        blocks: blocks.blocks,
+        treatments: blocks.treatments,
+    }
+}
+
+/// The report of a test of treatments in blocks, or the refusal.
+pub(crate) fn block_report(
+    alloc: Global,
+    kind: BlockKind,
+    settings: &Settings,
+    rows: &Rows,
+) -> Result<Bytes, Refusal>
+    requires { MayPick 2 8 settings.now.picks }
+    ensures { let question = blocks_of kind settings.now rows.now in
+        Meets (and_then (outcome_of_question (asking_of settings.now)) question) result }
+{
+    let blocks = blocks_read(alloc, kind, settings, rows)?;
+    let problem = prepare(alloc, kind, &blocks);
+    let heading = Heading {
+        sizes: sizes_of(&blocks),
+        extra: Extra::None,
+    };
+    report_on(
+        alloc,
+        Asking::of(settings),
+        &heading,
+        tails_of(kind),
+        problem,
+    )
+}

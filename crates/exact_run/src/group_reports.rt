@@ -1,0 +1,152 @@
+// The reports of the tests of groups: of two samples, and of several.
+ghost use Rattle.std.specs.Prelude.{◌≡◌, ◌≤◌, Ok, IfErr, IfOk, length};
+ghost use Rattle.record_reader.specs.Layouts.{MayPick, and_then, with_fault};
+ghost use Rattle.sample_reader.specs.Data.{data_of};
+ghost use Rattle.sample_reader.specs.GroupLayout.{groups_in};
+ghost use Rattle.exact_run.specs.CauseSteps.{IsCauseOf, Meets};
+ghost use Rattle.exact_run.specs.GroupQuestions.{group_rows, groups_of, has_peak, in_order, ordered_of, two_samples_of, umbrella_of};
+ghost use Rattle.exact_run.specs.Outcome.{asking_of, outcome_of_question};
+ghost use Rattle.exact_run.specs.Question.{layout_refusal};
+
+use crate::refusing::layout_refusal;
+use crate::reports::{ALL, Asking, Heading, report_on};
+use k_sample_tests::prepare_umbrella;
+use record_reader::Rows;
+use report::{Extra, Refusal, Sizes};
+use sample_reader::{Groups, Labels, OrderFault, groups, reorder};
+use scores::ScoreKind;
+use settings::{OptionName, Settings};
+use std::alloc::Global;
+use two_sample_tests::prepare;
+use weights::Bytes;
+
+// The groups of the rows, at most so many, or the refusal of their fault.
+fn groups_read(
+    alloc: Global,
+    most: u64,
+    settings: &Settings,
+    rows: &Rows,
+) -> Result<Groups, Refusal>
+    requires picks { MayPick 2 2 settings.now.picks }
+    requires two { 2 ≤ most }
+    requires eight { most ≤ 8 }
+    ensures ok { let found = groups_in most settings.now.picks rows.now in
+        IfOk result (λ groups. with_fault layout_refusal found ≡ Ok (data_of groups)) }
+    ensures most { IfOk result (λ groups. length groups.labels ≤ most) }
+    ensures err { let found = groups_in most settings.now.picks rows.now in
+        IfErr result (IsCauseOf (with_fault layout_refusal found)) }
+{
+    match groups(alloc, rows, &settings.picks, most) {
+        Ok(groups) => Ok(groups),
+        Err(fault) => Err(layout_refusal(fault)),
+    }
+}
+
+// The groups in the order that is asked, or the refusal of an order that does not fit.
+fn in_order(alloc: Global, groups: Groups, order: &Labels) -> Result<Groups, Refusal>
+    ensures ok { IfOk result (λ ordered.
+        in_order order.now (data_of groups) ≡ Ok (data_of ordered)) }
+    ensures as_many { IfOk result (λ ordered. length ordered.labels ≡ length groups.labels) }
+    ensures err { IfErr result (IsCauseOf (in_order order.now (data_of groups))) }
+{
+    if order.len() == 0 {
+        return Ok(groups);
+    }
+    match reorder(alloc, &groups, order) {
+        Ok(ordered) => Ok(ordered),
+        Err(OrderFault::Unfit) => Err(Refusal::Unfit(OptionName::Order)),
+        Err(OrderFault::NoMemory) => Err(Refusal::NoMemory),
+    }
+}
+
+// The groups in the order used.
+fn groups_of(alloc: Global, most: u64, settings: &Settings, rows: &Rows) -> Result<Groups, Refusal>
+    requires picks { MayPick 2 2 settings.now.picks }
+    requires two { 2 ≤ most }
+    requires eight { most ≤ 8 }
+    ensures ok { IfOk result (λ groups.
+        groups_of most settings.now rows.now ≡ Ok (data_of groups)) }
+    ensures most { IfOk result (λ groups. length groups.labels ≤ most) }
+    ensures err { IfErr result (IsCauseOf (groups_of most settings.now rows.now)) }
+{
+    let groups = groups_read(alloc, most, settings, rows)?;
+    in_order(alloc, groups, &settings.order)
+}
+
+pub(crate) fn sizes_of(groups: Groups) -> Sizes
+    ensures { result ≡ group_rows (data_of groups) }
+{
+    Sizes::Groups {
+        labels: groups.labels,
+        sizes: groups.sizes,
+    }
+}
+
+/// The report of the test of two samples by the scores of a kind, or the refusal.
+pub(crate) fn two_sample_report(
+    alloc: Global,
+    kind: ScoreKind,
+    settings: &Settings,
+    rows: &Rows,
+) -> Result<Bytes, Refusal>
+    requires { MayPick 2 2 settings.now.picks }
+    ensures { let question = two_samples_of kind settings.now rows.now in
+        Meets (and_then (outcome_of_question (asking_of settings.now)) question) result }
+{
+    let groups = groups_of(alloc, 2, settings, rows)?;
+    let problem = prepare(alloc, kind, &groups);
+    let heading = Heading {
+        sizes: sizes_of(groups),
+        extra: Extra::None,
+    };
+    report_on(alloc, Asking::of(settings), &heading, ALL, problem)
+}
+
+/// The report of the test of ordered groups, or the refusal.
+pub(crate) fn ordered_report(
+    alloc: Global,
+    settings: &Settings,
+    rows: &Rows,
+) -> Result<Bytes, Refusal>
+    requires { MayPick 2 2 settings.now.picks }
+    ensures { let question = ordered_of settings.now rows.now in
+        Meets (and_then (outcome_of_question (asking_of settings.now)) question) result }
+{
+    let groups = groups_of(alloc, 8, settings, rows)?;
+    let problem = prepare_umbrella(alloc, groups.labels.len() as u64, &groups);
+    let heading = Heading {
+        sizes: sizes_of(groups),
+        extra: Extra::None,
+    };
+    report_on(alloc, Asking::of(settings), &heading, ALL, problem)
+}
+
+// The peak is the number of a group.
+fn has_peak(peak: u64, groups: &Groups) -> bool
+    ensures { result ≡ has_peak peak (data_of groups.now) }
+{
+    1 <= peak && peak <= groups.labels.len() as u64
+}
+
+/// The report of the test of groups that are ordered up to a peak and down from it, or the refusal.
+pub(crate) fn umbrella_report(
+    alloc: Global,
+    settings: &Settings,
+    rows: &Rows,
+) -> Result<Bytes, Refusal>
+    requires { MayPick 2 2 settings.now.picks }
+    ensures { let question = umbrella_of settings.now rows.now in
+        Meets (and_then (outcome_of_question (asking_of settings.now)) question) result }
+{
+    let peak = settings.peak;
+    let groups = groups_of(alloc, 8, settings, rows)?;
+    if !has_peak(peak, &groups) {
+        return Err(Refusal::Unfit(OptionName::Peak));
+    }
+    let problem = prepare_umbrella(alloc, peak, &groups);
+    let heading = Heading {
+        sizes: sizes_of(groups),
+        extra: Extra::Peak(peak),
+    };
+    report_on(alloc, Asking::of(settings), &heading, ALL, problem)
+}

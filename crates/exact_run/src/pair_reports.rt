@@ -1,0 +1,61 @@
+// The reports of the tests of one sample, of the differences of pairs.
+ghost use Rattle.std.specs.Prelude.{◌≡◌, Ok, IfErr, IfOk};
+ghost use Rattle.record_reader.specs.Layouts.{MayPick, and_then, with_fault};
+ghost use Rattle.sample_reader.specs.CellLayouts.{differences_in};
+ghost use Rattle.exact_run.specs.CauseSteps.{IsCauseOf, Meets};
+ghost use Rattle.exact_run.specs.Outcome.{asking_of, outcome_of_question};
+ghost use Rattle.exact_run.specs.PairQuestions.{pair_sizes, pairs_of};
+ghost use Rattle.exact_run.specs.Question.{layout_refusal};
+
+use crate::refusing::layout_refusal;
+use crate::reports::{ALL, Asking, Heading, report_on};
+use one_sample_tests::{SignKind, prepare_pairs, used_pairs};
+use record_reader::Rows;
+use report::{Extra, Refusal, Sizes};
+use sample_reader::{Pairs, pairs};
+use settings::Settings;
+use std::alloc::Global;
+use weights::Bytes;
+
+// The pairs of the rows, or the refusal of their fault.
+fn pairs_read(alloc: Global, settings: &Settings, rows: &Rows) -> Result<Pairs, Refusal>
+    requires { MayPick 1 2 settings.now.picks }
+    ensures ok { let found = differences_in settings.now.picks rows.now in
+        IfOk result (λ pairs. with_fault layout_refusal found ≡ Ok pairs.differences) }
+    ensures err { let found = differences_in settings.now.picks rows.now in
+        IfErr result (IsCauseOf (with_fault layout_refusal found)) }
+{
+    match pairs(alloc, rows, &settings.picks) {
+        Ok(pairs) => Ok(pairs),
+        Err(fault) => Err(layout_refusal(fault)),
+    }
+}
+
+fn sizes_of(pairs: &Pairs) -> Sizes
+    ensures { result ≡ pair_sizes pairs.now.differences }
+{
+    Sizes::Pairs {
+        rows: pairs.rows,
+        used: used_pairs(pairs),
+    }
+}
+
+/// The report of a test of the pairs' differences, or the refusal.
+pub(crate) fn pair_report(
+    alloc: Global,
+    kind: SignKind,
+    settings: &Settings,
+    rows: &Rows,
+) -> Result<Bytes, Refusal>
+    requires { MayPick 1 2 settings.now.picks }
+    ensures { let question = pairs_of kind settings.now rows.now in
+        Meets (and_then (outcome_of_question (asking_of settings.now)) question) result }
+{
+    let pairs = pairs_read(alloc, settings, rows)?;
+    let problem = prepare_pairs(alloc, kind, &pairs);
+    let heading = Heading {
+        sizes: sizes_of(&pairs),
+        extra: Extra::None,
+    };
+    report_on(alloc, Asking::of(settings), &heading, ALL, problem)
+}

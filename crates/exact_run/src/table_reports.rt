@@ -1,0 +1,187 @@
+// The reports of the tests of tables of counts.
+ghost use Rattle.std.specs.Prelude.{◌≡◌, ◌≤◌, pos, length, map, Ok, IfErr, IfOk};
+ghost use Rattle.std.specs.List.{range_with_len};
+ghost use Rattle.record_reader.specs.Layouts.{MayPick, and_then};
+ghost use Rattle.table_reader.specs.Data.{table_data_of};
+ghost use Rattle.table_reader.specs.Kept.{HasShape};
+ghost use Rattle.table_reader.specs.TableLayout.{table_shape};
+ghost use Rattle.table_reader.specs.declared.TheConstants.{MOST_TABLE_COLUMNS};
+ghost use Rattle.settings.specs.Usable.{AreWithin};
+ghost use Rattle.settings.specs.Values.{column_scores_form, row_scores_form};
+ghost use Rattle.exact_run.specs.CauseSteps.{IsCauseOf, Meets};
+ghost use Rattle.exact_run.specs.Outcome.{asking_of, outcome_of_question};
+ghost use Rattle.exact_run.specs.TableQuestions.{fisher_of, fitting_scores, linear_of, mcnemar_of, scores_or_numbers, table_of, table_sizes};
+
+use crate::refusing::layout_refusal;
+use crate::reports::{ALL, Asking, Heading, report_on};
+use crate::sums::cell_sum;
+use one_sample_tests::prepare_mcnemar;
+use record_reader::Rows;
+use report::{Extra, Refusal, Sizes};
+use settings::{Nums64, OptionName, Settings};
+use std::alloc::Global;
+use table_reader::{Table, table};
+use table_tests::{fisher_tails, prepare_fisher, prepare_linear};
+use weights::{Bytes, NoMemory};
+
+// The table of the rows, or the refusal of its fault.
+fn table_of(
+    alloc: Global,
+    two_by_two: bool,
+    settings: &Settings,
+    rows: &Rows,
+) -> Result<Table, Refusal>
+    requires { let shape = table_shape two_by_two in
+        MayPick shape.narrowest shape.widest settings.now.picks }
+    ensures ok { IfOk result (λ table.
+        table_of two_by_two settings.now rows.now ≡ Ok (table_data_of table)) }
+    ensures shape { IfOk result (λ table.
+        HasShape (table_shape two_by_two) (table_data_of table)) }
+    ensures err { IfErr result (IsCauseOf (table_of two_by_two settings.now rows.now)) }
+{
+    match table(alloc, rows, &settings.picks, two_by_two) {
+        Ok(table) => Ok(table),
+        Err(fault) => Err(layout_refusal(fault)),
+    }
+}
+
+// The sizes of a table of a file.
+fn heading_of(table: &Table) -> Heading
+    ensures sizes { result.sizes ≡ table_sizes (table_data_of table.now) }
+    ensures extra { result.extra ≡ Extra.None }
+{
+    Heading {
+        sizes: Sizes::Table {
+            rows: table.rows,
+            columns: table.columns,
+            sum: cell_sum(table.cells.as_slice()),
+        },
+        extra: Extra::None,
+    }
+}
+
+/// The report of McNemar's test, or the refusal.
+pub(crate) fn mcnemar_report(
+    alloc: Global,
+    settings: &Settings,
+    rows: &Rows,
+) -> Result<Bytes, Refusal>
+    requires { MayPick 2 2 settings.now.picks }
+    ensures { let question = mcnemar_of settings.now rows.now in
+        Meets (and_then (outcome_of_question (asking_of settings.now)) question) result }
+{
+    let table = table_of(alloc, true, settings, rows)?;
+    let problem = prepare_mcnemar(alloc, &table);
+    report_on(
+        alloc,
+        Asking::of(settings),
+        &heading_of(&table),
+        ALL,
+        problem,
+    )
+}
+
+/// The report of Fisher's exact test, or the refusal.
+pub(crate) fn fisher_report(
+    alloc: Global,
+    settings: &Settings,
+    rows: &Rows,
+) -> Result<Bytes, Refusal>
+    requires { MayPick 2 MOST_TABLE_COLUMNS settings.now.picks }
+    ensures { let question = fisher_of settings.now rows.now in
+        Meets (and_then (outcome_of_question (asking_of settings.now)) question) result }
+{
+    let table = table_of(alloc, false, settings, rows)?;
+    let problem = prepare_fisher(alloc, &table);
+    let tails = fisher_tails(&table);
+    report_on(
+        alloc,
+        Asking::of(settings),
+        &heading_of(&table),
+        tails,
+        problem,
+    )
+}
+
+// The scores that are given for so many rows or columns, or the refusal where they do not fit.
+fn fitting_scores(
+    alloc: Global,
+    name: OptionName,
+    count: u64,
+    given: &Nums64,
+) -> Result<Nums64, Refusal>
+    requires { count ≤ MOST_TABLE_COLUMNS }
+    ensures ok { IfOk result (λ scores. fitting_scores name count given.now ≡ Ok scores) }
+    ensures err { IfErr result (IsCauseOf (fitting_scores name count given.now)) }
+{
+    let scores = match scores_or_numbers(alloc, count, given) {
+        Ok(scores) => scores,
+        Err(_) => return Err(Refusal::NoMemory),
+    };
+    if scores.len() as u64 != count {
+        return Err(Refusal::Unfit(name));
+    }
+    Ok(scores)
+}
+
+// The scores that are given, or 1, 2, 3 and so on.
+fn scores_or_numbers(alloc: Global, count: u64, given: &Nums64) -> Result<Nums64, NoMemory>
+    requires { count ≤ MOST_TABLE_COLUMNS }
+    ensures { IfOk result (λ scores. scores ≡ scores_or_numbers count given.now) }
+{
+    if given.len() > 0 {
+        return given.copy();
+    }
+    numbers(alloc, count)
+}
+
+fn signed(number: u64) -> i64
+    requires { number ≤ MOST_TABLE_COLUMNS }
+    ensures { result ≡ pos number }
+{
+    number as i64
+}
+
+// The numbers 1, 2, 3 and so on, so many of them.
+fn numbers(alloc: Global, count: u64) -> Result<Nums64, NoMemory>
+    requires { count ≤ MOST_TABLE_COLUMNS }
+    ensures { IfOk result (λ numbers. numbers ≡ map pos (range_with_len 1 count)) }
+{
+    let mut numbers = Nums64::empty(alloc);
+    for number in 1..count + 1 {
+        numbers.push(signed(number))?;
+    }
+    Ok(numbers)
+}
+
+/// The report of the linear-by-linear test, or the refusal.
+pub(crate) fn linear_report(
+    alloc: Global,
+    settings: &Settings,
+    rows: &Rows,
+) -> Result<Bytes, Refusal>
+    requires picks { MayPick 2 MOST_TABLE_COLUMNS settings.now.picks }
+    requires row_scores { AreWithin row_scores_form settings.now.row_scores }
+    requires column_scores { AreWithin column_scores_form settings.now.column_scores }
+    ensures { let question = linear_of settings.now rows.now in
+        Meets (and_then (outcome_of_question (asking_of settings.now)) question) result }
+{
+    let table = table_of(alloc, false, settings, rows)?;
+    let of_rows = OptionName::RowScores;
+    let of_columns = OptionName::ColumnScores;
+    let row_scores = fitting_scores(alloc, of_rows, table.rows, &settings.row_scores)?;
+    let column_scores = fitting_scores(alloc, of_columns, table.columns, &settings.column_scores)?;
+    let problem = prepare_linear(
+        alloc,
+        &table,
+        row_scores.as_slice(),
+        column_scores.as_slice(),
+    );
+    report_on(
+        alloc,
+        Asking::of(settings),
+        &heading_of(&table),
+        ALL,
+        problem,
+    )
+}
