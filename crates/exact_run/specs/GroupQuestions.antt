@@ -15,7 +15,9 @@ use Rattle.report.specs.declared.refusals.Refusal.{Refusal}
 use Rattle.report.specs.declared.refusals.Refusal.TheVariants as refusal
 use Rattle.two_sample_tests.specs.Columns.{two_sample_network}
 use Rattle.two_sample_tests.specs.TwoSamples.{two_sample_test}
+use Rattle.k_sample_tests.specs.KruskalWallis.{kruskal_wallis_test}
 use Rattle.k_sample_tests.specs.PairCounts.{umbrella_network}
+use Rattle.k_sample_tests.specs.RankSums.{kruskal_wallis_network}
 use Rattle.k_sample_tests.specs.Umbrella.{umbrella_test}
 use Rattle.exact_run.specs.Question.{Question, layout_refusal, question_about}
 
@@ -57,6 +59,16 @@ two_samples_of kind settings rows =
     with_value (two_sample_question kind) (groups_of 2 settings rows)
 
 -- ---- several samples
+
+-- their test by the scores of a kind
+abbrev pub kruskal_wallis_question : ScoreKind → GroupData → Question
+kruskal_wallis_question kind groups =
+    question_about kruskal_wallis_test kruskal_wallis_network
+    (record { kind = kind; groups = groups }) (group_rows groups) (extra.Scores kind)
+
+abbrev pub kruskal_wallis_of : Settings → List (List (List ℕ)) → Result Question Refusal
+kruskal_wallis_of settings rows =
+    with_value (kruskal_wallis_question settings.scores) (groups_of 8 settings rows)
 
 -- groups that are ordered have their peak at the last one
 abbrev pub ordered_question : GroupData → Question

@@ -10,7 +10,7 @@ use Rattle.report.specs.declared.refusals.Refusal.TheVariants as refusal
 use Rattle.one_sample_tests.specs.declared.kinds.SignKind.TheVariants as signs
 use Rattle.block_tests.specs.declared.kinds.BlockKind.TheVariants as blocks
 use Rattle.exact_run.specs.BlockQuestions.{blocks_of}
-use Rattle.exact_run.specs.GroupQuestions.{ordered_of, two_samples_of, umbrella_of}
+use Rattle.exact_run.specs.GroupQuestions.{kruskal_wallis_of, ordered_of, two_samples_of, umbrella_of}
 use Rattle.exact_run.specs.PairQuestions.{pairs_of}
 use Rattle.exact_run.specs.Question.{Question}
 use Rattle.exact_run.specs.StrataQuestions.{strata_of}
@@ -29,6 +29,7 @@ question_for test.Mood = two_samples_of scores.Mood
 question_for test.Savage = two_samples_of scores.Savage
 question_for test.Median = two_samples_of scores.Median
 question_for test.Raw = two_samples_of scores.Raw
+question_for test.Kw = kruskal_wallis_of
 question_for test.Jt = ordered_of
 question_for test.Umbrella = umbrella_of
 question_for test.Friedman = blocks_of blocks.Friedman

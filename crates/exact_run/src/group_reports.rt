@@ -4,13 +4,13 @@ ghost use Rattle.record_reader.specs.Layouts.{MayPick, and_then, with_fault};
 ghost use Rattle.sample_reader.specs.Data.{data_of};
 ghost use Rattle.sample_reader.specs.GroupLayout.{groups_in};
 ghost use Rattle.exact_run.specs.CauseSteps.{IsCauseOf, Meets};
-ghost use Rattle.exact_run.specs.GroupQuestions.{group_rows, groups_of, has_peak, in_order, ordered_of, two_samples_of, umbrella_of};
+ghost use Rattle.exact_run.specs.GroupQuestions.{group_rows, groups_of, has_peak, in_order, kruskal_wallis_of, ordered_of, two_samples_of, umbrella_of};
 ghost use Rattle.exact_run.specs.Outcome.{asking_of, outcome_of_question};
 ghost use Rattle.exact_run.specs.Question.{layout_refusal};
 
 use crate::refusing::layout_refusal;
-use crate::reports::{ALL, Asking, Heading, report_on};
-use k_sample_tests::prepare_umbrella;
+use crate::reports::{ALL, Asking, GREATER, Heading, report_on};
+use k_sample_tests::{prepare_kw, prepare_umbrella};
 use record_reader::Rows;
 use report::{Extra, Refusal, Sizes};
 use sample_reader::{Groups, Labels, OrderFault, groups, reorder};
@@ -100,6 +100,26 @@ pub(crate) fn two_sample_report(
         extra: Extra::None,
     };
     report_on(alloc, Asking::of(settings), &heading, ALL, problem)
+}
+
+/// The report of the test of Kruskal and Wallis by the scores that are asked, or the refusal.
+pub(crate) fn kruskal_wallis_report(
+    alloc: Global,
+    settings: &Settings,
+    rows: &Rows,
+) -> Result<Bytes, Refusal>
+    requires { MayPick 2 2 settings.now.picks }
+    ensures { let question = kruskal_wallis_of settings.now rows.now in
+        Meets (and_then (outcome_of_question (asking_of settings.now)) question) result }
+{
+    let kind = settings.scores;
+    let groups = groups_of(alloc, 8, settings, rows)?;
+    let problem = prepare_kw(alloc, kind, &groups);
+    let heading = Heading {
+        sizes: sizes_of(groups),
+        extra: Extra::Scores(kind),
+    };
+    report_on(alloc, Asking::of(settings), &heading, GREATER, problem)
 }
 
 /// The report of the test of ordered groups, or the refusal.

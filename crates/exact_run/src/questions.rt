@@ -4,7 +4,9 @@ ghost use Rattle.exact_run.specs.CauseSteps.{Meets};
 ghost use Rattle.exact_run.specs.Outcome.{outcome_of_rows};
 
 use crate::block_reports::block_report;
-use crate::group_reports::{ordered_report, two_sample_report, umbrella_report};
+use crate::group_reports::{
+    kruskal_wallis_report, ordered_report, two_sample_report, umbrella_report,
+};
 use crate::pair_reports::pair_report;
 use crate::strata_reports::strata_report;
 use crate::table_reports::{fisher_report, linear_report, mcnemar_report};
@@ -34,6 +36,7 @@ pub(crate) fn report_in(alloc: Global, settings: &Settings, rows: &Rows) -> Resu
         TestName::Savage => two_sample_report(alloc, ScoreKind::Savage, settings, rows),
         TestName::Median => two_sample_report(alloc, ScoreKind::Median, settings, rows),
         TestName::Raw => two_sample_report(alloc, ScoreKind::Raw, settings, rows),
+        TestName::Kw => kruskal_wallis_report(alloc, settings, rows),
         TestName::Jt => ordered_report(alloc, settings, rows),
         TestName::Umbrella => umbrella_report(alloc, settings, rows),
         TestName::Friedman => block_report(alloc, BlockKind::Friedman, settings, rows),

@@ -147,9 +147,9 @@ fn reports(rt: HostRuntime) -> Result<(), AllocError> {
             "usage: exact TEST FILE [options]\n       exact drill --number K\n\
              tests: signedrank sign rawsigned mcnemar\n       \
              ranksum ansari mood savage median raw\n       \
-             jt umbrella friedman page cochran\n       fisher linear strata\n\
+             kw jt umbrella friedman page cochran\n       fisher linear strata\n\
              options: --tail all|less|greater|two\n         \
-             --order LABELS --peak P\n         \
+             --scores KIND --order LABELS --peak P\n         \
              --row-scores LIST --column-scores LIST\n         \
              --columns LIST --separator comma|semicolon|tab\n         \
              --distribution --plain --nodes\n",

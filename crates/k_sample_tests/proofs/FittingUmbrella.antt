@@ -131,10 +131,10 @@ statistic-few qs values xs few h =
 
 -- ---- the rules
 
-no-distance : (v : ℤ) → distance 0 (pos 0) v ≤ MAX
+pub no-distance : (v : ℤ) → distance 0 (pos 0) v ≤ MAX
 no-distance v = subst (λ z. nat_abs (z -ℤ pos 0) ≤ MAX) (sym (zero-*ℤ v)) (omega arith)
 
-no-times : (v : ℤ) → nat_abs (pos 0 *ℤ v) ≤ MAX
+pub no-times : (v : ℤ) → nat_abs (pos 0 *ℤ v) ≤ MAX
 no-times v = subst (λ z. nat_abs z ≤ MAX) (sym (zero-*ℤ v)) (omega arith)
 
 times-one : (n : ℕ) → pos 1 *ℤ pos n ≡ pos n

@@ -6,4 +6,11 @@ mod Placing
 mod Gathering
 mod GroupFacts
 mod FittingUmbrella
+mod RankNarrows
+mod RankValues
+mod RankKeys
+mod RankWriting
+mod EnoughScores
+mod GroupSums
+mod FittingKruskalWallis
 mod Vectors

@@ -10,9 +10,8 @@ ghost use Rattle.k_sample_tests.specs.PairCounts.{column_points, pairs_meaning};
 ghost use Rattle.k_sample_tests.specs.UmbrellaSteps.{IsCounting};
 
 use crate::pair_points::{column_points, signed, subject_pairs};
-use crate::sizes::read_sizes;
 use crate::used_pairs::UsedPair;
-use label_network::Measure;
+use label_network::{Measure, read_sizes};
 use stage_network::{Interval, Judge, Verdict};
 use std::alloc::Global;
 use weights::{NoMemory, Tail};

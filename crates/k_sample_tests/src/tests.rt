@@ -1,7 +1,17 @@
 // Worked rows, published values, both ways, and refusals.
-use crate::{Umbrella, answer_umbrella, distribution_umbrella, prepare_umbrella};
+ghost use Rattle.std.specs.Prelude.{◌≡◌, true};
+ghost use Rattle.weights.specs.declared.tails.Tail.{Tail};
+ghost use Rattle.stage_network.specs.Follows.{asks};
+ghost use Rattle.stage_network.specs.Judged.{is_tail};
+
+use crate::{
+    KruskalWallis, Umbrella, answer_kw, answer_umbrella, distribution_kw, distribution_umbrella,
+    prepare_kw, prepare_umbrella,
+};
 use record_reader::{Picks, records};
 use sample_reader::{Groups, groups};
+use scores::ScoreKind;
+use scores::ScoreKind::{Ansari, Median, Mood, Raw, Savage, Wilcoxon};
 use stage_network::{Answer, TailSum, Way};
 use std::alloc::{AllocError, Global};
 use std::process::Abort;
@@ -144,6 +154,100 @@ fn both_ways(rt: HostRuntime) -> Result<(), Fail> {
         agree(&rt, rt.alloc(), peak, &["1 2 2", "2 3", "1 3"])?;
         agree(&rt, rt.alloc(), peak, &["-1.5 0", "0", "0 7", "3"])?;
         agree(&rt, rt.alloc(), peak, &["4 4", "4 4 4"])?;
+    }
+    Ok(())
+}
+
+// The one tail of a test of Kruskal and Wallis.
+fn greater_alone() -> Tails
+    ensures { (tail : Tail) → asks result tail ≡ true → is_tail Tail.Greater tail ≡ true }
+{
+    Tails {
+        less: false,
+        greater: true,
+        two: false,
+    }
+}
+
+// The test of Kruskal and Wallis of samples by the scores of a kind.
+fn scored(alloc: Global, kind: ScoreKind, samples: &[&str]) -> Result<KruskalWallis, Fail> {
+    let file = file_of(alloc, samples)?;
+    let groups = groups_of(alloc, &file)?;
+    Ok(prepare_kw(alloc, kind, &groups)?)
+}
+
+// Its answer.
+fn compared(alloc: Global, kind: ScoreKind, samples: &[&str], way: Way) -> Result<Answer, Fail> {
+    let problem = scored(alloc, kind, samples)?;
+    let tails = greater_alone();
+    Ok(answer_kw(alloc, &problem, tails, way)?)
+}
+
+// Two groups of two (see below), and the half-times of mucociliary clearance (Hollander and Wolfe,
+// Nonparametric Statistical Methods), whose P-value is that of qn.test in the package kSamples.
+// With one subject in each of eight groups every labelling has the same sum of squares.
+const NORMAL: &str = "2.9 3.0 2.5 2.6 3.2";
+
+const OBSTRUCTIVE: &str = "3.8 2.7 4.0 2.4";
+
+const ASBESTOSIS: &str = "2.8 3.4 3.7 2.2 2.0";
+
+#[test]
+fn kruskal_wallis(rt: HostRuntime) -> Result<(), Fail> {
+    for (kind, samples, head, sum) in [
+        (Wilcoxon, ["1 2", "3 4"].as_slice(), (232, 8, 6), 2),
+        (Raw, &["1.5 2.5", "4"], (4800, 200, 3), 1),
+        (
+            Wilcoxon,
+            &[NORMAL, OBSTRUCTIVE, ASBESTOSIS],
+            (64080, 80, 252252),
+            179294,
+        ),
+        (
+            Wilcoxon,
+            &["1", "2", "3", "4", "5", "6", "7", "8"],
+            (816, 4, 40320),
+            40320,
+        ),
+        (Median, &["5", "5 5", "5"], (32, 32, 12), 12),
+    ] {
+        let found = compared(rt.alloc(), kind, samples, Way::Network)?;
+        assert_eq!(rt; (found.statistic, found.scale, found.total), head);
+        assert_eq!(rt; found.greater.map(|tail| tail.sum), Some(sum));
+        assert_eq!(rt; (found.less, found.two), (None, None));
+    }
+    Ok(())
+}
+
+// Of 1 2 and 3 4 the doubled ranks are 2 to 8, and 232 is asked. The first key is open, from 72 to
+// 392, and with the least value in either group so are both of the second stage, from 136 to 296.
+// Of the third stage those that have one value in each group are open, from 164 to 244; the other
+// two are decided at 232, and all four that follow at 200 or 208.
+#[test]
+fn keys_of_rank_sums(rt: HostRuntime) -> Result<(), Fail> {
+    let found = compared(rt.alloc(), Wilcoxon, &["1 2", "3 4"], Way::Network)?;
+    assert_eq!(rt; found.greater, Some(TailSum { sum: 2, opened: 5 }));
+    Ok(())
+}
+
+// Whether both ways give one answer and one distribution by the scores of a kind.
+fn agree_by(rt: &impl Abort, alloc: Global, kind: ScoreKind, samples: &[&str]) -> Result<(), Fail> {
+    let found = compared(alloc, kind, samples, Way::Network)?;
+    let walked = compared(alloc, kind, samples, Way::Plain)?;
+    let sum = found.greater.map(|tail| tail.sum);
+    assert_eq!(rt; walked.greater.map(|tail| tail.sum), sum, "{kind:?}");
+    let problem = scored(alloc, kind, samples)?;
+    let lines = distribution_kw(alloc, &problem, Way::Network)?;
+    let visited = distribution_kw(alloc, &problem, Way::Plain)?;
+    assert_eq!(rt; lines.as_slice(), visited.as_slice(), "{kind:?}");
+    Ok(())
+}
+
+#[test]
+fn both_ways_by_scores(rt: HostRuntime) -> Result<(), Fail> {
+    for kind in [Wilcoxon, Ansari, Mood, Savage, Median, Raw] {
+        agree_by(&rt, rt.alloc(), kind, &["1 2 2", "2 3", "1 3"])?;
+        agree_by(&rt, rt.alloc(), kind, &["-1.5 0", "0", "0 7", "3"])?;
     }
     Ok(())
 }

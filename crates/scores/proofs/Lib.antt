@@ -1,4 +1,5 @@
-mod MultipleLemmas
+pub mod MultipleLemmas
+pub mod Positive
 mod AverageLemmas
 mod PlaceSums
 mod RawLemmas

@@ -14,4 +14,5 @@ mod sums;
 mod tests;
 
 pub use kinds::{ScoreFault, ScoreKind, Scored};
+pub use multiples::common_multiple;
 pub use scores::scored;

@@ -1,12 +1,25 @@
 // Common multiples of many numbers.
 ghost use Rattle.std.specs.Prelude.{◌<◌, ◌≤◌, SomeIff};
 ghost use Rattle.std.specs.List.{All};
-ghost use Rattle.scores.specs.PlaceScores.{multiple_to};
+ghost use Rattle.scores.specs.PlaceScores.{common_multiple, multiple_to};
 ghost use Rattle.scores.specs.Scores.{multiple_of_sizes};
 ghost use Rattle.weights.specs.declared.TheConstants.{MAX};
 
 use midranks::Tie;
 use weights::lcm;
+
+/// The least common multiple of numbers, each at least 1, or None exactly where it passes
+/// `weights::MAX`.
+pub fn common_multiple(numbers: &[u64]) -> Option<u128>
+    requires { All (λ number. 0 < number) numbers.now }
+    ensures { SomeIff result (common_multiple numbers.now ≤ MAX) (common_multiple numbers.now) }
+{
+    let mut multiple = 1;
+    for number in numbers {
+        multiple = lcm(multiple, *number as u128)?;
+    }
+    Some(multiple)
+}
 
 /// The least common multiple of 1 to n, or None exactly where it passes the greatest statistic.
 pub(crate) fn multiple_to(n: u64) -> Option<u128>

@@ -11,7 +11,7 @@ use Rattle.clap.specs.declared.parser.matches.ArgMatches.{ArgMatches}
 use Rattle.clap.proofs.WalkLemmas.{first_value-rows}
 use Rattle.record_reader.specs.Layouts.{and_then}
 use Rattle.settings.specs.declared.names.OptionName.{OptionName}
-use Rattle.settings.specs.declared.names.OptionName.TheVariants.{Tail, Order, Peak, RowScores, ColumnScores, Columns, Separator, Number, Distribution, Plain, Nodes}
+use Rattle.settings.specs.declared.names.OptionName.TheVariants.{Tail, Scores, Order, Peak, RowScores, ColumnScores, Columns, Separator, Number, Distribution, Plain, Nodes}
 use Rattle.settings.specs.declared.names.UsageFault.{UsageFault}
 use Rattle.settings.specs.declared.settings.Settings.{Settings}
 use Rattle.settings.specs.ClapLine.{clap_line, exact_app, value_found}
@@ -29,6 +29,7 @@ AreApart first second = (bytes_eq first second ≡ false) × (bytes_eq second fi
 apart : (option : OptionName) → is_listed option ≡ true
     → record { test : AreApart (option_word option) (codes "TEST"); file : AreApart (option_word option) (codes "FILE") }
 apart Tail listed = record { test = (refl, refl); file = (refl, refl) }
+apart Scores listed = record { test = (refl, refl); file = (refl, refl) }
 apart Order listed = record { test = (refl, refl); file = (refl, refl) }
 apart Peak listed = record { test = (refl, refl); file = (refl, refl) }
 apart RowScores listed = record { test = (refl, refl); file = (refl, refl) }

@@ -16,7 +16,7 @@ use Rattle.clap.specs.declared.builder.value_parser.Reading.TheVariants.{AsWritt
 use Rattle.clap.specs.declared.parser.matches.ValueSource.TheVariants.{CommandLine}
 use Rattle.clap.proofs.OnLiterals.{clap_on_literals}
 use Rattle.settings.specs.declared.names.OptionName.{OptionName}
-use Rattle.settings.specs.declared.names.OptionName.TheVariants.{Tail, Order, Peak, RowScores, ColumnScores, Columns, Separator, Number, Distribution, Plain, Nodes}
+use Rattle.settings.specs.declared.names.OptionName.TheVariants.{Tail, Scores, Order, Peak, RowScores, ColumnScores, Columns, Separator, Number, Distribution, Plain, Nodes}
 use Rattle.settings.specs.ClapLine.{clap_line, exact_app, spelled}
 use Rattle.settings.specs.Names.{option_word}
 use Rattle.settings.specs.Words.{is_same, value_in}
@@ -59,6 +59,7 @@ or_true false = refl
 step : (option : OptionName) (text : Text) (rows : List Row) → is_listed option ≡ true → walked shape.rules [] (at rows) (spelled (option, text)) ≡ at (placed (option_word option) text rows)
 unfolding clap_on_literals
 step Tail text rows listed = refl
+step Scores text rows listed = refl
 step Order text rows listed = refl
 step Peak text rows listed = refl
 step RowScores text rows listed = refl
@@ -74,6 +75,7 @@ step _ text rows listed = absurd cc
 pass : (option : OptionName) (text : Text) (rows : List Row) → is_listed option ≡ true → turn_passes shape [] (at rows) (spelled (option, text)) ≡ true
 unfolding clap_on_literals
 pass Tail text rows listed = rw or_true refl
+pass Scores text rows listed = rw or_true refl
 pass Order text rows listed = rw or_true refl
 pass Peak text rows listed = rw or_true refl
 pass RowScores text rows listed = rw or_true refl

@@ -23,7 +23,7 @@ help =
     ++ codes "       exact drill --number K" ++ line_feed
     ++ test_lines (codes "tests:") test_rows
     ++ codes "options: --tail all|less|greater|two" ++ line_feed
-    ++ codes "         --order LABELS --peak P" ++ line_feed
+    ++ codes "         --scores KIND --order LABELS --peak P" ++ line_feed
     ++ codes "         --row-scores LIST --column-scores LIST" ++ line_feed
     ++ codes "         --columns LIST --separator comma|semicolon|tab" ++ line_feed
     ++ codes "         --distribution --plain --nodes" ++ line_feed

@@ -116,9 +116,9 @@ form_of option.Nodes = flag (λ settings. record settings { nodes = true })
 -- the options and flags that may be given, in the order in which their faults are told
 abbrev pub listed_names : List OptionName
 listed_names =
-    option.Tail ∷ option.Order ∷ option.Peak ∷ option.RowScores ∷ option.ColumnScores
-    ∷ option.Columns ∷ option.Separator ∷ option.Number ∷ option.Distribution ∷ option.Plain
-    ∷ option.Nodes ∷ []
+    option.Tail ∷ option.Scores ∷ option.Order ∷ option.Peak ∷ option.RowScores
+    ∷ option.ColumnScores ∷ option.Columns ∷ option.Separator ∷ option.Number
+    ∷ option.Distribution ∷ option.Plain ∷ option.Nodes ∷ []
 
 -- the settings, where the test goes with what the option asks for
 abbrev pub suited : OptionName → Settings → Result Settings UsageFault

@@ -20,7 +20,7 @@ abbrev pub test_rows : List (List TestName)
 test_rows =
     (SignedRank ∷ Sign ∷ RawSigned ∷ Mcnemar ∷ [])
     ∷ (RankSum ∷ Ansari ∷ Mood ∷ Savage ∷ Median ∷ Raw ∷ [])
-    ∷ (Jt ∷ Umbrella ∷ Friedman ∷ Page ∷ Cochran ∷ [])
+    ∷ (Kw ∷ Jt ∷ Umbrella ∷ Friedman ∷ Page ∷ Cochran ∷ [])
     ∷ (Fisher ∷ Linear ∷ Strata ∷ [])
     ∷ []
 

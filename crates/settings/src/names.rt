@@ -111,7 +111,7 @@ pub enum UsageFault {
 }
 
 // The tests that can be asked for.
-const TESTS: [TestName; 19] = [
+const TESTS: [TestName; 20] = [
     TestName::SignedRank,
     TestName::Sign,
     TestName::RawSigned,
@@ -122,6 +122,7 @@ const TESTS: [TestName; 19] = [
     TestName::Savage,
     TestName::Median,
     TestName::Raw,
+    TestName::Kw,
     TestName::Jt,
     TestName::Umbrella,
     TestName::Friedman,
@@ -134,8 +135,9 @@ const TESTS: [TestName; 19] = [
 ];
 
 // The options and flags that can be given, in the order in which their faults are told.
-pub(crate) const OPTIONS: [OptionName; 11] = [
+pub(crate) const OPTIONS: [OptionName; 12] = [
     OptionName::Tail,
+    OptionName::Scores,
     OptionName::Order,
     OptionName::Peak,
     OptionName::RowScores,

@@ -176,6 +176,14 @@ fn reads_values(rt: HostRuntime) -> Result<(), Fail> {
     ] {
         assert_eq!(rt; scores_of(word), kind, "at {word}");
     }
+    for (line, kind) in [
+        ("kw|f", ScoreKind::Wilcoxon),
+        ("kw|f|--scores=wilcoxon", ScoreKind::Wilcoxon),
+        ("--scores|savage|kw|f", ScoreKind::Savage),
+    ] {
+        let settings = settings_of(rt.alloc(), line).ok_or(line)?;
+        assert_eq!(rt; settings.scores, kind, "at {line}");
+    }
     for (line, peak) in [
         ("umbrella|f|--peak=1", 1),
         ("umbrella|--peak|+8|f", 8),
@@ -242,6 +250,7 @@ fn refuses_other_words(rt: HostRuntime) -> Result<(), Fail> {
     let form = UsageFault::Form;
     let test = UsageFault::Value(OptionName::Test);
     let tail = UsageFault::Value(OptionName::Tail);
+    let scores = UsageFault::Value(OptionName::Scores);
     let order = UsageFault::Value(OptionName::Order);
     let columns = UsageFault::Value(OptionName::Columns);
     let separator = UsageFault::Value(OptionName::Separator);
@@ -268,7 +277,6 @@ fn refuses_other_words(rt: HostRuntime) -> Result<(), Fail> {
         ("ranksum|--tail|--|f", form),
         ("ranksum|f|--tail=less|--tail|less", form),
         ("kw|f|--tail=x|--tail=x", form),
-        ("ranksum|f|--scores=raw", form),
         ("--tail=less", form),
         ("umbrella|f", form),
         ("umbrella|--peak=1", form),
@@ -276,7 +284,7 @@ fn refuses_other_words(rt: HostRuntime) -> Result<(), Fail> {
         ("drill|f|--number=1", form),
         ("drill|--tail=x", form),
         ("", test),
-        ("kw|f", test),
+        ("kendall|f", test),
         ("spearman|f|--plain|--nodes", test),
         ("Ranksum|f", test),
         ("--|--help", test),
@@ -286,6 +294,9 @@ fn refuses_other_words(rt: HostRuntime) -> Result<(), Fail> {
         ("ranksum|f|--tail= less", tail),
         ("page|f|--tail=x", tail),
         ("friedman|f|--tail=x", tail),
+        ("kw|f|--scores=", scores),
+        ("kw|f|--scores=ranks", scores),
+        ("kw|f|--scores= raw", scores),
         ("ranksum|f|--order=", order),
         ("ranksum|f|--order=x", order),
         ("ranksum|f|--order=x, ,y", order),
@@ -320,6 +331,8 @@ fn refuses_other_words(rt: HostRuntime) -> Result<(), Fail> {
         ("ranksum|f|--separator=x|--columns=1|--order=x", order),
         ("ranksum|f|--separator=x|--columns=1", columns),
         ("umbrella|f|--separator=x|--peak=x", peak),
+        ("kw|f|--scores=x|--tail=x", tail),
+        ("kw|f|--columns=1|--scores=x", scores),
     ] {
         assert_eq!(rt; fault_of(rt.alloc(), line), Some(fault), "at {line}");
     }
@@ -335,6 +348,13 @@ fn pairs_tests_with_options(rt: HostRuntime) -> Result<(), Fail> {
             "friedman|f|--tail=two",
             OptionName::Tail,
             TestName::Friedman,
+        ),
+        ("kw|f|--tail=two", OptionName::Tail, TestName::Kw),
+        ("kw|f|--order=x,y", OptionName::Order, TestName::Kw),
+        (
+            "ranksum|f|--scores=raw",
+            OptionName::Scores,
+            TestName::RankSum,
         ),
         ("page|f|--order=x,y", OptionName::Order, TestName::Page),
         ("sign|f|--order=", OptionName::Order, TestName::Sign),
@@ -384,7 +404,11 @@ fn pairs_tests_with_options(rt: HostRuntime) -> Result<(), Fail> {
         let pairing = UsageFault::Pairing(option, test);
         assert_eq!(rt; fault_of(rt.alloc(), line), Some(pairing), "at {line}");
     }
-    for line in ["friedman|f|--tail=greater", "cochran|f|--tail=all"] {
+    for line in [
+        "kw|f|--tail=greater",
+        "friedman|f|--tail=greater",
+        "cochran|f|--tail=all",
+    ] {
         assert_eq!(rt; fault_of(rt.alloc(), line), None, "at {line}");
     }
     Ok(())
@@ -397,7 +421,7 @@ fn asks_for_help(rt: HostRuntime) -> Result<(), Fail> {
         Ok(CommandLine::Help) => {}
         _ => panic!(rt; "no help"),
     }
-    for option in ["order", "peak", "number", "separator", "nodes", "plain"] {
+    for option in ["scores", "order", "peak", "number", "separator", "nodes", "plain"] {
         assert!(rt; help_text().contains(option), "at {option}");
     }
     Ok(())

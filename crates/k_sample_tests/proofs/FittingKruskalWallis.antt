@@ -1,0 +1,238 @@
+-- What holds of a test of Kruskal and Wallis whose total and bound pass no limit.
+use Rattle.std.proofs.Common.{◌≡◌, ℕ, zero, suc, ◌*◌, ◌/◌, ◌<◌, ◌≤◌, List, [], ◌∷◌, length, map, Some, None, Err, refl, sym, ◌∙◌, ap, subst, arith, lit≤}
+use Rattle.std.specs.Prelude.{ℤ, pos, max}
+use Rattle.std.specs.List.{All, AllByRecursion}
+use Rattle.std.proofs.Math.Nat.{div-le_self, mul-le-mul}
+use Rattle.std.proofs.lemmas.Bool.{le-ltb, lt-ltb}
+use Rattle.std.proofs.lemmas.List.{length-map}
+use Rattle.std.proofs.lemmas.List.Elements.{recursion_from_All}
+use Rattle.weights.specs.declared.tails.Tail.{Tail}
+use Rattle.weights.specs.declared.tails.Tail.TheVariants.{Less, Greater, Two}
+use Rattle.weights.specs.declared.rules.Rule.{Rule}
+use Rattle.weights.specs.declared.rules.Rule.TheVariants.{Far}
+use Rattle.weights.specs.declared.TheConstants.{MAX}
+use Rattle.weights.specs.declared.wide.WideOf.TheVariants.{Total, Statistic}
+use Rattle.weights.specs.declared.wide.PrepareFault.{PrepareFault}
+use Rattle.weights.specs.declared.wide.PrepareFault.TheVariants.{TooWide, NoMemory}
+use Rattle.weights.specs.Conditional.{distance, total}
+use Rattle.weights.specs.Frames.{IsFrameOf, RulesFit}
+use Rattle.weights.specs.Labellings.{labellings, number_of_labellings}
+use Rattle.weights.specs.Rules.{RuleFits, measured, rule_of}
+use Rattle.weights.specs.Wide.{Prepares, too_wide}
+use Rattle.weights.proofs.FirstLabel.{number_of_labellings-positive}
+use Rattle.weights.proofs.Sums.{sum_by-one}
+use Rattle.midranks.specs.Ties.{tie_groups}
+use Rattle.midranks.specs.declared.ties.Tie.{Tie}
+use Rattle.completion_bounds.specs.Boxes.{factored_squares}
+use Rattle.scores.specs.PlaceScores.{common_multiple}
+use Rattle.scores.specs.Scores.{absolute_sum, scale_of, score_of, score_sum}
+use Rattle.scores.specs.declared.kinds.ScoreKind.{ScoreKind}
+use Rattle.scores.proofs.MultipleLemmas.{common_multiple-all}
+use Rattle.scores.proofs.Positive.{scale-some}
+use Rattle.sample_reader.specs.Data.{data_of}
+use Rattle.sample_reader.specs.Groups.{group_sizes}
+use Rattle.sample_reader.specs.PooledSample.{labels_of, pooled}
+use Rattle.sample_reader.specs.declared.samples.Groups.{Groups}
+use Rattle.stage_network.specs.Follows.{Follows}
+use Rattle.label_network.specs.LaterSums.{absolute_sum as sizes_of, subjects}
+use Rattle.label_network.proofs.LabelFollows.{label_follows}
+use Rattle.pooled_columns.specs.PooledColumns.{column_scores, column_sizes, pooled_values}
+use Rattle.pooled_columns.proofs.PooledValues.{pooled-rises}
+use Rattle.pooled_columns.proofs.TieColumns.{grouped}
+use Rattle.k_sample_tests.specs.KruskalWallis.{ScoredGroups, group_sums, kruskal_wallis_test, pooled_scores, size_factors, squares_statistic, squares_test}
+use Rattle.k_sample_tests.specs.RankSums.{kruskal_wallis_meaning, kruskal_wallis_network}
+use Rattle.k_sample_tests.specs.RankSumSteps.{AreFitting, IsMadeOf, IsScoredBy, IsSquaring}
+use Rattle.k_sample_tests.proofs.FittingUmbrella.{columns-sum, no-distance, no-times, past-limit}
+use Rattle.k_sample_tests.proofs.GroupFacts.{few_rows, few_subjects, none-empty, sizes-whole, some_rows}
+use Rattle.k_sample_tests.proofs.GroupSums.{sizes-are, squares-most, sums-within}
+use Rattle.k_sample_tests.proofs.RankNarrows.{squares_measure}
+use Rattle.k_sample_tests.proofs.RankValues.{value-is}
+
+-- ---- the rules
+
+module _ (sizes : List ℕ) (scores : List ℤ) (observed : List ℕ) (scale : ℕ) where
+  pub measured-is : (tail : Tail) (r : List ℕ) → measured (squares_test sizes scores observed scale) tail r ≡ squares_statistic sizes scores r
+  measured-is Less r = refl
+  measured-is Greater r = refl
+  measured-is Two r = refl
+
+  pub total-is : total (squares_test sizes scores observed scale) ≡ number_of_labellings sizes
+  total-is = sum_by-one (labellings sizes)
+
+  pub total-some : 1 ≤ total (squares_test sizes scores observed scale)
+  total-some = omega (arith, total-is, number_of_labellings-positive sizes)
+
+  pub rule-fits : (tail : Tail) (v : ℤ) → RuleFits (rule_of (squares_test sizes scores observed scale) tail) v
+  rule-fits Less v = record { least_factor = lit≤ tt; observed = lit≤ tt; times = no-times v; apart = no-distance v }
+  rule-fits Greater v = record { least_factor = lit≤ tt; observed = lit≤ tt; times = no-times v; apart = no-distance v }
+  rule-fits Two v = record { least_factor = lit≤ tt; observed = no-distance (squares_statistic sizes scores observed); times = no-times v; apart = no-distance v }
+
+  pub rules-fit : RulesFit (squares_test sizes scores observed scale)
+  rules-fit = record { fits = λ tail r m. rule-fits tail (measured (squares_test sizes scores observed scale) tail r) }
+
+-- ---- the bound
+
+quotient-most : (a b : ℕ) → a / b ≤ a
+quotient-most a b = div-le_self a b
+
+factors-most : (l : ℕ) (sizes : List ℕ) → AllByRecursion (λ f. f ≤ l) (map (λ n. l / n) sizes)
+factors-most l [] = tt
+factors-most l (n ∷ sizes) = (quotient-most l n, factors-most l sizes)
+
+-- sums that are no greater than all scores
+pub squares-bounded : (sizes : List ℕ) (scores : List ℤ) (scale : ℕ) (p : List ℤ) → sizes_of p ≤ absolute_sum scores → factored_squares p (size_factors sizes) ≤ common_multiple sizes * (max (absolute_sum scores) scale * max (absolute_sum scores) scale)
+squares-bounded sizes scores scale p h =
+    let part : sizes_of p ≤ max (absolute_sum scores) scale = omega (arith, h) in
+    omega (arith, squares-most p (size_factors sizes) (common_multiple sizes) (factors-most (common_multiple sizes) sizes), mul-le-mul (same (common_multiple sizes)) (mul-le-mul part part))
+  where
+    same : (n : ℕ) → n ≤ n
+    same n = omega arith
+
+pub multiple-some : (sizes : List ℕ) → All (λ size. 0 < size) sizes → 1 ≤ common_multiple sizes
+multiple-some sizes some = omega (arith, (common_multiple-all sizes (recursion_from_All (λ n. 0 < n) sizes some)).some)
+
+-- of several groups
+pub measured_at : (samples : ScoredGroups) (tail : Tail) (r : List ℕ) → measured (kruskal_wallis_test samples) tail r ≡ squares_statistic (group_sizes samples.groups) (pooled_scores samples) r
+measured_at samples = measured-is (group_sizes samples.groups) (pooled_scores samples) (labels_of (pooled samples.groups)) (scale_of samples.kind (pooled_values samples.groups))
+
+pub total-of : (samples : ScoredGroups) → total (kruskal_wallis_test samples) ≡ number_of_labellings (group_sizes samples.groups)
+total-of samples = total-is (group_sizes samples.groups) (pooled_scores samples) (labels_of (pooled samples.groups)) (scale_of samples.kind (pooled_values samples.groups))
+
+pub rules_fit : (samples : ScoredGroups) → RulesFit (kruskal_wallis_test samples)
+rules_fit samples = rules-fit (group_sizes samples.groups) (pooled_scores samples) (labels_of (pooled samples.groups)) (scale_of samples.kind (pooled_values samples.groups))
+
+pub some_labelling : (samples : ScoredGroups) → 1 ≤ total (kruskal_wallis_test samples)
+some_labelling samples = total-some (group_sizes samples.groups) (pooled_scores samples) (labels_of (pooled samples.groups)) (scale_of samples.kind (pooled_values samples.groups))
+
+pub scores-long : (samples : ScoredGroups) → length (pooled_scores samples) ≡ length (pooled_values samples.groups)
+scores-long samples = length-map (pooled_values samples.groups) (score_of samples.kind (pooled_values samples.groups))
+
+-- no statistic of a labelling passes the bound
+pub statistic-within : (samples : ScoredGroups) (xs : List ℕ) → factored_squares (group_sums (length (group_sizes samples.groups)) (pooled_scores samples) xs) (size_factors (group_sizes samples.groups)) ≤ (kruskal_wallis_test samples).bound
+statistic-within samples xs = squares-bounded (group_sizes samples.groups) (pooled_scores samples) (scale_of samples.kind (pooled_values samples.groups)) (group_sums (length (group_sizes samples.groups)) (pooled_scores samples) xs) (omega (arith, sums-within (length (group_sizes samples.groups)) (pooled_scores samples) xs, sizes-are (pooled_scores samples)))
+
+-- the sum of the scores is no more than a bound that has its square
+square-most : (l s t : ℕ) → 1 ≤ l → s ≤ l * (max s t * max s t)
+square-most l s t some =
+    let part : s ≤ max s t = omega arith in
+    let square : max s t * max s t ≤ l * (max s t * max s t) = (let one : 1 * (max s t * max s t) ≤ l * (max s t * max s t) = mul-le-mul some (same (max s t * max s t)) in omega (arith, one)) in
+    omega (arith, part, square, own (max s t))
+  where
+    same : (n : ℕ) → n ≤ n
+    same n = omega arith
+
+    own : (n : ℕ) → n ≤ n * n
+    own zero = omega arith
+    own (suc n) = grind arith
+
+module _ (samples : ScoredGroups) (f : AreFitting samples) where
+  multiple_some : 1 ≤ common_multiple (group_sizes samples.groups)
+  multiple_some = multiple-some (group_sizes samples.groups) f.none_empty
+
+  pub sum-fits : absolute_sum (pooled_scores samples) ≤ MAX
+  sum-fits = omega (arith, square-most (common_multiple (group_sizes samples.groups)) (absolute_sum (pooled_scores samples)) (scale_of samples.kind (pooled_values samples.groups)) multiple_some, f.bound_fits)
+
+  pub sizes-fit : sizes_of (pooled_scores samples) ≤ MAX
+  sizes-fit = omega (arith, sum-fits, sizes-are (pooled_scores samples))
+
+  pub bounded : total (kruskal_wallis_test samples) ≤ MAX
+  bounded = omega (arith, total-of samples, f.total_fits)
+
+  columns-level : length (column_scores samples.kind (pooled_values samples.groups)) ≡ length (column_sizes (pooled_values samples.groups))
+  columns-level =
+      length-map (tie_groups (pooled_values samples.groups)) (λ (t : Tie). score_of samples.kind (pooled_values samples.groups) t.value)
+      ∙ sym (length-map (tie_groups (pooled_values samples.groups)) (λ (t : Tie). t.count))
+
+  column-subjects : subjects (column_scores samples.kind (pooled_values samples.groups)) (column_sizes (pooled_values samples.groups)) ≡ pooled_scores samples
+  column-subjects = grouped (score_of samples.kind (pooled_values samples.groups)) (pooled_values samples.groups) (pooled-rises samples.groups)
+
+  column-total : sizes_of (subjects (column_scores samples.kind (pooled_values samples.groups)) (column_sizes (pooled_values samples.groups))) ≡ absolute_sum (pooled_scores samples)
+  column-total = ap sizes_of column-subjects ∙ sizes-are (pooled_scores samples)
+
+  pub is-squaring : (tail : Tail) (rule : Rule) → rule ≡ rule_of (kruskal_wallis_test samples) tail → IsSquaring (size_factors (group_sizes samples.groups)) (kruskal_wallis_test samples).bound (column_scores samples.kind (pooled_values samples.groups)) (column_sizes (pooled_values samples.groups)) (group_sizes samples.groups) rule
+  is-squaring tail rule e = record {
+    long = columns-level;
+    level = columns-sum samples.groups ∙ sym f.whole;
+    few = omega (arith, f.whole, f.few);
+    few_rows = f.few_rows;
+    one_each = length-map (group_sizes samples.groups) (λ n. common_multiple (group_sizes samples.groups) / n);
+    sums_fit = omega (arith, column-total, sum-fits);
+    bound_fits = f.bound_fits;
+    bounded = λ p h. squares-bounded (group_sizes samples.groups) (pooled_scores samples) (scale_of samples.kind (pooled_values samples.groups)) p (omega (arith, h, column-total));
+    rule_fits = λ v. subst (λ x. RuleFits x v) (sym e) (rule-fits (group_sizes samples.groups) (pooled_scores samples) (labels_of (pooled samples.groups)) (scale_of samples.kind (pooled_values samples.groups)) tail v);
+  }
+
+  pub follows : (tail : Tail) → Follows (kruskal_wallis_test samples) tail (kruskal_wallis_network samples tail)
+  follows tail =
+      label_follows (kruskal_wallis_meaning samples tail) (squares_measure (size_factors (group_sizes samples.groups)) (kruskal_wallis_test samples).bound (column_scores samples.kind (pooled_values samples.groups)) (column_sizes (pooled_values samples.groups)) (group_sizes samples.groups) tail (rule_of (kruskal_wallis_test samples) tail) (is-squaring tail (rule_of (kruskal_wallis_test samples) tail) refl)) (kruskal_wallis_test samples) tail (record {
+        tail_is = refl;
+        rule_is = refl;
+        reference = refl;
+        alike = λ xs. refl;
+        values = λ xs m.
+            measured_at samples tail xs ∙ ap (λ s. squares_statistic (group_sizes samples.groups) s xs) (sym column-subjects)
+            ∙ sym (value-is (size_factors (group_sizes samples.groups)) (kruskal_wallis_test samples).bound (column_scores samples.kind (pooled_values samples.groups)) (column_sizes (pooled_values samples.groups)) (group_sizes samples.groups) tail (rule_of (kruskal_wallis_test samples) tail) columns-level xs);
+      })
+
+  pub not-wide : too_wide (kruskal_wallis_test samples) ≡ None
+  not-wide = rw (le-ltb MAX (total (kruskal_wallis_test samples)) bounded, le-ltb MAX (kruskal_wallis_test samples).bound f.bound_fits) refl
+
+-- ---- of the groups of a file
+
+pub fitting : (kind : ScoreKind) (groups : Groups) → number_of_labellings groups.sizes ≤ MAX → (kruskal_wallis_test (record { kind = kind; groups = data_of groups })).bound ≤ MAX → AreFitting (record { kind = kind; groups = data_of groups })
+fitting kind groups total bound = record {
+  some = some_rows groups;
+  few_rows = few_rows groups;
+  none_empty = none-empty groups;
+  whole = sizes-whole groups;
+  few = few_subjects groups;
+  total_fits = subst (λ sizes. number_of_labellings sizes ≤ MAX) groups.counted total;
+  bound_fits = bound;
+}
+
+pub scale-fits : (samples : ScoredGroups) → AreFitting samples → scale_of samples.kind (pooled_values samples.groups) * scale_of samples.kind (pooled_values samples.groups) ≤ MAX
+scale-fits samples f =
+    let part : scale_of samples.kind (pooled_values samples.groups) ≤ max (absolute_sum (pooled_scores samples)) (scale_of samples.kind (pooled_values samples.groups)) = omega arith in
+    let whole = mul-le-mul (multiple-some (group_sizes samples.groups) f.none_empty) (mul-le-mul part part) in
+    omega (arith, whole, f.bound_fits)
+
+-- what is said of the test
+pub framed : (samples : ScoredGroups) (v : ℤ) (scale t : ℕ) (two : Rule) → v ≡ squares_statistic (group_sizes samples.groups) (pooled_scores samples) (labels_of (pooled samples.groups)) → scale ≡ (kruskal_wallis_test samples).scale → t ≡ number_of_labellings (group_sizes samples.groups) → two ≡ Far 0 (pos 0) (distance 0 (pos 0) v)
+    → IsFrameOf (kruskal_wallis_test samples) (record { statistic = v; scale = scale; total = t; two = two })
+framed samples v scale t two e f g h = record {
+  statistic = e;
+  scale = f;
+  total = g ∙ sym (total-of samples);
+  two = h ∙ rw e refl;
+}
+
+-- ---- refusals
+
+-- a sum of scores that passes the limit
+pub scores-wide : (kind : ScoreKind) (groups : Groups) → MAX < score_sum kind (pooled_values (data_of groups)) → MAX < (kruskal_wallis_test (record { kind = kind; groups = data_of groups })).bound
+scores-wide kind groups wide = omega (arith, wide, square-most (common_multiple (group_sizes (data_of groups))) (score_sum kind (pooled_values (data_of groups))) (scale_of kind (pooled_values (data_of groups))) (multiple-some (group_sizes (data_of groups)) (none-empty groups)))
+
+-- or a common multiple
+pub multiple-wide : (kind : ScoreKind) (groups : Groups) → MAX < common_multiple (group_sizes (data_of groups)) → MAX < (kruskal_wallis_test (record { kind = kind; groups = data_of groups })).bound
+multiple-wide kind groups wide =
+    let most : ℕ = max (score_sum kind (pooled_values (data_of groups))) (scale_of kind (pooled_values (data_of groups))) in
+    let some : 1 ≤ most = omega (arith, scale-some kind (pooled_values (data_of groups))) in
+    let square : 1 ≤ most * most = (let one : 1 * 1 ≤ most * most = mul-le-mul some some in omega (arith, one)) in
+    let whole : common_multiple (group_sizes (data_of groups)) * 1 ≤ common_multiple (group_sizes (data_of groups)) * (most * most) = mul-le-mul (same (common_multiple (group_sizes (data_of groups)))) square in
+    omega (arith, wide, whole)
+  where
+    same : (n : ℕ) → n ≤ n
+    same n = omega arith
+
+pub scores-refused : (kind : ScoreKind) (groups : Groups) (e : PrepareFault) → IsScoredBy kind (pooled_values (data_of groups)) (Err e) → IsMadeOf (record { kind = kind; groups = data_of groups }) (Err e)
+scores-refused kind groups (TooWide Total) is = is
+scores-refused kind groups (TooWide Statistic) is = scores-wide kind groups is
+scores-refused kind groups NoMemory is = tt
+
+pub refused : (samples : ScoredGroups) (e : PrepareFault) → number_of_labellings (group_sizes samples.groups) ≤ MAX → IsMadeOf samples (Err e) → Prepares kruskal_wallis_test samples (Err e)
+refused samples (TooWide Total) fits is = absurd is
+refused samples (TooWide Statistic) fits is = rw (le-ltb MAX (total (kruskal_wallis_test samples)) (omega (arith, fits, total-of samples)), lt-ltb MAX (kruskal_wallis_test samples).bound is) refl
+refused samples NoMemory fits is = tt
+
+pub total-wide : (samples : ScoredGroups) → (number_of_labellings (group_sizes samples.groups) ≤ MAX → ⊥) → too_wide (kruskal_wallis_test samples) ≡ Some Total
+total-wide samples wide = rw (lt-ltb MAX (total (kruskal_wallis_test samples)) (omega (arith, past-limit (number_of_labellings (group_sizes samples.groups)) wide, total-of samples))) refl

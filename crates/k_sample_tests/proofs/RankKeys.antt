@@ -1,0 +1,131 @@
+-- What the measure of squared sums knows at each of its keys.
+use Rattle.std.proofs.Common.{◌≡◌, ℕ, zero, suc, ◌+◌, ◌-◌, ◌*◌, ◌<◌, ◌≤◌, ◌⊎◌, List, [], ◌∷◌, ◌++◌, length, take, drop, get_or, map, refl, sym, ◌∙◌, ap, subst, arith, inl, inr, length-append}
+use Rattle.std.specs.Prelude.{ℤ, pos, unsigned_abs, slice_index}
+use Rattle.std.specs.List.{sum, Contains}
+use Rattle.std.proofs.Math.Nat.{mul-le-mul_right}
+use Rattle.std.proofs.lemmas.Bool.{cases_lt}
+use Rattle.std.proofs.lemmas.Int.{unsigned_abs-mul}
+use Rattle.std.proofs.Math.Seq.{drop-append_seam, take-append_seam}
+use Rattle.std.proofs.lemmas.List.{length-map}
+use Rattle.std.proofs.lemmas.List.Sums.{sum_by-take-drop}
+use Rattle.weights.specs.declared.TheConstants.{MAX}
+use Rattle.weights.specs.declared.tails.Tail.{Tail}
+use Rattle.weights.specs.declared.rules.Rule.{Rule}
+use Rattle.weights.proofs.ChoiceLists.{IsChoice}
+use Rattle.label_network.specs.LabelSteps.{AreSizes}
+use Rattle.label_network.specs.LaterSums.{absolute_sum, greatest_sum, later_scores, least_sum}
+use Rattle.label_network.specs.LaterTables.{IsTabled}
+use Rattle.label_network.specs.Linear.{score_of}
+use Rattle.label_network.specs.Meanings.{IsPlace, allowed, sizes_in}
+use Rattle.label_network.proofs.Absolute.{greatest-size, least-size}
+use Rattle.label_network.proofs.Enough.{group-enough}
+use Rattle.label_network.proofs.Later.{fits-length, later-length}
+use Rattle.label_network.proofs.LinearKeys.{reached-stage}
+use Rattle.label_network.proofs.Narrowing.{IsLeft, chosen}
+use Rattle.label_network.proofs.Rows.{length-abs}
+use Rattle.label_network.proofs.Sizes.{sizes-of_pos}
+use Rattle.k_sample_tests.specs.RankSums.{greatest_parts, least_parts, score_parts, squares_meaning}
+use Rattle.k_sample_tests.specs.RankSumSteps.{AreAddable, AreRankSums, AreTabled}
+use Rattle.k_sample_tests.proofs.PairFits.{at-within}
+use Rattle.k_sample_tests.proofs.RankNarrows.{IsPartial, column-size, reached_left, reached_partial}
+
+size-within : (p : List ℤ) (i : ℕ) → unsigned_abs (get_or p i (pos 0)) ≤ absolute_sum p
+size-within [] i = omega arith
+size-within (a ∷ p) zero = omega arith
+size-within (a ∷ p) (suc i) = omega (arith, size-within p i)
+
+parts-within : (f : ℕ → ℤ) (n : ℕ) → ((m : ℕ) → unsigned_abs (f m) ≤ n) → (r : List ℕ) (i : ℕ) → unsigned_abs (get_or (map f r) i (pos 0)) ≤ n
+parts-within f n each [] i = omega arith
+parts-within f n each (m ∷ r) zero = each m
+parts-within f n each (m ∷ r) (suc i) = parts-within f n each r i
+
+pub counts-within : (v : ℤ) (x : List ℕ) (i : ℕ) → unsigned_abs (get_or (score_parts v x) i (pos 0)) ≤ sum x * unsigned_abs v
+counts-within v x i = by x i (sum x) (at-within x)
+  where
+    by : (x : List ℕ) (i n : ℕ) → ((j : ℕ) → get_or x j 0 ≤ n) → unsigned_abs (get_or (score_parts v x) i (pos 0)) ≤ n * unsigned_abs v
+    by [] i n h = omega arith
+    by (k ∷ x) zero n h = rw (unsigned_abs-mul (pos k) v) (mul-le-mul_right (unsigned_abs v) (h 0))
+    by (k ∷ x) (suc i) n h = by x i n (λ j. h (suc j))
+
+module _ (factors : List ℕ) (bound : ℕ) (scores : List ℤ) (columns rows : List ℕ) (rule : Rule) (width : ℕ) (tail : Tail) (h : AreRankSums factors bound scores columns rows rule width) where
+  module _ (g : ℕ) (f p : List ℤ) (a : IsPlace (squares_meaning factors bound scores columns rows tail rule) g f p) where
+    pub left : IsLeft (squares_meaning factors bound scores columns rows tail rule) g (sizes_in f)
+    left = reached_left factors bound scores columns rows tail rule h.squaring g (sizes_in f) p a.reached
+
+    pub partial_is : IsPartial scores columns rows g (sizes_in f) p
+    partial_is = reached_partial factors bound scores columns rows tail rule h.squaring g (sizes_in f) p a.reached
+
+    pub within-stages : g ≤ length columns
+    within-stages = reached-stage (squares_meaning factors bound scores columns rows tail rule) g (sizes_in f) p a.reached
+
+    pub long : length f ≡ length rows
+    long = sym (length-abs f) ∙ fits-length (sizes_in f) rows left.within
+
+    few : sum (sizes_in f) ≤ 10000
+    few = omega (arith, left.whole, h.squaring.level, h.squaring.few, sum_by-take-drop (λ v. v) columns g)
+
+    pub sizes : AreSizes f
+    sizes = sizes-of_pos (sizes_in f) (omega (arith, few)) f a.whole
+
+    pub whole : sum (sizes_in f) ≡ length (later_scores scores columns g)
+    whole = sym left.whole ∙ sym (later-length scores columns g h.squaring.long)
+
+    enough : (i : ℕ) → (get_or rows i 0 ≤ width - 1) ⊎ (sum rows ≤ (width - 1) + get_or rows i 0)
+    enough i = elim (cases_lt (width - 1) (get_or rows i 0)) [
+      | inl many ↦ inr (h.enough.each i many)
+      | inr few ↦ inl few
+    ]
+
+    pub are-tabled : 1 ≤ width → AreTabled width (later_scores scores columns g) (sizes_in f)
+    are-tabled some =
+        let back : (width - 1) + 1 ≡ width = omega (arith, some) in
+        record {
+          few = λ i. omega (arith, whole, at-within (sizes_in f) i);
+          held = λ i. subst (λ n. IsTabled n (get_or (sizes_in f) i 0) (later_scores scores columns g)) back
+              (group-enough (width - 1) rows (sizes_in f) (later_scores scores columns g) i (enough i) left.within whole);
+        }
+
+    pub least-addable : AreAddable p (least_parts (later_scores scores columns g) (sizes_in f))
+    least-addable = record { each = λ i l. omega (arith, size-within p i, parts-within (λ n. least_sum n (later_scores scores columns g)) (absolute_sum (later_scores scores columns g)) (λ n. least-size n (later_scores scores columns g)) (sizes_in f) i, partial_is.small, h.squaring.sums_fit) }
+
+    pub greatest-addable : AreAddable p (greatest_parts (later_scores scores columns g) (sizes_in f))
+    greatest-addable = record { each = λ i l. omega (arith, size-within p i, parts-within (λ n. greatest_sum n (later_scores scores columns g)) (absolute_sum (later_scores scores columns g)) (λ n. greatest-size n (later_scores scores columns g)) (sizes_in f) i, partial_is.small, h.squaring.sums_fit) }
+
+    pub as-many : length (sizes_in f) ≡ length p
+    as-many = fits-length (sizes_in f) rows left.within ∙ sym partial_is.wide
+
+    pub least-long : length (least_parts (later_scores scores columns g) (sizes_in f)) ≡ length p
+    least-long = length-map (sizes_in f) (λ n. least_sum n (later_scores scores columns g)) ∙ as-many
+
+    pub greatest-long : length (greatest_parts (later_scores scores columns g) (sizes_in f)) ≡ length p
+    greatest-long = length-map (sizes_in f) (λ n. greatest_sum n (later_scores scores columns g)) ∙ as-many
+
+    -- both halves of the outlook
+    module _ (outlook : List ℤ) (e : outlook ≡ least_parts (later_scores scores columns g) (sizes_in f) ++ greatest_parts (later_scores scores columns g) (sizes_in f)) where
+      pub outlook-long : length outlook ≡ length p + length p
+      outlook-long = ap length e ∙ length-append (least_parts (later_scores scores columns g) (sizes_in f)) (greatest_parts (later_scores scores columns g) (sizes_in f)) ∙ rw (least-long, greatest-long) refl
+
+      pub front-is : take (length p) outlook ≡ least_parts (later_scores scores columns g) (sizes_in f)
+      front-is = rw (e, ← least-long) (take-append_seam (least_parts (later_scores scores columns g) (sizes_in f)) (greatest_parts (later_scores scores columns g) (sizes_in f)))
+
+      pub back-is : drop (length p) outlook ≡ greatest_parts (later_scores scores columns g) (sizes_in f)
+      back-is = rw (e, ← least-long) (drop-append_seam (least_parts (later_scores scores columns g) (sizes_in f)) (greatest_parts (later_scores scores columns g) (sizes_in f)))
+
+    -- a choice there
+    module _ (before : g < length columns) (x : List ℕ) (o : Contains (allowed (squares_meaning factors bound scores columns rows tail rule) g (sizes_in f)) x) where
+      pub choice : IsChoice (slice_index columns g) (sizes_in f) x
+      choice = chosen (slice_index columns g) (sizes_in f) x o
+
+      pub choice-long : length x ≡ length rows
+      choice-long = choice.long ∙ fits-length (sizes_in f) rows left.within
+
+      column-fits : sum x * unsigned_abs (score_of scores g) + absolute_sum (later_scores scores columns (g + 1)) ≡ absolute_sum (later_scores scores columns g)
+      column-fits =
+          ap (λ n. n * unsigned_abs (score_of scores g) + absolute_sum (later_scores scores columns (g + 1))) choice.whole
+          ∙ sym (column-size factors bound scores columns rows tail rule h.squaring g (sizes_in f) x p before left choice partial_is)
+
+      pub parts-fit : sum x * unsigned_abs (score_of scores g) ≤ MAX
+      parts-fit = omega (arith, column-fits, partial_is.small, h.squaring.sums_fit)
+
+      pub parts-addable : AreAddable p (score_parts (score_of scores g) x)
+      parts-addable = record { each = λ i l. omega (arith, size-within p i, counts-within (score_of scores g) x i, column-fits, partial_is.small, h.squaring.sums_fit) }

@@ -1,0 +1,31 @@
+-- Sums that are written place by place.
+use Rattle.std.proofs.Common.{◌≡◌, ℕ, zero, suc, ◌+◌, ◌<◌, ◌≤◌, List, [], ◌∷◌, length, map, min, take, get_or, refl, ◌∙◌, ap, arith}
+use Rattle.std.specs.Prelude.{ℤ, pos, ◌+ℤ◌}
+use Rattle.std.proofs.lemmas.List.{get_or-map, length-take}
+use Rattle.std.proofs.lemmas.List.FromFn.{get_or-range_with_len}
+use Rattle.weights.specs.Labellings.{labels}
+use Rattle.k_sample_tests.specs.KruskalWallis.{group_sum, group_sums}
+use Rattle.k_sample_tests.specs.RankSums.{plus_each}
+use Rattle.k_sample_tests.proofs.RankValues.{length-labels}
+
+pub plus-at : (p a : List ℤ) (i : ℕ) → length a ≡ length p → i < length p → get_or (plus_each p a) i (pos 0) ≡ get_or p i (pos 0) +ℤ get_or a i (pos 0)
+plus-at [] a i l h = absurd (omega (arith, h))
+plus-at (p ∷ ps) [] i l h = absurd (omega (arith, l))
+plus-at (p ∷ ps) (a ∷ rest) zero l h = refl
+plus-at (p ∷ ps) (a ∷ rest) (suc i) l h = plus-at ps rest i (omega (arith, l)) (omega (arith, h))
+
+pub part-at : (f : ℕ → ℤ) (xs : List ℕ) (i : ℕ) → i < length xs → get_or (map f xs) i (pos 0) ≡ f (get_or xs i 0)
+part-at f xs i h = get_or-map f xs i 0 (pos 0) h
+
+pub sum-at : (k i : ℕ) (scores : List ℤ) (xs : List ℕ) → i < k → get_or (group_sums k scores xs) i (pos 0) ≡ group_sum i scores xs
+sum-at k i scores xs h = part-at (λ i. group_sum i scores xs) (labels k) i (omega (arith, h, length-labels k)) ∙ ap (λ j. group_sum j scores xs) (get_or-range_with_len 0 k i 0 h ∙ none i)
+  where
+    none : (i : ℕ) → 0 + i ≡ i
+    none i = omega arith
+
+-- the front of eight sums
+pub sums-room : (n : ℕ) → n ≤ 8 → length {A = ℤ} (take n (pos 0 ∷ pos 0 ∷ pos 0 ∷ pos 0 ∷ pos 0 ∷ pos 0 ∷ pos 0 ∷ pos 0 ∷ [])) ≡ n
+sums-room n h = length-take n (pos 0 ∷ pos 0 ∷ pos 0 ∷ pos 0 ∷ pos 0 ∷ pos 0 ∷ pos 0 ∷ pos 0 ∷ []) ∙ within n h
+  where
+    within : (n : ℕ) → n ≤ 8 → min n 8 ≡ n
+    within n h = omega (arith, h)

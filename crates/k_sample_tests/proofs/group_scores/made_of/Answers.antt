@@ -1,0 +1,129 @@
+use Rattle.std.proofs.Common.{◌≡◌, ◌≤◌, ◌*◌, ◌∙◌, Err, max, ap, subst, arith, refl, rules, FitsSigned}
+use mir.Syntax.{w128}
+use Rattle.std.proofs.lemmas.Int.{to_z-of_z}
+use Rattle.std.proofs.lemmas.Result.{err_from_is_err_and}
+use Rattle.weights.specs.Labellings.{number_of_labellings}
+use Rattle.weights.specs.declared.TheConstants.{MAX}
+use Rattle.midranks.specs.Ties.{tie_groups}
+use Rattle.scores.specs.PlaceScores.{common_multiple}
+use Rattle.scores.specs.Scores.{AreScores, scale_of, score_of, score_sum}
+use Rattle.sample_reader.specs.Data.{data_of}
+use Rattle.sample_reader.specs.Groups.{group_sizes}
+use Rattle.sample_reader.specs.PooledSample.{labels_of, pooled, values_of}
+use Rattle.pooled_columns.specs.ColumnSteps.{first_scores}
+use Rattle.pooled_columns.specs.PooledColumns.{column_sizes, pooled_values}
+use Rattle.pooled_columns.proofs.PooledValues.{pooled-rises}
+use Rattle.pooled_columns.proofs.TieColumns.{first_scores-are}
+use Rattle.k_sample_tests.specs.KruskalWallis.{ScoredGroups, kruskal_wallis_test, size_factors}
+use Rattle.k_sample_tests.specs.RankSumSteps.{AreFitting, IsScoredBy}
+use Rattle.k_sample_tests.proofs.FittingKruskalWallis.{fitting, framed, multiple-some, multiple-wide, scale-fits, scores-refused, sizes-fit, statistic-within}
+use Rattle.k_sample_tests.proofs.FittingUmbrella.{past-limit}
+use Rattle.k_sample_tests.proofs.GroupFacts.{few_subjects, labels-small, none-empty}
+use Rattle.k_sample_tests.proofs.group_scores.made_of.Goals as goal
+
+pub labels_in-requires : goal.labels_in-requires
+labels_in-requires c = rw (c.deref-2.ensures.value ∙ c.in_ok-pooled.ensures) (labels-small c.args.groups.now)
+
+pub scored_values-requires : goal.scored_values-requires
+scored_values-requires c =
+    let values : c.as_slice.result.now ≡ pooled_values (data_of c.args.groups.now) = c.as_slice.ensures ∙ c.in_ok-values.ensures ∙ ap values_of (c.deref.ensures.value ∙ c.in_ok-pooled.ensures) in
+    rw values (few_subjects c.args.groups.now)
+
+pub returns-in_err-scored : goal.returns-in_err-scored
+returns-in_err-scored c =
+    let values : c.as_slice.result.now ≡ pooled_values (data_of c.args.groups.now) = c.as_slice.ensures ∙ c.in_ok-values.ensures ∙ ap values_of (c.deref.ensures.value ∙ c.in_ok-pooled.ensures) in
+    let p = err_from_is_err_and c.from_residual-in_err-scored.result c.from_residual-in_err-scored.ensures.1 in
+    rw (p.1, p.2) (scores-refused c.args.kind c.args.groups.now c.in_err-scored.field-0.0 (subst (λ vs. IsScoredBy c.args.kind vs (Err c.in_err-scored.field-0.0)) values c.in_err-scored.ensures))
+
+pub returns-in_default : goal.returns-in_default
+returns-in_default c =
+    let sizes : c.as_slice-2.result.now ≡ group_sizes (data_of c.args.groups.now) = c.as_slice-2.ensures ∙ c.in_ok-sizes.ensures ∙ c.args.groups.now.counted in
+    let none = rw sizes at c.in_default.ensures in
+    multiple-wide c.args.kind c.args.groups.now (past-limit (common_multiple (group_sizes (data_of c.args.groups.now))) none)
+
+pub times_square-requires : goal.times_square-requires
+times_square-requires c =
+    let sizes : c.as_slice-2.result.now ≡ group_sizes (data_of c.args.groups.now) = c.as_slice-2.ensures ∙ c.in_ok-sizes.ensures ∙ c.args.groups.now.counted in
+    rw (c.in-Some.ensures.1, sizes) (multiple-some (group_sizes (data_of c.args.groups.now)) (none-empty c.args.groups.now))
+
+pub squares_statistic-statistic-requires-clause-few_rows : goal.squares_statistic-statistic-requires-clause-few_rows
+squares_statistic-statistic-requires-clause-few_rows c =
+    let samples : ScoredGroups = record { kind = c.args.kind; groups = data_of c.args.groups.now } in
+    let values : c.as_slice.result.now ≡ pooled_values samples.groups = c.as_slice.ensures ∙ c.in_ok-values.ensures ∙ ap values_of (c.deref.ensures.value ∙ c.in_ok-pooled.ensures) in
+    let are : AreScores c.args.kind (pooled_values samples.groups) c.in_ok-scored.scored = subst (λ vs. AreScores c.args.kind vs c.in_ok-scored.scored) values c.in_ok-scored.ensures in
+    let multiple : c.in-Some.multiple ≡ common_multiple (group_sizes samples.groups) = c.in-Some.ensures.1 ∙ ap common_multiple (c.as_slice-2.ensures ∙ c.in_ok-sizes.ensures ∙ c.args.groups.now.counted) in
+    let most : c.max.result ≡ max (score_sum c.args.kind (pooled_values samples.groups)) (scale_of c.args.kind (pooled_values samples.groups)) = c.max.ensures ∙ rw (are.sum, are.scale) refl in
+    let bound : c.in-Some-times_square.bound ≡ (kruskal_wallis_test samples).bound = c.in-Some-times_square.ensures.1 ∙ rw (multiple, most) refl in
+    let factors : c.in_ok-factors.factors.items ≡ size_factors (group_sizes samples.groups) = c.in_ok-factors.ensures ∙ ap size_factors (c.as_slice-3.ensures ∙ c.in_ok-sizes.ensures ∙ c.args.groups.now.counted) in
+    let small : c.in-Some-times_square.bound ≤ MAX = rw c.in-Some-times_square.ensures.1 c.in-Some-times_square.ensures.0 in
+    let fit : AreFitting samples = fitting c.args.kind c.args.groups.now (omega (arith, c.requires.total, c.requires.fits)) (subst (λ n. n ≤ MAX) bound small) in
+    rw (c.as_slice-8.ensures ∙ c.in_ok-sizes.ensures ∙ c.args.groups.now.counted) fit.few_rows
+
+pub squares_statistic-statistic-requires-clause-sums_fit : goal.squares_statistic-statistic-requires-clause-sums_fit
+squares_statistic-statistic-requires-clause-sums_fit c =
+    let samples : ScoredGroups = record { kind = c.args.kind; groups = data_of c.args.groups.now } in
+    let values : c.as_slice.result.now ≡ pooled_values samples.groups = c.as_slice.ensures ∙ c.in_ok-values.ensures ∙ ap values_of (c.deref.ensures.value ∙ c.in_ok-pooled.ensures) in
+    let are : AreScores c.args.kind (pooled_values samples.groups) c.in_ok-scored.scored = subst (λ vs. AreScores c.args.kind vs c.in_ok-scored.scored) values c.in_ok-scored.ensures in
+    let multiple : c.in-Some.multiple ≡ common_multiple (group_sizes samples.groups) = c.in-Some.ensures.1 ∙ ap common_multiple (c.as_slice-2.ensures ∙ c.in_ok-sizes.ensures ∙ c.args.groups.now.counted) in
+    let most : c.max.result ≡ max (score_sum c.args.kind (pooled_values samples.groups)) (scale_of c.args.kind (pooled_values samples.groups)) = c.max.ensures ∙ rw (are.sum, are.scale) refl in
+    let bound : c.in-Some-times_square.bound ≡ (kruskal_wallis_test samples).bound = c.in-Some-times_square.ensures.1 ∙ rw (multiple, most) refl in
+    let factors : c.in_ok-factors.factors.items ≡ size_factors (group_sizes samples.groups) = c.in_ok-factors.ensures ∙ ap size_factors (c.as_slice-3.ensures ∙ c.in_ok-sizes.ensures ∙ c.args.groups.now.counted) in
+    let small : c.in-Some-times_square.bound ≤ MAX = rw c.in-Some-times_square.ensures.1 c.in-Some-times_square.ensures.0 in
+    let fit : AreFitting samples = fitting c.args.kind c.args.groups.now (omega (arith, c.requires.total, c.requires.fits)) (subst (λ n. n ≤ MAX) bound small) in
+    rw (c.as_slice-6.ensures ∙ are.list) (sizes-fit samples fit)
+
+pub squares_statistic-statistic-requires-clause-within : goal.squares_statistic-statistic-requires-clause-within
+squares_statistic-statistic-requires-clause-within c =
+    let samples : ScoredGroups = record { kind = c.args.kind; groups = data_of c.args.groups.now } in
+    let values : c.as_slice.result.now ≡ pooled_values samples.groups = c.as_slice.ensures ∙ c.in_ok-values.ensures ∙ ap values_of (c.deref.ensures.value ∙ c.in_ok-pooled.ensures) in
+    let are : AreScores c.args.kind (pooled_values samples.groups) c.in_ok-scored.scored = subst (λ vs. AreScores c.args.kind vs c.in_ok-scored.scored) values c.in_ok-scored.ensures in
+    let multiple : c.in-Some.multiple ≡ common_multiple (group_sizes samples.groups) = c.in-Some.ensures.1 ∙ ap common_multiple (c.as_slice-2.ensures ∙ c.in_ok-sizes.ensures ∙ c.args.groups.now.counted) in
+    let most : c.max.result ≡ max (score_sum c.args.kind (pooled_values samples.groups)) (scale_of c.args.kind (pooled_values samples.groups)) = c.max.ensures ∙ rw (are.sum, are.scale) refl in
+    let bound : c.in-Some-times_square.bound ≡ (kruskal_wallis_test samples).bound = c.in-Some-times_square.ensures.1 ∙ rw (multiple, most) refl in
+    let factors : c.in_ok-factors.factors.items ≡ size_factors (group_sizes samples.groups) = c.in_ok-factors.ensures ∙ ap size_factors (c.as_slice-3.ensures ∙ c.in_ok-sizes.ensures ∙ c.args.groups.now.counted) in
+    let small : c.in-Some-times_square.bound ≤ MAX = rw c.in-Some-times_square.ensures.1 c.in-Some-times_square.ensures.0 in
+    let fit : AreFitting samples = fitting c.args.kind c.args.groups.now (omega (arith, c.requires.total, c.requires.fits)) (subst (λ n. n ≤ MAX) bound small) in
+    rw (c.as_slice-8.ensures ∙ c.in_ok-sizes.ensures ∙ c.args.groups.now.counted, c.as_slice-6.ensures ∙ are.list, c.as_slice-9.ensures.value ∙ factors, bound) (statistic-within samples c.as_slice-7.result.now)
+
+pub overflow_mul-frame : goal.overflow_mul-frame
+overflow_mul-frame c =
+    let samples : ScoredGroups = record { kind = c.args.kind; groups = data_of c.args.groups.now } in
+    let values : c.as_slice.result.now ≡ pooled_values samples.groups = c.as_slice.ensures ∙ c.in_ok-values.ensures ∙ ap values_of (c.deref.ensures.value ∙ c.in_ok-pooled.ensures) in
+    let are : AreScores c.args.kind (pooled_values samples.groups) c.in_ok-scored.scored = subst (λ vs. AreScores c.args.kind vs c.in_ok-scored.scored) values c.in_ok-scored.ensures in
+    let multiple : c.in-Some.multiple ≡ common_multiple (group_sizes samples.groups) = c.in-Some.ensures.1 ∙ ap common_multiple (c.as_slice-2.ensures ∙ c.in_ok-sizes.ensures ∙ c.args.groups.now.counted) in
+    let most : c.max.result ≡ max (score_sum c.args.kind (pooled_values samples.groups)) (scale_of c.args.kind (pooled_values samples.groups)) = c.max.ensures ∙ rw (are.sum, are.scale) refl in
+    let bound : c.in-Some-times_square.bound ≡ (kruskal_wallis_test samples).bound = c.in-Some-times_square.ensures.1 ∙ rw (multiple, most) refl in
+    let factors : c.in_ok-factors.factors.items ≡ size_factors (group_sizes samples.groups) = c.in_ok-factors.ensures ∙ ap size_factors (c.as_slice-3.ensures ∙ c.in_ok-sizes.ensures ∙ c.args.groups.now.counted) in
+    let small : c.in-Some-times_square.bound ≤ MAX = rw c.in-Some-times_square.ensures.1 c.in-Some-times_square.ensures.0 in
+    let fit : AreFitting samples = fitting c.args.kind c.args.groups.now (omega (arith, c.requires.total, c.requires.fits)) (subst (λ n. n ≤ MAX) bound small) in
+    let square : c.in_ok-scored.scored.scale * c.in_ok-scored.scored.scale ≤ MAX = rw are.scale (scale-fits samples fit) in
+    omega (arith, square)
+
+pub returns : goal.returns
+returns c =
+    let samples : ScoredGroups = record { kind = c.args.kind; groups = data_of c.args.groups.now } in
+    let values : c.as_slice.result.now ≡ pooled_values samples.groups = c.as_slice.ensures ∙ c.in_ok-values.ensures ∙ ap values_of (c.deref.ensures.value ∙ c.in_ok-pooled.ensures) in
+    let are : AreScores c.args.kind (pooled_values samples.groups) c.in_ok-scored.scored = subst (λ vs. AreScores c.args.kind vs c.in_ok-scored.scored) values c.in_ok-scored.ensures in
+    let multiple : c.in-Some.multiple ≡ common_multiple (group_sizes samples.groups) = c.in-Some.ensures.1 ∙ ap common_multiple (c.as_slice-2.ensures ∙ c.in_ok-sizes.ensures ∙ c.args.groups.now.counted) in
+    let most : c.max.result ≡ max (score_sum c.args.kind (pooled_values samples.groups)) (scale_of c.args.kind (pooled_values samples.groups)) = c.max.ensures ∙ rw (are.sum, are.scale) refl in
+    let bound : c.in-Some-times_square.bound ≡ (kruskal_wallis_test samples).bound = c.in-Some-times_square.ensures.1 ∙ rw (multiple, most) refl in
+    let factors : c.in_ok-factors.factors.items ≡ size_factors (group_sizes samples.groups) = c.in_ok-factors.ensures ∙ ap size_factors (c.as_slice-3.ensures ∙ c.in_ok-sizes.ensures ∙ c.args.groups.now.counted) in
+    let small : c.in-Some-times_square.bound ≤ MAX = rw c.in-Some-times_square.ensures.1 c.in-Some-times_square.ensures.0 in
+    let fit : AreFitting samples = fitting c.args.kind c.args.groups.now (omega (arith, c.requires.total, c.requires.fits)) (subst (λ n. n ≤ MAX) bound small) in
+    let v : FitsSigned w128 c.squares_statistic-statistic.result = search rules in
+    let labels : c.as_slice-7.result.now ≡ labels_of (pooled samples.groups) = c.as_slice-7.ensures ∙ c.in_ok-labels.ensures ∙ ap labels_of (c.deref-2.ensures.value ∙ c.in_ok-pooled.ensures) in
+    let held : c.as_slice-4.result.now ≡ pooled_values samples.groups = c.as_slice-4.ensures ∙ c.in_ok-values.ensures ∙ ap values_of (c.deref.ensures.value ∙ c.in_ok-pooled.ensures) in
+    let statistic = rw (c.as_slice-8.ensures ∙ c.in_ok-sizes.ensures ∙ c.args.groups.now.counted, c.as_slice-6.ensures ∙ are.list, labels) at c.squares_statistic-statistic.ensures in
+    record {
+      sizes = c.in_ok-sizes.ensures ∙ c.args.groups.now.counted;
+      factors = factors;
+      bound = bound;
+      scores = are.list;
+      column_sizes = c.in_ok-columns.ensures.sizes ∙ ap column_sizes held;
+      column_scores =
+          c.in_ok-columns.ensures.scores ∙ ap (λ vs. first_scores (tie_groups vs) c.as_slice-5.result.now) held
+          ∙ ap (first_scores (tie_groups (pooled_values samples.groups))) (c.as_slice-5.ensures ∙ are.list)
+          ∙ first_scores-are (score_of c.args.kind (pooled_values samples.groups)) (pooled_values samples.groups) (pooled-rises samples.groups);
+      frame = framed samples _ _ _ _ (to_z-of_z w128 c.squares_statistic-statistic.result v ∙ statistic) (rw (multiple, are.scale) refl) (c.requires.total ∙ ap number_of_labellings c.args.groups.now.counted) c.far.ensures;
+      fitting = fit;
+    }

@@ -1,0 +1,28 @@
+use Rattle.std.proofs.Common.{◌∙◌, refl, arith}
+use Rattle.std.proofs.lemmas.Result.{err_from_is_err_and}
+use Rattle.sample_reader.specs.Data.{data_of}
+use Rattle.k_sample_tests.specs.KruskalWallis.{ScoredGroups}
+use Rattle.k_sample_tests.proofs.FittingKruskalWallis.{not-wide, refused, total-wide}
+use Rattle.k_sample_tests.proofs.GroupFacts.{few_subjects, sizes-whole}
+use Rattle.k_sample_tests.proofs.kruskal_wallis.prepare_kw.Goals as goal
+
+pub multinomial-requires : goal.multinomial-requires
+multinomial-requires c = rw (c.as_slice.ensures ∙ c.args.groups.now.counted) (omega (arith, sizes-whole c.args.groups.now, few_subjects c.args.groups.now))
+
+pub returns-in_default : goal.returns-in_default
+returns-in_default c =
+    let samples : ScoredGroups = record { kind = c.args.kind; groups = data_of c.args.groups.now } in
+    let none = rw (c.as_slice.ensures ∙ c.args.groups.now.counted) at c.in_default.ensures in
+    total-wide samples none
+
+pub returns-in_err-made : goal.returns-in_err-made
+returns-in_err-made c =
+    let samples : ScoredGroups = record { kind = c.args.kind; groups = data_of c.args.groups.now } in
+    let total = rw (c.as_slice.ensures ∙ c.args.groups.now.counted) at c.in-Some.ensures in
+    let p = err_from_is_err_and c.from_residual.result c.from_residual.ensures.1 in
+    rw (p.1, p.2) (refused samples c.in_err-made.field-0.0 total.0 c.in_err-made.ensures)
+
+pub returns : goal.returns
+returns c =
+    let samples : ScoredGroups = record { kind = c.args.kind; groups = data_of c.args.groups.now } in
+    (rw (c.in_ok-copy.ensures, c.in_ok-copy-2.ensures, c.in_ok-copy-3.ensures) refl, not-wide samples c.in_ok-made.ensures.fitting)

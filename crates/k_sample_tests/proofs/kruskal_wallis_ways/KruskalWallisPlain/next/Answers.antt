@@ -1,0 +1,11 @@
+use Rattle.std.proofs.Common.{ℕ, List}
+use Rattle.weights.specs.Labellings.{labellings}
+use Rattle.enumerate.proofs.Walking.{StepsThrough-written}
+use Rattle.sample_reader.specs.Groups.{group_sizes}
+use Rattle.k_sample_tests.proofs.kruskal_wallis_ways.KruskalWallisPlain.next.Goals as goal
+
+pub returns : goal.returns
+returns c =
+    let sizes : List ℕ = group_sizes c.args.self.now.groups in
+    StepsThrough-written (labellings sizes) c.args.labels.now c.as_mut_slice.result.now c.next_labelling.new.labels c.next_labelling.result c.as_mut_slice.ensures.items c.next_labelling.auto.labels
+    (c.next_labelling.ensures sizes (rw c.as_mut_slice.ensures.items c.requires))

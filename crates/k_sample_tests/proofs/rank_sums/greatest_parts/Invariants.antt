@@ -1,0 +1,10 @@
+use Rattle.std.proofs.Common.{◌≡◌, take, length}
+use Rattle.label_network.specs.LaterSums.{later_scores}
+use Rattle.k_sample_tests.specs.RankSums.{greatest_parts}
+use Rattle.k_sample_tests.proofs.rank_sums.greatest_parts.Given as goal
+
+abbrev pub invariant-loop-i : goal.invariant-loop-i
+invariant-loop-i l = record {
+  long : length l.parts ≡ length l.sizes;
+  filled : take l.i l.parts ≡ take l.i (greatest_parts (later_scores l.later.scores.items l.later.columns.items l.stage) l.sizes);
+}

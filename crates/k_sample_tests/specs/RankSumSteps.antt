@@ -1,0 +1,92 @@
+-- Words for the bodies of the test of Kruskal and Wallis.
+use Rattle.std.specs.Prelude.{◌≡◌, ⊤, ℕ, ◌+◌, ◌-◌, ◌<◌, ◌≤◌, ℤ, pos, unsigned_abs, List, length, get_or, Result, Ok, Err}
+use Rattle.std.specs.List.{All, sum}
+use Rattle.weights.specs.Frames.{IsFrameOf}
+use Rattle.weights.specs.Labellings.{number_of_labellings}
+use Rattle.weights.specs.Rules.{RuleFits}
+use Rattle.weights.specs.declared.TheConstants.{MAX}
+use Rattle.weights.specs.declared.rules.Rule.{Rule}
+use Rattle.weights.specs.declared.wide.WideOf.TheVariants.{Total, Statistic}
+use Rattle.weights.specs.declared.wide.PrepareFault.{PrepareFault}
+use Rattle.weights.specs.declared.wide.PrepareFault.TheVariants.{TooWide, NoMemory}
+use Rattle.completion_bounds.specs.Boxes.{factored_squares}
+use Rattle.record_reader.specs.declared.TheConstants.{MOST_ROWS}
+use Rattle.scores.specs.Scores.{AreScores, score_sum}
+use Rattle.scores.specs.declared.kinds.ScoreKind.{ScoreKind}
+use Rattle.scores.specs.declared.kinds.Scored.{Scored}
+use Rattle.sample_reader.specs.Groups.{group_sizes}
+use Rattle.label_network.specs.LaterSums.{absolute_sum, subjects}
+use Rattle.label_network.specs.LaterTables.{IsTabled}
+use Rattle.pooled_columns.specs.PooledColumns.{column_scores, column_sizes, pooled_values}
+use Rattle.k_sample_tests.specs.KruskalWallis.{ScoredGroups, kruskal_wallis_test, pooled_scores, size_factors}
+use Rattle.k_sample_tests.specs.declared.group_scores.GroupScores.{GroupScores}
+
+-- place by place, the two sum to no more than the greatest statistic
+pub record AreAddable (partial added : List ℤ) : Type 0 where
+  pub each : (i : ℕ) → i < length partial
+      → unsigned_abs (get_or partial i (pos 0)) + unsigned_abs (get_or added i (pos 0)) ≤ MAX
+
+-- of the later scores as many are held as each of the sizes
+pub record AreTabled (width : ℕ) (later : List ℤ) (sizes : List ℕ) : Type 0 where
+  pub few : (i : ℕ) → get_or sizes i 0 ≤ length later
+  pub held : (i : ℕ) → IsTabled width (get_or sizes i 0) later
+
+-- each group, or all others together, has no more subjects than this
+pub record AreEnough (most : ℕ) (sizes : List ℕ) : Type 0 where
+  pub each : (i : ℕ) → most < get_or sizes i 0 → sum sizes ≤ most + get_or sizes i 0
+
+-- sums of scores, and of their squares, that pass no limit
+pub record IsSquaring (factors : List ℕ) (bound : ℕ) (scores : List ℤ) (columns rows : List ℕ)
+    (rule : Rule) : Type 0 where
+  pub long : length scores ≡ length columns
+  pub level : sum columns ≡ sum rows
+  pub few : sum rows ≤ MOST_ROWS
+  pub few_rows : length rows ≤ 8
+  pub one_each : length factors ≡ length rows
+  pub sums_fit : absolute_sum (subjects scores columns) ≤ MAX
+  pub bound_fits : bound ≤ MAX
+  pub bounded : (p : List ℤ) → absolute_sum p ≤ absolute_sum (subjects scores columns)
+      → factored_squares p factors ≤ bound
+  pub rule_fits : (v : ℤ) → RuleFits rule v
+
+-- what the measure keeps
+pub record AreRankSums (factors : List ℕ) (bound : ℕ) (scores : List ℤ) (columns rows : List ℕ)
+    (rule : Rule) (width : ℕ) : Type 0 where
+  pub squaring : IsSquaring factors bound scores columns rows rule
+  pub enough : AreEnough (width - 1) rows
+
+-- several groups, none of them empty, and a total and a bound that pass no limit
+pub record AreFitting (samples : ScoredGroups) : Type 0 where
+  pub some : 2 ≤ length (group_sizes samples.groups)
+  pub few_rows : length (group_sizes samples.groups) ≤ 8
+  pub none_empty : All (λ size. 0 < size) (group_sizes samples.groups)
+  pub whole : sum (group_sizes samples.groups) ≡ length (pooled_values samples.groups)
+  pub few : length (pooled_values samples.groups) ≤ MOST_ROWS
+  pub total_fits : number_of_labellings (group_sizes samples.groups) ≤ MAX
+  pub bound_fits : (kruskal_wallis_test samples).bound ≤ MAX
+
+-- what is made of them
+pub record AreScored (samples : ScoredGroups) (made : GroupScores) : Type 0 where
+  pub sizes : made.sizes ≡ group_sizes samples.groups
+  pub factors : made.factors.items ≡ size_factors (group_sizes samples.groups)
+  pub bound : made.bound ≡ (kruskal_wallis_test samples).bound
+  pub scores : made.scores ≡ pooled_scores samples
+  pub column_sizes : made.columns.sizes ≡ column_sizes (pooled_values samples.groups)
+  pub column_scores : made.columns.scores
+      ≡ column_scores samples.kind (pooled_values samples.groups)
+  pub frame : IsFrameOf (kruskal_wallis_test samples) made.frame
+  pub fitting : AreFitting samples
+
+-- the scores of values, or their sum is too wide
+abbrev pub IsScoredBy : ScoreKind → List ℤ → Result Scored PrepareFault → Type 0
+IsScoredBy kind values (Ok scored) = AreScores kind values scored
+IsScoredBy kind values (Err (TooWide Total)) = ⊥
+IsScoredBy kind values (Err (TooWide Statistic)) = MAX < score_sum kind values
+IsScoredBy kind values (Err NoMemory) = ⊤
+
+-- that is made, or the bound is too wide
+abbrev pub IsMadeOf : ScoredGroups → Result GroupScores PrepareFault → Type 0
+IsMadeOf samples (Ok made) = AreScored samples made
+IsMadeOf samples (Err (TooWide Total)) = ⊥
+IsMadeOf samples (Err (TooWide Statistic)) = MAX < (kruskal_wallis_test samples).bound
+IsMadeOf samples (Err NoMemory) = ⊤
