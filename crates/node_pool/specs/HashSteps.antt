@@ -1,5 +1,5 @@
 -- The hash of a key.
-use Rattle.std.specs.Prelude.{ℕ, ℤ, ◌-◌, ◌*◌, ◌/◌, ◌%◌, ◌^◌, List, cond, nat_eq, fold, bit_xor, bit_and}
+use Rattle.std.specs.Prelude.{ℕ, ℤ, ◌*◌, ◌/◌, ◌%◌, ◌^◌, List, cond, nat_eq, fold, bit_xor, bit_and}
 use Rattle.std.specs.Int.{cast_unsigned}
 use mir.Syntax.{w128}
 
@@ -19,6 +19,6 @@ stirred_number hash number =
 abbrev pub hash_of : List ℤ → ℕ
 hash_of key = fold stirred_number 0 key
 
--- the slot where a key is looked for first
+-- the slot where a key is looked for first, by the high bits of the hash
 unfoldable pub home_of : ℕ → List ℤ → ℕ
-home_of size key = bit_and (hash_of key) (size - 1)
+home_of size key = hash_of key * size / 2 ^ 64

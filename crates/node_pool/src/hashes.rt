@@ -35,7 +35,8 @@ fn hash_of(key: &[i128]) -> u64
     hash
 }
 
-// The slot where a key is looked for first.
+// The slot where a key is looked for first: the high bits of the hash, by a product, since they are
+// what a multiplication stirs best. Keys that follow one another then share few slots.
 #[inline(always)]
 #[tactic(auto, unfolding(crate::specs::HashSteps::home_of))]
 pub fn home_of(size: usize, key: &[i128]) -> usize
@@ -43,5 +44,6 @@ pub fn home_of(size: usize, key: &[i128]) -> usize
     ensures value { result ≡ home_of size key.now }
     ensures within { result < size }
 {
-    hash_of(key) as usize & (size - 1)
+    let product = hash_of(key) as u128 * size as u128;
+    (product >> 64) as usize
 }
