@@ -22,6 +22,7 @@ pub fn box_bounds(low: &[i128], high: &[i128], factors: &[u128], cap: u128) -> (
 }
 
 // The least absolute value of a number in a range.
+#[inline(always)]
 fn smallest(low: i128, high: i128) -> u128
     ensures { result ≡ least_size low high }
 {
@@ -33,15 +34,27 @@ fn smallest(low: i128, high: i128) -> u128
 }
 
 // The greatest absolute value of a number in a range.
+#[inline(always)]
 fn largest(low: i128, high: i128) -> u128
     ensures { result ≡ greatest_size low high }
 {
     low.unsigned_abs().max(high.unsigned_abs())
 }
 
-// A sum with the factor times one more square, or the cap where that is less. A factor 0 adds
-// nothing even where the square alone would not fit.
-fn add_square(sum: u128, factor: u128, root: u128, cap: u128) -> u128
+// A sum with a factor times one more square, or the cap where that is less. A factor and a root of
+// half the width have products that always fit.
+#[inline(always)]
+fn add_small_square(sum: u128, factor: u64, root: u32, cap: u128) -> u128
+    requires { sum ≤ cap }
+    ensures { result ≡ min (sum + factor * (root * root)) cap }
+{
+    let square = root as u64 * root as u64;
+    let added = factor as u128 * square as u128;
+    if added <= cap - sum { sum + added } else { cap }
+}
+
+// The same of any numbers. A factor 0 adds nothing even where the square alone would not fit.
+fn add_large_square(sum: u128, factor: u128, root: u128, cap: u128) -> u128
     requires { sum ≤ cap }
     ensures { result ≡ min (sum + factor * (root * root)) cap }
 {
@@ -52,5 +65,18 @@ fn add_square(sum: u128, factor: u128, root: u128, cap: u128) -> u128
     match square.and_then(|square| factor.checked_mul(square)) {
         Some(added) if added <= cap - sum => sum + added,
         _ => cap,
+    }
+}
+
+// The same, by the quicker way where the numbers are small, as most are.
+#[inline(always)]
+fn add_square(sum: u128, factor: u128, root: u128, cap: u128) -> u128
+    requires { sum ≤ cap }
+    ensures { result ≡ min (sum + factor * (root * root)) cap }
+{
+    if factor <= u64::MAX as u128 && root <= u32::MAX as u128 {
+        add_small_square(sum, factor as u64, root as u32, cap)
+    } else {
+        add_large_square(sum, factor, root, cap)
     }
 }
