@@ -1,3 +1,5 @@
+ghost use Rattle.std.specs.Prelude.{◌≤◌};
+
 use crate::{Status, run};
 use outside::{MemorySink, MemorySource, SteadySource};
 use std::alloc::{AllocError, Global};
@@ -326,53 +328,124 @@ fn reaches_the_limits(rt: HostRuntime) -> Result<(), AllocError> {
     Ok(())
 }
 
-// Runs over six values with a source, an `out` and an `err` whose calls of these numbers fail.
+// Six values in a source whose reads give at most so many bytes, and whose calls of these numbers
+// fail.
+fn six_values(alloc: Global, step: usize, fail: &[u64]) -> Result<MemorySource, AllocError>
+    requires { 1 ≤ step }
+{
+    let bytes = Vec::from_slice(alloc, SIX)?;
+    Ok(MemorySource::new(bytes, step, Vec::from_slice(alloc, fail)?))
+}
+
+// Runs over a source, and an `out` and an `err` whose writes of these numbers fail.
 fn fail_at(
     rt: &impl Abort,
     alloc: Global,
-    calls: [&[u64]; 3],
+    source: &mut MemorySource,
+    writes: [&[u64]; 2],
     status: Status,
     told: &str,
     line: &str,
 ) -> Result<(), AllocError> {
     let words = words_of(alloc, "ranksum f.csv")?;
-    let bytes = Vec::from_slice(alloc, SIX)?;
-    let mut source = MemorySource::new(bytes, 8, Vec::from_slice(alloc, calls[0])?);
     let room = Vec::with_capacity(alloc, 1000)?;
-    let mut out = MemorySink::new(room, 16, Vec::from_slice(alloc, calls[1])?);
+    let mut out = MemorySink::new(room, 16, Vec::from_slice(alloc, writes[0])?);
     let room = Vec::with_capacity(alloc, 1000)?;
-    let mut err = MemorySink::new(room, 16, Vec::from_slice(alloc, calls[2])?);
-    let answer = run(alloc, &words, &mut source, &mut out, &mut err);
+    let mut err = MemorySink::new(room, 16, Vec::from_slice(alloc, writes[1])?);
+    let answer = run(alloc, &words, source, &mut out, &mut err);
     assert!(rt; answer == status);
     assert!(rt; out.taken() == told.as_bytes());
     assert!(rt; err.taken() == line.as_bytes());
     Ok(())
 }
 
+// The report on six values.
+const SIX_REPORT: &str = "test ranksum\ngroup 3 x\ngroup 3 y\nstatistic 30/2\ntotal 20\n\
+    less 20/20 1.000000\ngreater 1/20 0.050000\ntwo 2/20 0.100000\n";
+
+// The source is started by call 0, gives its bytes, and then none: five times eight bytes at most,
+// or 36 times one. No later call comes.
 #[test]
-fn tells_faults(rt: HostRuntime) -> Result<(), AllocError> {
-    let read = "refused: read fault\n";
-    let write = "refused: write fault\n";
+fn tells_read_faults(rt: HostRuntime) -> Result<(), AllocError> {
+    let alloc = rt.alloc();
+    let status = Status::ReadFault;
+    let line = "refused: read fault\n";
+    for call in 0..7u64 {
+        let mut source = six_values(alloc, 8, &[call])?;
+        fail_at(&rt, alloc, &mut source, [&[], &[]], status, "", line)?;
+    }
+    let mut source = six_values(alloc, 1, &[37])?;
+    fail_at(&rt, alloc, &mut source, [&[], &[]], status, "", line)?;
+    let status = Status::Done;
+    let mut source = six_values(alloc, 8, &[7])?;
+    fail_at(&rt, alloc, &mut source, [&[], &[]], status, SIX_REPORT, "")?;
+    let mut source = six_values(alloc, 1, &[38])?;
+    fail_at(&rt, alloc, &mut source, [&[], &[]], status, SIX_REPORT, "")
+}
+
+// The report is eight pieces of 16 bytes at most.
+#[test]
+fn tells_write_faults(rt: HostRuntime) -> Result<(), AllocError> {
+    let alloc = rt.alloc();
+    let line = "refused: write fault\n";
+    for (write, told) in [
+        (1, ""),
+        (2, "test ranksum\ngro"),
+        (3, "test ranksum\ngroup 3 x\ngroup 3 y"),
+        (4, "test ranksum\ngroup 3 x\ngroup 3 y\nstatistic 30/2\n"),
+        (
+            5,
+            "test ranksum\ngroup 3 x\ngroup 3 y\nstatistic 30/2\ntotal 20\nless 20",
+        ),
+        (
+            6,
+            "test ranksum\ngroup 3 x\ngroup 3 y\nstatistic 30/2\ntotal 20\n\
+             less 20/20 1.000000\ngre",
+        ),
+        (
+            7,
+            "test ranksum\ngroup 3 x\ngroup 3 y\nstatistic 30/2\ntotal 20\n\
+             less 20/20 1.000000\ngreater 1/20 0.0500",
+        ),
+        (
+            8,
+            "test ranksum\ngroup 3 x\ngroup 3 y\nstatistic 30/2\ntotal 20\n\
+             less 20/20 1.000000\ngreater 1/20 0.050000\ntwo 2/20 0.10",
+        ),
+    ] {
+        let mut source = six_values(alloc, 8, &[])?;
+        fail_at(
+            &rt,
+            alloc,
+            &mut source,
+            [&[write], &[]],
+            Status::WriteFault,
+            told,
+            line,
+        )?;
+    }
+    let mut source = six_values(alloc, 8, &[])?;
     fail_at(
         &rt,
-        rt.alloc(),
-        [&[3], &[], &[]],
-        Status::ReadFault,
+        alloc,
+        &mut source,
+        [&[9], &[]],
+        Status::Done,
+        SIX_REPORT,
         "",
-        read,
-    )?;
+    )
+}
+
+// What fails on `err` changes no status.
+#[test]
+fn tells_what_it_can(rt: HostRuntime) -> Result<(), AllocError> {
+    let alloc = rt.alloc();
+    let mut source = six_values(alloc, 8, &[0])?;
     fail_at(
         &rt,
-        rt.alloc(),
-        [&[], &[2], &[]],
-        Status::WriteFault,
-        "test ranksum\ngro",
-        write,
-    )?;
-    fail_at(
-        &rt,
-        rt.alloc(),
-        [&[0], &[], &[2]],
+        alloc,
+        &mut source,
+        [&[], &[2]],
         Status::ReadFault,
         "",
         "refused: read fa",
