@@ -36,8 +36,8 @@ greatest_parts later sizes = map (λ n. greatest_sum n later) sizes
 -- the least sum of squares over the box of these ranges, no more than the bound
 abbrev pub squares_low : List ℕ → ℕ → List ℤ → List ℕ → List ℤ → ℤ
 squares_low factors bound later r p =
-    pos (min (least_squares (plus_each p (least_parts later r)) (plus_each p (greatest_parts later r))
-    factors) bound)
+    pos (min (least_squares (plus_each p (least_parts later r))
+    (plus_each p (greatest_parts later r)) factors) bound)
 
 -- and the greatest
 abbrev pub squares_high : List ℕ → ℕ → List ℤ → List ℕ → List ℤ → ℤ

@@ -1,6 +1,6 @@
-//! Tests of several samples: `kw`, by the sums of the groups' scores, and two of ordered samples, by
-//! the pairs of their subjects: `jt`, where the groups rise, and `umbrella`, where they rise up to a
-//! peak and fall from there on.
+//! Tests of several samples: `kw`, by the sums of the groups' scores, and two of ordered samples,
+//! by the pairs of their subjects: `jt`, where the groups rise, and `umbrella`, where they rise up
+//! to a peak and fall from there on.
 #![tactic(auto)]
 
 ghost use Rattle.std.specs.Prelude.{◌≡◌, ◌≤◌, IfOk};

@@ -88,7 +88,8 @@ fn plus_each(partial: &[i128], added: &[i128], next: &mut [i128])
 // Writes the least sums of a stage's later scores that groups of these sizes can get.
 fn least_parts(later: &LaterScores, stage: usize, sizes: &[u64], parts: &mut [i128])
     requires stage { stage ≤ length later.now.columns.items }
-    requires held { let scores = later_scores later.now.scores.items later.now.columns.items stage in
+    requires held { let scores =
+        later_scores later.now.scores.items later.now.columns.items stage in
         AreTabled later.now.width scores sizes.now }
     requires room { length parts.old ≡ length sizes.now }
     ensures { let scores = later_scores later.now.scores.items later.now.columns.items stage in
@@ -102,7 +103,8 @@ fn least_parts(later: &LaterScores, stage: usize, sizes: &[u64], parts: &mut [i1
 // And the greatest.
 fn greatest_parts(later: &LaterScores, stage: usize, sizes: &[u64], parts: &mut [i128])
     requires stage { stage ≤ length later.now.columns.items }
-    requires held { let scores = later_scores later.now.scores.items later.now.columns.items stage in
+    requires held { let scores =
+        later_scores later.now.scores.items later.now.columns.items stage in
         AreTabled later.now.width scores sizes.now }
     requires room { length parts.old ≡ length sizes.now }
     ensures { let scores = later_scores later.now.scores.items later.now.columns.items stage in

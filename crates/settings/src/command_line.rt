@@ -58,10 +58,11 @@ pub fn help_text() -> &'static str
 /// # Errors
 /// The first of these faults. `Form` where the words do not have this form, or TEST is missing;
 /// `Value(OptionName::Test)` where TEST names none of the tests; `Form` where FILE is missing, or
-/// is there with `drill`, where an option is missing that the test cannot do without, and where both
-/// `--plain` and `--nodes` are there; and then for each option, in the order of the help text,
-/// `Pairing` where the test does not take it, `Value` where its value is not of its form, and for
-/// `--tail` `Pairing` where the test never has the tail. Or else `NoMemory` where memory runs out.
+/// is there with `drill`, where an option is missing that the test cannot do without, and where
+/// both `--plain` and `--nodes` are there; and then for each option, in the order of the help
+/// text, `Pairing` where the test does not take it, `Value` where its value is not of its form,
+/// and for `--tail` `Pairing` where the test never has the tail. Or else `NoMemory` where memory
+/// runs out.
 pub fn read(alloc: Global, words: &[String]) -> Result<CommandLine, UsageFault>
     ensures meaning { Meets (meaning_of (map string_bytes words.now)) result }
     ensures help { is_help (map string_bytes words.now) ≡ true → result ≡ Ok CommandLine.Help }

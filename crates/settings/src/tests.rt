@@ -421,7 +421,15 @@ fn asks_for_help(rt: HostRuntime) -> Result<(), Fail> {
         Ok(CommandLine::Help) => {}
         _ => panic!(rt; "no help"),
     }
-    for option in ["scores", "order", "peak", "number", "separator", "nodes", "plain"] {
+    for option in [
+        "scores",
+        "order",
+        "peak",
+        "number",
+        "separator",
+        "nodes",
+        "plain",
+    ] {
         assert!(rt; help_text().contains(option), "at {option}");
     }
     Ok(())

@@ -36,7 +36,8 @@ fn weight(stratum: Stratum, cell: u64) -> u128
     requires small { IsSmall stratum }
     requires cell { cell ≤ first_row stratum }
     requires column { binomial (first_column stratum) cell ≤ MAX }
-    requires others { binomial (size stratum - first_column stratum) (first_row stratum - cell) ≤ MAX }
+    requires others { let left = first_row stratum - cell in
+        binomial (size stratum - first_column stratum) left ≤ MAX }
     requires fits { cell_weight stratum cell ≤ MAX }
     ensures { result ≡ cell_weight stratum cell }
 {
