@@ -12,6 +12,11 @@ pub record IsBounding (lows highs : List ℤ) (factors : List ℕ) (cap i least 
   pub least_within : least ≤ cap
   pub greatest_within : greatest ≤ cap
 
+-- the same of sums that have no cap
+pub record IsSquaring (lows highs : List ℤ) (factors : List ℕ) (i least greatest : ℕ) : Type 0 where
+  pub low : least + least_squares (drop i lows) (drop i highs) (drop i factors) ≡ least_squares lows highs factors
+  pub high : greatest + greatest_squares (drop i lows) (drop i highs) (drop i factors) ≡ greatest_squares lows highs factors
+
 module _ (lows highs : List ℤ) (factors : List ℕ) (cap i : ℕ) (h : length highs ≡ length lows) (f : length factors ≡ length lows) where
   split-low : i < length lows → least_squares (drop i lows) (drop i highs) (drop i factors) ≡ get_or factors i 0 * (least_size (get_or lows i (pos 0)) (get_or highs i (pos 0)) * least_size (get_or lows i (pos 0)) (get_or highs i (pos 0))) + least_squares (drop (i + 1) lows) (drop (i + 1) highs) (drop (i + 1) factors)
   split-low b =
@@ -37,6 +42,22 @@ module _ (lows highs : List ℤ) (factors : List ℕ) (cap i : ℕ) (h : length 
         least_within = omega (arith, p);
         greatest_within = omega (arith, q);
       }
+
+  pub squaring-more : (least greatest least' greatest' a b : ℕ) → i < length lows → a ≡ least_size (get_or lows i (pos 0)) (get_or highs i (pos 0)) → b ≡ greatest_size (get_or lows i (pos 0)) (get_or highs i (pos 0)) → least' ≡ least + get_or factors i 0 * (a * a) → greatest' ≡ greatest + get_or factors i 0 * (b * b) → IsSquaring lows highs factors i least greatest → IsSquaring lows highs factors (i + 1) least' greatest'
+  squaring-more least greatest least' greatest' a b before e g p q r =
+      let one : get_or factors i 0 * (a * a) ≡ get_or factors i 0 * (least_size (get_or lows i (pos 0)) (get_or highs i (pos 0)) * least_size (get_or lows i (pos 0)) (get_or highs i (pos 0))) = ap (λ n. get_or factors i 0 * (n * n)) e in
+      let two : get_or factors i 0 * (b * b) ≡ get_or factors i 0 * (greatest_size (get_or lows i (pos 0)) (get_or highs i (pos 0)) * greatest_size (get_or lows i (pos 0)) (get_or highs i (pos 0))) = ap (λ n. get_or factors i 0 * (n * n)) g in
+      record {
+        low = omega (arith, split-low before, one, p, r.low);
+        high = omega (arith, split-high before, two, q, r.high);
+      }
+
+pub squaring-end : (lows highs : List ℤ) (factors : List ℕ) (i least greatest : ℕ) → length lows ≤ i → IsSquaring lows highs factors i least greatest → (least ≡ least_squares lows highs factors) × (greatest ≡ greatest_squares lows highs factors)
+squaring-end lows highs factors i least greatest all b =
+    let none : drop i lows ≡ [] = drop_of_length-le lows all in
+    let no_least : least_squares (drop i lows) (drop i highs) (drop i factors) ≡ 0 = ap (λ rest. least_squares rest (drop i highs) (drop i factors)) none in
+    let no_greatest : greatest_squares (drop i lows) (drop i highs) (drop i factors) ≡ 0 = ap (λ rest. greatest_squares rest (drop i highs) (drop i factors)) none in
+    (omega (arith, b.low, no_least), omega (arith, b.high, no_greatest))
 
 pub bounding-end : (lows highs : List ℤ) (factors : List ℕ) (cap i least greatest : ℕ) → length lows ≤ i → IsBounding lows highs factors cap i least greatest → (least ≡ min (least_squares lows highs factors) cap) × (greatest ≡ min (greatest_squares lows highs factors) cap)
 bounding-end lows highs factors cap i least greatest all b =

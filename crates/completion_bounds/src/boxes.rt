@@ -1,5 +1,5 @@
 // The least and the greatest factored sum of squares over a box.
-ghost use Rattle.std.specs.Prelude.{◌≡◌, ◌+◌, ◌*◌, ◌≤◌, length, min};
+ghost use Rattle.std.specs.Prelude.{◌≡◌, ◌+◌, ◌*◌, ◌≤◌, length, min, IfSome};
 ghost use Rattle.completion_bounds.specs.Boxes.{least_size, greatest_size, least_squares, greatest_squares, HoldsSquares};
 
 /// The least and the greatest sum of factors times squares over the points whose numbers lie
@@ -11,6 +11,36 @@ pub fn box_bounds(low: &[i128], high: &[i128], factors: &[u128], cap: u128) -> (
     ensures least { result.0 ≡ min (least_squares low.now high.now factors.now) cap }
     ensures greatest { result.1 ≡ min (greatest_squares low.now high.now factors.now) cap }
     ensures holds { HoldsSquares low.now high.now factors.now cap result.0 result.1 }
+{
+    match small_squares(low, high, factors) {
+        Some((least, greatest)) => ((least as u128).min(cap), (greatest as u128).min(cap)),
+        None => capped_squares(low, high, factors, cap),
+    }
+}
+
+// Both sums, where all numbers on the way fit 64 bits.
+fn small_squares(low: &[i128], high: &[i128], factors: &[u128]) -> Option<(u64, u64)>
+    requires highs { length high.now ≡ length low.now }
+    requires factors { length factors.now ≡ length low.now }
+    ensures least { IfSome result (λ sums. sums.0 ≡ least_squares low.now high.now factors.now) }
+    ensures greatest { IfSome result (λ sums.
+        sums.1 ≡ greatest_squares low.now high.now factors.now) }
+{
+    let mut least: u64 = 0;
+    let mut greatest: u64 = 0;
+    for i in 0..low.len() {
+        least = add_small_square(least, factors[i], smallest(low[i], high[i]))?;
+        greatest = add_small_square(greatest, factors[i], largest(low[i], high[i]))?;
+    }
+    Some((least, greatest))
+}
+
+// Both sums of any numbers, either no more than the cap.
+fn capped_squares(low: &[i128], high: &[i128], factors: &[u128], cap: u128) -> (u128, u128)
+    requires highs { length high.now ≡ length low.now }
+    requires factors { length factors.now ≡ length low.now }
+    ensures least { result.0 ≡ min (least_squares low.now high.now factors.now) cap }
+    ensures greatest { result.1 ≡ min (greatest_squares low.now high.now factors.now) cap }
 {
     let mut least = 0;
     let mut greatest = 0;
@@ -41,20 +71,22 @@ fn largest(low: i128, high: i128) -> u128
     low.unsigned_abs().max(high.unsigned_abs())
 }
 
-// A sum with a factor times one more square, or the cap where that is less. A factor and a root of
-// half the width have products that always fit.
+// A sum with the factor times one more square, where the numbers are small and it fits 64 bits.
 #[inline(always)]
-fn add_small_square(sum: u128, factor: u64, root: u32, cap: u128) -> u128
-    requires { sum ≤ cap }
-    ensures { result ≡ min (sum + factor * (root * root)) cap }
+fn add_small_square(sum: u64, factor: u128, root: u128) -> Option<u64>
+    ensures { IfSome result (λ more. more ≡ sum + factor * (root * root)) }
 {
+    if factor > u64::MAX as u128 || root > u32::MAX as u128 {
+        return None;
+    }
     let square = root as u64 * root as u64;
-    let added = factor as u128 * square as u128;
-    if added <= cap - sum { sum + added } else { cap }
+    let added = (factor as u64).checked_mul(square)?;
+    sum.checked_add(added)
 }
 
-// The same of any numbers. A factor 0 adds nothing even where the square alone would not fit.
-fn add_large_square(sum: u128, factor: u128, root: u128, cap: u128) -> u128
+// A sum with the factor times one more square, or the cap where that is less. A factor 0 adds
+// nothing even where the square alone would not fit.
+fn add_square(sum: u128, factor: u128, root: u128, cap: u128) -> u128
     requires { sum ≤ cap }
     ensures { result ≡ min (sum + factor * (root * root)) cap }
 {
@@ -65,18 +97,5 @@ fn add_large_square(sum: u128, factor: u128, root: u128, cap: u128) -> u128
     match square.and_then(|square| factor.checked_mul(square)) {
         Some(added) if added <= cap - sum => sum + added,
         _ => cap,
-    }
-}
-
-// The same, by the quicker way where the numbers are small, as most are.
-#[inline(always)]
-fn add_square(sum: u128, factor: u128, root: u128, cap: u128) -> u128
-    requires { sum ≤ cap }
-    ensures { result ≡ min (sum + factor * (root * root)) cap }
-{
-    if factor <= u64::MAX as u128 && root <= u32::MAX as u128 {
-        add_small_square(sum, factor as u64, root as u32, cap)
-    } else {
-        add_large_square(sum, factor, root, cap)
     }
 }
