@@ -1,5 +1,5 @@
 -- Data that are made from a number: two samples of forty values, by a linear congruential generator
--- (the one that the C standard gives as an example of `rand`).
+-- with the multiplier and the increment of the C standard's example of `rand`, modulo 2 ^ 31.
 use Rattle.std.specs.Prelude.{ℕ, zero, suc, ◌+◌, ◌*◌, ◌/◌, ◌%◌, ◌^◌, List, [], ◌∷◌, ◌++◌, ℤ, pos, codes, replicate}
 use Rattle.sample_reader.specs.Groups.{GroupData}
 use Rattle.scores.specs.declared.kinds.ScoreKind.TheVariants.{Wilcoxon}
