@@ -3,7 +3,12 @@ use Rattle.std.specs.Prelude.{◌≡◌, pos, [], ◌∷◌, codes}
 use Rattle.std.proofs.Common.{refl}
 use Rattle.weights.specs.Conditional.{numerator, observed_statistic, total}
 use Rattle.weights.specs.declared.tails.Tail.TheVariants.{Less, Greater, Two}
+use Rattle.weights.specs.Numbers.{lcm}
+use Rattle.midranks.specs.Midranks.{doubled_midrank, number_below, number_equal}
+use Rattle.scores.specs.PlaceScores.{common_multiple}
+use Rattle.scores.specs.declared.kinds.ScoreKind.TheVariants.{Wilcoxon}
 use Rattle.sample_reader.specs.PooledSample.{paired_subjects}
+use Rattle.k_sample_tests.specs.KruskalWallis.{ScoredGroups, kruskal_wallis_test}
 use Rattle.k_sample_tests.specs.Umbrella.{PeakedGroups, umbrella_test, used_pairs}
 
 -- of three groups that rise to the second, it is above both others
@@ -62,3 +67,49 @@ tied_statistic = refl
 tied_greater : numerator (umbrella_test tied) Greater ≡ 2
 unfolding paired_subjects tied
 tied_greater = refl
+
+-- 1 and 2 against 3 and 4 by doubled midranks, and a single 5 against 5 and 7
+apart : ScoredGroups
+apart = record {
+  kind = Wilcoxon;
+  groups = record {
+    labels = codes "a" ∷ codes "b" ∷ [];
+    members = 0 ∷ 0 ∷ 1 ∷ 1 ∷ [];
+    values = pos 1 ∷ pos 2 ∷ pos 3 ∷ pos 4 ∷ [];
+  };
+}
+
+apart_statistic : observed_statistic (kruskal_wallis_test apart) ≡ pos 232
+unfolding paired_subjects number_below number_equal doubled_midrank common_multiple lcm apart
+apart_statistic = refl
+
+apart_scale : (kruskal_wallis_test apart).scale ≡ 8
+unfolding paired_subjects common_multiple lcm apart
+apart_scale = refl
+
+apart_total : total (kruskal_wallis_test apart) ≡ 6
+unfolding paired_subjects apart
+apart_total = refl
+
+apart_greater : numerator (kruskal_wallis_test apart) Greater ≡ 2
+unfolding paired_subjects number_below number_equal doubled_midrank common_multiple lcm apart
+apart_greater = refl
+
+beside : ScoredGroups
+beside = record {
+  kind = Wilcoxon;
+  groups = record {
+    labels = codes "a" ∷ codes "b" ∷ [];
+    members = 0 ∷ 1 ∷ 1 ∷ [];
+    values = pos 5 ∷ pos 5 ∷ pos 7 ∷ [];
+  };
+}
+
+-- doubled midranks 3, 3 and 6, sizes 1 and 2: 2 * 9 + 81
+beside_statistic : observed_statistic (kruskal_wallis_test beside) ≡ pos 99
+unfolding paired_subjects number_below number_equal doubled_midrank common_multiple lcm beside
+beside_statistic = refl
+
+beside_greater : numerator (kruskal_wallis_test beside) Greater ≡ 3
+unfolding paired_subjects number_below number_equal doubled_midrank common_multiple lcm beside
+beside_greater = refl
