@@ -1,4 +1,5 @@
 pub mod Puts
+pub mod Numbers
 pub mod Spots
 pub mod Tables
 pub mod NodeLists

@@ -19,6 +19,10 @@ stirred_number hash number =
 abbrev pub hash_of : List ℤ → ℕ
 hash_of key = fold stirred_number 0 key
 
--- the slot where a key is looked for first, by the high bits of the hash
-unfoldable pub home_of : ℕ → List ℤ → ℕ
-home_of size key = hash_of key * size / 2 ^ 64
+-- the slot of a hash, by its high bits
+unfoldable pub slot_of : ℕ → ℕ → ℕ
+slot_of size hash = hash * size / 2 ^ 64
+
+-- the slot where a key is looked for first
+abbrev pub home_of : ℕ → List ℤ → ℕ
+home_of size key = slot_of size (hash_of key)

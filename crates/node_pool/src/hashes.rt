@@ -1,6 +1,6 @@
 // The hash of a key, by multiplications and shifts.
-ghost use Rattle.std.specs.Prelude.{◌≡◌, ◌<◌, ◌-◌};
-ghost use Rattle.node_pool.specs.HashSteps.{stirred, stirred_number, hash_of, home_of};
+ghost use Rattle.std.specs.Prelude.{◌≡◌, ◌<◌, ◌-◌, [], ◌∷◌};
+ghost use Rattle.node_pool.specs.HashSteps.{stirred, stirred_number, hash_of, slot_of, home_of};
 
 // Mixes a half of a number in.
 #[inline(always)]
@@ -35,15 +35,35 @@ fn hash_of(key: &[i128]) -> u64
     hash
 }
 
-// The slot where a key is looked for first: the high bits of the hash, by a product, since they are
-// what a multiplication stirs best. Keys that follow one another then share few slots.
+// The slot of a hash, by its high bits and a product, since they are what a multiplication stirs
+// best. Keys that follow one another then share few slots.
 #[inline(always)]
-#[tactic(auto, unfolding(crate::specs::HashSteps::home_of))]
+#[tactic(auto, unfolding(crate::specs::HashSteps::slot_of))]
+fn slot_of(size: usize, hash: u64) -> usize
+    requires { 0 < size }
+    ensures value { result ≡ slot_of size hash }
+    ensures within { result < size }
+{
+    let product = hash as u128 * size as u128;
+    (product >> 64) as usize
+}
+
+// The slot where a key is looked for first.
+#[inline(always)]
 pub fn home_of(size: usize, key: &[i128]) -> usize
     requires { 0 < size }
     ensures value { result ≡ home_of size key.now }
     ensures within { result < size }
 {
-    let product = hash_of(key) as u128 * size as u128;
-    (product >> 64) as usize
+    slot_of(size, hash_of(key))
+}
+
+// The same for a key of one number.
+#[inline(always)]
+pub fn home_of_one(size: usize, number: i128) -> usize
+    requires { 0 < size }
+    ensures value { result ≡ home_of size (number ∷ []) }
+    ensures within { result < size }
+{
+    slot_of(size, stirred_number(0, number))
 }

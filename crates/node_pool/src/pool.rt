@@ -1,5 +1,5 @@
 // A finite map from keys to weights, with room that was asked for before.
-ghost use Rattle.std.specs.Prelude.{◌≡◌, ◌+◌, ◌-◌, ◌*◌, ◌^◌, ◌<◌, ◌≤◌, [], false, length};
+ghost use Rattle.std.specs.Prelude.{◌≡◌, ◌+◌, ◌-◌, ◌*◌, ◌^◌, ◌<◌, ◌≤◌, [], ◌∷◌, ◌++◌, false, length};
 ghost use Rattle.std.specs.Prelude.{vec_len, vec_capacity, IfOk, IfSome, OnOk, OnErr};
 ghost use Rattle.std.specs.Prelude.{slice_index, slice_index_or, slice_set, map, if◌then◌else◌};
 ghost use Rattle.std.specs.List.{IsDistinct};
@@ -69,6 +69,36 @@ fn raise<C: Count>(weights: &mut Vec<C>, place: usize, weight: C)
         Some(sum) => weights[place] = sum,
         None => unreachable!(),
     }
+}
+
+// Adds a key with its slot and its weight, where there is room, and answers its place. Apart, so
+// that the steps for a held key stay few where they are inlined.
+#[inline(never)]
+fn put<C: Count>(
+    slots: &mut Vec<u32>,
+    row: &mut Vec<i128>,
+    weights: &mut Vec<C>,
+    slot: usize,
+    key: &[i128],
+    weight: C,
+) -> usize
+    requires small { slot < 2 ^ 32 }
+    requires slots_fit { vec_len slots.old < vec_capacity slots.old }
+    requires rows_fit { vec_len row.old + length key.now ≤ vec_capacity row.old }
+    requires weights_fit { vec_len weights.old < vec_capacity weights.old }
+    ensures place { result ≡ length slots.old.items }
+    ensures slots { slots.new.items ≡ slots.old.items ++ slot ∷ [] }
+    ensures row { row.new.items ≡ row.old.items ++ key.now }
+    ensures weights { weights.new.items ≡ weights.old.items ++ weight ∷ [] }
+    ensures slot_room { vec_capacity slots.old ≤ vec_capacity slots.new }
+    ensures row_room { vec_capacity row.old ≤ vec_capacity row.new }
+    ensures weight_room { vec_capacity weights.old ≤ vec_capacity weights.new }
+{
+    let place = slots.len();
+    push_within(slots, slot as u32);
+    append_within(row, key);
+    push_within(weights, weight);
+    place
 }
 
 // The least doubling of the buckets that is at most half full with this many keys and this many
@@ -222,13 +252,16 @@ impl<C: Count> NodePool<C> {
                 place
             }
             Found::Free(slot) => {
-                let place = self.slots.len();
-                self.buckets[slot] = place as u32 + 1;
-                push_within(&mut self.slots, slot as u32);
-                append_within(&mut self.row, key);
-                push_within(&mut self.weights, weight);
+                self.buckets[slot] = self.slots.len() as u32 + 1;
                 self.spare -= 1;
-                place
+                put(
+                    &mut self.slots,
+                    &mut self.row,
+                    &mut self.weights,
+                    slot,
+                    key,
+                    weight,
+                )
             }
         }
     }

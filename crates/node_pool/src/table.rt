@@ -1,10 +1,10 @@
 // Where keys stand in buckets.
-ghost use Rattle.std.specs.Prelude.{◌≡◌, ℕ, ◌+◌, ◌-◌, ◌*◌, ◌^◌, ◌<◌, ◌≤◌, ◌↔◌, IsTrue, length, slice_index, if◌then◌else◌, ◌==◌};
+ghost use Rattle.std.specs.Prelude.{◌≡◌, ℕ, ◌+◌, ◌-◌, ◌*◌, ◌^◌, ◌<◌, ◌≤◌, ◌↔◌, IsTrue, length, slice_index, if◌then◌else◌, ◌==◌, [], ◌∷◌};
 ghost use Rattle.std.specs.List.{count_by};
 ghost use Rattle.node_pool.specs.HashSteps.{home_of};
 ghost use Rattle.node_pool.specs.TableSteps.{IsTable, IsWalk, IsFound, key_at, is_full, AllEmpty};
 
-use crate::hashes::home_of;
+use crate::hashes::{home_of, home_of_one};
 
 // Whether two keys are equal. They are short, and a loop is quicker on them than a search in bulk.
 #[inline(always)]
@@ -36,6 +36,29 @@ pub enum Found {
     Free(usize),
 }
 
+// Searches for a key of one number, which is most often what a key is. The number is held in a
+// local: comparing slices would read it back from memory at each step.
+#[inline(always)]
+fn find_one(keys: &[i128], slots: &[u32], buckets: &[u32], number: i128) -> Found
+    requires table { IsTable 1 (length slots.now) keys.now slots.now buckets.now }
+    requires room { length slots.now < length buckets.now }
+    requires long { length keys.now ≡ length slots.now }
+    ensures { IsFound 1 (length slots.now) keys.now buckets.now (number ∷ []) result }
+{
+    let home = home_of_one(buckets.len(), number);
+    let mut slot = home;
+    let mut steps = 0usize;
+    while buckets[slot] != 0 {
+        let place = buckets[slot] as usize - 1;
+        if keys[place] == number {
+            return Found::At(place);
+        }
+        slot = next_slot(buckets.len(), slot);
+        steps += 1;
+    }
+    Found::Free(slot)
+}
+
 // Searches for a key.
 #[inline(always)]
 pub fn find(width: usize, keys: &[i128], slots: &[u32], buckets: &[u32], key: &[i128]) -> Found
@@ -45,6 +68,9 @@ pub fn find(width: usize, keys: &[i128], slots: &[u32], buckets: &[u32], key: &[
     requires wide { length key.now ≡ width }
     ensures { IsFound width (length slots.now) keys.now buckets.now key.now result }
 {
+    if width == 1 {
+        return find_one(keys, slots, buckets, key[0]);
+    }
     let home = home_of(buckets.len(), key);
     let mut slot = home;
     let mut steps = 0usize;

@@ -39,18 +39,19 @@ free g c = rw (c.deref.ensures.value, c.deref-2.ensures.value, c.deref-3.ensures
 some : (g : Over) (c : In-Free g) → 1 ≤ c.self.inside.spare
 some g c = (rw (← c.self.view_is) at c.requires.room) (held-false c.self.invariant (free g c))
 
-pub push_within-requires : goal.push_within-requires
-push_within-requires g c =
-    rw c.self.inside.slots.ok.0 (slots-room c.self.invariant (free g (goal.at.push_within-requires g c).In-Free) (some g (goal.at.push_within-requires g c).In-Free))
+pub put-requires-clause-slots_fit : goal.put-requires-clause-slots_fit
+put-requires-clause-slots_fit g c =
+    let here = (goal.at.put-requires-clause-slots_fit g c).In-Free in
+    rw c.self.inside.slots.ok.0 (slots-room c.self.invariant (free g here) (some g here))
 
-pub append_within-requires : goal.append_within-requires
-append_within-requires g c =
-    let here = (goal.at.append_within-requires g c).In-Free in
-    rw c.self.inside.row.ok.0 (row-room c.self.invariant (free g here) (wide g (goal.at.append_within-requires g c).After-self) (some g here))
+pub put-requires-clause-rows_fit : goal.put-requires-clause-rows_fit
+put-requires-clause-rows_fit g c =
+    let here = (goal.at.put-requires-clause-rows_fit g c).In-Free in
+    rw c.self.inside.row.ok.0 (row-room c.self.invariant (free g here) (wide g (goal.at.put-requires-clause-rows_fit g c).After-self) (some g here))
 
-pub push_within-requires-in-Free : goal.push_within-requires-in-Free
-push_within-requires-in-Free g c =
-    let here = (goal.at.push_within-requires-in-Free g c).In-Free in
+pub put-requires-clause-weights_fit : goal.put-requires-clause-weights_fit
+put-requires-clause-weights_fit g c =
+    let here = (goal.at.put-requires-clause-weights_fit g c).In-Free in
     rw (c.self.inside.weights.ok.0, ← length-map c.self.inside.weights.items g.C.Count.number) (weights-room c.self.invariant (free g here) (some g here))
 
 pub overflow_sub-self : goal.overflow_sub-self
@@ -59,12 +60,12 @@ overflow_sub-self g c = some g (goal.at.overflow_sub-self g c).In-Free
 pub invariant_of-self-in-Free : goal.invariant_of-self-in-Free
 invariant_of-self-in-Free g c =
     let here = (goal.at.invariant_of-self-in-Free g c).In-Free in
-    rw (c.append_within.ensures.items, c.push_within.ensures.items, c.push_within-in-Free.ensures.items, map_push g.C.Count.number c.self.inside.weights.items c.args.weight, c.len-place.ensures ∙ c.self.inside.slots.ok.0)
-    (added-pool c.self.invariant (free g here) (g.C.Count.number c.args.weight) (vec_capacity c.append_within.new.row) (vec_capacity c.push_within-in-Free.new.items) (vec_capacity c.push_within.new.items) (wide g (goal.at.invariant_of-self-in-Free g c).After-self) (some g here) c.append_within.ensures.room c.push_within-in-Free.ensures.room c.push_within.ensures.room)
+    rw (c.put.ensures.row, c.put.ensures.slots, c.put.ensures.weights, map_push g.C.Count.number c.self.inside.weights.items c.args.weight, c.len.ensures ∙ c.self.inside.slots.ok.0)
+    (added-pool c.self.invariant (free g here) (g.C.Count.number c.args.weight) (vec_capacity c.put.new.row) (vec_capacity c.put.new.weights) (vec_capacity c.put.new.slots) (wide g (goal.at.invariant_of-self-in-Free g c).After-self) (some g here) c.put.ensures.row_room c.put.ensures.weight_room c.put.ensures.slot_room)
 
 pub returns-in-Free-clause-merged : goal.returns-in-Free-clause-merged
 returns-in-Free-clause-merged g c =
-    rw (← c.self.view_is, c.append_within.ensures.items, c.push_within-in-Free.ensures.items, map_push g.C.Count.number c.self.inside.weights.items c.args.weight)
+    rw (← c.self.view_is, c.put.ensures.row, c.put.ensures.weights, map_push g.C.Count.number c.self.inside.weights.items c.args.weight)
     (added-merge c.self.invariant (free g (goal.at.returns-in-Free-clause-merged g c).In-Free) (g.C.Count.number c.args.weight) (wide g (goal.at.returns-in-Free-clause-merged g c).After-self))
 
 pub returns-in-Free-clause-spare : goal.returns-in-Free-clause-spare
@@ -72,5 +73,5 @@ returns-in-Free-clause-spare g c = rw (← c.self.view_is, held-false c.self.inv
 
 pub returns-in-Free-clause-placed : goal.returns-in-Free-clause-placed
 returns-in-Free-clause-placed g c =
-    rw (← c.self.view_is, c.append_within.ensures.items, c.push_within-in-Free.ensures.items, map_push g.C.Count.number c.self.inside.weights.items c.args.weight, c.len-place.ensures ∙ c.self.inside.slots.ok.0)
+    rw (← c.self.view_is, c.put.ensures.row, c.put.ensures.weights, map_push g.C.Count.number c.self.inside.weights.items c.args.weight, c.put.ensures.place)
     (added-placed c.self.invariant (free g (goal.at.returns-in-Free-clause-placed g c).In-Free) (g.C.Count.number c.args.weight) (wide g (goal.at.returns-in-Free-clause-placed g c).After-self))
