@@ -1,5 +1,6 @@
 // Common multiples of many numbers.
-ghost use Rattle.std.specs.Prelude.{◌<◌, ◌≤◌, SomeIff};
+ghost use Rattle.std.specs.Prelude.{◌<◌, ◌≤◌, IfSome, SomeIff};
+ghost use Rattle.std.specs.Int.{◌∣◌};
 ghost use Rattle.std.specs.List.{All};
 ghost use Rattle.scores.specs.PlaceScores.{common_multiple, multiple_to};
 ghost use Rattle.scores.specs.Scores.{multiple_of_sizes};
@@ -9,10 +10,12 @@ use midranks::Tie;
 use weights::lcm;
 
 /// The least common multiple of numbers, each at least 1, or None exactly where it passes
-/// `weights::MAX`.
+/// `weights::MAX`. Each of the numbers divides it.
 pub fn common_multiple(numbers: &[u64]) -> Option<u128>
     requires { All (λ number. 0 < number) numbers.now }
-    ensures { SomeIff result (common_multiple numbers.now ≤ MAX) (common_multiple numbers.now) }
+    ensures least { SomeIff result (common_multiple numbers.now ≤ MAX)
+        (common_multiple numbers.now) }
+    ensures whole { IfSome result (λ multiple. All (λ number. number ∣ multiple) numbers.now) }
 {
     let mut multiple = 1;
     for number in numbers {
