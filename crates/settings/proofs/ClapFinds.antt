@@ -1,5 +1,5 @@
 -- What `clap` finds for an option is what is given for it.
-use Rattle.std.proofs.Common.{ap, ◌≡◌, ◌∙◌, ◌++◌, ◌∷◌, Bool, true, false, List, [], Option, Some, None, Ok, Err, Result, refl, codes, map}
+use Rattle.std.proofs.Common.{ap, ◌≡◌, ◌∙◌, ◌++◌, ◌∷◌, true, false, List, [], Option, Some, None, Ok, Err, Result, refl, codes, map}
 use Rattle.std.proofs.lemmas.Bool.{and_parts}
 use Rattle.std.specs.Prelude.{option_and_then, option_map, slice_get}
 use Rattle.std.specs.Option.{option_or}

@@ -92,9 +92,12 @@ abbrev pub column_scores_form : ListForm
 column_scores_form =
     record { low = pos 0 -ℤ pos 1000000000; high = pos 1000000000; fewest = 2; most = 64 }
 
--- the number of made data
+-- the number of made data, from 0 to the greatest
+abbrev pub greatest_number : ℕ
+greatest_number = 2147483647
+
 abbrev pub number_form : ListForm
-number_form = record { low = pos 0; high = pos 2147483647; fewest = 1; most = 1 }
+number_form = record { low = pos 0; high = pos greatest_number; fewest = 1; most = 1 }
 
 -- the fields that are picked of a row
 abbrev pub fields_form : Shape → ListForm

@@ -1,6 +1,5 @@
 // Lists of numbers, read from the texts of values.
-ghost use Rattle.std.specs.Prelude.{◌≡◌, ◌≤◌, ◌<◌, ◌+◌, IfOk, drop, length, map, nat_abs, pos, slice_index_or};
-ghost use Rattle.std.specs.List.{list_any};
+ghost use Rattle.std.specs.Prelude.{◌≡◌, ◌≤◌, IfOk, map, nat_abs};
 ghost use Rattle.std.specs.Option.{ok_or};
 ghost use Rattle.std.specs.Ordering.{int_eq};
 ghost use Rattle.settings.specs.Faults.{Meets};
@@ -100,23 +99,9 @@ fn are_distinct(numbers: &[i64]) -> bool
     ensures { result ≡ are_distinct int_eq numbers.now }
 {
     for place in 0..numbers.len() {
-        if stands_after(numbers, place) {
+        if numbers[place + 1..].contains(&numbers[place]) {
             return false;
         }
     }
     true
-}
-
-// Whether a number stands once more after its place.
-fn stands_after(numbers: &[i64], place: usize) -> bool
-    requires { place < length numbers.now }
-    ensures { result ≡ list_any (int_eq (slice_index_or numbers.now place (pos 0)))
-        (drop (place + 1) numbers.now) }
-{
-    for later in place + 1..numbers.len() {
-        if numbers[place] == numbers[later] {
-            return true;
-        }
-    }
-    false
 }

@@ -1,5 +1,4 @@
 use Rattle.std.proofs.Common.{◌≡◌, refl, List, Option, Some, None, ℤ, option_and_then}
-use Rattle.std.specs.Bool.{⊤}
 use Rattle.std.specs.Option.{ok_or}
 use Rattle.settings.specs.Faults.{IsCauseOf}
 use Rattle.settings.specs.Values.{distinct_fields, numbers_of}
