@@ -170,22 +170,6 @@ impl Measure for PairCounts {
         next[0] = plus(only(partial), only(step));
     }
 
-    fn advance(
-        &self,
-        stage: usize,
-        remaining: &[i128],
-        choice: &[u64],
-        partial: &[i128],
-        next: &mut [i128],
-    ) {
-        next[0] = plus(only(partial), self.points(stage, remaining, choice));
-    }
-
-    fn verdict(&self, stage: usize, remaining: &[i128], partial: &[i128], tail: Tail) -> Verdict {
-        let added = self.added(stage, remaining);
-        self.judge_points(stage, remaining, added, partial, tail)
-    }
-
     fn outlook(&self, stage: usize, remaining: &[i128], outlook: &mut [i128]) {
         let added = self.added(stage, remaining);
         outlook[0] = added.low;

@@ -139,6 +139,11 @@ impl<M: Measure> Roomed for LabelStages<M> {
         self.rows.len()
     }
 
+    fn cross(&self, stage: usize, key: &[i128], choice: &[u64], room: &mut [i128]) -> u128 {
+        take_away(front(key, self.rows.len()), choice, room);
+        weight_in(&self.ways, self.columns[stage], choice)
+    }
+
     fn step_width(&self) -> usize {
         self.measure.step_width()
     }

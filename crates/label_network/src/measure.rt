@@ -23,9 +23,10 @@ pub trait Measure {
         ensures slots { result ≡ (meaning self.now).slots }
         ensures sound { IsMeasure (meaning self.now) };
 
-    /// How many numbers a step has, 0 where partials follow the choice itself.
+    /// How many numbers a step has, at most 16: 0 where partials follow the choice itself.
     fn step_width(&self) -> usize
-        ensures { result ≡ (meaning self.now).step_width };
+        ensures width { result ≡ (meaning self.now).step_width }
+        ensures few { (meaning self.now).step_width ≤ 16 };
 
     /// How many numbers an outlook has, at most 16: 0 where `verdict_by` does well with the sizes.
     fn outlook_width(&self) -> usize
@@ -72,16 +73,28 @@ pub trait Measure {
         requires allowed { IsMove (meaning self.now) stage remaining.now choice.now partial.now }
         requires room { length next.old ≡ (meaning self.now).slots }
         ensures { let m = meaning self.now in
-            next.new ≡ m.advance stage (sizes_in remaining.now) choice.now partial.now };
+            next.new ≡ m.advance stage (sizes_in remaining.now) choice.now partial.now }
+    {
+        let mut numbers = [0i128; 16];
+        let step = &mut numbers[..self.step_width()];
+        self.step(stage, remaining, choice, step);
+        self.follow(stage, remaining, choice, step, partial, next);
+    }
 
     /// What is known of the completions of sizes and a partial: that of the tail's rule over their
-    /// interval.
+    /// interval. `outlook` and `verdict_by` together.
     fn verdict(&self, stage: usize, remaining: &[i128], partial: &[i128], tail: Tail) -> Verdict
         requires { IsPlace (meaning self.now) stage remaining.now partial.now }
         ensures { let m = meaning self.now in
             let low = m.low stage (sizes_in remaining.now) partial.now in
             let high = m.high stage (sizes_in remaining.now) partial.now in
-            result ≡ judged m.tail m.rule tail low high };
+            result ≡ judged m.tail m.rule tail low high }
+    {
+        let mut numbers = [0i128; 16];
+        let outlook = &mut numbers[..self.outlook_width()];
+        self.outlook(stage, remaining, outlook);
+        self.verdict_by(stage, remaining, outlook, partial, tail)
+    }
 
     /// Writes the outlook of the sizes that remain.
     fn outlook(&self, stage: usize, remaining: &[i128], outlook: &mut [i128])

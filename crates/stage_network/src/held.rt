@@ -86,6 +86,10 @@ impl<S: Roomed> Roomed for Held<S> {
         self.inner.room_width()
     }
 
+    fn cross(&self, stage: usize, key: &[i128], choice: &[u64], room: &mut [i128]) -> u128 {
+        self.inner.cross(stage, key, choice, room)
+    }
+
     fn step_width(&self) -> usize {
         self.inner.step_width()
     }

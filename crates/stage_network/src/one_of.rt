@@ -108,6 +108,13 @@ impl<A: Roomed, B: Roomed> Roomed for OneOf<A, B> {
         }
     }
 
+    fn cross(&self, stage: usize, key: &[i128], choice: &[u64], room: &mut [i128]) -> u128 {
+        match self {
+            OneOf::First(a) => a.cross(stage, key, choice, room),
+            OneOf::Second(b) => b.cross(stage, key, choice, room),
+        }
+    }
+
     fn step_width(&self) -> usize {
         match self {
             OneOf::First(a) => a.step_width(),

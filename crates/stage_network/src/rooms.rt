@@ -10,7 +10,7 @@ ghost use Rattle.stage_network.specs.NodeSteps.{AreNodes, AllHeavy, all_successo
 ghost use Rattle.stage_network.specs.WaySteps.{AreWays, IsRun, IsChoiceOf};
 ghost use Rattle.stage_network.specs.WaySteps.{segment, chosen, spread_out, bucket, lift};
 
-use crate::keys::{front, write_key};
+use crate::keys::write_key;
 use crate::nodes::StageNodes;
 use crate::stages::Roomed;
 use crate::ways::Ways;
@@ -40,29 +40,30 @@ fn add_ways<C: Count, S: Roomed>(
     nodes: &StageNodes<C>,
     start: usize,
     end: usize,
-    width: usize,
     key: &mut [i128],
     choice: &mut [u64],
-    next: &mut [i128],
+    target_room: &mut [i128],
     rooms: &mut NodePool<Narrow>,
     ways: &mut Ways,
 ) -> Result<(), NoMemory>
     requires nodes { AreNodes (S.Stages.network stages.now) stage nodes.now.nodes }
-    requires roomed { IsRoomed (S.Stages.network stages.now) width }
+    requires roomed { IsRoomed (S.Stages.network stages.now) (S.room_width stages.now) }
     requires some { start < end }
     requires within { end ≤ length nodes.now.nodes }
-    requires run { IsRun width nodes.now.nodes start end }
-    requires here { nodes.now.room_width ≡ width }
+    requires run { IsRun (S.room_width stages.now) nodes.now.nodes start end }
+    requires here { nodes.now.room_width ≡ S.room_width stages.now }
     requires key { length key.old ≡ nodes.now.width }
     requires choice { length choice.old ≡ (S.Stages.network stages.now).choice_width }
-    requires next { length next.old ≡ (S.Stages.network stages.now).width }
-    requires wide { rooms.old.width ≡ width }
+    requires target { length target_room.old ≡ S.room_width stages.now }
+    requires wide { rooms.old.width ≡ S.room_width stages.now }
     requires light { weighted (λ k. 1) rooms.old.nodes ≡ 0 }
     requires ways { let n = S.Stages.network stages.now in
+        let width = S.room_width stages.now in
         AreWays n stage width nodes.now.nodes rooms.old.nodes ways.old }
-    ensures wide { OnOk result (rooms.new.width ≡ width) }
+    ensures wide { OnOk result (rooms.new.width ≡ S.room_width stages.now) }
     ensures light { OnOk result (weighted (λ k. 1) rooms.new.nodes ≡ 0) }
     ensures ways { let n = S.Stages.network stages.now in
+        let width = S.room_width stages.now in
         OnOk result (AreWays n stage width nodes.now.nodes rooms.new.nodes ways.new) }
     ensures told { let n = S.Stages.network stages.now in
         OnOk result ((f : List ℤ → ℕ)
@@ -73,8 +74,8 @@ fn add_ways<C: Count, S: Roomed>(
     write_key(nodes.room(start), nodes.partial(start), key);
     let mut more = stages.first_choice(stage, key, choice);
     while more {
-        let weight = stages.apply(stage, key, choice, next);
-        let target = place(rooms, front(next, width))?;
+        let weight = stages.cross(stage, key, choice, target_room);
+        let target = place(rooms, target_room)?;
         ways.push(start, end, weight, choice, target)?;
         more = stages.next_choice(stage, key, choice);
     }
@@ -86,26 +87,26 @@ pub fn list_ways<C: Count, S: Roomed>(
     stages: &S,
     stage: usize,
     nodes: &StageNodes<C>,
-    width: usize,
     key: &mut [i128],
     choice: &mut [u64],
-    next: &mut [i128],
+    target_room: &mut [i128],
     rooms: &mut NodePool<Narrow>,
     ways: &mut Ways,
 ) -> Result<(), NoMemory>
     requires nodes { AreNodes (S.Stages.network stages.now) stage nodes.now.nodes }
-    requires roomed { IsRoomed (S.Stages.network stages.now) width }
-    requires here { nodes.now.room_width ≡ width }
+    requires roomed { IsRoomed (S.Stages.network stages.now) (S.room_width stages.now) }
+    requires here { nodes.now.room_width ≡ S.room_width stages.now }
     requires key { length key.old ≡ nodes.now.width }
     requires choice { length choice.old ≡ (S.Stages.network stages.now).choice_width }
-    requires next { length next.old ≡ (S.Stages.network stages.now).width }
-    requires wide { rooms.old.width ≡ width }
+    requires target { length target_room.old ≡ S.room_width stages.now }
+    requires wide { rooms.old.width ≡ S.room_width stages.now }
     requires no_rooms { rooms.old.nodes ≡ [] }
     requires deep { ways.old.width ≡ (S.Stages.network stages.now).choice_width }
     requires no_ways { ways.old.ways ≡ [] }
     requires none { ways.old.rooms ≡ 0 }
-    ensures wide { OnOk result (rooms.new.width ≡ width) }
+    ensures wide { OnOk result (rooms.new.width ≡ S.room_width stages.now) }
     ensures ways { let n = S.Stages.network stages.now in
+        let width = S.room_width stages.now in
         OnOk result (AreWays n stage width nodes.now.nodes rooms.new.nodes ways.new) }
     ensures told { let n = S.Stages.network stages.now in
         OnOk result ((f : List ℤ → ℕ)
@@ -116,7 +117,7 @@ pub fn list_ways<C: Count, S: Roomed>(
     while start < nodes.len() {
         let end = nodes.run_end(start);
         add_ways(
-            stages, stage, nodes, start, end, width, key, choice, next, rooms, ways,
+            stages, stage, nodes, start, end, key, choice, target_room, rooms, ways,
         )?;
         start = end;
     }

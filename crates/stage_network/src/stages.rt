@@ -1,11 +1,12 @@
 // What a network of stages is.
-ghost use Rattle.std.specs.Prelude.{◌≡◌, ℕ, ℤ, ◌+◌, ◌<◌, ◌≤◌, List, ◌++◌, length, drop};
+ghost use Rattle.std.specs.Prelude.{◌≡◌, ℕ, ℤ, ◌+◌, ◌<◌, ◌≤◌, List, ◌++◌, length, take, drop};
 ghost use Rattle.std.specs.List.{Contains};
 ghost use Rattle.stage_network.specs.Network.{Network, IsReached, pending};
 ghost use Rattle.stage_network.specs.Completions.{total_weight};
 ghost use Rattle.stage_network.specs.Laws.{IsLawful};
 ghost use Rattle.stage_network.specs.Rooms.{IsRoomed, IsPlace, IsWay};
 
+use crate::keys::front;
 use weights::Tail;
 
 /// What is known of the completions of a key.
@@ -110,6 +111,29 @@ pub trait Roomed: Stages {
     fn room_width(&self) -> usize
         ensures width { result ≡ room_width self.now }
         ensures roomed { IsRoomed (Self.Stages.network self.now) (room_width self.now) };
+
+    /// Writes the room of the key that a choice reaches, and answers the weight of its arc: `apply`
+    /// without the partial. A network whose rooms can be had alone overrides it.
+    fn cross(&self, stage: usize, key: &[i128], choice: &[u64], room: &mut [i128]) -> u128
+        requires reached { let n = Self.Stages.network self.now in IsReached n stage key.now }
+        requires before { stage < (Self.Stages.network self.now).count }
+        requires allowed { let n = Self.Stages.network self.now in
+            Contains (n.choices stage key.now) choice.now }
+        requires wide { length choice.now ≡ (Self.Stages.network self.now).choice_width }
+        requires room { length room.old ≡ room_width self.now }
+        ensures room { let n = Self.Stages.network self.now in
+            room.new ≡ take (room_width self.now) (n.next stage key.now choice.now) }
+        ensures weight { let n = Self.Stages.network self.now in
+            result ≡ n.weight stage key.now choice.now }
+    {
+        let _lawful = self.stages();
+        let width = self.room_width();
+        let mut numbers = [0i128; 16];
+        let next = &mut numbers[..self.width()];
+        let weight = self.apply(stage, key, choice, next);
+        room.copy_from_slice(front(next, width));
+        weight
+    }
 
     /// How many numbers a step has: 0 where `advance` does well with the room and the choice.
     fn step_width(&self) -> usize

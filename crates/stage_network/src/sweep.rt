@@ -137,8 +137,8 @@ pub fn sweep<C: Count, S: Roomed>(
     let choice = choices.as_mut_slice();
     let mut keys = vec![in alloc; 0i128; stages.width()]?;
     let key = keys.as_mut_slice();
-    let mut next_keys = vec![in alloc; 0i128; stages.width()]?;
-    let next_key = next_keys.as_mut_slice();
+    let mut target_rooms = vec![in alloc; 0i128; width]?;
+    let target_room = target_rooms.as_mut_slice();
     let mut steps = vec![in alloc; 0i128; stages.step_width()]?;
     let step = steps.as_mut_slice();
     let mut partials = vec![in alloc; 0i128; partial_width]?;
@@ -154,7 +154,7 @@ pub fn sweep<C: Count, S: Roomed>(
         rooms.clear();
         ways.clear();
         list_ways(
-            stages, stage, &here, width, key, choice, next_key, &mut rooms, &mut ways,
+            stages, stage, &here, key, choice, target_room, &mut rooms, &mut ways,
         )?;
         ahead.clear();
         sum = gather(

@@ -268,24 +268,6 @@ impl Measure for WeightMeasure {
     }
 
     #[inline(always)]
-    fn advance(
-        &self,
-        stage: usize,
-        remaining: &[i128],
-        choice: &[u64],
-        partial: &[i128],
-        next: &mut [i128],
-    ) {
-        next[0] = times(only(partial), self.weight(stage, remaining, choice));
-    }
-
-    #[inline(always)]
-    fn verdict(&self, stage: usize, remaining: &[i128], partial: &[i128], tail: Tail) -> Verdict {
-        let factors = self.factors(stage, remaining);
-        self.judge_product(stage, remaining, factors, partial, tail)
-    }
-
-    #[inline(always)]
     fn outlook(&self, stage: usize, remaining: &[i128], outlook: &mut [i128]) {
         let factors = self.factors(stage, remaining);
         outlook[0] = factors.low;

@@ -1,4 +1,4 @@
-use Rattle.std.proofs.Common.{◌≡◌, ◌+◌, ℕ, List, get_or, take, cond, ap, sym, subst, ◌∙◌, arith, nat_eq}
+use Rattle.std.proofs.Common.{◌≡◌, ◌+◌, ℕ, List, get_or, take, cond, refl, ap, sym, subst, ◌∙◌, arith, nat_eq}
 use Rattle.std.specs.Prelude.{ℤ}
 use Rattle.std.specs.List.{Contains, AllByRecursion, sum_by}
 use Rattle.std.proofs.lemmas.List.Elements.{All-contains_itself, recursion_from_All}
@@ -16,8 +16,8 @@ first_choice-more-requires-clause-reached g c =
     let n : Network = g.S.Stages.network c.args.stages.now in
     reached-key n c.args.stage c.args.nodes.now.nodes c.args.start _ _ _ _ c.requires.nodes.reached (omega (arith, c.requires.some, c.requires.within)) c.write_key.ensures c.room.ensures.room c.partial.ensures.partial
 
-pub apply-weight-requires-clause-reached : goal.apply-weight-requires-clause-reached
-apply-weight-requires-clause-reached g c =
+pub cross-weight-requires-clause-reached : goal.cross-weight-requires-clause-reached
+cross-weight-requires-clause-reached g c =
     let n : Network = g.S.Stages.network c.args.stages.now in
     reached-key n c.args.stage c.args.nodes.now.nodes c.args.start _ _ _ _ c.requires.nodes.reached (omega (arith, c.requires.some, c.requires.within)) c.write_key.ensures c.room.ensures.room c.partial.ensures.partial
 
@@ -54,9 +54,9 @@ loop-more-preserved g c =
     let later : n.later s k here ≡ pending n s k c.next_choice-more.result c.next_choice-more.new.choice = c.next_choice-more.ensures in
     let t : ℕ = c.in_ok-target.target in
     let placed = c.in_ok-target.ensures.placed in
-    let way : Way = record { start = c.args.start; end = c.args.end; choice = here; weight = c.apply-weight.result; target = t } in
-    let fine = fine_way n s c.args.width nodes c.place.new.rooms.nodes c.args.start c.args.end t c.apply-weight.result here k c.apply-weight.new.next c.requires.roomed c.requires.nodes.reached c.requires.some c.requires.within c.requires.run placed.within reached key allowed.0 c.apply-weight.ensures.weight c.apply-weight.ensures.next (λ d. placed.stands d ∙ c.front.ensures.room) in
-    let kept = fine-kept n s c.args.width nodes c.loop-more.rooms.nodes c.place.new.rooms.nodes placed.kept (placed-more _ _ _ _ placed) c.loop-more.ways.ways c.loop-more.invariant.ways.fine in
+    let way : Way = record { start = c.args.start; end = c.args.end; choice = here; weight = c.cross-weight.result; target = t } in
+    let fine = fine_way n s (g.S.Roomed.room_width c.args.stages.now) nodes c.place.new.rooms.nodes c.args.start c.args.end t c.cross-weight.result here k (n.next s k here) c.requires.roomed c.requires.nodes.reached c.requires.some c.requires.within c.requires.run placed.within reached key allowed.0 c.cross-weight.ensures.weight refl (λ d. placed.stands d ∙ c.cross-weight.ensures.room) in
+    let kept = fine-kept n s (g.S.Roomed.room_width c.args.stages.now) nodes c.loop-more.rooms.nodes c.place.new.rooms.nodes placed.kept (placed-more _ _ _ _ placed) c.loop-more.ways.ways c.loop-more.invariant.ways.fine in
     record {
       told = λ f.
           let told = (rw c.loop-more-test.true at c.loop-more.invariant.told) f in
@@ -68,7 +68,7 @@ loop-more-preserved g c =
       ways = record {
         wide = c.in_ok-push.ensures.width ∙ c.loop-more.invariant.ways.wide;
         count = c.in_ok-push.ensures.rooms ∙ ap (λ m. cond (nat_eq t m) (m + 1) m) c.loop-more.invariant.ways.count ∙ sym placed.count;
-        fine = rw c.in_ok-push.ensures.ways (fine-push n s c.args.width nodes c.place.new.rooms.nodes c.loop-more.ways.ways way kept fine);
+        fine = rw c.in_ok-push.ensures.ways (fine-push n s (g.S.Roomed.room_width c.args.stages.now) nodes c.place.new.rooms.nodes c.loop-more.ways.ways way kept fine);
       };
       light = c.in_ok-target.ensures.light;
       wide = c.in_ok-target.ensures.width ∙ c.loop-more.invariant.wide;
@@ -84,7 +84,7 @@ returns-clause-told g c =
     let same = all_segment (λ b. n.choices s b.key ≡ n.choices s k) c.args.start c.args.end nodes (λ i e h j. c.requires.roomed.choices s (get_or nodes i e).key k (record {
       first = reached_at n s nodes i e c.requires.nodes.reached (omega (arith, j, c.requires.within));
       second = reached-key n c.args.stage c.args.nodes.now.nodes c.args.start _ _ _ _ c.requires.nodes.reached (omega (arith, c.requires.some, c.requires.within)) c.write_key.ensures c.room.ensures.room c.partial.ensures.partial;
-      same = c.requires.run i e h j ∙ sym (ap (take c.args.width) (key_is c.args.nodes.now.nodes c.args.start _ _ _ _ c.write_key.ensures c.room.ensures.room c.partial.ensures.partial e));
+      same = c.requires.run i e h j ∙ sym (ap (take (g.S.Roomed.room_width c.args.stages.now)) (key_is c.args.nodes.now.nodes c.args.start _ _ _ _ c.write_key.ensures c.room.ensures.room c.partial.ensures.partial e));
     })) in
     let told = (rw c.loop-more-test.false at c.loop-more.invariant.told) f in
     omega (arith, told, by_choices n s f (n.choices s k) (segment c.args.start c.args.end nodes) same)

@@ -13,9 +13,9 @@ invariant-loop-more g l =
     record {
       told : (f : List ℤ → ℕ) → weighted f (spread_out n l.stage l.nodes.nodes l.ways.ways) + sum_by (λ c. weighted f (chosen n l.stage c (segment l.start l.end l.nodes.nodes))) (pending n l.stage l.key l.more l.choice) ≡ weighted f (spread_out n l.stage l.nodes.nodes l.fn.ways.ways) + sum_by (λ c. weighted f (chosen n l.stage c (segment l.start l.end l.nodes.nodes))) (n.choices l.stage l.key);
       allowed : AllByRecursion (λ c. Contains (n.choices l.stage l.key) c) (pending n l.stage l.key l.more l.choice);
-      ways : AreWays n l.stage l.width l.nodes.nodes l.rooms.nodes l.ways;
+      ways : AreWays n l.stage (g.S.Roomed.room_width l.stages) l.nodes.nodes l.rooms.nodes l.ways;
       light : weighted (λ k. 1) l.rooms.nodes ≡ 0;
-      wide : l.rooms.width ≡ l.width;
+      wide : l.rooms.width ≡ (g.S.Roomed.room_width l.stages);
     }
 
 abbrev pub decreases-loop-more : goal.decreases-loop-more

@@ -13,9 +13,9 @@ invariant-loop-start g l =
     record {
       within : l.start ≤ length l.nodes.nodes;
       told : (f : List ℤ → ℕ) → weighted f (spread_out n l.stage l.nodes.nodes l.ways.ways) ≡ weighted f (all_successors n l.stage (take l.start l.nodes.nodes));
-      ways : AreWays n l.stage l.width l.nodes.nodes l.rooms.nodes l.ways;
+      ways : AreWays n l.stage (g.S.Roomed.room_width l.stages) l.nodes.nodes l.rooms.nodes l.ways;
       light : weighted (λ k. 1) l.rooms.nodes ≡ 0;
-      wide : l.rooms.width ≡ l.width;
+      wide : l.rooms.width ≡ (g.S.Roomed.room_width l.stages);
     }
 
 abbrev pub decreases-loop-start : goal.decreases-loop-start

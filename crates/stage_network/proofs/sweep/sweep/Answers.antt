@@ -89,7 +89,7 @@ loop-stage-init g c =
       ways = search rules;
       key = search rules;
       choice = search rules;
-      next_key = search rules;
+      target_room = search rules;
       step = search rules;
       next = search rules;
     }
@@ -123,11 +123,11 @@ loop-stage-preserved g c =
       ahead = search rules;
       ahead_wide = search rules;
       work = search rules;
-      rooms = c.in_ok-list_ways.ensures.wide;
+      rooms = c.in_ok-list_ways.ensures.wide ∙ sym c.room_width-width.ensures.width;
       ways = c.in_ok-list_ways.ensures.ways.wide;
       key = search rules;
       choice = search rules;
-      next_key = search rules;
+      target_room = search rules;
       step = search rules;
       next = search rules;
     }

@@ -26,7 +26,7 @@ invariant-loop-stage g l =
       ways : l.ways.width ≡ n.choice_width;
       key : length l.key ≡ n.width;
       choice : length l.choice ≡ n.choice_width;
-      next_key : length l.next_key ≡ n.width;
+      target_room : length l.target_room ≡ l.width;
       step : length l.step ≡ g.S.Roomed.step_width l.stages;
       next : length l.next ≡ l.work.width;
     }
