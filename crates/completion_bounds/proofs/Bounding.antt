@@ -52,6 +52,28 @@ module _ (lows highs : List ℤ) (factors : List ℕ) (cap i : ℕ) (h : length 
         high = omega (arith, split-high before, two, q, r.high);
       }
 
+-- the least sum is no more than the greatest
+size-order : (l h : ℤ) → least_size l h ≤ greatest_size l h
+size-order l h = grind (arith, ints)
+
+squares-order : (ls hs : List ℤ) (fs : List ℕ) → least_squares ls hs fs ≤ greatest_squares ls hs fs
+squares-order [] hs fs = omega arith
+squares-order (l ∷ ls) [] fs = omega arith
+squares-order (l ∷ ls) (h ∷ hs) [] = omega arith
+squares-order (l ∷ ls) (h ∷ hs) (f ∷ fs) =
+    let here = mul-le-mul_left f (mul-le-mul (size-order l h) (size-order l h)) in
+    omega (arith, here, squares-order ls hs fs)
+
+-- no sum on the way passes the greatest
+module _ (lows highs : List ℤ) (factors : List ℕ) (cap i : ℕ) (h : length highs ≡ length lows) (f : length factors ≡ length lows) where
+  pub squaring-fits : (least greatest : ℕ) → i < length lows → IsSquaring lows highs factors i least greatest
+      → (least + get_or factors i 0 * (least_size (get_or lows i (pos 0)) (get_or highs i (pos 0)) * least_size (get_or lows i (pos 0)) (get_or highs i (pos 0))) ≤ greatest_squares lows highs factors)
+      × (greatest + get_or factors i 0 * (greatest_size (get_or lows i (pos 0)) (get_or highs i (pos 0)) * greatest_size (get_or lows i (pos 0)) (get_or highs i (pos 0))) ≤ greatest_squares lows highs factors)
+  squaring-fits least greatest before r = (
+    omega (arith, split-low lows highs factors cap i h f before, r.low, squares-order lows highs factors),
+    omega (arith, split-high lows highs factors cap i h f before, r.high),
+  )
+
 pub squaring-end : (lows highs : List ℤ) (factors : List ℕ) (i least greatest : ℕ) → length lows ≤ i → IsSquaring lows highs factors i least greatest → (least ≡ least_squares lows highs factors) × (greatest ≡ greatest_squares lows highs factors)
 squaring-end lows highs factors i least greatest all b =
     let none : drop i lows ≡ [] = drop_of_length-le lows all in

@@ -1,5 +1,5 @@
 // The least and the greatest factored sum of squares over a box.
-ghost use Rattle.std.specs.Prelude.{◌≡◌, ◌+◌, ◌*◌, ◌≤◌, length, min, IfSome};
+ghost use Rattle.std.specs.Prelude.{◌≡◌, ◌+◌, ◌*◌, ◌^◌, ◌<◌, ◌≤◌, length, min};
 ghost use Rattle.completion_bounds.specs.Boxes.{least_size, greatest_size, least_squares, greatest_squares, HoldsSquares};
 
 /// The least and the greatest sum of factors times squares over the points whose numbers lie
@@ -12,41 +12,29 @@ pub fn box_bounds(low: &[i128], high: &[i128], factors: &[u128], cap: u128) -> (
     ensures greatest { result.1 ≡ min (greatest_squares low.now high.now factors.now) cap }
     ensures holds { HoldsSquares low.now high.now factors.now cap result.0 result.1 }
 {
-    match small_squares(low, high, factors) {
-        Some((least, greatest)) => ((least as u128).min(cap), (greatest as u128).min(cap)),
-        None => capped_squares(low, high, factors, cap),
-    }
-}
-
-// Both sums, where all numbers on the way fit 64 bits.
-fn small_squares(low: &[i128], high: &[i128], factors: &[u128]) -> Option<(u64, u64)>
-    requires highs { length high.now ≡ length low.now }
-    requires factors { length factors.now ≡ length low.now }
-    ensures least { IfSome result (λ sums. sums.0 ≡ least_squares low.now high.now factors.now) }
-    ensures greatest { IfSome result (λ sums.
-        sums.1 ≡ greatest_squares low.now high.now factors.now) }
-{
-    let mut least: u64 = 0;
-    let mut greatest: u64 = 0;
-    for i in 0..low.len() {
-        least = add_small_square(least, factors[i], smallest(low[i], high[i]))?;
-        greatest = add_small_square(greatest, factors[i], largest(low[i], high[i]))?;
-    }
-    Some((least, greatest))
-}
-
-// Both sums of any numbers, either no more than the cap.
-fn capped_squares(low: &[i128], high: &[i128], factors: &[u128], cap: u128) -> (u128, u128)
-    requires highs { length high.now ≡ length low.now }
-    requires factors { length factors.now ≡ length low.now }
-    ensures least { result.0 ≡ min (least_squares low.now high.now factors.now) cap }
-    ensures greatest { result.1 ≡ min (greatest_squares low.now high.now factors.now) cap }
-{
     let mut least = 0;
     let mut greatest = 0;
     for i in 0..low.len() {
         least = add_square(least, factors[i], smallest(low[i], high[i]), cap);
         greatest = add_square(greatest, factors[i], largest(low[i], high[i]), cap);
+    }
+    (least, greatest)
+}
+
+/// Both sums of small numbers, without a cap, where they fit 128 bits.
+#[inline(always)]
+pub fn narrow_squares(low: &[i32], high: &[i32], factors: &[u128]) -> (u128, u128)
+    requires highs { length high.now ≡ length low.now }
+    requires factors { length factors.now ≡ length low.now }
+    requires fits { greatest_squares low.now high.now factors.now < 2 ^ 128 }
+    ensures least { result.0 ≡ least_squares low.now high.now factors.now }
+    ensures greatest { result.1 ≡ greatest_squares low.now high.now factors.now }
+{
+    let mut least = 0;
+    let mut greatest = 0;
+    for i in 0..low.len() {
+        least = plus_square(least, factors[i], nearest(low[i], high[i]));
+        greatest = plus_square(greatest, factors[i], farthest(low[i], high[i]));
     }
     (least, greatest)
 }
@@ -71,17 +59,33 @@ fn largest(low: i128, high: i128) -> u128
     low.unsigned_abs().max(high.unsigned_abs())
 }
 
-// A sum with the factor times one more square, where the numbers are small and it fits 64 bits.
+// The least absolute value of a number in a range of small ones.
 #[inline(always)]
-fn add_small_square(sum: u64, factor: u128, root: u128) -> Option<u64>
-    ensures { IfSome result (λ more. more ≡ sum + factor * (root * root)) }
+fn nearest(from: i32, to: i32) -> u32
+    ensures { result ≡ least_size from to }
 {
-    if factor > u64::MAX as u128 || root > u32::MAX as u128 {
-        return None;
+    if from <= 0 && to >= 0 {
+        0
+    } else {
+        from.unsigned_abs().min(to.unsigned_abs())
     }
-    let square = root as u64 * root as u64;
-    let added = (factor as u64).checked_mul(square)?;
-    sum.checked_add(added)
+}
+
+// The greatest absolute value of a number in a range of small ones.
+#[inline(always)]
+fn farthest(from: i32, to: i32) -> u32
+    ensures { result ≡ greatest_size from to }
+{
+    from.unsigned_abs().max(to.unsigned_abs())
+}
+
+// A sum with the factor times one more square.
+#[inline(always)]
+fn plus_square(sum: u128, factor: u128, root: u32) -> u128
+    requires { sum + factor * (root * root) < 2 ^ 128 }
+    ensures { result ≡ sum + factor * (root * root) }
+{
+    sum + factor * (root as u64 * root as u64) as u128
 }
 
 // A sum with the factor times one more square, or the cap where that is less. A factor 0 adds

@@ -8,6 +8,6 @@ mod pairings;
 #[cfg(test)]
 mod tests;
 
-pub use boxes::box_bounds;
+pub use boxes::{box_bounds, narrow_squares};
 pub use fillings::{fall, times_evenly_divided, weight_bounds};
 pub use pairings::{Later, Part, greatest_linear, least_linear};

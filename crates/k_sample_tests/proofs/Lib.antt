@@ -12,5 +12,11 @@ mod RankKeys
 mod RankWriting
 mod EnoughScores
 mod GroupSums
+mod Corners
+mod Digits
+mod Halves
+mod PackedNarrows
+mod PackedKeys
+mod PackedValues
 mod FittingKruskalWallis
 mod Vectors

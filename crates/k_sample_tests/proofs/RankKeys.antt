@@ -13,7 +13,7 @@ use Rattle.weights.specs.declared.tails.Tail.{Tail}
 use Rattle.weights.specs.declared.rules.Rule.{Rule}
 use Rattle.weights.proofs.ChoiceLists.{IsChoice}
 use Rattle.label_network.specs.LabelSteps.{AreSizes}
-use Rattle.label_network.specs.LaterSums.{absolute_sum, greatest_sum, later_scores, least_sum}
+use Rattle.label_network.specs.LaterSums.{absolute_sum, greatest_sum, later_scores, least_sum, subjects}
 use Rattle.label_network.specs.LaterTables.{IsTabled}
 use Rattle.label_network.specs.Linear.{score_of}
 use Rattle.label_network.specs.Meanings.{IsPlace, allowed, sizes_in}
@@ -85,11 +85,17 @@ module _ (factors : List ℕ) (bound : ℕ) (scores : List ℤ) (columns rows : 
               (group-enough (width - 1) rows (sizes_in f) (later_scores scores columns g) i (enough i) left.within whole);
         }
 
+    pub least-within : (i : ℕ) → unsigned_abs (get_or p i (pos 0)) + unsigned_abs (get_or (least_parts (later_scores scores columns g) (sizes_in f)) i (pos 0)) ≤ absolute_sum (subjects scores columns)
+    least-within i = omega (arith, size-within p i, parts-within (λ n. least_sum n (later_scores scores columns g)) (absolute_sum (later_scores scores columns g)) (λ n. least-size n (later_scores scores columns g)) (sizes_in f) i, partial_is.small)
+
+    pub greatest-within : (i : ℕ) → unsigned_abs (get_or p i (pos 0)) + unsigned_abs (get_or (greatest_parts (later_scores scores columns g) (sizes_in f)) i (pos 0)) ≤ absolute_sum (subjects scores columns)
+    greatest-within i = omega (arith, size-within p i, parts-within (λ n. greatest_sum n (later_scores scores columns g)) (absolute_sum (later_scores scores columns g)) (λ n. greatest-size n (later_scores scores columns g)) (sizes_in f) i, partial_is.small)
+
     pub least-addable : AreAddable p (least_parts (later_scores scores columns g) (sizes_in f))
-    least-addable = record { each = λ i l. omega (arith, size-within p i, parts-within (λ n. least_sum n (later_scores scores columns g)) (absolute_sum (later_scores scores columns g)) (λ n. least-size n (later_scores scores columns g)) (sizes_in f) i, partial_is.small, h.squaring.sums_fit) }
+    least-addable = record { each = λ i l. omega (arith, least-within i, h.squaring.sums_fit) }
 
     pub greatest-addable : AreAddable p (greatest_parts (later_scores scores columns g) (sizes_in f))
-    greatest-addable = record { each = λ i l. omega (arith, size-within p i, parts-within (λ n. greatest_sum n (later_scores scores columns g)) (absolute_sum (later_scores scores columns g)) (λ n. greatest-size n (later_scores scores columns g)) (sizes_in f) i, partial_is.small, h.squaring.sums_fit) }
+    greatest-addable = record { each = λ i l. omega (arith, greatest-within i, h.squaring.sums_fit) }
 
     pub as-many : length (sizes_in f) ≡ length p
     as-many = fits-length (sizes_in f) rows left.within ∙ sym partial_is.wide
@@ -119,7 +125,7 @@ module _ (factors : List ℕ) (bound : ℕ) (scores : List ℤ) (columns rows : 
       pub choice-long : length x ≡ length rows
       choice-long = choice.long ∙ fits-length (sizes_in f) rows left.within
 
-      column-fits : sum x * unsigned_abs (score_of scores g) + absolute_sum (later_scores scores columns (g + 1)) ≡ absolute_sum (later_scores scores columns g)
+      pub column-fits : sum x * unsigned_abs (score_of scores g) + absolute_sum (later_scores scores columns (g + 1)) ≡ absolute_sum (later_scores scores columns g)
       column-fits =
           ap (λ n. n * unsigned_abs (score_of scores g) + absolute_sum (later_scores scores columns (g + 1))) choice.whole
           ∙ sym (column-size factors bound scores columns rows tail rule h.squaring g (sizes_in f) x p before left choice partial_is)

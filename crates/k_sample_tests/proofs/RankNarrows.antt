@@ -106,7 +106,7 @@ sizes-plus v (p ∷ ps) (k ∷ x) =
     split : (a b c : ℕ) → (a + b) * c ≡ a * c + b * c
     split a b c = omega arith
 
-sizes-zeros : (n : ℕ) → absolute_sum (replicate n (pos 0)) ≡ 0
+pub sizes-zeros : (n : ℕ) → absolute_sum (replicate n (pos 0)) ≡ 0
 sizes-zeros zero = refl
 sizes-zeros (suc n) = omega (arith, sizes-zeros n)
 

@@ -41,7 +41,7 @@ none : (s t : ℤ) → t ≡ (pos 0 *ℤ s) +ℤ t
 none s t = rw (zero-*ℤ s) (omega (arith, ints))
 
 -- of subjects who share a score, those with the label i count
-block : (i c : ℕ) (s : ℤ) (rest : List ℤ) (xs : List ℕ) → group_sum i (replicate c s ++ rest) xs ≡ (pos (count_of i (take c xs)) *ℤ s) +ℤ group_sum i rest (drop c xs)
+pub block : (i c : ℕ) (s : ℤ) (rest : List ℤ) (xs : List ℕ) → group_sum i (replicate c s ++ rest) xs ≡ (pos (count_of i (take c xs)) *ℤ s) +ℤ group_sum i rest (drop c xs)
 block i zero s rest xs = none s (group_sum i rest xs)
 block i (suc c) s rest [] = rw (zero-*ℤ s, group-none i rest) refl
 block i (suc c) s rest (x ∷ xs) = by (nat_eq x i) (sum_by-cons (λ l. cond (nat_eq l i) 1 0) x (take c xs)) (block i c s rest xs)
@@ -84,7 +84,7 @@ length-labels k = length-range_with_len 0 k
 pub length-sums : (k : ℕ) (scores : List ℤ) (xs : List ℕ) → length (group_sums k scores xs) ≡ k
 length-sums k scores xs = length-map (labels k) (λ i. group_sum i scores xs) ∙ length-labels k
 
-drop-head : (g : ℕ) (scores : List ℤ) (s : ℤ) (ss : List ℤ) → drop g scores ≡ s ∷ ss → (score_of scores g ≡ s) × (drop (g + 1) scores ≡ ss)
+pub drop-head : (g : ℕ) (scores : List ℤ) (s : ℤ) (ss : List ℤ) → drop g scores ≡ s ∷ ss → (score_of scores g ≡ s) × (drop (g + 1) scores ≡ ss)
 drop-head zero [] s ss d = absurd (cc d)
 drop-head (suc g) [] s ss d = absurd (cc d)
 drop-head zero (v ∷ vs) s ss d = (cc, cc)

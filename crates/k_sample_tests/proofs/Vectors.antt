@@ -1,5 +1,5 @@
 -- Worked rows of the definition, by computation.
-use Rattle.std.specs.Prelude.{◌≡◌, pos, [], ◌∷◌, codes}
+use Rattle.std.specs.Prelude.{◌≡◌, pos, negsuc, [], ◌∷◌, codes}
 use Rattle.std.proofs.Common.{refl}
 use Rattle.weights.specs.Conditional.{numerator, observed_statistic, total}
 use Rattle.weights.specs.declared.tails.Tail.TheVariants.{Less, Greater, Two}
@@ -9,6 +9,8 @@ use Rattle.scores.specs.PlaceScores.{common_multiple}
 use Rattle.scores.specs.declared.kinds.ScoreKind.TheVariants.{Wilcoxon}
 use Rattle.sample_reader.specs.PooledSample.{paired_subjects}
 use Rattle.k_sample_tests.specs.KruskalWallis.{ScoredGroups, kruskal_wallis_test}
+use Rattle.k_sample_tests.specs.PackedSums.{numeral, pack, unpack}
+use Rattle.k_sample_tests.specs.RankSums.{half_for}
 use Rattle.k_sample_tests.specs.Umbrella.{PeakedGroups, umbrella_test, used_pairs}
 
 -- of three groups that rise to the second, it is above both others
@@ -113,3 +115,21 @@ beside_statistic = refl
 beside_greater : numerator (kruskal_wallis_test beside) Greater ≡ 3
 unfolding paired_subjects number_below number_equal doubled_midrank common_multiple lcm beside
 beside_greater = refl
+
+-- the sums 1 and -3 in the base 16: the digits 9 and 5
+packed_pair : pack 8 (pos 1 ∷ negsuc 2 ∷ []) ≡ pos 89
+packed_pair = refl
+
+unpacked_pair : unpack 8 2 (pos 89) ≡ pos 1 ∷ negsuc 2 ∷ []
+unpacked_pair = refl
+
+-- a step of 2 and -1 takes 14 off, and leads to 3 and -4
+step_number : numeral 16 (pos 2 ∷ negsuc 0 ∷ []) ≡ negsuc 13
+step_number = refl
+
+led_pair : unpack 8 2 (pos 75) ≡ pos 3 ∷ negsuc 3 ∷ []
+led_pair = refl
+
+-- of three groups each has 32 bits
+half_of_three : half_for 3 ≡ 2147483648
+half_of_three = refl

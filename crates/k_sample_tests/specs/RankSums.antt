@@ -1,11 +1,12 @@
 -- The network of the test of Kruskal and Wallis: a stage is a distinct value, ascending, with the
 -- subjects that have it, and its choice says how many of them are of each group. A key's partial is
--- the sum of scores that each group has so far.
-use Rattle.std.specs.Prelude.{ℕ, ◌*◌, ℤ, pos, ◌+ℤ◌, ◌*ℤ◌, List, [], ◌∷◌, ◌++◌, length, map, min, replicate}
+-- the sum of scores that each group has so far, in one number for all groups where they fit it.
+use Rattle.std.specs.Prelude.{ℕ, ◌-◌, ◌*◌, ◌/◌, ◌^◌, ◌&&◌, ℤ, pos, ◌+ℤ◌, ◌*ℤ◌, Bool, List, [], ◌∷◌, ◌++◌, length, map, min, nat_lt, replicate, if◌then◌else◌}
 use Rattle.weights.specs.declared.tails.Tail.{Tail}
 use Rattle.weights.specs.declared.rules.Rule.{Rule}
 use Rattle.weights.specs.Rules.{rule_of}
 use Rattle.completion_bounds.specs.Boxes.{factored_squares, greatest_squares, least_squares}
+use Rattle.scores.specs.Scores.{absolute_sum}
 use Rattle.sample_reader.specs.Groups.{group_sizes}
 use Rattle.stage_network.specs.Network.{Network}
 use Rattle.label_network.specs.LabelNetwork.{label_network}
@@ -13,7 +14,8 @@ use Rattle.label_network.specs.LaterSums.{greatest_sum, later_scores, least_sum}
 use Rattle.label_network.specs.Linear.{score_of}
 use Rattle.label_network.specs.Meanings.{Meaning}
 use Rattle.pooled_columns.specs.PooledColumns.{column_scores, column_sizes, pooled_values}
-use Rattle.k_sample_tests.specs.KruskalWallis.{ScoredGroups, kruskal_wallis_test, size_factors}
+use Rattle.k_sample_tests.specs.KruskalWallis.{ScoredGroups, kruskal_wallis_test, pooled_scores, size_factors}
+use Rattle.k_sample_tests.specs.PackedSums.{packed_meaning}
 
 -- what counts of subjects with one score add to the groups' sums
 abbrev pub score_parts : ℤ → List ℕ → List ℤ
@@ -68,13 +70,32 @@ squares_meaning factors bound scores columns rows tail rule = record {
   rule = rule;
 }
 
-abbrev pub kruskal_wallis_meaning : ScoredGroups → Tail → Meaning
-kruskal_wallis_meaning samples tail =
+-- a number for each group
+abbrev pub wide_meaning : ScoredGroups → Tail → Meaning
+wide_meaning samples tail =
     let test = kruskal_wallis_test samples in
     let sizes = group_sizes samples.groups in
     let values = pooled_values samples.groups in
     squares_meaning (size_factors sizes) test.bound (column_scores samples.kind values)
     (column_sizes values) sizes tail (rule_of test tail)
+
+-- half of the base in which 127 bits hold a digit of each of k groups
+abbrev pub half_for : ℕ → ℕ
+half_for k = 2 ^ (min (127 / k) 32 - 1)
+
+-- whether one number holds the sums of all groups, since no sum comes to half of the base, and
+-- whether 128 bits have room for the squared sums at every corner of a box
+abbrev pub fits_one : ScoredGroups → Bool
+fits_one samples =
+    nat_lt (absolute_sum (pooled_scores samples)) (half_for (length (group_sizes samples.groups)))
+    && nat_lt (kruskal_wallis_test samples).bound (2 ^ 124)
+
+-- one number for all groups where it holds their sums, or else a number for each
+abbrev pub kruskal_wallis_meaning : ScoredGroups → Tail → Meaning
+kruskal_wallis_meaning samples tail =
+    let half = half_for (length (group_sizes samples.groups)) in
+    if fits_one samples then packed_meaning half (wide_meaning samples tail)
+    else wide_meaning samples tail
 
 abbrev pub kruskal_wallis_network : ScoredGroups → Tail → Network
 kruskal_wallis_network samples tail = label_network (kruskal_wallis_meaning samples tail)

@@ -28,6 +28,8 @@ pub(crate) struct GroupScores {
     pub bound: u128,
     /// The subjects' scores, by ascending value.
     pub scores: Ints,
+    /// The sum of their absolute values.
+    pub sum: u128,
     pub columns: Columns,
     /// The observed statistic, its scale, the total and the rule of both sides.
     pub frame: Frame,
@@ -98,6 +100,7 @@ pub(crate) fn made_of(
         factors,
         bound,
         scores: scored.list,
+        sum: scored.sum,
         columns,
         frame,
     })

@@ -1,12 +1,25 @@
 // Both ways to the answer of a test of Kruskal and Wallis.
+ghost use Rattle.std.specs.Prelude.{◌≡◌, ◌^◌, ◌≤◌, ◌&&◌, nat_lt};
+ghost use Rattle.k_sample_tests.specs.RankSums.{half_for};
+
 use crate::group_sums::squares_statistic;
 use crate::kruskal_wallis::KruskalWallis;
+use crate::packed_sums::{PackedSums, half_for};
 use crate::rank_sums::RankSums;
 use enumerate::{Plain, first_labelling, next_labelling};
 use label_network::LabelStages;
-use stage_network::{Judge, Prepared};
+use stage_network::{Judge, OneOf, Prepared};
 use std::alloc::Global;
 use weights::{Bytes, Frame, NoMemory, Tail};
+
+// Whether one number holds the sums of so many groups, whose scores have this sum.
+fn fits_one(sum: u128, bound: u128, groups: usize) -> bool
+    requires some { 1 ≤ groups }
+    requires few { groups ≤ 8 }
+    ensures { result ≡ (nat_lt sum (half_for groups) && nat_lt bound (2 ^ 124)) }
+{
+    sum < half_for(groups) as u128 && bound < 1 << 124
+}
 
 impl Plain for KruskalWallis {
     ghost use Rattle.k_sample_tests.specs.KruskalWallis.{kruskal_wallis_test};
@@ -44,7 +57,7 @@ impl Plain for KruskalWallis {
 impl Prepared for KruskalWallis {
     ghost use Rattle.k_sample_tests.specs.RankSums.{kruskal_wallis_network};
 
-    type Built = LabelStages<RankSums>;
+    type Built = OneOf<LabelStages<PackedSums>, LabelStages<RankSums>>;
 
     ghost network = { kruskal_wallis_network };
 
@@ -71,6 +84,11 @@ impl Prepared for KruskalWallis {
             made.scores.len() as u64,
             Judge { tail, rule },
         )?;
-        LabelStages::new(alloc, columns, rows, measure)
+        if fits_one(made.sum, made.bound, rows.len()) {
+            let packed = PackedSums::new(measure);
+            Ok(OneOf::First(LabelStages::new(alloc, columns, rows, packed)?))
+        } else {
+            Ok(OneOf::Second(LabelStages::new(alloc, columns, rows, measure)?))
+        }
     }
 }

@@ -16,6 +16,7 @@ mod group_scores;
 mod group_sums;
 mod kruskal_wallis;
 mod kruskal_wallis_ways;
+mod packed_sums;
 mod pair_counts;
 mod pair_points;
 mod rank_sums;

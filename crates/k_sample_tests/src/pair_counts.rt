@@ -29,7 +29,7 @@ pub struct PairCounts {
 }
 
 #[inline(always)]
-fn only(numbers: &[i128]) -> i128
+pub(crate) fn only(numbers: &[i128]) -> i128
     requires { length numbers.now ≡ 1 }
     ensures { result ≡ so_far numbers.now }
 {

@@ -1,5 +1,5 @@
 // The measure of the test of Kruskal and Wallis.
-ghost use Rattle.std.specs.Prelude.{◌≡◌, ◌+◌, ◌-◌, ◌*◌, ◌<◌, ◌≤◌, [], ◌∷◌, ◌++◌, length, pos, unsigned_abs, slice_index, ◌+ℤ◌, ◌*ℤ◌, min, IfOk};
+ghost use Rattle.std.specs.Prelude.{◌≡◌, ◌+◌, ◌-◌, ◌*◌, ◌^◌, ◌<◌, ◌≤◌, [], ◌∷◌, ◌++◌, length, pos, unsigned_abs, slice_index, ◌+ℤ◌, ◌*ℤ◌, min, IfOk};
 ghost use Rattle.std.specs.List.{Contains, sum};
 ghost use Rattle.weights.specs.declared.TheConstants.{MAX};
 ghost use Rattle.completion_bounds.specs.Boxes.{greatest_squares, least_squares};
@@ -11,7 +11,7 @@ ghost use Rattle.k_sample_tests.specs.RankSums.{greatest_parts, least_parts, plu
 ghost use Rattle.k_sample_tests.specs.RankSumSteps.{AreAddable, AreEnough, AreRankSums, AreTabled, IsSquaring};
 
 use crate::group_sums::squares_of;
-use completion_bounds::box_bounds;
+use completion_bounds::{box_bounds, narrow_squares};
 use label_network::{LaterScores, Measure, read_sizes};
 use stage_network::{Interval, Judge, Verdict};
 use std::alloc::Global;
@@ -53,7 +53,7 @@ fn times(count: u64, score: i128) -> i128
 }
 
 #[inline(always)]
-fn plus(sum: i128, added: i128) -> i128
+pub(crate) fn plus(sum: i128, added: i128) -> i128
     requires { unsigned_abs sum + unsigned_abs added ≤ MAX }
     ensures { result ≡ sum +ℤ added }
 {
@@ -130,7 +130,11 @@ impl RankSums {
     ) -> Result<RankSums, NoMemory>
         requires subjects { subjects ≡ sum rows.now }
         requires fits { IsSquaring factors.now bound scores.now columns.now rows.now judge.rule }
-        ensures { IfOk result (λ m.
+        ensures bound { IfOk result (λ m. m.bound ≡ bound) }
+        ensures scores { IfOk result (λ m. m.later.scores.items ≡ scores.now) }
+        ensures columns { IfOk result (λ m. m.later.columns.items ≡ columns.now) }
+        ensures rows { IfOk result (λ m. m.rows.items ≡ rows.now) }
+        ensures meaning { IfOk result (λ m.
             squares_meaning m.factors.items m.bound m.later.scores.items m.later.columns.items
             m.rows.items m.judge.tail m.judge.rule
             ≡ squares_meaning factors.now bound scores.now columns.now rows.now
@@ -194,11 +198,44 @@ impl RankSums {
         let highs = &mut high_numbers[..partial.len()];
         plus_each(partial, least, lows);
         plus_each(partial, greatest, highs);
+        self.between(lows, highs)
+    }
+
+    // Between which sums of squares a key ends, whose groups can come to sums in this box.
+    #[inline(always)]
+    fn between(&self, lows: &[i128], highs: &[i128]) -> Interval
+        requires factors { length self.now.factors.items ≡ length lows.now }
+        requires as_many { length highs.now ≡ length lows.now }
+        requires fits { self.now.bound ≤ MAX }
+        ensures low { result.low ≡ pos (min (least_squares lows.now highs.now
+            self.now.factors.items) self.now.bound) }
+        ensures high { result.high ≡ pos (min (greatest_squares lows.now highs.now
+            self.now.factors.items) self.now.bound) }
+    {
         let (low, high) = box_bounds(lows, highs, self.factors.as_slice(), self.bound);
         Interval {
             low: low as i128,
             high: high as i128,
         }
+    }
+
+    // What is known of such a key.
+    #[inline(always)]
+    pub(crate) fn judge_box(&self, lows: &[i32], highs: &[i32], tail: Tail) -> Verdict
+        requires one_each { length lows.now ≡ length self.now.rows.items }
+        requires as_many { length highs.now ≡ length self.now.rows.items }
+        requires fits { greatest_squares lows.now highs.now self.now.factors.items < 2 ^ 128 }
+        ensures { let factors = self.now.factors.items in
+            let low = pos (min (least_squares lows.now highs.now factors) self.now.bound) in
+            let high = pos (min (greatest_squares lows.now highs.now factors) self.now.bound) in
+            result ≡ judged self.now.judge.tail self.now.judge.rule tail low high }
+    {
+        let (low, high) = narrow_squares(lows, highs, self.factors.as_slice());
+        let interval = Interval {
+            low: low.min(self.bound) as i128,
+            high: high.min(self.bound) as i128,
+        };
+        self.judge.verdict(tail, interval)
     }
 }
 
@@ -238,30 +275,6 @@ impl Measure for RankSums {
         next: &mut [i128],
     ) {
         plus_each(partial, step, next);
-    }
-
-    fn advance(
-        &self,
-        stage: usize,
-        _remaining: &[i128],
-        choice: &[u64],
-        partial: &[i128],
-        next: &mut [i128],
-    ) {
-        let mut numbers = [0i128; 8];
-        let parts = &mut numbers[..choice.len()];
-        score_parts(self.later.score(stage), choice, parts);
-        plus_each(partial, parts, next);
-    }
-
-    fn verdict(&self, stage: usize, remaining: &[i128], partial: &[i128], tail: Tail) -> Verdict {
-        let mut least_numbers = [0i128; 8];
-        let mut greatest_numbers = [0i128; 8];
-        let least = &mut least_numbers[..remaining.len()];
-        let greatest = &mut greatest_numbers[..remaining.len()];
-        self.parts(stage, remaining, least, greatest);
-        let interval = self.interval(least, greatest, partial);
-        self.judge.verdict(tail, interval)
     }
 
     fn outlook(&self, stage: usize, remaining: &[i128], outlook: &mut [i128]) {

@@ -1,0 +1,54 @@
+-- Half of the base in which 127 bits hold a digit of each group.
+use Rattle.std.proofs.Common.{◌≡◌, ℕ, zero, suc, ◌+◌, ◌-◌, ◌*◌, ◌/◌, ◌%◌, ◌^◌, ◌<◌, ◌≤◌, min, sym, ◌∙◌, ap, subst, arith}
+use Rattle.std.proofs.Math.Nat.{div-mul-le_self, mod-add-div, mod-lt, mul-le-mul_right, pow-le-pow_right, pow-succ', pow-zero}
+use Rattle.std.proofs.lemmas.Nat.{pow-add}
+use Rattle.weights.specs.declared.TheConstants.{MAX}
+use Rattle.k_sample_tests.specs.PackedSumSteps.{IsHalf}
+use Rattle.k_sample_tests.specs.RankSums.{half_for}
+
+powers : (b k : ℕ) → (2 ^ b) ^ k ≡ 2 ^ (k * b)
+powers b zero = pow-zero (2 ^ b) ∙ sym (ap (λ n. 2 ^ n) (none b))
+  where
+    none : (b : ℕ) → 0 * b ≡ 0
+    none b = omega arith
+powers b (suc k) =
+    pow-succ' (2 ^ b) k ∙ ap (λ n. 2 ^ b * n) (powers b k) ∙ sym (pow-add 2 b (k * b)) ∙ ap (λ n. 2 ^ n) (more k b)
+  where
+    more : (k b : ℕ) → b + k * b ≡ suc k * b
+    more k b = omega arith
+
+module _ (k : ℕ) (some : 1 ≤ k) (few : k ≤ 8) where
+  pub bits-some : 1 ≤ min (127 / k) 32
+  bits-some = omega (arith, by (127 % k) (127 / k) (mod-add-div 127 k) (omega (arith, mod-lt 127 {m = k} some, few)))
+    where
+      by : (r q : ℕ) → r + k * q ≡ 127 → r < 8 → 1 ≤ q
+      by r zero e h = absurd (omega (arith, e, h))
+      by r (suc q) e h = omega arith
+
+  pub base-is : 2 ^ min (127 / k) 32 ≡ 2 * half_for k
+  base-is = by (min (127 / k) 32) bits-some
+    where
+      by : (b : ℕ) → 1 ≤ b → 2 ^ b ≡ 2 * 2 ^ (b - 1)
+      by zero h = absurd (omega (arith, h))
+      by (suc b) h = pow-succ' 2 b ∙ ap (λ n. 2 * 2 ^ n) (back b)
+        where
+          back : (b : ℕ) → b ≡ suc b - 1
+          back b = omega arith
+
+  pub is-half : IsHalf (min (127 / k) 32) (half_for k)
+  is-half = record { base = base-is; few = omega arith }
+
+  pub half-wide : (2 * half_for k) ^ k ≤ MAX + 1
+  half-wide =
+      let bits : min (127 / k) 32 * k ≤ 127 / k * k = mul-le-mul_right k (omega arith) in
+      let all : k * min (127 / k) 32 ≤ 127 = omega (arith, bits, div-mul-le_self 127 k) in
+      subst (λ n. n ^ k ≤ MAX + 1) base-is (subst (λ n. n ≤ MAX + 1) (sym (powers (min (127 / k) 32) k)) (below (k * min (127 / k) 32) all))
+    where
+      below : (n : ℕ) → n ≤ 127 → 2 ^ n ≤ MAX + 1
+      below n h = pow-le-pow_right (omega arith) h
+
+-- a digit of at most 32 bits
+pub half-within : (bits half : ℕ) → IsHalf bits half → half ≤ 2 ^ 31
+half-within bits half h =
+    let most : 2 ^ bits ≤ 2 ^ 32 = pow-le-pow_right (omega arith) h.few in
+    omega (arith, most, h.base)
