@@ -38,20 +38,20 @@ returns-in_err-scored c =
 pub returns-in_default : goal.returns-in_default
 returns-in_default c =
     let sizes : c.as_slice-2.result.now ≡ group_sizes (data_of c.args.groups.now) = c.as_slice-2.ensures ∙ c.in_ok-sizes.ensures ∙ c.args.groups.now.counted in
-    let none = rw sizes at c.in_default.ensures in
+    let none = rw sizes at c.in_default.ensures.least in
     multiple-wide c.args.kind c.args.groups.now (past-limit (common_multiple (group_sizes (data_of c.args.groups.now))) none)
 
 pub times_square-requires : goal.times_square-requires
 times_square-requires c =
     let sizes : c.as_slice-2.result.now ≡ group_sizes (data_of c.args.groups.now) = c.as_slice-2.ensures ∙ c.in_ok-sizes.ensures ∙ c.args.groups.now.counted in
-    rw (c.in-Some.ensures.1, sizes) (multiple-some (group_sizes (data_of c.args.groups.now)) (none-empty c.args.groups.now))
+    rw (c.in-Some.ensures.least.1, sizes) (multiple-some (group_sizes (data_of c.args.groups.now)) (none-empty c.args.groups.now))
 
 pub squares_statistic-statistic-requires-clause-few_rows : goal.squares_statistic-statistic-requires-clause-few_rows
 squares_statistic-statistic-requires-clause-few_rows c =
     let samples : ScoredGroups = record { kind = c.args.kind; groups = data_of c.args.groups.now } in
     let values : c.as_slice.result.now ≡ pooled_values samples.groups = c.as_slice.ensures ∙ c.in_ok-values.ensures ∙ ap values_of (c.deref.ensures.value ∙ c.in_ok-pooled.ensures) in
     let are : AreScores c.args.kind (pooled_values samples.groups) c.in_ok-scored.scored = subst (λ vs. AreScores c.args.kind vs c.in_ok-scored.scored) values c.in_ok-scored.ensures in
-    let multiple : c.in-Some.multiple ≡ common_multiple (group_sizes samples.groups) = c.in-Some.ensures.1 ∙ ap common_multiple (c.as_slice-2.ensures ∙ c.in_ok-sizes.ensures ∙ c.args.groups.now.counted) in
+    let multiple : c.in-Some.multiple ≡ common_multiple (group_sizes samples.groups) = c.in-Some.ensures.least.1 ∙ ap common_multiple (c.as_slice-2.ensures ∙ c.in_ok-sizes.ensures ∙ c.args.groups.now.counted) in
     let most : c.max.result ≡ max (score_sum c.args.kind (pooled_values samples.groups)) (scale_of c.args.kind (pooled_values samples.groups)) = c.max.ensures ∙ rw (are.sum, are.scale) refl in
     let bound : c.in-Some-times_square.bound ≡ (kruskal_wallis_test samples).bound = c.in-Some-times_square.ensures.1 ∙ rw (multiple, most) refl in
     let factors : c.in_ok-factors.factors.items ≡ size_factors (group_sizes samples.groups) = c.in_ok-factors.ensures ∙ ap size_factors (c.as_slice-3.ensures ∙ c.in_ok-sizes.ensures ∙ c.args.groups.now.counted) in
@@ -64,7 +64,7 @@ squares_statistic-statistic-requires-clause-sums_fit c =
     let samples : ScoredGroups = record { kind = c.args.kind; groups = data_of c.args.groups.now } in
     let values : c.as_slice.result.now ≡ pooled_values samples.groups = c.as_slice.ensures ∙ c.in_ok-values.ensures ∙ ap values_of (c.deref.ensures.value ∙ c.in_ok-pooled.ensures) in
     let are : AreScores c.args.kind (pooled_values samples.groups) c.in_ok-scored.scored = subst (λ vs. AreScores c.args.kind vs c.in_ok-scored.scored) values c.in_ok-scored.ensures in
-    let multiple : c.in-Some.multiple ≡ common_multiple (group_sizes samples.groups) = c.in-Some.ensures.1 ∙ ap common_multiple (c.as_slice-2.ensures ∙ c.in_ok-sizes.ensures ∙ c.args.groups.now.counted) in
+    let multiple : c.in-Some.multiple ≡ common_multiple (group_sizes samples.groups) = c.in-Some.ensures.least.1 ∙ ap common_multiple (c.as_slice-2.ensures ∙ c.in_ok-sizes.ensures ∙ c.args.groups.now.counted) in
     let most : c.max.result ≡ max (score_sum c.args.kind (pooled_values samples.groups)) (scale_of c.args.kind (pooled_values samples.groups)) = c.max.ensures ∙ rw (are.sum, are.scale) refl in
     let bound : c.in-Some-times_square.bound ≡ (kruskal_wallis_test samples).bound = c.in-Some-times_square.ensures.1 ∙ rw (multiple, most) refl in
     let factors : c.in_ok-factors.factors.items ≡ size_factors (group_sizes samples.groups) = c.in_ok-factors.ensures ∙ ap size_factors (c.as_slice-3.ensures ∙ c.in_ok-sizes.ensures ∙ c.args.groups.now.counted) in
@@ -77,7 +77,7 @@ squares_statistic-statistic-requires-clause-within c =
     let samples : ScoredGroups = record { kind = c.args.kind; groups = data_of c.args.groups.now } in
     let values : c.as_slice.result.now ≡ pooled_values samples.groups = c.as_slice.ensures ∙ c.in_ok-values.ensures ∙ ap values_of (c.deref.ensures.value ∙ c.in_ok-pooled.ensures) in
     let are : AreScores c.args.kind (pooled_values samples.groups) c.in_ok-scored.scored = subst (λ vs. AreScores c.args.kind vs c.in_ok-scored.scored) values c.in_ok-scored.ensures in
-    let multiple : c.in-Some.multiple ≡ common_multiple (group_sizes samples.groups) = c.in-Some.ensures.1 ∙ ap common_multiple (c.as_slice-2.ensures ∙ c.in_ok-sizes.ensures ∙ c.args.groups.now.counted) in
+    let multiple : c.in-Some.multiple ≡ common_multiple (group_sizes samples.groups) = c.in-Some.ensures.least.1 ∙ ap common_multiple (c.as_slice-2.ensures ∙ c.in_ok-sizes.ensures ∙ c.args.groups.now.counted) in
     let most : c.max.result ≡ max (score_sum c.args.kind (pooled_values samples.groups)) (scale_of c.args.kind (pooled_values samples.groups)) = c.max.ensures ∙ rw (are.sum, are.scale) refl in
     let bound : c.in-Some-times_square.bound ≡ (kruskal_wallis_test samples).bound = c.in-Some-times_square.ensures.1 ∙ rw (multiple, most) refl in
     let factors : c.in_ok-factors.factors.items ≡ size_factors (group_sizes samples.groups) = c.in_ok-factors.ensures ∙ ap size_factors (c.as_slice-3.ensures ∙ c.in_ok-sizes.ensures ∙ c.args.groups.now.counted) in
@@ -90,7 +90,7 @@ overflow_mul-frame c =
     let samples : ScoredGroups = record { kind = c.args.kind; groups = data_of c.args.groups.now } in
     let values : c.as_slice.result.now ≡ pooled_values samples.groups = c.as_slice.ensures ∙ c.in_ok-values.ensures ∙ ap values_of (c.deref.ensures.value ∙ c.in_ok-pooled.ensures) in
     let are : AreScores c.args.kind (pooled_values samples.groups) c.in_ok-scored.scored = subst (λ vs. AreScores c.args.kind vs c.in_ok-scored.scored) values c.in_ok-scored.ensures in
-    let multiple : c.in-Some.multiple ≡ common_multiple (group_sizes samples.groups) = c.in-Some.ensures.1 ∙ ap common_multiple (c.as_slice-2.ensures ∙ c.in_ok-sizes.ensures ∙ c.args.groups.now.counted) in
+    let multiple : c.in-Some.multiple ≡ common_multiple (group_sizes samples.groups) = c.in-Some.ensures.least.1 ∙ ap common_multiple (c.as_slice-2.ensures ∙ c.in_ok-sizes.ensures ∙ c.args.groups.now.counted) in
     let most : c.max.result ≡ max (score_sum c.args.kind (pooled_values samples.groups)) (scale_of c.args.kind (pooled_values samples.groups)) = c.max.ensures ∙ rw (are.sum, are.scale) refl in
     let bound : c.in-Some-times_square.bound ≡ (kruskal_wallis_test samples).bound = c.in-Some-times_square.ensures.1 ∙ rw (multiple, most) refl in
     let factors : c.in_ok-factors.factors.items ≡ size_factors (group_sizes samples.groups) = c.in_ok-factors.ensures ∙ ap size_factors (c.as_slice-3.ensures ∙ c.in_ok-sizes.ensures ∙ c.args.groups.now.counted) in
@@ -104,7 +104,7 @@ returns c =
     let samples : ScoredGroups = record { kind = c.args.kind; groups = data_of c.args.groups.now } in
     let values : c.as_slice.result.now ≡ pooled_values samples.groups = c.as_slice.ensures ∙ c.in_ok-values.ensures ∙ ap values_of (c.deref.ensures.value ∙ c.in_ok-pooled.ensures) in
     let are : AreScores c.args.kind (pooled_values samples.groups) c.in_ok-scored.scored = subst (λ vs. AreScores c.args.kind vs c.in_ok-scored.scored) values c.in_ok-scored.ensures in
-    let multiple : c.in-Some.multiple ≡ common_multiple (group_sizes samples.groups) = c.in-Some.ensures.1 ∙ ap common_multiple (c.as_slice-2.ensures ∙ c.in_ok-sizes.ensures ∙ c.args.groups.now.counted) in
+    let multiple : c.in-Some.multiple ≡ common_multiple (group_sizes samples.groups) = c.in-Some.ensures.least.1 ∙ ap common_multiple (c.as_slice-2.ensures ∙ c.in_ok-sizes.ensures ∙ c.args.groups.now.counted) in
     let most : c.max.result ≡ max (score_sum c.args.kind (pooled_values samples.groups)) (scale_of c.args.kind (pooled_values samples.groups)) = c.max.ensures ∙ rw (are.sum, are.scale) refl in
     let bound : c.in-Some-times_square.bound ≡ (kruskal_wallis_test samples).bound = c.in-Some-times_square.ensures.1 ∙ rw (multiple, most) refl in
     let factors : c.in_ok-factors.factors.items ≡ size_factors (group_sizes samples.groups) = c.in_ok-factors.ensures ∙ ap size_factors (c.as_slice-3.ensures ∙ c.in_ok-sizes.ensures ∙ c.args.groups.now.counted) in
