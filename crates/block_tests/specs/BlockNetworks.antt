@@ -10,11 +10,13 @@ use Rattle.weights.specs.Rules.{rule_of}
 use Rattle.weights.specs.declared.lines.Line.{Line}
 use Rattle.weights.specs.declared.rules.Rule.{Rule}
 use Rattle.weights.specs.declared.tails.Tail.{Tail}
+use Rattle.weights.specs.declared.tails.Tail.TheVariants.{Greater}
 use Rattle.enumerate.specs.Walk.{members_after}
 use Rattle.stage_network.specs.Addends.{Addends, additive_network}
+use Rattle.stage_network.specs.Judged.{is_tail}
 use Rattle.stage_network.specs.Network.{Network}
 use Rattle.stage_network.specs.declared.additive.SumValue.TheVariants.{First, Squares}
-use Rattle.block_tests.specs.BlockTests.{BlockTests, block_counts, block_test, greater_alone, page_sum}
+use Rattle.block_tests.specs.BlockTests.{BlockTests, block_counts, block_test, page_sum}
 use Rattle.block_tests.specs.declared.kinds.BlockKind.{BlockKind}
 use Rattle.block_tests.specs.declared.kinds.BlockKind.TheVariants.{Friedman, Page, Cochran}
 
@@ -61,7 +63,7 @@ arrangement_test counts = record {
   statistic = λ cells. pos (page_sum 1 cells);
   observed = first_arrangement counts;
   weight = unit_weight;
-  has_tail = greater_alone;
+  has_tail = is_tail Greater;
   two_sided = by_distance 0 (pos 0);
   scale = 1;
   bound = 0;

@@ -5,15 +5,16 @@ use Rattle.weights.specs.Conditional.{ConditionalTest, is_extreme, observed_stat
 use Rattle.weights.specs.declared.tails.Tail.{Tail}
 use Rattle.weights.specs.declared.tails.Tail.TheVariants.{Less, Greater, Two}
 use Rattle.weights.proofs.Members.{IsLabelling, labelling_from}
+use Rattle.stage_network.specs.Judged.{is_tail}
 use Rattle.block_tests.specs.BlockNetworks.{arrangement_test, first_arrangement}
-use Rattle.block_tests.specs.BlockTests.{greater_alone, page_sum}
+use Rattle.block_tests.specs.BlockTests.{page_sum}
 use Rattle.block_tests.proofs.Arranged.{length-first}
 use Rattle.block_tests.proofs.page.BlockPlain.extreme.Goals as goal
 
 narrow : (counts first : List ℕ) → first ≡ first_arrangement counts → sum counts ≤ 8 → length first ≤ 8
 narrow counts first e few = (let long = ap length e in omega (arith, long, length-first counts, few))
 
-greater-is : (test : ConditionalTest) (tail : Tail) (r : List ℕ) → greater_alone tail ≡ true → is_extreme test tail r ≡ int_le (observed_statistic test) (test.statistic r)
+greater-is : (test : ConditionalTest) (tail : Tail) (r : List ℕ) → is_tail Greater tail ≡ true → is_extreme test tail r ≡ int_le (observed_statistic test) (test.statistic r)
 greater-is test Less r e = absurd (cc e)
 greater-is test Greater r e = refl
 greater-is test Two r e = absurd (cc e)
