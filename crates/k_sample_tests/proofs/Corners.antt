@@ -1,7 +1,6 @@
 -- The sums of squares at the corners of a box, whose ends no single group passes.
-use Rattle.std.proofs.Common.{◌≡◌, ℕ, zero, suc, ◌+◌, ◌*◌, ◌<◌, ◌≤◌, ◌⊎◌, List, [], ◌∷◌, length, max, get_or, inl, inr, sym, ap, arith}
+use Rattle.std.proofs.Common.{◌≡◌, ℕ, zero, suc, ◌+◌, ◌*◌, ◌≤◌, ◌⊎◌, List, [], ◌∷◌, length, max, get_or, inl, inr, ap, arith}
 use Rattle.std.specs.Prelude.{ℤ, pos, unsigned_abs}
-use Rattle.std.proofs.lemmas.Int.{ints}
 use Rattle.completion_bounds.specs.Boxes.{factored_squares, greatest_size, greatest_squares}
 use Rattle.label_network.specs.LaterSums.{absolute_sum}
 use Rattle.label_network.proofs.Absolute.{size-plus}

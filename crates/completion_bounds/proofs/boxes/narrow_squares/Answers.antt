@@ -1,7 +1,6 @@
-use Rattle.std.proofs.Common.{◌≡◌, ◌*◌, rules, get_or, FitsSigned, ap, arith}
+use Rattle.std.proofs.Common.{◌*◌, rules, get_or, FitsSigned, ap, arith}
 use Rattle.std.specs.Prelude.{pos}
 use mir.Syntax.{w32}
-use mir.Val.{to_z, of_z}
 use Rattle.std.proofs.lemmas.Int.{to_z-of_z}
 use Rattle.completion_bounds.proofs.Bounding.{squaring-end, squaring-fits, squaring-more}
 use Rattle.completion_bounds.proofs.boxes.narrow_squares.Goals as goal

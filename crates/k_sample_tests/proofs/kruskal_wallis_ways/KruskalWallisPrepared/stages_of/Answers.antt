@@ -1,10 +1,8 @@
-use Rattle.std.proofs.Common.{◌≡◌, ◌∙◌, ℕ, List, ap, arith, false, length, refl, sym, true}
-use Rattle.std.proofs.lemmas.Bool.{le-ltb, lt-ltb}
+use Rattle.std.proofs.Common.{◌≡◌, ◌∙◌, ℕ, List, ap, false, length, refl, sym, true}
 use Rattle.weights.specs.Rules.{rule_of}
-use Rattle.scores.specs.Scores.{absolute_sum}
 use Rattle.sample_reader.specs.Groups.{group_sizes}
 use Rattle.label_network.specs.LabelNetwork.{label_network}
-use Rattle.k_sample_tests.specs.KruskalWallis.{ScoredGroups, kruskal_wallis_test, pooled_scores}
+use Rattle.k_sample_tests.specs.KruskalWallis.{ScoredGroups, kruskal_wallis_test}
 use Rattle.k_sample_tests.specs.PackedSums.{packed_meaning}
 use Rattle.k_sample_tests.specs.PackedSumSteps.{sums_meaning}
 use Rattle.k_sample_tests.specs.RankSums.{fits_one, half_for, wide_meaning}
