@@ -1,5 +1,5 @@
 // The measure of the test of Kruskal and Wallis with the sums of all groups in one number.
-ghost use Rattle.std.specs.Prelude.{◌≡◌, ◌+◌, ◌-◌, ◌*◌, ◌/◌, ◌%◌, ◌^◌, ◌<◌, ◌≤◌, length, min, pos, unsigned_abs, ◌+ℤ◌, ◌-ℤ◌, ◌*ℤ◌, slice_index};
+ghost use Rattle.std.specs.Prelude.{◌≡◌, ◌+◌, ◌*◌, ◌/◌, ◌%◌, ◌^◌, ◌<◌, ◌≤◌, length, min, pos, unsigned_abs, ◌+ℤ◌, ◌-ℤ◌, ◌*ℤ◌};
 ghost use Rattle.weights.specs.declared.TheConstants.{MAX};
 ghost use Rattle.label_network.specs.LaterSums.{absolute_sum, subjects};
 ghost use Rattle.label_network.specs.Meanings.{IsStep, sizes_in};

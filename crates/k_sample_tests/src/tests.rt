@@ -252,6 +252,14 @@ fn both_ways_by_scores(rt: HostRuntime) -> Result<(), Fail> {
     Ok(())
 }
 
+// Sums that one number does not hold: of two and of three groups at least 2^31.
+#[test]
+fn sums_apart(rt: HostRuntime) -> Result<(), Fail> {
+    agree_by(&rt, rt.alloc(), Raw, &["600000000000000000 1", "2 5"])?;
+    agree_by(&rt, rt.alloc(), Raw, &["3000000000000 4", "-7 2", "5"])?;
+    Ok(())
+}
+
 // A file of two samples of these sizes, whose values are all equal.
 fn many(alloc: Global, first: usize, second: usize) -> Result<Vec<u8>, AllocError> {
     let mut file = Vec::from_slice(alloc, b"sample,value\n")?;
