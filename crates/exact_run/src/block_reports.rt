@@ -36,10 +36,7 @@ fn blocks_read(
         BlockKind::Cochran => binary_blocks(alloc, rows, &settings.picks),
         _ => blocks(alloc, rows, &settings.picks),
     };
-    match read {
-        Ok(blocks) => Ok(blocks),
-        Err(fault) => Err(layout_refusal(fault)),
-    }
+    read.map_err(layout_refusal)
 }
 
 // The tails that a test has.

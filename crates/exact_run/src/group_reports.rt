@@ -36,10 +36,7 @@ fn groups_read(
     ensures err { let found = groups_in most settings.now.picks rows.now in
         IfErr result (IsCauseOf (with_fault layout_refusal found)) }
 {
-    match groups(alloc, rows, &settings.picks, most) {
-        Ok(groups) => Ok(groups),
-        Err(fault) => Err(layout_refusal(fault)),
-    }
+    groups(alloc, rows, &settings.picks, most).map_err(layout_refusal)
 }
 
 // The groups in the order that is asked, or the refusal of an order that does not fit.

@@ -25,10 +25,7 @@ fn pairs_read(alloc: Global, settings: &Settings, rows: &Rows) -> Result<Pairs, 
     ensures err { let found = differences_in settings.now.picks rows.now in
         IfErr result (IsCauseOf (with_fault layout_refusal found)) }
 {
-    match pairs(alloc, rows, &settings.picks) {
-        Ok(pairs) => Ok(pairs),
-        Err(fault) => Err(layout_refusal(fault)),
-    }
+    pairs(alloc, rows, &settings.picks).map_err(layout_refusal)
 }
 
 fn sizes_of(pairs: &Pairs) -> Sizes

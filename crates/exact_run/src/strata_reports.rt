@@ -26,10 +26,7 @@ fn strata_read(alloc: Global, settings: &Settings, rows: &Rows) -> Result<Strata
     ensures err { let found = strata_in settings.now.picks rows.now in
         IfErr result (IsCauseOf (with_fault layout_refusal found)) }
 {
-    match strata(alloc, rows, &settings.picks) {
-        Ok(strata) => Ok(strata),
-        Err(fault) => Err(layout_refusal(fault)),
-    }
+    strata(alloc, rows, &settings.picks).map_err(layout_refusal)
 }
 
 fn sizes_of(strata: &Strata) -> Sizes

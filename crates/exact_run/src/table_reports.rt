@@ -39,10 +39,7 @@ fn table_of(
         HasShape (table_shape two_by_two) (table_data_of table)) }
     ensures err { IfErr result (IsCauseOf (table_of two_by_two settings.now rows.now)) }
 {
-    match table(alloc, rows, &settings.picks, two_by_two) {
-        Ok(table) => Ok(table),
-        Err(fault) => Err(layout_refusal(fault)),
-    }
+    table(alloc, rows, &settings.picks, two_by_two).map_err(layout_refusal)
 }
 
 // The sizes of a table of a file.
