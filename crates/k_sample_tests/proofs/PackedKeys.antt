@@ -178,7 +178,7 @@ module _ (m : RankSums) (bits half : ℕ) (h : ArePacked m bits half) where
     pub box-fits : greatest_squares (plus_each (unpacked half (sums_meaning m) e) (least_parts (later_scores m.later.scores.items m.later.columns.items g) (sizes_in f))) (plus_each (unpacked half (sums_meaning m) e) (greatest_parts (later_scores m.later.scores.items m.later.columns.items g) (sizes_in f))) m.factors.items < 2 ^ 128
     box-fits =
         let all = corners (absolute_sum (subjects m.later.scores.items m.later.columns.items)) m.bound m.factors.items _ _ squaring.bounded
-            (plus-within _ (unpacked half (sums_meaning m) e) (least_parts (later_scores m.later.scores.items m.later.columns.items g) (sizes_in f)) (least-within m.factors.items m.bound m.later.scores.items m.later.columns.items m.rows.items m.judge.rule m.later.width m.judge.tail m.right g f (unpacked half (sums_meaning m) e) (place g f e a)))
-            (plus-within _ (unpacked half (sums_meaning m) e) (greatest_parts (later_scores m.later.scores.items m.later.columns.items g) (sizes_in f)) (greatest-within m.factors.items m.bound m.later.scores.items m.later.columns.items m.rows.items m.judge.rule m.later.width m.judge.tail m.right g f (unpacked half (sums_meaning m) e) (place g f e a))) in
+        (plus-within _ (unpacked half (sums_meaning m) e) (least_parts (later_scores m.later.scores.items m.later.columns.items g) (sizes_in f)) (least-within m.factors.items m.bound m.later.scores.items m.later.columns.items m.rows.items m.judge.rule m.later.width m.judge.tail m.right g f (unpacked half (sums_meaning m) e) (place g f e a)))
+        (plus-within _ (unpacked half (sums_meaning m) e) (greatest_parts (later_scores m.later.scores.items m.later.columns.items g) (sizes_in f)) (greatest-within m.factors.items m.bound m.later.scores.items m.later.columns.items m.rows.items m.judge.rule m.later.width m.judge.tail m.right g f (unpacked half (sums_meaning m) e) (place g f e a))) in
         let few : length m.factors.items * m.bound ≤ 8 * m.bound = mul-le-mul_right m.bound (omega (arith, squaring.one_each, squaring.few_rows)) in
         omega (arith, all, few, h.room)

@@ -117,7 +117,16 @@ pub fn list_ways<C: Count, S: Roomed>(
     while start < nodes.len() {
         let end = nodes.run_end(start);
         add_ways(
-            stages, stage, nodes, start, end, key, choice, target_room, rooms, ways,
+            stages,
+            stage,
+            nodes,
+            start,
+            end,
+            key,
+            choice,
+            target_room,
+            rooms,
+            ways,
         )?;
         start = end;
     }

@@ -154,7 +154,14 @@ pub fn sweep<C: Count, S: Roomed>(
         rooms.clear();
         ways.clear();
         list_ways(
-            stages, stage, &here, key, choice, target_room, &mut rooms, &mut ways,
+            stages,
+            stage,
+            &here,
+            key,
+            choice,
+            target_room,
+            &mut rooms,
+            &mut ways,
         )?;
         ahead.clear();
         sum = gather(
