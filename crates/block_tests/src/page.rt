@@ -30,13 +30,7 @@ impl Model for PageBlock {
     ghost invariant = { λ b. b.lines.items ≡ page_lines b.block };
 }
 
-fn is_at_least(sum: u64, least: u64) -> bool
-    ensures { result ≡ int_le (pos least) (pos sum) }
-{
-    least <= sum
-}
-
-// The walk through the arrangements of one block, of which only the distribution is asked.
+// The walk through the arrangements of one block.
 impl Plain for Block {
     ghost use Rattle.block_tests.specs.BlockNetworks.{arrangement_test};
 
@@ -54,12 +48,6 @@ impl Plain for Block {
 
     fn weight(&self, _labels: &[u8]) -> u128 {
         1
-    }
-
-    fn extreme(&self, labels: &[u8], _tail: Tail) -> bool {
-        let least = page_sum(Block::first(self));
-        let sum = page_sum(labels);
-        is_at_least(sum, least)
     }
 
     fn value(&self, labels: &[u8]) -> i128 {

@@ -32,10 +32,6 @@ impl Plain for BlockTest {
         1
     }
 
-    fn extreme(&self, labels: &[u8], tail: Tail) -> bool {
-        self.frame().rule(tail).passes(self.value(labels))
-    }
-
     fn value(&self, labels: &[u8]) -> i128 {
         self.statistic_of(labels)
     }
@@ -92,6 +88,10 @@ impl Prepared for BlockTest {
 
     fn has_tail(&self, tail: Tail) -> bool {
         self.kind() == BlockKind::Page || tail == Tail::Greater
+    }
+
+    fn measure(&self, labels: &[u8], _tail: Tail) -> i128 {
+        self.value(labels)
     }
 
     fn stages_of(&self, alloc: Global, tail: Tail) -> Result<Self::Built, NoMemory> {

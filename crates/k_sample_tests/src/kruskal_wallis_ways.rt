@@ -38,10 +38,6 @@ impl Plain for KruskalWallis {
         1
     }
 
-    fn extreme(&self, labels: &[u8], tail: Tail) -> bool {
-        self.frame().rule(tail).passes(self.value(labels))
-    }
-
     fn value(&self, labels: &[u8]) -> i128 {
         let made = self.made();
         squares_statistic(
@@ -67,6 +63,10 @@ impl Prepared for KruskalWallis {
 
     fn has_tail(&self, tail: Tail) -> bool {
         tail == Tail::Greater
+    }
+
+    fn measure(&self, labels: &[u8], _tail: Tail) -> i128 {
+        self.value(labels)
     }
 
     fn stages_of(&self, alloc: Global, tail: Tail) -> Result<Self::Built, NoMemory> {

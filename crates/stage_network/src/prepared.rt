@@ -1,18 +1,19 @@
 // The answer of a prepared test, by its network or by the plain walk.
-ghost use Rattle.std.specs.Prelude.{◌≡◌, ◌≤◌, true, IfOk};
-ghost use Rattle.weights.specs.Conditional.{distribution, total};
+ghost use Rattle.std.specs.Prelude.{◌≡◌, ◌≤◌, true, Contains, IfOk};
+ghost use Rattle.weights.specs.Conditional.{distribution, is_extreme, total};
+ghost use Rattle.weights.specs.Rules.{measured};
 ghost use Rattle.weights.specs.Frames.{IsFrameOf, IsShown, RulesFit, first_tail};
 ghost use Rattle.weights.specs.declared.tails.Tail.{Tail};
 ghost use Rattle.stage_network.specs.Network.{Network};
-ghost use Rattle.stage_network.specs.Lines.{IsSpreadOf};
-ghost use Rattle.stage_network.specs.Follows.{Follows, HasTails, answer_of, asked_tail, open_keys, statistic_sums, tail_of};
+ghost use Rattle.stage_network.specs.Follows.{Follows, HasTails, answer_of, asked_tail, open_keys, tail_of};
 
 use crate::answers::{Answer, Way};
 use crate::lines::Spread;
 use crate::spreads::spread_by_rooms;
 use crate::stages::Roomed;
 use crate::sums::{TailSum, tail_sum_by_rooms};
-use enumerate::{Plain, plain_tail};
+use crate::walks::{plain_spread, plain_tail};
+use enumerate::Plain;
 use std::alloc::Global;
 use weights::{Frame, NoMemory, Tail, Tails};
 
@@ -35,6 +36,21 @@ pub trait Prepared: Plain {
     fn has_tail(&self, tail: Tail) -> bool
         ensures has { result ≡ (Self.test self.now).has_tail tail }
         ensures shown { IsShown (Self.test self.now) };
+
+    /// What a tail measures of a member: its statistic, or its weight on both sides of a test by
+    /// rarity.
+    fn measure(&self, labels: &[u8], tail: Tail) -> i128
+        requires { Contains (Self.test self.now).reference labels.now }
+        ensures { result ≡ measured (Self.test self.now) tail labels.now };
+
+    /// Whether a member is at least as extreme as the observed one: whether what the tail measures
+    /// of it passes the tail's rule.
+    fn is_extreme(&self, labels: &[u8], tail: Tail) -> bool
+        requires { Contains (Self.test self.now).reference labels.now }
+        ensures { result ≡ is_extreme (Self.test self.now) tail labels.now }
+    {
+        self.frame().rule(tail).passes(self.measure(labels, tail))
+    }
 
     /// The network of a tail that the test has. Its completions end at what the tail's rule
     /// measures of the rearrangements.
@@ -135,22 +151,6 @@ fn spread_by_network<P: Prepared>(alloc: Global, problem: &P) -> Result<Spread, 
     let stages = problem.stages_of(alloc, first_tail(problem))?;
     let found = spread_by_rooms(alloc, &stages)?;
     Ok(found)
-}
-
-/// The statistics of all members of a test's reference set by strictly ascending value, each with
-/// its summed weight, found by a walk through the members.
-pub fn plain_spread<P: Plain>(alloc: Global, problem: &P) -> Result<Spread, NoMemory>
-    ensures { IfOk result (IsSpreadOf (statistic_sums (P.test problem.now))) }
-{
-    let mut labels = problem.first(alloc)?;
-    let mut spread = Spread::empty(alloc);
-    loop {
-        let weight = problem.weight(labels.as_slice());
-        spread.add(problem.value(labels.as_slice()), weight)?;
-        if !problem.next(&mut labels) {
-            return Ok(spread);
-        }
-    }
 }
 
 fn spread_by_walk<P: Prepared>(alloc: Global, problem: &P) -> Result<Spread, NoMemory>

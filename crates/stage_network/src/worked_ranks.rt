@@ -124,10 +124,6 @@ impl Plain for SignedRanks {
         1
     }
 
-    fn extreme(&self, labels: &[u8], tail: Tail) -> bool {
-        self.frame().rule(tail).passes(self.value(labels))
-    }
-
     fn value(&self, labels: &[u8]) -> i128 {
         rank_sum(labels)
     }
@@ -151,6 +147,10 @@ impl Prepared for SignedRanks {
 
     fn has_tail(&self, _tail: Tail) -> bool {
         true
+    }
+
+    fn measure(&self, labels: &[u8], _tail: Tail) -> i128 {
+        self.value(labels)
     }
 
     fn stages_of(&self, alloc: Global, tail: Tail) -> Result<Self::Built, NoMemory> {

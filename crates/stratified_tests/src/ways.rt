@@ -25,10 +25,6 @@ impl Plain for StrataTest {
         1
     }
 
-    fn extreme(&self, labels: &[u8], tail: Tail) -> bool {
-        self.frame().rule(tail).passes(self.value(labels))
-    }
-
     fn value(&self, labels: &[u8]) -> i128 {
         first_cells(self.made().strata.as_slice(), labels) as i128
     }
@@ -47,6 +43,10 @@ impl Prepared for StrataTest {
 
     fn has_tail(&self, _tail: Tail) -> bool {
         true
+    }
+
+    fn measure(&self, labels: &[u8], _tail: Tail) -> i128 {
+        self.value(labels)
     }
 
     fn stages_of(&self, alloc: Global, tail: Tail) -> Result<Self::Built, NoMemory> {

@@ -2,7 +2,6 @@
 ghost use Rattle.std.specs.Prelude.{◌≡◌, pos, true, IfOk, Contains};
 ghost use Rattle.weights.specs.declared.tails.Tail.TheVariants as side;
 ghost use Rattle.weights.specs.Labellings.{labellings};
-ghost use Rattle.weights.specs.Rules.{measured};
 ghost use Rattle.stage_network.specs.Follows.{Follows};
 ghost use Rattle.label_network.specs.Linear.{linear_meaning};
 ghost use Rattle.table_tests.specs.FisherExact.{fisher_test, first_cell, rarity};
@@ -37,17 +36,6 @@ impl FisherTable {
     {
         let columns = self.made().margins.columns.as_slice();
         count_label(front(labels, columns[0]), 0) as i128
-    }
-
-    // What a tail measures of a labelling.
-    fn measure(&self, labels: &[u8], tail: Tail) -> i128
-        requires { Contains (labellings (row_sums self.now)) labels.now }
-        ensures { result ≡ measured (fisher_test self.now) tail labels.now }
-    {
-        match tail {
-            Tail::Two => self.rarity(labels),
-            Tail::Less | Tail::Greater => self.value(labels),
-        }
     }
 
     // The network of the first cell.
@@ -109,10 +97,6 @@ impl Plain for FisherTable {
         1
     }
 
-    fn extreme(&self, labels: &[u8], tail: Tail) -> bool {
-        self.frame().rule(tail).passes(self.measure(labels, tail))
-    }
-
     fn value(&self, labels: &[u8]) -> i128 {
         if self.made().two_by_two {
             self.first_cell(labels)
@@ -137,6 +121,13 @@ impl Prepared for FisherTable {
         match tail {
             Tail::Two => true,
             Tail::Less | Tail::Greater => self.made().two_by_two,
+        }
+    }
+
+    fn measure(&self, labels: &[u8], tail: Tail) -> i128 {
+        match tail {
+            Tail::Two => self.rarity(labels),
+            Tail::Less | Tail::Greater => self.value(labels),
         }
     }
 

@@ -83,13 +83,6 @@ impl Plain for TableTest {
         }
     }
 
-    fn extreme(&self, labels: &[u8], tail: Tail) -> bool {
-        match self {
-            TableTest::Fisher(table) => table.extreme(labels, tail),
-            TableTest::Linear(table) => table.extreme(labels, tail),
-        }
-    }
-
     fn value(&self, labels: &[u8]) -> i128 {
         match self {
             TableTest::Fisher(table) => table.value(labels),
@@ -116,6 +109,13 @@ impl Prepared for TableTest {
         match self {
             TableTest::Fisher(table) => table.has_tail(tail),
             TableTest::Linear(table) => table.has_tail(tail),
+        }
+    }
+
+    fn measure(&self, labels: &[u8], tail: Tail) -> i128 {
+        match self {
+            TableTest::Fisher(table) => table.measure(labels, tail),
+            TableTest::Linear(table) => table.measure(labels, tail),
         }
     }
 

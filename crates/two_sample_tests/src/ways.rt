@@ -24,10 +24,6 @@ impl Plain for TwoSample {
         1
     }
 
-    fn extreme(&self, labels: &[u8], tail: Tail) -> bool {
-        self.frame().rule(tail).passes(self.value(labels))
-    }
-
     fn value(&self, labels: &[u8]) -> i128 {
         second_sum(self.made().scores.as_slice(), labels)
     }
@@ -46,6 +42,10 @@ impl Prepared for TwoSample {
 
     fn has_tail(&self, _tail: Tail) -> bool {
         true
+    }
+
+    fn measure(&self, labels: &[u8], _tail: Tail) -> i128 {
+        self.value(labels)
     }
 
     fn stages_of(&self, alloc: Global, tail: Tail) -> Result<Self::Built, NoMemory> {

@@ -5,22 +5,19 @@ use Rattle.std.proofs.lemmas.Int.{to_z-of_z}
 use Rattle.weights.specs.Conditional.{ConditionalTest}
 use Rattle.weights.specs.Rules.{passes, measured, rule_of}
 use Rattle.weights.proofs.ByRule.{is_extreme-by_rule}
-use Rattle.table_tests.specs.FisherExact.{fisher_test}
-use Rattle.table_tests.proofs.fisher_ways.FisherTablePlain.extreme.Goals as goal
+use Rattle.stage_network.proofs.prepared.Prepared.is_extreme.Goals as goal
 
 pub passes-requires : goal.passes-requires
-passes-requires c =
-    let test : ConditionalTest = fisher_test c.args.self.now in
+passes-requires g c =
+    let test : ConditionalTest = g.Self.Plain.test c.args.self.now in
     let rule : c.rule.result ≡ rule_of test c.args.tail = c.rule.ensures test c.frame.ensures.frame in
     let same : to_z w128 (of_z w128 c.measure.result) ≡ c.measure.result = to_z-of_z w128 c.measure.result (record { sfits = c.measure.type_inv }) in
-    let value : c.measure.result ≡ measured test c.args.tail c.args.labels.now = c.measure.ensures in
-    rw (rule, same, value) (c.frame.ensures.fits.fits c.args.tail c.args.labels.now c.requires.member)
+    rw (rule, same, c.measure.ensures) (c.frame.ensures.fits.fits c.args.tail c.args.labels.now c.requires)
 
 pub returns : goal.returns
-returns c =
-    let test : ConditionalTest = fisher_test c.args.self.now in
+returns g c =
+    let test : ConditionalTest = g.Self.Plain.test c.args.self.now in
     let rule : c.rule.result ≡ rule_of test c.args.tail = c.rule.ensures test c.frame.ensures.frame in
     let same : to_z w128 (of_z w128 c.measure.result) ≡ c.measure.result = to_z-of_z w128 c.measure.result (record { sfits = c.measure.type_inv }) in
-    let value : c.measure.result ≡ measured test c.args.tail c.args.labels.now = c.measure.ensures in
-    c.passes.ensures ∙ ap (λ r. passes r (to_z w128 (of_z w128 c.measure.result))) rule ∙ ap (passes (rule_of test c.args.tail)) (same ∙ value)
+    c.passes.ensures ∙ ap (λ r. passes r (to_z w128 (of_z w128 c.measure.result))) rule ∙ ap (passes (rule_of test c.args.tail)) (same ∙ c.measure.ensures)
     ∙ sym (is_extreme-by_rule test c.args.tail c.args.labels.now)
