@@ -20,4 +20,5 @@ pub use label_stages::LabelStages;
 pub use later_scores::LaterScores;
 pub use linear::{LinearMeasure, score_choice};
 pub use measure::Measure;
+pub use units::only;
 pub use ways::Ways;

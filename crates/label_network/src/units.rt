@@ -1,6 +1,16 @@
-// Scores of several units.
-ghost use Rattle.std.specs.Prelude.{◌≡◌, ◌+◌, ◌*◌, ◌≤◌, unsigned_abs, pos, ◌+ℤ◌, ◌*ℤ◌};
+// Numbers that a measure keeps, and scores of several units.
+ghost use Rattle.std.specs.Prelude.{◌≡◌, ◌+◌, ◌*◌, ◌≤◌, length, unsigned_abs, pos, ◌+ℤ◌, ◌*ℤ◌};
 ghost use Rattle.weights.specs.declared.TheConstants.{MAX};
+ghost use Rattle.label_network.specs.Linear.{so_far};
+
+/// The one number of a partial, or of a step, that has no other.
+#[inline(always)]
+pub fn only(numbers: &[i128]) -> i128
+    requires { length numbers.now ≡ 1 }
+    ensures { result ≡ so_far numbers.now }
+{
+    numbers[0]
+}
 
 /// A sum with a score once for each of so many units.
 #[inline(always)]

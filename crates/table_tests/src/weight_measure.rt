@@ -14,7 +14,7 @@ ghost use Rattle.table_tests.specs.WeightSteps.{AreRoomy, IsWeighing, IsWeightMe
 use crate::fillings::{later_highs, least_over};
 use crate::sums::total_of;
 use completion_bounds::fall;
-use label_network::{Measure, Ways, read_sizes};
+use label_network::{Measure, Ways, only, read_sizes};
 use stage_network::{Interval, Judge, Verdict};
 use std::alloc::Global;
 use weights::{NoMemory, Tail};
@@ -38,14 +38,6 @@ pub struct WeightMeasure {
     judge: Judge,
     ghost right: { IsWeightMeasure rows.items columns.items ways.width falling_ways.width
         highs.items judge.rule },
-}
-
-#[inline(always)]
-fn only(numbers: &[i128]) -> i128
-    requires { length numbers.now ≡ 1 }
-    ensures { result ≡ so_far numbers.now }
-{
-    numbers[0]
 }
 
 #[inline(always)]
