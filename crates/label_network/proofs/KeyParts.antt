@@ -1,5 +1,5 @@
 -- The two parts of a reached key, the sizes and the partial, as the bodies read them; and a choice there.
-use Rattle.std.proofs.Common.{◌≡◌, ℕ, zero, suc, ◌+◌, ◌<◌, ◌≤◌, ◌^◌, List, [], ◌∷◌, ◌++◌, take, drop, length, get_or, Bool, true, false, cond, refl, sym, ◌∙◌, ap, arith, subst}
+use Rattle.std.proofs.Common.{◌≡◌, ℕ, zero, suc, ◌+◌, ◌-◌, ◌<◌, ◌≤◌, ◌^◌, List, [], ◌∷◌, ◌++◌, take, drop, length, get_or, Bool, true, false, cond, refl, sym, ◌∙◌, ap, arith, subst, append-nil, length-append, drop_of_length-le}
 use Rattle.std.specs.Prelude.{ℤ, slice_index}
 use Rattle.std.specs.List.{sum, Contains}
 use Rattle.std.proofs.lemmas.List.{length-take}
@@ -24,6 +24,14 @@ use Rattle.label_network.proofs.Sizes.{fewer-labellings, fits-chain, held-within
 
 pub take-long : {X : Type 0} (n : ℕ) (xs : List X) → n ≤ length xs → length (take n xs) ≡ n
 take-long n xs h = omega (arith, length-take n xs, h)
+
+-- a room and a partial that are written one behind the other make a key
+pub joined : (n : ℕ) (room old partial : List ℤ) → length room ≡ n → take n (room ++ old) ++ (partial ++ drop (length (room ++ old) - n) (drop n (room ++ old))) ≡ room ++ partial
+joined n room old partial h =
+    let front : take n (room ++ old) ≡ room = rw (← h) (take-append_seam room old) in
+    let back : drop n (room ++ old) ≡ old = rw (← h) (drop-append_seam room old) in
+    let none : drop (length (room ++ old) - n) old ≡ [] = drop_of_length-le old {i = length (room ++ old) - n} (omega (arith, h, length-append room old)) in
+    rw (front, back, none, append-nil partial) refl
 
 any_default : (xs : List ℕ) (i d e : ℕ) → i < length xs → get_or xs i d ≡ get_or xs i e
 any_default [] i d e h = absurd (omega (arith, h))

@@ -5,15 +5,12 @@ ghost use Rattle.weights.specs.Grouped.{choices};
 ghost use Rattle.label_network.specs.ChoiceOrder.{later_choices};
 ghost use Rattle.label_network.specs.LabelSteps.{least};
 
+/// The sum of some sizes.
 pub fn total_of(sizes: &[u64]) -> u64
     requires { sum sizes.now < 2 ^ 64 }
     ensures { result ≡ sum sizes.now }
 {
-    let mut total: u64 = 0;
-    for size in sizes {
-        total += *size;
-    }
-    total
+    sizes.iter().sum()
 }
 
 // Writes the first choice of so many subjects: as few as can be from each row in turn.

@@ -1,5 +1,5 @@
 // The sizes in a key: read, written, taken from, and what is chosen and counted of them.
-ghost use Rattle.std.specs.Prelude.{◌≡◌, ◌+◌, ◌-◌, ◌^◌, ◌<◌, ◌≤◌, [], ◌∷◌, length, map, take, drop, nat_abs, pos, true, if◌then◌else◌};
+ghost use Rattle.std.specs.Prelude.{◌≡◌, ◌+◌, ◌-◌, ◌^◌, ◌<◌, ◌≤◌, [], ◌∷◌, length, map, nat_abs, pos, true, if◌then◌else◌};
 ghost use Rattle.std.specs.List.{sum, Contains};
 ghost use Rattle.weights.specs.Grouped.{choices, fits, minus};
 ghost use Rattle.weights.specs.Labellings.{number_of_labellings};
@@ -10,22 +10,6 @@ ghost use Rattle.label_network.specs.Meanings.{sizes_in};
 
 use crate::choice_order::{first_counts, next_counts, total_of};
 use crate::ways::Ways;
-
-#[inline(always)]
-pub fn front(key: &[i128], rows: usize) -> &[i128]
-    requires { rows ≤ length key.now }
-    ensures { result.now ≡ take rows key.now }
-{
-    &key[..rows]
-}
-
-#[inline(always)]
-pub fn back(key: &[i128], rows: usize) -> &[i128]
-    requires { rows ≤ length key.now }
-    ensures { result.now ≡ drop rows key.now }
-{
-    &key[rows..]
-}
 
 #[inline(always)]
 fn size_in(number: i128) -> u64

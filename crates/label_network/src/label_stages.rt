@@ -3,10 +3,10 @@ ghost use Rattle.std.specs.Prelude.{◌≡◌, IfOk, length};
 ghost use Rattle.label_network.specs.LabelNetwork.{IsMargin, label_network};
 ghost use Rattle.label_network.specs.Meanings.{sizes_in};
 
-use crate::keys::{back, first_in, front, next_in, rest_in, take_away, weight_in, write_sizes};
+use crate::keys::{first_in, next_in, rest_in, take_away, weight_in, write_sizes};
 use crate::measure::Measure;
 use crate::ways::Ways;
-use stage_network::{Roomed, Stages, Verdict};
+use stage_network::{Roomed, Stages, Verdict, behind, front};
 use std::alloc::Global;
 use std::marker::Model;
 use weights::{NoMemory, Tail};
@@ -98,12 +98,10 @@ impl<M: Measure> Stages for LabelStages<M> {
 
     fn apply(&self, stage: usize, key: &[i128], choice: &[u64], next: &mut [i128]) -> u128 {
         let rows = self.rows.len();
-        let sizes = front(key, rows);
-        let partial = back(key, rows);
-        take_away(sizes, choice, &mut next[..rows]);
-        self.measure
-            .advance(stage, sizes, choice, partial, &mut next[rows..]);
-        weight_in(&self.ways, self.columns[stage], choice)
+        let weight = self.cross(stage, key, choice, &mut next[..rows]);
+        let partial = behind(key, rows);
+        self.measure.advance(stage, front(key, rows), choice, partial, &mut next[rows..]);
+        weight
     }
 
     fn rest(&self, _stage: usize, key: &[i128]) -> u128 {
@@ -114,11 +112,11 @@ impl<M: Measure> Stages for LabelStages<M> {
     fn verdict(&self, stage: usize, key: &[i128], tail: Tail) -> Verdict {
         let rows = self.rows.len();
         self.measure
-            .verdict(stage, front(key, rows), back(key, rows), tail)
+            .verdict(stage, front(key, rows), behind(key, rows), tail)
     }
 
     fn value(&self, key: &[i128]) -> i128 {
-        self.measure.value(back(key, self.rows.len()))
+        self.measure.value(behind(key, self.rows.len()))
     }
 }
 

@@ -7,7 +7,7 @@ ghost use Rattle.label_network.specs.LaterTables.{IsLater, IsPartTable, IsTabled
 ghost use Rattle.label_network.specs.LaterSteps.{IsRow, better_of, other_end};
 
 use crate::ends::{End, chosen, other};
-use crate::units::with_units;
+use crate::numbers::with_units;
 use stage_network::Interval;
 use std::alloc::Global;
 use weights::NoMemory;

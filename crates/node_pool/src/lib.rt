@@ -11,3 +11,5 @@ mod tests;
 
 pub use list::NodeList;
 pub use pool::NodePool;
+pub use room::push_within;
+pub use table::key_at;

@@ -2,7 +2,7 @@
 ghost use Rattle.std.specs.Prelude.{◌≡◌, ◌+◌, ◌<◌, ◌≤◌, [], ◌∷◌, ◌++◌, length};
 ghost use Rattle.std.specs.Prelude.{vec_len, vec_capacity};
 
-// Adds an item to a list that has room.
+/// Adds an item to a list that has room.
 #[inline(always)]
 pub fn push_within<T: Drop>(items: &mut Vec<T>, item: T)
     requires { vec_len items.old < vec_capacity items.old }

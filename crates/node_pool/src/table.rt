@@ -139,7 +139,7 @@ pub fn clear_buckets(slots: &[u32], buckets: &mut [u32])
     }
 }
 
-// The key at a place of a row.
+/// The key at a place of a row, in which keys of one width lie one after another.
 #[inline(always)]
 pub fn key_at(width: usize, row: &[i128], i: usize) -> &[i128]
     requires { i * width + width ≤ length row.now }

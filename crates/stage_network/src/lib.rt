@@ -33,6 +33,7 @@ pub use additive::{Additive, SumValue};
 pub use additive_stages::AdditiveStages;
 pub use answers::{Answer, Way};
 pub use held::Held;
+pub use keys::{behind, front};
 pub use lines::Spread;
 pub use one_of::OneOf;
 pub use prepared::{Prepared, answer, distribution};

@@ -1,11 +1,10 @@
 // The nodes of one stage, room after room.
-ghost use Rattle.std.specs.Prelude.{◌≡◌, ℕ, ◌+◌, ◌*◌, ◌<◌, ◌≤◌, [], ◌∷◌, ◌++◌, length, take, drop};
-ghost use Rattle.std.specs.Prelude.{vec_len, vec_capacity, OnOk, slice_index, slice_index_or};
+ghost use Rattle.std.specs.Prelude.{◌≡◌, ℕ, ◌+◌, ◌<◌, ◌≤◌, [], ◌∷◌, ◌++◌, length, take, drop};
+ghost use Rattle.std.specs.Prelude.{OnOk, slice_index, slice_index_or};
 ghost use Rattle.node_pool.specs.Nodes.{Node, node};
-ghost use Rattle.node_pool.specs.TableSteps.{key_at};
 ghost use Rattle.stage_network.specs.WaySteps.{IsRun};
 
-use node_pool::NodeList;
+use node_pool::{NodeList, key_at, push_within};
 use std::alloc::Global;
 use std::marker::Model;
 use weights::{Count, NoMemory};
@@ -37,28 +36,6 @@ impl<C: Count> Model for StageNodes<C> {
 
     ghost invariant = { λ p.
         AreHoused p.room_width p.rooms.items p.count p.homes.items p.partials };
-}
-
-// Adds an item to a list that has room.
-#[inline(always)]
-fn push_within(items: &mut Vec<usize>, item: usize)
-    requires { vec_len items.old < vec_capacity items.old }
-    ensures { items.new.items ≡ items.old.items ++ item ∷ [] }
-{
-    match items.push(item) {
-        Ok(()) => {}
-        Err(_) => unreachable!(),
-    }
-}
-
-// The room at a place of a row.
-#[inline(always)]
-fn room_at(width: usize, rooms: &[i128], i: usize) -> &[i128]
-    requires { i * width + width ≤ length rooms.now }
-    ensures { result.now ≡ key_at width rooms.now i }
-{
-    let start = i * width;
-    &rooms[start..start + width]
 }
 
 // Where the nodes of the room of this one end.
@@ -108,7 +85,7 @@ impl<C: Count> StageNodes<C> {
             → result.now ≡ take self.now.room_width (slice_index_or self.now.nodes i d).key }
         ensures wide { length result.now ≡ self.now.room_width }
     {
-        room_at(self.room_width, &self.rooms, self.homes[i])
+        key_at(self.room_width, &self.rooms, self.homes[i])
     }
 
     /// The partial of a node.

@@ -8,8 +8,8 @@ ghost use Rattle.table_tests.specs.LinearByLinear.{linear_test};
 ghost use Rattle.table_tests.specs.TableSteps.{AreFitting, AreMargins, AreScores, IsScored, scored_of};
 
 use crate::margins::{Margins, margins_of};
-use crate::sums::{observed_sum, times, total_of};
-use label_network::score_choice;
+use crate::sums::observed_sum;
+use label_network::{score_choice, times, total_of};
 use std::alloc::Global;
 use std::marker::Model;
 use table_reader::Table;

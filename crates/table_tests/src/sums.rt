@@ -13,7 +13,7 @@ ghost use Rattle.table_tests.specs.Tables.{columns_in};
 ghost use Rattle.table_tests.specs.TableSteps.{AreColumns, AreScores, most_added, most_subjects, table_sum};
 
 use crate::margins::read_column;
-use label_network::score_choice;
+use label_network::{plus, score_choice, times};
 use table_reader::Table;
 use weights::multinomial;
 
@@ -40,14 +40,6 @@ fn back(labels: &[u8], count: u64) -> &[u8]
     &labels[count as usize..]
 }
 
-/// The sum of some counts.
-pub(crate) fn total_of(counts: &[u64]) -> u64
-    requires { sum counts.now < 2 ^ 64 }
-    ensures { result ≡ sum counts.now }
-{
-    counts.iter().sum()
-}
-
 // How often each label occurs.
 fn count_labels(labels: &[u8], counts: &mut [u64])
     ensures { counts.new ≡ counts_of (length counts.old) labels.now }
@@ -55,21 +47,6 @@ fn count_labels(labels: &[u8], counts: &mut [u64])
     for i in 0..counts.len() {
         counts[i] = count_label(labels, i as u64);
     }
-}
-
-fn plus(sum: i128, term: i128) -> i128
-    requires { unsigned_abs sum + unsigned_abs term ≤ MAX }
-    ensures { result ≡ sum +ℤ term }
-{
-    sum + term
-}
-
-/// The product of two sums of scores.
-pub(crate) fn times(a: i128, b: i128) -> i128
-    requires { unsigned_abs a * unsigned_abs b ≤ MAX }
-    ensures { result ≡ a *ℤ b }
-{
-    a * b
 }
 
 // What a column adds: its score times the summed row scores of its subjects.

@@ -12,9 +12,8 @@ ghost use Rattle.table_tests.specs.Weighing.{greatest_factor, least_factor, past
 ghost use Rattle.table_tests.specs.WeightSteps.{AreRoomy, IsWeighing, IsWeightMeasure};
 
 use crate::fillings::{later_highs, least_over};
-use crate::sums::total_of;
 use completion_bounds::fall;
-use label_network::{Measure, Ways, read_sizes};
+use label_network::{Measure, Ways, only, read_sizes, times, total_of};
 use stage_network::{Interval, Judge, Verdict};
 use std::alloc::Global;
 use weights::{NoMemory, Tail};
@@ -38,22 +37,6 @@ pub struct WeightMeasure {
     judge: Judge,
     ghost right: { IsWeightMeasure rows.items columns.items ways.width falling_ways.width
         highs.items judge.rule },
-}
-
-#[inline(always)]
-fn only(numbers: &[i128]) -> i128
-    requires { length numbers.now ≡ 1 }
-    ensures { result ≡ so_far numbers.now }
-{
-    numbers[0]
-}
-
-#[inline(always)]
-fn times(product: i128, factor: i128) -> i128
-    requires { unsigned_abs product * unsigned_abs factor ≤ MAX }
-    ensures { result ≡ product *ℤ factor }
-{
-    product * factor
 }
 
 // A product with what it can be multiplied by, at least and at most.

@@ -19,7 +19,7 @@ take_away-requires-clause-sizes g c =
     let staged : IsStaged m c.self.inside.columns.items c.self.inside.rows.items c.self.inside.slots c.self.inside.ways.width = rw c.self.view_is at c.self.invariant in
     let n : c.len.result ≡ length c.self.inside.rows.items = search rules in
     let p : KeyParts m c.self.inside.ways.width c.args.stage c.len.result c.args.key.now = key_parts m _ _ _ _ staged c.args.stage c.args.key.now c.requires.reached c.len.result n in
-    rw c.front.ensures p.sizes
+    rw c.front.ensures.room p.sizes
 
 pub take_away-requires-clause-fitting : goal.take_away-requires-clause-fitting
 take_away-requires-clause-fitting g c =
@@ -27,7 +27,7 @@ take_away-requires-clause-fitting g c =
     let staged : IsStaged m c.self.inside.columns.items c.self.inside.rows.items c.self.inside.slots c.self.inside.ways.width = rw c.self.view_is at c.self.invariant in
     let n : c.len.result ≡ length c.self.inside.rows.items = search rules in
     let q : ChoiceParts m c.self.inside.columns.items c.self.inside.rows.items c.self.inside.slots c.self.inside.ways.width staged c.args.stage c.len.result c.args.key.now c.args.choice.now = choice_parts m _ _ _ _ staged c.args.stage c.args.key.now c.args.choice.now c.requires.reached c.requires.before c.requires.allowed c.len.result n in
-    rw c.front.ensures q.choice.fitting
+    rw c.front.ensures.room q.choice.fitting
 
 pub take_away-requires-clause-room : goal.take_away-requires-clause-room
 take_away-requires-clause-room g c =
@@ -35,7 +35,7 @@ take_away-requires-clause-room g c =
     let staged : IsStaged m c.self.inside.columns.items c.self.inside.rows.items c.self.inside.slots c.self.inside.ways.width = rw c.self.view_is at c.self.invariant in
     let n : c.len.result ≡ length c.self.inside.rows.items = search rules in
     let p : KeyParts m c.self.inside.ways.width c.args.stage c.len.result c.args.key.now = key_parts m _ _ _ _ staged c.args.stage c.args.key.now c.requires.reached c.len.result n in
-    rw c.front.ensures (c.requires.room ∙ sym p.rows_are ∙ sym p.front_long)
+    rw c.front.ensures.room (c.requires.room ∙ sym p.rows_are ∙ sym p.front_long)
 
 pub weight_in-requires-clause-whole : goal.weight_in-requires-clause-whole
 weight_in-requires-clause-whole g c =

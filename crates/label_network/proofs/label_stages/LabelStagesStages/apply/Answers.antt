@@ -1,84 +1,48 @@
-use Rattle.std.proofs.Common.{◌≡◌, length, sym, ◌∙◌, arith, rules}
-use Rattle.std.specs.Prelude.{slice_index}
+use Rattle.std.proofs.Common.{◌≡◌, ◌++◌, map, take, drop, length, ap, sym, ◌∙◌, rules}
+use Rattle.std.specs.Prelude.{pos}
+use Rattle.weights.specs.Grouped.{minus}
+use Rattle.label_network.specs.LabelNetwork.{partial, remaining}
 use Rattle.label_network.specs.LabelSteps.{IsStaged}
-use Rattle.label_network.specs.Meanings.{Meaning}
-use Rattle.label_network.proofs.KeyParts.{ChoiceParts, KeyParts, choice_parts, column-read, key_parts, take-long}
+use Rattle.label_network.specs.Meanings.{Meaning, sizes_in}
+use Rattle.label_network.proofs.KeyParts.{ChoiceParts, KeyParts, choice_parts, joined, key_parts}
+use Rattle.label_network.proofs.LabelKeys.{front-next, is_key, length-pos}
+use Rattle.weights.proofs.Sized.{length-minus}
 use Rattle.label_network.proofs.label_stages.LabelStagesStages.apply.Goals as goal
 
-pub front-sizes-requires : goal.front-sizes-requires
-front-sizes-requires g c =
+pub front-requires : goal.front-requires
+front-requires g c =
     let m : Meaning = g.M.Measure.meaning c.args.self.now in
     let staged : IsStaged m c.self.inside.columns.items c.self.inside.rows.items c.self.inside.slots c.self.inside.ways.width = rw c.self.view_is at c.self.invariant in
     let n : c.len-rows.result ≡ length c.self.inside.rows.items = search rules in
     let p : KeyParts m c.self.inside.ways.width c.args.stage c.len-rows.result c.args.key.now = key_parts m _ _ _ _ staged c.args.stage c.args.key.now c.requires.reached c.len-rows.result n in
     p.short
 
-pub back-partial-requires : goal.back-partial-requires
-back-partial-requires g c =
+pub behind-partial-requires : goal.behind-partial-requires
+behind-partial-requires g c =
     let m : Meaning = g.M.Measure.meaning c.args.self.now in
     let staged : IsStaged m c.self.inside.columns.items c.self.inside.rows.items c.self.inside.slots c.self.inside.ways.width = rw c.self.view_is at c.self.invariant in
     let n : c.len-rows.result ≡ length c.self.inside.rows.items = search rules in
     let p : KeyParts m c.self.inside.ways.width c.args.stage c.len-rows.result c.args.key.now = key_parts m _ _ _ _ staged c.args.stage c.args.key.now c.requires.reached c.len-rows.result n in
     p.short
-
-pub take_away-requires-clause-sizes : goal.take_away-requires-clause-sizes
-take_away-requires-clause-sizes g c =
-    let m : Meaning = g.M.Measure.meaning c.args.self.now in
-    let staged : IsStaged m c.self.inside.columns.items c.self.inside.rows.items c.self.inside.slots c.self.inside.ways.width = rw c.self.view_is at c.self.invariant in
-    let n : c.len-rows.result ≡ length c.self.inside.rows.items = search rules in
-    let p : KeyParts m c.self.inside.ways.width c.args.stage c.len-rows.result c.args.key.now = key_parts m _ _ _ _ staged c.args.stage c.args.key.now c.requires.reached c.len-rows.result n in
-    rw c.front-sizes.ensures p.sizes
-
-pub take_away-requires-clause-fitting : goal.take_away-requires-clause-fitting
-take_away-requires-clause-fitting g c =
-    let m : Meaning = g.M.Measure.meaning c.args.self.now in
-    let staged : IsStaged m c.self.inside.columns.items c.self.inside.rows.items c.self.inside.slots c.self.inside.ways.width = rw c.self.view_is at c.self.invariant in
-    let n : c.len-rows.result ≡ length c.self.inside.rows.items = search rules in
-    let p : KeyParts m c.self.inside.ways.width c.args.stage c.len-rows.result c.args.key.now = key_parts m _ _ _ _ staged c.args.stage c.args.key.now c.requires.reached c.len-rows.result n in
-    let q : ChoiceParts m c.self.inside.columns.items c.self.inside.rows.items c.self.inside.slots c.self.inside.ways.width staged c.args.stage c.len-rows.result c.args.key.now c.args.choice.now = choice_parts m _ _ _ _ staged c.args.stage c.args.key.now c.args.choice.now c.requires.reached c.requires.before c.requires.allowed c.len-rows.result n in
-    rw c.front-sizes.ensures q.choice.fitting
-
-pub take_away-requires-clause-room : goal.take_away-requires-clause-room
-take_away-requires-clause-room g c =
-    let m : Meaning = g.M.Measure.meaning c.args.self.now in
-    let staged : IsStaged m c.self.inside.columns.items c.self.inside.rows.items c.self.inside.slots c.self.inside.ways.width = rw c.self.view_is at c.self.invariant in
-    let n : c.len-rows.result ≡ length c.self.inside.rows.items = search rules in
-    let p : KeyParts m c.self.inside.ways.width c.args.stage c.len-rows.result c.args.key.now = key_parts m _ _ _ _ staged c.args.stage c.args.key.now c.requires.reached c.len-rows.result n in
-    rw c.front-sizes.ensures (take-long c.len-rows.result c.args.next.now (omega (arith, c.requires.room, p.rows_are)) ∙ sym p.front_long)
 
 pub advance-requires-clause-allowed : goal.advance-requires-clause-allowed
 advance-requires-clause-allowed g c =
     let m : Meaning = g.M.Measure.meaning c.args.self.now in
     let staged : IsStaged m c.self.inside.columns.items c.self.inside.rows.items c.self.inside.slots c.self.inside.ways.width = rw c.self.view_is at c.self.invariant in
     let n : c.len-rows.result ≡ length c.self.inside.rows.items = search rules in
-    let p : KeyParts m c.self.inside.ways.width c.args.stage c.len-rows.result c.args.key.now = key_parts m _ _ _ _ staged c.args.stage c.args.key.now c.requires.reached c.len-rows.result n in
     let q : ChoiceParts m c.self.inside.columns.items c.self.inside.rows.items c.self.inside.slots c.self.inside.ways.width staged c.args.stage c.len-rows.result c.args.key.now c.args.choice.now = choice_parts m _ _ _ _ staged c.args.stage c.args.key.now c.args.choice.now c.requires.reached c.requires.before c.requires.allowed c.len-rows.result n in
-    rw (c.self.view_is, c.front-sizes.ensures, c.back-partial.ensures) q.move
+    rw (c.self.view_is, c.front.ensures.room, c.behind-partial.ensures) q.move
 
-pub weight_in-requires-clause-whole : goal.weight_in-requires-clause-whole
-weight_in-requires-clause-whole g c =
+pub returns-clause-next : goal.returns-clause-next
+returns-clause-next g c =
     let m : Meaning = g.M.Measure.meaning c.args.self.now in
     let staged : IsStaged m c.self.inside.columns.items c.self.inside.rows.items c.self.inside.slots c.self.inside.ways.width = rw c.self.view_is at c.self.invariant in
     let n : c.len-rows.result ≡ length c.self.inside.rows.items = search rules in
     let p : KeyParts m c.self.inside.ways.width c.args.stage c.len-rows.result c.args.key.now = key_parts m _ _ _ _ staged c.args.stage c.args.key.now c.requires.reached c.len-rows.result n in
-    let q : ChoiceParts m c.self.inside.columns.items c.self.inside.rows.items c.self.inside.slots c.self.inside.ways.width staged c.args.stage c.len-rows.result c.args.key.now c.args.choice.now = choice_parts m _ _ _ _ staged c.args.stage c.args.key.now c.args.choice.now c.requires.reached c.requires.before c.requires.allowed c.len-rows.result n in
-    let column : c.index.result.now ≡ slice_index m.columns c.args.stage = column-read m c.self.inside.columns.items staged.margin.columns_are c.args.stage c.index.result.now c.requires.before c.index.ensures in
-    column ∙ sym q.choice.whole
-
-pub weight_in-requires-clause-held : goal.weight_in-requires-clause-held
-weight_in-requires-clause-held g c =
-    let m : Meaning = g.M.Measure.meaning c.args.self.now in
-    let staged : IsStaged m c.self.inside.columns.items c.self.inside.rows.items c.self.inside.slots c.self.inside.ways.width = rw c.self.view_is at c.self.invariant in
-    let n : c.len-rows.result ≡ length c.self.inside.rows.items = search rules in
-    let p : KeyParts m c.self.inside.ways.width c.args.stage c.len-rows.result c.args.key.now = key_parts m _ _ _ _ staged c.args.stage c.args.key.now c.requires.reached c.len-rows.result n in
-    let q : ChoiceParts m c.self.inside.columns.items c.self.inside.rows.items c.self.inside.slots c.self.inside.ways.width staged c.args.stage c.len-rows.result c.args.key.now c.args.choice.now = choice_parts m _ _ _ _ staged c.args.stage c.args.key.now c.args.choice.now c.requires.reached c.requires.before c.requires.allowed c.len-rows.result n in
-    q.held
-
-pub weight_in-requires-clause-fits : goal.weight_in-requires-clause-fits
-weight_in-requires-clause-fits g c =
-    let m : Meaning = g.M.Measure.meaning c.args.self.now in
-    let staged : IsStaged m c.self.inside.columns.items c.self.inside.rows.items c.self.inside.slots c.self.inside.ways.width = rw c.self.view_is at c.self.invariant in
-    let n : c.len-rows.result ≡ length c.self.inside.rows.items = search rules in
-    let p : KeyParts m c.self.inside.ways.width c.args.stage c.len-rows.result c.args.key.now = key_parts m _ _ _ _ staged c.args.stage c.args.key.now c.requires.reached c.len-rows.result n in
-    let q : ChoiceParts m c.self.inside.columns.items c.self.inside.rows.items c.self.inside.slots c.self.inside.ways.width staged c.args.stage c.len-rows.result c.args.key.now c.args.choice.now = choice_parts m _ _ _ _ staged c.args.stage c.args.key.now c.args.choice.now c.requires.reached c.requires.before c.requires.allowed c.len-rows.result n in
-    q.fits
+    let long : length (remaining m c.args.key.now) ≡ length m.rows = (is_key m c.args.stage c.args.key.now c.requires.reached).long in
+    let room : c.cross-weight.new.room ≡ map pos (minus (remaining m c.args.key.now) c.args.choice.now) = c.cross-weight.ensures.room ∙ front-next m c.args.stage c.args.key.now c.args.choice.now long in
+    let room_long : length c.cross-weight.new.room ≡ c.len-rows.result = ap length room ∙ length-pos (minus (remaining m c.args.key.now) c.args.choice.now) ∙ length-minus (remaining m c.args.key.now) c.args.choice.now ∙ long ∙ sym p.rows_are in
+    let sizes : sizes_in c.front.result.now ≡ remaining m c.args.key.now = ap sizes_in (c.front.ensures.room ∙ ap (λ i. take i c.args.key.now) p.rows_are) in
+    let partial_is : c.behind-partial.result.now ≡ partial m c.args.key.now = c.behind-partial.ensures ∙ ap (λ i. drop i c.args.key.now) p.rows_are in
+    let next : c.advance.new.next ≡ m.advance c.args.stage (remaining m c.args.key.now) c.args.choice.now (partial m c.args.key.now) = rw (c.self.view_is, sizes, partial_is) at c.advance.ensures in
+    joined c.len-rows.result c.cross-weight.new.room _ c.advance.new.next room_long ∙ ap (λ r. r ++ c.advance.new.next) room ∙ ap (λ a. map pos (minus (remaining m c.args.key.now) c.args.choice.now) ++ a) next

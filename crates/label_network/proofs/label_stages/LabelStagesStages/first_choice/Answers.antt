@@ -19,7 +19,7 @@ first_in-requires-clause-sizes g c =
     let staged : IsStaged m c.self.inside.columns.items c.self.inside.rows.items c.self.inside.slots c.self.inside.ways.width = rw c.self.view_is at c.self.invariant in
     let n : c.len-2.result ≡ length c.self.inside.rows.items = search rules in
     let p : KeyParts m c.self.inside.ways.width c.args.stage c.len-2.result c.args.key.now = key_parts m _ _ _ _ staged c.args.stage c.args.key.now c.requires.reached c.len-2.result n in
-    rw c.front.ensures p.sizes
+    rw c.front.ensures.room p.sizes
 
 pub first_in-requires-clause-small : goal.first_in-requires-clause-small
 first_in-requires-clause-small g c =
@@ -27,7 +27,7 @@ first_in-requires-clause-small g c =
     let staged : IsStaged m c.self.inside.columns.items c.self.inside.rows.items c.self.inside.slots c.self.inside.ways.width = rw c.self.view_is at c.self.invariant in
     let n : c.len-2.result ≡ length c.self.inside.rows.items = search rules in
     let p : KeyParts m c.self.inside.ways.width c.args.stage c.len-2.result c.args.key.now = key_parts m _ _ _ _ staged c.args.stage c.args.key.now c.requires.reached c.len-2.result n in
-    rw c.front.ensures p.small
+    rw c.front.ensures.room p.small
 
 pub first_in-requires-clause-enough : goal.first_in-requires-clause-enough
 first_in-requires-clause-enough g c =
@@ -38,7 +38,7 @@ first_in-requires-clause-enough g c =
     let count : c.len.result ≡ length c.self.inside.columns.items = search rules in
     let before : c.args.stage < length m.columns = omega (arith, c.if-stage-len.false, count, ap length staged.margin.columns_are) in
     let column : c.index.result.now ≡ slice_index m.columns c.args.stage = column-read m c.self.inside.columns.items staged.margin.columns_are c.args.stage c.index.result.now before c.index.ensures in
-    rw (c.front.ensures, column) (p.enough before)
+    rw (c.front.ensures.room, column) (p.enough before)
 
 pub first_in-requires-clause-room : goal.first_in-requires-clause-room
 first_in-requires-clause-room g c =
@@ -46,7 +46,7 @@ first_in-requires-clause-room g c =
     let staged : IsStaged m c.self.inside.columns.items c.self.inside.rows.items c.self.inside.slots c.self.inside.ways.width = rw c.self.view_is at c.self.invariant in
     let n : c.len-2.result ≡ length c.self.inside.rows.items = search rules in
     let p : KeyParts m c.self.inside.ways.width c.args.stage c.len-2.result c.args.key.now = key_parts m _ _ _ _ staged c.args.stage c.args.key.now c.requires.reached c.len-2.result n in
-    rw c.front.ensures (c.requires.wide ∙ sym p.rows_are ∙ sym p.front_long)
+    rw c.front.ensures.room (c.requires.wide ∙ sym p.rows_are ∙ sym p.front_long)
 
 pub returns : goal.returns
 returns g c =
@@ -57,4 +57,4 @@ returns g c =
     let count : c.len.result ≡ length c.self.inside.columns.items = search rules in
     let before : c.args.stage < length m.columns = omega (arith, c.if-stage-len.false, count, ap length staged.margin.columns_are) in
     let column : c.index.result.now ≡ slice_index m.columns c.args.stage = column-read m c.self.inside.columns.items staged.margin.columns_are c.args.stage c.index.result.now before c.index.ensures in
-    p.first c.first_in.new.choice before (c.first_in.ensures ∙ rw (c.front.ensures, column) refl)
+    p.first c.first_in.new.choice before (c.first_in.ensures ∙ rw (c.front.ensures.room, column) refl)

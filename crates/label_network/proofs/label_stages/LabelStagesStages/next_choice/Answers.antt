@@ -18,7 +18,7 @@ next_in-requires-clause-sizes g c =
     let staged : IsStaged m c.self.inside.columns.items c.self.inside.rows.items c.self.inside.slots c.self.inside.ways.width = rw c.self.view_is at c.self.invariant in
     let n : c.len.result ≡ length c.self.inside.rows.items = search rules in
     let p : KeyParts m c.self.inside.ways.width c.args.stage c.len.result c.args.key.now = key_parts m _ _ _ _ staged c.args.stage c.args.key.now c.requires.reached c.len.result n in
-    rw c.front.ensures p.sizes
+    rw c.front.ensures.room p.sizes
 
 pub next_in-requires-clause-small : goal.next_in-requires-clause-small
 next_in-requires-clause-small g c =
@@ -26,4 +26,4 @@ next_in-requires-clause-small g c =
     let staged : IsStaged m c.self.inside.columns.items c.self.inside.rows.items c.self.inside.slots c.self.inside.ways.width = rw c.self.view_is at c.self.invariant in
     let n : c.len.result ≡ length c.self.inside.rows.items = search rules in
     let p : KeyParts m c.self.inside.ways.width c.args.stage c.len.result c.args.key.now = key_parts m _ _ _ _ staged c.args.stage c.args.key.now c.requires.reached c.len.result n in
-    rw c.front.ensures p.small
+    rw c.front.ensures.room p.small

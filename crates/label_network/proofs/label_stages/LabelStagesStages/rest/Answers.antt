@@ -18,7 +18,7 @@ rest_in-requires-clause-sizes g c =
     let staged : IsStaged m c.self.inside.columns.items c.self.inside.rows.items c.self.inside.slots c.self.inside.ways.width = rw c.self.view_is at c.self.invariant in
     let n : c.len.result ≡ length c.self.inside.rows.items = search rules in
     let p : KeyParts m c.self.inside.ways.width c.args._stage c.len.result c.args.key.now = key_parts m _ _ _ _ staged c.args._stage c.args.key.now c.requires c.len.result n in
-    rw c.front.ensures p.sizes
+    rw c.front.ensures.room p.sizes
 
 pub rest_in-requires-clause-small : goal.rest_in-requires-clause-small
 rest_in-requires-clause-small g c =
@@ -26,7 +26,7 @@ rest_in-requires-clause-small g c =
     let staged : IsStaged m c.self.inside.columns.items c.self.inside.rows.items c.self.inside.slots c.self.inside.ways.width = rw c.self.view_is at c.self.invariant in
     let n : c.len.result ≡ length c.self.inside.rows.items = search rules in
     let p : KeyParts m c.self.inside.ways.width c.args._stage c.len.result c.args.key.now = key_parts m _ _ _ _ staged c.args._stage c.args.key.now c.requires c.len.result n in
-    rw c.front.ensures p.small
+    rw c.front.ensures.room p.small
 
 pub rest_in-requires-clause-held : goal.rest_in-requires-clause-held
 rest_in-requires-clause-held g c =
@@ -34,7 +34,7 @@ rest_in-requires-clause-held g c =
     let staged : IsStaged m c.self.inside.columns.items c.self.inside.rows.items c.self.inside.slots c.self.inside.ways.width = rw c.self.view_is at c.self.invariant in
     let n : c.len.result ≡ length c.self.inside.rows.items = search rules in
     let p : KeyParts m c.self.inside.ways.width c.args._stage c.len.result c.args.key.now = key_parts m _ _ _ _ staged c.args._stage c.args.key.now c.requires c.len.result n in
-    rw c.front.ensures p.held
+    rw c.front.ensures.room p.held
 
 pub rest_in-requires-clause-fits : goal.rest_in-requires-clause-fits
 rest_in-requires-clause-fits g c =
@@ -42,7 +42,7 @@ rest_in-requires-clause-fits g c =
     let staged : IsStaged m c.self.inside.columns.items c.self.inside.rows.items c.self.inside.slots c.self.inside.ways.width = rw c.self.view_is at c.self.invariant in
     let n : c.len.result ≡ length c.self.inside.rows.items = search rules in
     let p : KeyParts m c.self.inside.ways.width c.args._stage c.len.result c.args.key.now = key_parts m _ _ _ _ staged c.args._stage c.args.key.now c.requires c.len.result n in
-    rw c.front.ensures p.fits
+    rw c.front.ensures.room p.fits
 
 pub returns : goal.returns
 returns g c =
@@ -50,4 +50,4 @@ returns g c =
     let staged : IsStaged m c.self.inside.columns.items c.self.inside.rows.items c.self.inside.slots c.self.inside.ways.width = rw c.self.view_is at c.self.invariant in
     let n : c.len.result ≡ length c.self.inside.rows.items = search rules in
     let p : KeyParts m c.self.inside.ways.width c.args._stage c.len.result c.args.key.now = key_parts m _ _ _ _ staged c.args._stage c.args.key.now c.requires c.len.result n in
-    c.rest_in.ensures ∙ rw c.front.ensures p.total
+    c.rest_in.ensures ∙ rw c.front.ensures.room p.total

@@ -12,8 +12,8 @@ front-requires g c =
     let p : KeyParts m c.self.inside.ways.width c.args.stage c.len-rows.result c.args.key.now = key_parts m _ _ _ _ staged c.args.stage c.args.key.now c.requires c.len-rows.result n in
     p.short
 
-pub back-requires : goal.back-requires
-back-requires g c =
+pub behind-requires : goal.behind-requires
+behind-requires g c =
     let m : Meaning = g.M.Measure.meaning c.args.self.now in
     let staged : IsStaged m c.self.inside.columns.items c.self.inside.rows.items c.self.inside.slots c.self.inside.ways.width = rw c.self.view_is at c.self.invariant in
     let n : c.len-rows.result ≡ length c.self.inside.rows.items = search rules in
@@ -26,4 +26,4 @@ verdict-requires g c =
     let staged : IsStaged m c.self.inside.columns.items c.self.inside.rows.items c.self.inside.slots c.self.inside.ways.width = rw c.self.view_is at c.self.invariant in
     let n : c.len-rows.result ≡ length c.self.inside.rows.items = search rules in
     let p : KeyParts m c.self.inside.ways.width c.args.stage c.len-rows.result c.args.key.now = key_parts m _ _ _ _ staged c.args.stage c.args.key.now c.requires c.len-rows.result n in
-    rw (c.self.view_is, c.front.ensures, c.back.ensures) p.place
+    rw (c.self.view_is, c.front.ensures.room, c.behind.ensures) p.place

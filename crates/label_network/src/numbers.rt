@@ -1,0 +1,49 @@
+// Sums and products within the limit, and the one number of a list that has no other.
+ghost use Rattle.std.specs.Prelude.{◌≡◌, ◌+◌, ◌*◌, ◌≤◌, length, unsigned_abs, pos, ◌+ℤ◌, ◌*ℤ◌};
+ghost use Rattle.weights.specs.declared.TheConstants.{MAX};
+ghost use Rattle.label_network.specs.Linear.{so_far};
+
+/// The one number of a partial, or of a step, that has no other.
+#[inline(always)]
+pub fn only(numbers: &[i128]) -> i128
+    requires { length numbers.now ≡ 1 }
+    ensures { result ≡ so_far numbers.now }
+{
+    numbers[0]
+}
+
+/// The sum of two numbers.
+#[inline(always)]
+pub fn plus(a: i128, b: i128) -> i128
+    requires { unsigned_abs a + unsigned_abs b ≤ MAX }
+    ensures { result ≡ a +ℤ b }
+{
+    a + b
+}
+
+/// The product of two numbers.
+#[inline(always)]
+pub fn times(a: i128, b: i128) -> i128
+    requires { unsigned_abs a * unsigned_abs b ≤ MAX }
+    ensures { result ≡ a *ℤ b }
+{
+    a * b
+}
+
+/// A score, so many times.
+#[inline(always)]
+pub fn count_times(count: u64, score: i128) -> i128
+    requires { count * unsigned_abs score ≤ MAX }
+    ensures { result ≡ pos count *ℤ score }
+{
+    count as i128 * score
+}
+
+/// A sum with a score once for each of so many units.
+#[inline(always)]
+pub fn with_units(sum: i128, score: i128, count: u64) -> i128
+    requires { unsigned_abs sum + count * unsigned_abs score ≤ MAX }
+    ensures { result ≡ sum +ℤ (pos count *ℤ score) }
+{
+    sum + count as i128 * score
+}
