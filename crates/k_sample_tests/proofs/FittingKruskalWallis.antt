@@ -1,10 +1,9 @@
 -- What holds of a test of Kruskal and Wallis whose total and bound pass no limit.
-use Rattle.std.proofs.Common.{◌≡◌, ℕ, zero, suc, ◌*◌, ◌/◌, ◌^◌, ◌<◌, ◌≤◌, Bool, true, false, cond, List, [], ◌∷◌, length, map, Some, None, Err, refl, sym, ◌∙◌, ap, subst, arith, lit≤}
+use Rattle.std.proofs.Common.{◌≡◌, ℕ, zero, suc, ◌*◌, ◌/◌, ◌<◌, ◌≤◌, Bool, true, false, cond, List, [], ◌∷◌, length, map, Some, None, Err, refl, sym, ◌∙◌, ap, subst, arith, lit≤}
 use Rattle.std.specs.Prelude.{ℤ, pos, max}
 use Rattle.std.specs.List.{All, AllByRecursion}
 use Rattle.std.proofs.Math.Nat.{div-le_self, mul-le-mul}
 use Rattle.std.proofs.lemmas.Bool.{le-ltb, lt-ltb, ltb-true}
-use Rattle.weights.proofs.Sized.{first_and}
 use Rattle.std.proofs.lemmas.List.{length-map}
 use Rattle.std.proofs.lemmas.List.Elements.{recursion_from_All}
 use Rattle.weights.specs.declared.tails.Tail.{Tail}
@@ -45,7 +44,7 @@ use Rattle.pooled_columns.proofs.PooledValues.{pooled-rises}
 use Rattle.pooled_columns.proofs.TieColumns.{grouped}
 use Rattle.k_sample_tests.specs.KruskalWallis.{ScoredGroups, group_sums, kruskal_wallis_test, pooled_scores, size_factors, squares_statistic, squares_test}
 use Rattle.k_sample_tests.specs.PackedSums.{packed_meaning}
-use Rattle.k_sample_tests.specs.RankSums.{fits_one, half_for, kruskal_wallis_network, wide_meaning}
+use Rattle.k_sample_tests.specs.RankSums.{fits_one, half_for, kruskal_wallis_network, unpacked_meaning}
 use Rattle.k_sample_tests.specs.RankSumSteps.{AreFitting, IsMadeOf, IsScoredBy, IsSquaring}
 use Rattle.k_sample_tests.proofs.FittingUmbrella.{columns-sum, no-distance, no-times, past-limit}
 use Rattle.k_sample_tests.proofs.GroupFacts.{few_rows, few_subjects, none-empty, sizes-whole, some_rows}
@@ -153,7 +152,7 @@ module _ (samples : ScoredGroups) (f : AreFitting samples) where
   column-subjects : subjects (column_scores samples.kind (pooled_values samples.groups)) (column_sizes (pooled_values samples.groups)) ≡ pooled_scores samples
   column-subjects = grouped (score_of samples.kind (pooled_values samples.groups)) (pooled_values samples.groups) (pooled-rises samples.groups)
 
-  column-total : sizes_of (subjects (column_scores samples.kind (pooled_values samples.groups)) (column_sizes (pooled_values samples.groups))) ≡ absolute_sum (pooled_scores samples)
+  pub column-total : sizes_of (subjects (column_scores samples.kind (pooled_values samples.groups)) (column_sizes (pooled_values samples.groups))) ≡ absolute_sum (pooled_scores samples)
   column-total = ap sizes_of column-subjects ∙ sizes-are (pooled_scores samples)
 
   pub is-squaring : (tail : Tail) (rule : Rule) → rule ≡ rule_of (kruskal_wallis_test samples) tail → IsSquaring (size_factors (group_sizes samples.groups)) (kruskal_wallis_test samples).bound (column_scores samples.kind (pooled_values samples.groups)) (column_sizes (pooled_values samples.groups)) (group_sizes samples.groups) rule
@@ -169,59 +168,55 @@ module _ (samples : ScoredGroups) (f : AreFitting samples) where
     rule_fits = λ v. subst (λ x. RuleFits x v) (sym e) (rule-fits (group_sizes samples.groups) (pooled_scores samples) (labels_of (pooled samples.groups)) (scale_of samples.kind (pooled_values samples.groups)) tail v);
   }
 
-  wide-measure : (tail : Tail) → IsMeasure (wide_meaning samples tail)
-  wide-measure tail = squares_measure (size_factors (group_sizes samples.groups)) (kruskal_wallis_test samples).bound (column_scores samples.kind (pooled_values samples.groups)) (column_sizes (pooled_values samples.groups)) (group_sizes samples.groups) tail (rule_of (kruskal_wallis_test samples) tail) (is-squaring tail (rule_of (kruskal_wallis_test samples) tail) refl)
+  unpacked-measure : (tail : Tail) → IsMeasure (unpacked_meaning samples tail)
+  unpacked-measure tail = squares_measure (size_factors (group_sizes samples.groups)) (kruskal_wallis_test samples).bound (column_scores samples.kind (pooled_values samples.groups)) (column_sizes (pooled_values samples.groups)) (group_sizes samples.groups) tail (rule_of (kruskal_wallis_test samples) tail) (is-squaring tail (rule_of (kruskal_wallis_test samples) tail) refl)
 
-  wide-value : (tail : Tail) (xs : List ℕ) → measured (kruskal_wallis_test samples) tail xs ≡ labelling_value (wide_meaning samples tail) xs
-  wide-value tail xs =
+  unpacked-value : (tail : Tail) (xs : List ℕ) → measured (kruskal_wallis_test samples) tail xs ≡ labelling_value (unpacked_meaning samples tail) xs
+  unpacked-value tail xs =
       measured_at samples tail xs ∙ ap (λ s. squares_statistic (group_sizes samples.groups) s xs) (sym column-subjects)
       ∙ sym (value-is (size_factors (group_sizes samples.groups)) (kruskal_wallis_test samples).bound (column_scores samples.kind (pooled_values samples.groups)) (column_sizes (pooled_values samples.groups)) (group_sizes samples.groups) tail (rule_of (kruskal_wallis_test samples) tail) columns-level xs)
 
   -- all scores together are less than half of the base
   pub small-sums : fits_one samples ≡ true → sizes_of (subjects (column_scores samples.kind (pooled_values samples.groups)) (column_sizes (pooled_values samples.groups))) < half_for (length (group_sizes samples.groups))
-  small-sums e = omega (arith, column-total, ltb-true (absolute_sum (pooled_scores samples)) (half_for (length (group_sizes samples.groups))) (first_and _ _ e).0)
+  small-sums e = omega (arith, column-total, ltb-true (absolute_sum (pooled_scores samples)) (half_for (length (group_sizes samples.groups))) e)
 
-  -- and squared sums have room
-  pub roomy : fits_one samples ≡ true → (kruskal_wallis_test samples).bound < 2 ^ 124
-  roomy e = ltb-true (kruskal_wallis_test samples).bound (2 ^ 124) (first_and _ _ e).1
-
-  follows-wide : (tail : Tail) → Follows (kruskal_wallis_test samples) tail (label_network (wide_meaning samples tail))
-  follows-wide tail = label_follows (wide_meaning samples tail) (wide-measure tail) (kruskal_wallis_test samples) tail (record {
+  follows-unpacked : (tail : Tail) → Follows (kruskal_wallis_test samples) tail (label_network (unpacked_meaning samples tail))
+  follows-unpacked tail = label_follows (unpacked_meaning samples tail) (unpacked-measure tail) (kruskal_wallis_test samples) tail (record {
     tail_is = refl;
     rule_is = refl;
     reference = refl;
     alike = λ xs. refl;
-    values = λ xs m. wide-value tail xs;
+    values = λ xs m. unpacked-value tail xs;
   })
 
   module _ (tail : Tail) (e : fits_one samples ≡ true) where
     abbrev half : ℕ
     half = half_for (length (group_sizes samples.groups))
 
-    follows-packed : Follows (kruskal_wallis_test samples) tail (label_network (packed_meaning half (wide_meaning samples tail)))
-    follows-packed = label_follows (packed_meaning half (wide_meaning samples tail)) (packed_squares (size_factors (group_sizes samples.groups)) (kruskal_wallis_test samples).bound (column_scores samples.kind (pooled_values samples.groups)) (column_sizes (pooled_values samples.groups)) (group_sizes samples.groups) tail (rule_of (kruskal_wallis_test samples) tail) (is-squaring tail (rule_of (kruskal_wallis_test samples) tail) refl) half (small-sums e)) (kruskal_wallis_test samples) tail (record {
+    follows-packed : Follows (kruskal_wallis_test samples) tail (label_network (packed_meaning half (unpacked_meaning samples tail)))
+    follows-packed = label_follows (packed_meaning half (unpacked_meaning samples tail)) (packed_squares (size_factors (group_sizes samples.groups)) (kruskal_wallis_test samples).bound (column_scores samples.kind (pooled_values samples.groups)) (column_sizes (pooled_values samples.groups)) (group_sizes samples.groups) tail (rule_of (kruskal_wallis_test samples) tail) (is-squaring tail (rule_of (kruskal_wallis_test samples) tail) refl) half (small-sums e)) (kruskal_wallis_test samples) tail (record {
       tail_is = refl;
       rule_is = refl;
       reference = refl;
       alike = λ xs. refl;
       values = λ xs m.
-          wide-value tail xs
+          unpacked-value tail xs
           ∙ sym (packed-value (size_factors (group_sizes samples.groups)) (kruskal_wallis_test samples).bound (column_scores samples.kind (pooled_values samples.groups)) (column_sizes (pooled_values samples.groups)) (group_sizes samples.groups) tail (rule_of (kruskal_wallis_test samples) tail) half columns-level (small-sums e) xs);
     })
 
   pub follows : (tail : Tail) → Follows (kruskal_wallis_test samples) tail (kruskal_wallis_network samples tail)
   follows tail = by (fits_one samples) refl
     where
-      by : (b : Bool) → fits_one samples ≡ b → Follows (kruskal_wallis_test samples) tail (label_network (cond b (packed_meaning (half_for (length (group_sizes samples.groups))) (wide_meaning samples tail)) (wide_meaning samples tail)))
+      by : (b : Bool) → fits_one samples ≡ b → Follows (kruskal_wallis_test samples) tail (label_network (cond b (packed_meaning (half_for (length (group_sizes samples.groups))) (unpacked_meaning samples tail)) (unpacked_meaning samples tail)))
       by true e = follows-packed tail e
-      by false e = follows-wide tail
+      by false e = follows-unpacked tail
 
   -- which of the two it is
-  pub network-packed : (tail : Tail) → fits_one samples ≡ true → label_network (packed_meaning (half_for (length (group_sizes samples.groups))) (wide_meaning samples tail)) ≡ kruskal_wallis_network samples tail
-  network-packed tail e = ap (λ b. label_network (cond b (packed_meaning (half_for (length (group_sizes samples.groups))) (wide_meaning samples tail)) (wide_meaning samples tail))) (sym e)
+  pub network-packed : (tail : Tail) → fits_one samples ≡ true → label_network (packed_meaning (half_for (length (group_sizes samples.groups))) (unpacked_meaning samples tail)) ≡ kruskal_wallis_network samples tail
+  network-packed tail e = ap (λ b. label_network (cond b (packed_meaning (half_for (length (group_sizes samples.groups))) (unpacked_meaning samples tail)) (unpacked_meaning samples tail))) (sym e)
 
-  pub network-wide : (tail : Tail) → fits_one samples ≡ false → label_network (wide_meaning samples tail) ≡ kruskal_wallis_network samples tail
-  network-wide tail e = ap (λ b. label_network (cond b (packed_meaning (half_for (length (group_sizes samples.groups))) (wide_meaning samples tail)) (wide_meaning samples tail))) (sym e)
+  pub network-unpacked : (tail : Tail) → fits_one samples ≡ false → label_network (unpacked_meaning samples tail) ≡ kruskal_wallis_network samples tail
+  network-unpacked tail e = ap (λ b. label_network (cond b (packed_meaning (half_for (length (group_sizes samples.groups))) (unpacked_meaning samples tail)) (unpacked_meaning samples tail))) (sym e)
 
   pub not-wide : too_wide (kruskal_wallis_test samples) ≡ None
   not-wide = rw (le-ltb MAX (total (kruskal_wallis_test samples)) bounded, le-ltb MAX (kruskal_wallis_test samples).bound f.bound_fits) refl

@@ -9,8 +9,6 @@ use Rattle.std.proofs.Math.Seq.{drop-append_seam, take-append_seam}
 use Rattle.std.proofs.lemmas.List.{length-map}
 use Rattle.std.proofs.lemmas.List.Sums.{sum_by-take-drop}
 use Rattle.weights.specs.declared.TheConstants.{MAX}
-use Rattle.weights.specs.declared.tails.Tail.{Tail}
-use Rattle.weights.specs.declared.rules.Rule.{Rule}
 use Rattle.weights.proofs.ChoiceLists.{IsChoice}
 use Rattle.label_network.specs.LabelSteps.{AreSizes}
 use Rattle.label_network.specs.LaterSums.{absolute_sum, greatest_sum, later_scores, least_sum, subjects}
@@ -24,8 +22,10 @@ use Rattle.label_network.proofs.LinearKeys.{reached-stage}
 use Rattle.label_network.proofs.Narrowing.{IsLeft, chosen}
 use Rattle.label_network.proofs.Rows.{length-abs}
 use Rattle.label_network.proofs.Sizes.{sizes-of_pos}
-use Rattle.k_sample_tests.specs.RankSums.{greatest_parts, least_parts, score_parts, squares_meaning}
-use Rattle.k_sample_tests.specs.RankSumSteps.{AreAddable, AreRankSums, AreTabled}
+use Rattle.k_sample_tests.specs.RankSums.{greatest_parts, least_parts, score_parts}
+use Rattle.k_sample_tests.specs.RankSumSteps.{AreAddable, AreTabled}
+use Rattle.k_sample_tests.specs.PackedSumSteps.{sums_meaning}
+use Rattle.k_sample_tests.specs.declared.rank_sums.RankSums.{RankSums}
 use Rattle.k_sample_tests.proofs.PairFits.{at-within}
 use Rattle.k_sample_tests.proofs.RankNarrows.{IsPartial, column-size, reached_left, reached_partial}
 
@@ -47,91 +47,94 @@ counts-within v x i = by x i (sum x) (at-within x)
     by (k ∷ x) zero n h = rw (unsigned_abs-mul (pos k) v) (mul-le-mul_right (unsigned_abs v) (h 0))
     by (k ∷ x) (suc i) n h = by x i n (λ j. h (suc j))
 
-module _ (factors : List ℕ) (bound : ℕ) (scores : List ℤ) (columns rows : List ℕ) (rule : Rule) (width : ℕ) (tail : Tail) (h : AreRankSums factors bound scores columns rows rule width) where
-  module _ (g : ℕ) (f p : List ℤ) (a : IsPlace (squares_meaning factors bound scores columns rows tail rule) g f p) where
-    pub left : IsLeft (squares_meaning factors bound scores columns rows tail rule) g (sizes_in f)
-    left = reached_left factors bound scores columns rows tail rule h.squaring g (sizes_in f) p a.reached
+module _ (m : RankSums) where
+  abbrev later : ℕ → List ℤ
+  later g = later_scores m.later.scores.items m.later.columns.items g
 
-    pub partial_is : IsPartial scores columns rows g (sizes_in f) p
-    partial_is = reached_partial factors bound scores columns rows tail rule h.squaring g (sizes_in f) p a.reached
+  module _ (g : ℕ) (f p : List ℤ) (a : IsPlace (sums_meaning m) g f p) where
+    pub left : IsLeft (sums_meaning m) g (sizes_in f)
+    left = reached_left m.factors.items m.bound m.later.scores.items m.later.columns.items m.rows.items m.judge.tail m.judge.rule m.right.squaring g (sizes_in f) p a.reached
 
-    pub within-stages : g ≤ length columns
-    within-stages = reached-stage (squares_meaning factors bound scores columns rows tail rule) g (sizes_in f) p a.reached
+    pub partial_is : IsPartial m.later.scores.items m.later.columns.items m.rows.items g (sizes_in f) p
+    partial_is = reached_partial m.factors.items m.bound m.later.scores.items m.later.columns.items m.rows.items m.judge.tail m.judge.rule m.right.squaring g (sizes_in f) p a.reached
 
-    pub long : length f ≡ length rows
-    long = sym (length-abs f) ∙ fits-length (sizes_in f) rows left.within
+    pub within-stages : g ≤ length m.later.columns.items
+    within-stages = reached-stage (sums_meaning m) g (sizes_in f) p a.reached
+
+    pub long : length f ≡ length m.rows.items
+    long = sym (length-abs f) ∙ fits-length (sizes_in f) m.rows.items left.within
 
     few : sum (sizes_in f) ≤ 10000
-    few = omega (arith, left.whole, h.squaring.level, h.squaring.few, sum_by-take-drop (λ v. v) columns g)
+    few = omega (arith, left.whole, m.right.squaring.level, m.right.squaring.few, sum_by-take-drop (λ v. v) m.later.columns.items g)
 
     pub sizes : AreSizes f
     sizes = sizes-of_pos (sizes_in f) (omega (arith, few)) f a.whole
 
-    pub whole : sum (sizes_in f) ≡ length (later_scores scores columns g)
-    whole = sym left.whole ∙ sym (later-length scores columns g h.squaring.long)
+    pub whole : sum (sizes_in f) ≡ length (later g)
+    whole = sym left.whole ∙ sym (later-length m.later.scores.items m.later.columns.items g m.right.squaring.long)
 
-    enough : (i : ℕ) → (get_or rows i 0 ≤ width - 1) ⊎ (sum rows ≤ (width - 1) + get_or rows i 0)
-    enough i = elim (cases_lt (width - 1) (get_or rows i 0)) [
-      | inl many ↦ inr (h.enough.each i many)
+    enough : (i : ℕ) → (get_or m.rows.items i 0 ≤ m.later.width - 1) ⊎ (sum m.rows.items ≤ (m.later.width - 1) + get_or m.rows.items i 0)
+    enough i = elim (cases_lt (m.later.width - 1) (get_or m.rows.items i 0)) [
+      | inl many ↦ inr (m.right.enough.each i many)
       | inr few ↦ inl few
     ]
 
-    pub are-tabled : 1 ≤ width → AreTabled width (later_scores scores columns g) (sizes_in f)
+    pub are-tabled : 1 ≤ m.later.width → AreTabled m.later.width (later g) (sizes_in f)
     are-tabled some =
-        let back : (width - 1) + 1 ≡ width = omega (arith, some) in
+        let back : (m.later.width - 1) + 1 ≡ m.later.width = omega (arith, some) in
         record {
           few = λ i. omega (arith, whole, at-within (sizes_in f) i);
-          held = λ i. subst (λ n. IsTabled n (get_or (sizes_in f) i 0) (later_scores scores columns g)) back
-              (group-enough (width - 1) rows (sizes_in f) (later_scores scores columns g) i (enough i) left.within whole);
+          held = λ i. subst (λ n. IsTabled n (get_or (sizes_in f) i 0) (later g)) back
+              (group-enough (m.later.width - 1) m.rows.items (sizes_in f) (later g) i (enough i) left.within whole);
         }
 
-    pub least-within : (i : ℕ) → unsigned_abs (get_or p i (pos 0)) + unsigned_abs (get_or (least_parts (later_scores scores columns g) (sizes_in f)) i (pos 0)) ≤ absolute_sum (subjects scores columns)
-    least-within i = omega (arith, size-within p i, parts-within (λ n. least_sum n (later_scores scores columns g)) (absolute_sum (later_scores scores columns g)) (λ n. least-size n (later_scores scores columns g)) (sizes_in f) i, partial_is.small)
+    pub least-within : (i : ℕ) → unsigned_abs (get_or p i (pos 0)) + unsigned_abs (get_or (least_parts (later g) (sizes_in f)) i (pos 0)) ≤ absolute_sum (subjects m.later.scores.items m.later.columns.items)
+    least-within i = omega (arith, size-within p i, parts-within (λ n. least_sum n (later g)) (absolute_sum (later g)) (λ n. least-size n (later g)) (sizes_in f) i, partial_is.small)
 
-    pub greatest-within : (i : ℕ) → unsigned_abs (get_or p i (pos 0)) + unsigned_abs (get_or (greatest_parts (later_scores scores columns g) (sizes_in f)) i (pos 0)) ≤ absolute_sum (subjects scores columns)
-    greatest-within i = omega (arith, size-within p i, parts-within (λ n. greatest_sum n (later_scores scores columns g)) (absolute_sum (later_scores scores columns g)) (λ n. greatest-size n (later_scores scores columns g)) (sizes_in f) i, partial_is.small)
+    pub greatest-within : (i : ℕ) → unsigned_abs (get_or p i (pos 0)) + unsigned_abs (get_or (greatest_parts (later g) (sizes_in f)) i (pos 0)) ≤ absolute_sum (subjects m.later.scores.items m.later.columns.items)
+    greatest-within i = omega (arith, size-within p i, parts-within (λ n. greatest_sum n (later g)) (absolute_sum (later g)) (λ n. greatest-size n (later g)) (sizes_in f) i, partial_is.small)
 
-    pub least-addable : AreAddable p (least_parts (later_scores scores columns g) (sizes_in f))
-    least-addable = record { each = λ i l. omega (arith, least-within i, h.squaring.sums_fit) }
+    pub least-addable : AreAddable p (least_parts (later g) (sizes_in f))
+    least-addable = record { each = λ i l. omega (arith, least-within i, m.right.squaring.sums_fit) }
 
-    pub greatest-addable : AreAddable p (greatest_parts (later_scores scores columns g) (sizes_in f))
-    greatest-addable = record { each = λ i l. omega (arith, greatest-within i, h.squaring.sums_fit) }
+    pub greatest-addable : AreAddable p (greatest_parts (later g) (sizes_in f))
+    greatest-addable = record { each = λ i l. omega (arith, greatest-within i, m.right.squaring.sums_fit) }
 
     pub as-many : length (sizes_in f) ≡ length p
-    as-many = fits-length (sizes_in f) rows left.within ∙ sym partial_is.wide
+    as-many = fits-length (sizes_in f) m.rows.items left.within ∙ sym partial_is.wide
 
-    pub least-long : length (least_parts (later_scores scores columns g) (sizes_in f)) ≡ length p
-    least-long = length-map (sizes_in f) (λ n. least_sum n (later_scores scores columns g)) ∙ as-many
+    pub least-long : length (least_parts (later g) (sizes_in f)) ≡ length p
+    least-long = length-map (sizes_in f) (λ n. least_sum n (later g)) ∙ as-many
 
-    pub greatest-long : length (greatest_parts (later_scores scores columns g) (sizes_in f)) ≡ length p
-    greatest-long = length-map (sizes_in f) (λ n. greatest_sum n (later_scores scores columns g)) ∙ as-many
+    pub greatest-long : length (greatest_parts (later g) (sizes_in f)) ≡ length p
+    greatest-long = length-map (sizes_in f) (λ n. greatest_sum n (later g)) ∙ as-many
 
     -- both halves of the outlook
-    module _ (outlook : List ℤ) (e : outlook ≡ least_parts (later_scores scores columns g) (sizes_in f) ++ greatest_parts (later_scores scores columns g) (sizes_in f)) where
+    module _ (outlook : List ℤ) (e : outlook ≡ least_parts (later g) (sizes_in f) ++ greatest_parts (later g) (sizes_in f)) where
       pub outlook-long : length outlook ≡ length p + length p
-      outlook-long = ap length e ∙ length-append (least_parts (later_scores scores columns g) (sizes_in f)) (greatest_parts (later_scores scores columns g) (sizes_in f)) ∙ rw (least-long, greatest-long) refl
+      outlook-long = ap length e ∙ length-append (least_parts (later g) (sizes_in f)) (greatest_parts (later g) (sizes_in f)) ∙ rw (least-long, greatest-long) refl
 
-      pub front-is : take (length p) outlook ≡ least_parts (later_scores scores columns g) (sizes_in f)
-      front-is = rw (e, ← least-long) (take-append_seam (least_parts (later_scores scores columns g) (sizes_in f)) (greatest_parts (later_scores scores columns g) (sizes_in f)))
+      pub front-is : take (length p) outlook ≡ least_parts (later g) (sizes_in f)
+      front-is = rw (e, ← least-long) (take-append_seam (least_parts (later g) (sizes_in f)) (greatest_parts (later g) (sizes_in f)))
 
-      pub back-is : drop (length p) outlook ≡ greatest_parts (later_scores scores columns g) (sizes_in f)
-      back-is = rw (e, ← least-long) (drop-append_seam (least_parts (later_scores scores columns g) (sizes_in f)) (greatest_parts (later_scores scores columns g) (sizes_in f)))
+      pub back-is : drop (length p) outlook ≡ greatest_parts (later g) (sizes_in f)
+      back-is = rw (e, ← least-long) (drop-append_seam (least_parts (later g) (sizes_in f)) (greatest_parts (later g) (sizes_in f)))
 
     -- a choice there
-    module _ (before : g < length columns) (x : List ℕ) (o : Contains (allowed (squares_meaning factors bound scores columns rows tail rule) g (sizes_in f)) x) where
-      pub choice : IsChoice (slice_index columns g) (sizes_in f) x
-      choice = chosen (slice_index columns g) (sizes_in f) x o
+    module _ (before : g < length m.later.columns.items) (x : List ℕ) (o : Contains (allowed (sums_meaning m) g (sizes_in f)) x) where
+      pub choice : IsChoice (slice_index m.later.columns.items g) (sizes_in f) x
+      choice = chosen (slice_index m.later.columns.items g) (sizes_in f) x o
 
-      pub choice-long : length x ≡ length rows
-      choice-long = choice.long ∙ fits-length (sizes_in f) rows left.within
+      pub choice-long : length x ≡ length m.rows.items
+      choice-long = choice.long ∙ fits-length (sizes_in f) m.rows.items left.within
 
-      pub column-fits : sum x * unsigned_abs (score_of scores g) + absolute_sum (later_scores scores columns (g + 1)) ≡ absolute_sum (later_scores scores columns g)
+      pub column-fits : sum x * unsigned_abs (score_of m.later.scores.items g) + absolute_sum (later (g + 1)) ≡ absolute_sum (later g)
       column-fits =
-          ap (λ n. n * unsigned_abs (score_of scores g) + absolute_sum (later_scores scores columns (g + 1))) choice.whole
-          ∙ sym (column-size factors bound scores columns rows tail rule h.squaring g (sizes_in f) x p before left choice partial_is)
+          ap (λ n. n * unsigned_abs (score_of m.later.scores.items g) + absolute_sum (later (g + 1))) choice.whole
+          ∙ sym (column-size m.factors.items m.bound m.later.scores.items m.later.columns.items m.rows.items m.judge.tail m.judge.rule m.right.squaring g (sizes_in f) x p before left choice partial_is)
 
-      pub parts-fit : sum x * unsigned_abs (score_of scores g) ≤ MAX
-      parts-fit = omega (arith, column-fits, partial_is.small, h.squaring.sums_fit)
+      pub parts-fit : sum x * unsigned_abs (score_of m.later.scores.items g) ≤ MAX
+      parts-fit = omega (arith, column-fits, partial_is.small, m.right.squaring.sums_fit)
 
-      pub parts-addable : AreAddable p (score_parts (score_of scores g) x)
-      parts-addable = record { each = λ i l. omega (arith, size-within p i, counts-within (score_of scores g) x i, column-fits, partial_is.small, h.squaring.sums_fit) }
+      pub parts-addable : AreAddable p (score_parts (score_of m.later.scores.items g) x)
+      parts-addable = record { each = λ i l. omega (arith, size-within p i, counts-within (score_of m.later.scores.items g) x i, column-fits, partial_is.small, m.right.squaring.sums_fit) }

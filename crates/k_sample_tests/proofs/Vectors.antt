@@ -130,6 +130,9 @@ step_number = refl
 led_pair : unpack 8 2 (pos 75) ≡ pos 3 ∷ negsuc 3 ∷ []
 led_pair = refl
 
--- of three groups each has 32 bits
-half_of_three : half_for 3 ≡ 2147483648
+-- of three groups each has 42 bits, and of eight 15
+half_of_three : half_for 3 ≡ 2199023255552
 half_of_three = refl
+
+half_of_eight : half_for 8 ≡ 16384
+half_of_eight = refl

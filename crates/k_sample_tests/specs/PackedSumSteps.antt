@@ -1,5 +1,5 @@
 -- Words for the bodies of sums in one number.
-use Rattle.std.specs.Prelude.{◌≡◌, ℕ, ◌+◌, ◌*◌, ◌^◌, ◌<◌, ◌≤◌, ℤ, pos, unsigned_abs, List, length, get_or}
+use Rattle.std.specs.Prelude.{◌≡◌, ℕ, ◌+◌, ◌*◌, ◌^◌, ◌<◌, ◌≤◌, ℤ, pos, unsigned_abs, Bool, true, List, length, get_or}
 use Rattle.weights.specs.declared.TheConstants.{MAX}
 use Rattle.label_network.specs.LaterSums.{absolute_sum, subjects}
 use Rattle.label_network.specs.Meanings.{Meaning}
@@ -14,7 +14,7 @@ pub record AreDigits (base : ℕ) (numbers : List ℤ) : Type 0 where
 -- so many bits have a digit, which is less than the double of half
 pub record IsHalf (bits half : ℕ) : Type 0 where
   pub base : 2 ^ bits ≡ 2 * half
-  pub few : bits ≤ 32
+  pub few : bits ≤ 63
 
 -- place by place, the two sum to less than 32 bits hold
 pub record AreNarrow (sums added : List ℤ) : Type 0 where
@@ -27,10 +27,15 @@ sums_meaning m =
     squares_meaning m.factors.items m.bound m.later.scores.items m.later.columns.items
     m.rows.items m.judge.tail m.judge.rule
 
+-- no sum of scores leaves 32 bits, and no eight of the greatest squared sums leave 128
+pub record HasNarrowBoxes (m : RankSums) : Type 0 where
+  pub small : absolute_sum (subjects m.later.scores.items m.later.columns.items) < 2 ^ 31
+  pub room : m.bound < 2 ^ 124
+
 -- all scores together are less than half of the base, one number has a digit for each group, and
--- squared sums have room in 128 bits
-pub record ArePacked (m : RankSums) (bits half : ℕ) : Type 0 where
+-- boxes are narrow where they are said to be
+pub record ArePacked (m : RankSums) (bits half : ℕ) (narrow : Bool) : Type 0 where
   pub digit : IsHalf bits half
   pub small : absolute_sum (subjects m.later.scores.items m.later.columns.items) < half
   pub wide : (2 * half) ^ length m.rows.items ≤ MAX + 1
-  pub room : m.bound < 2 ^ 124
+  pub boxes : narrow ≡ true → HasNarrowBoxes m

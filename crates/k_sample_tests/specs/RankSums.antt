@@ -1,7 +1,7 @@
 -- The network of the test of Kruskal and Wallis: a stage is a distinct value, ascending, with the
 -- subjects that have it, and its choice says how many of them are of each group. A key's partial is
 -- the sum of scores that each group has so far, in one number for all groups where they fit it.
-use Rattle.std.specs.Prelude.{ℕ, ◌-◌, ◌*◌, ◌/◌, ◌^◌, ◌&&◌, ℤ, pos, ◌+ℤ◌, ◌*ℤ◌, Bool, List, [], ◌∷◌, ◌++◌, length, map, min, nat_lt, replicate, if◌then◌else◌}
+use Rattle.std.specs.Prelude.{ℕ, ◌-◌, ◌*◌, ◌/◌, ◌^◌, ℤ, pos, ◌+ℤ◌, ◌*ℤ◌, Bool, List, [], ◌∷◌, ◌++◌, length, map, min, nat_lt, replicate, if◌then◌else◌}
 use Rattle.weights.specs.declared.tails.Tail.{Tail}
 use Rattle.weights.specs.declared.rules.Rule.{Rule}
 use Rattle.weights.specs.Rules.{rule_of}
@@ -71,8 +71,8 @@ squares_meaning factors bound scores columns rows tail rule = record {
 }
 
 -- a number for each group
-abbrev pub wide_meaning : ScoredGroups → Tail → Meaning
-wide_meaning samples tail =
+abbrev pub unpacked_meaning : ScoredGroups → Tail → Meaning
+unpacked_meaning samples tail =
     let test = kruskal_wallis_test samples in
     let sizes = group_sizes samples.groups in
     let values = pooled_values samples.groups in
@@ -81,21 +81,19 @@ wide_meaning samples tail =
 
 -- half of the base in which 127 bits hold a digit of each of k groups
 abbrev pub half_for : ℕ → ℕ
-half_for k = 2 ^ (min (127 / k) 32 - 1)
+half_for k = 2 ^ (127 / k - 1)
 
--- whether one number holds the sums of all groups, since no sum comes to half of the base, and
--- whether 128 bits have room for the squared sums at every corner of a box
+-- whether one number holds the sums of all groups, since no sum comes to half of the base
 abbrev pub fits_one : ScoredGroups → Bool
 fits_one samples =
     nat_lt (absolute_sum (pooled_scores samples)) (half_for (length (group_sizes samples.groups)))
-    && nat_lt (kruskal_wallis_test samples).bound (2 ^ 124)
 
 -- one number for all groups where it holds their sums, or else a number for each
 abbrev pub kruskal_wallis_meaning : ScoredGroups → Tail → Meaning
 kruskal_wallis_meaning samples tail =
     let half = half_for (length (group_sizes samples.groups)) in
-    if fits_one samples then packed_meaning half (wide_meaning samples tail)
-    else wide_meaning samples tail
+    if fits_one samples then packed_meaning half (unpacked_meaning samples tail)
+    else unpacked_meaning samples tail
 
 abbrev pub kruskal_wallis_network : ScoredGroups → Tail → Network
 kruskal_wallis_network samples tail = label_network (kruskal_wallis_meaning samples tail)

@@ -1,5 +1,5 @@
 // Both ways to the answer of a test of Kruskal and Wallis.
-ghost use Rattle.std.specs.Prelude.{◌≡◌, ◌^◌, ◌≤◌, ◌&&◌, nat_lt};
+ghost use Rattle.std.specs.Prelude.{◌≡◌, ◌≤◌, nat_lt};
 ghost use Rattle.k_sample_tests.specs.RankSums.{half_for};
 
 use crate::group_sums::squares_statistic;
@@ -13,12 +13,12 @@ use std::alloc::Global;
 use weights::{Bytes, Frame, NoMemory, Tail};
 
 // Whether one number holds the sums of so many groups, whose scores have this sum.
-fn fits_one(sum: u128, bound: u128, groups: usize) -> bool
-    requires some { 1 ≤ groups }
+fn fits_one(sum: u128, groups: usize) -> bool
+    requires some { 2 ≤ groups }
     requires few { groups ≤ 8 }
-    ensures { result ≡ (nat_lt sum (half_for groups) && nat_lt bound (2 ^ 124)) }
+    ensures { result ≡ nat_lt sum (half_for groups) }
 {
-    sum < half_for(groups) as u128 && bound < 1 << 124
+    sum < half_for(groups) as u128
 }
 
 impl Plain for KruskalWallis {
@@ -84,8 +84,8 @@ impl Prepared for KruskalWallis {
             made.scores.len() as u64,
             Judge { tail, rule },
         )?;
-        if fits_one(made.sum, made.bound, rows.len()) {
-            let packed = PackedSums::new(measure);
+        if fits_one(made.sum, rows.len()) {
+            let packed = PackedSums::new(measure, made.sum);
             Ok(OneOf::First(LabelStages::new(alloc, columns, rows, packed)?))
         } else {
             Ok(OneOf::Second(LabelStages::new(alloc, columns, rows, measure)?))

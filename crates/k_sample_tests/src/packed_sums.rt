@@ -1,9 +1,10 @@
 // The measure of the test of Kruskal and Wallis with the sums of all groups in one number.
-ghost use Rattle.std.specs.Prelude.{◌≡◌, ◌+◌, ◌*◌, ◌/◌, ◌%◌, ◌^◌, ◌<◌, ◌≤◌, length, min, pos, unsigned_abs, ◌+ℤ◌, ◌-ℤ◌, ◌*ℤ◌};
+ghost use Rattle.std.specs.Prelude.{◌≡◌, ◌+◌, ◌*◌, ◌/◌, ◌%◌, ◌^◌, ◌<◌, ◌≤◌, ◌&&◌, length, nat_lt, pos, unsigned_abs, ◌+ℤ◌, ◌-ℤ◌, ◌*ℤ◌};
 ghost use Rattle.weights.specs.declared.TheConstants.{MAX};
 ghost use Rattle.label_network.specs.LaterSums.{absolute_sum, subjects};
-ghost use Rattle.label_network.specs.Meanings.{IsStep, sizes_in};
-ghost use Rattle.k_sample_tests.specs.PackedSums.{numeral, packed_meaning, unpack};
+ghost use Rattle.label_network.specs.Meanings.{IsPlace, IsStep, sizes_in};
+ghost use Rattle.stage_network.specs.Judged.{judged};
+ghost use Rattle.k_sample_tests.specs.PackedSums.{numeral, packed_meaning, unpack, unpacked};
 ghost use Rattle.k_sample_tests.specs.PackedSumSteps.{AreDigits, AreNarrow, ArePacked, IsHalf, sums_meaning};
 ghost use Rattle.k_sample_tests.specs.RankSums.{half_for, plus_each};
 
@@ -20,24 +21,34 @@ pub struct PackedSums {
     sums: RankSums,
     bits: u32,
     half: u64,
-    ghost right: { ArePacked sums bits half },
+    // Whether the box of every key has ends of 32 bits, and its squared sums 128.
+    narrow: bool,
+    ghost right: { ArePacked sums bits half narrow },
 }
 
 // How many bits each group's digit has.
 fn bits_for(groups: usize) -> u32
     requires { 1 ≤ groups }
-    ensures { result ≡ min (127 / groups) 32 }
+    ensures { result ≡ 127 / groups }
 {
-    (127 / groups).min(32) as u32
+    (127 / groups) as u32
 }
 
 /// Half of the base in which 127 bits hold a digit of each group.
 pub(crate) fn half_for(groups: usize) -> u64
-    requires some { 1 ≤ groups }
+    requires some { 2 ≤ groups }
     requires few { groups ≤ 8 }
     ensures { result ≡ half_for groups }
 {
     1 << (bits_for(groups) - 1)
+}
+
+// Whether all boxes are narrow: no sum of scores comes to 2^31, which 32 bits with a sign hold, and
+// no squared sum times its factor to 2^124, so that eight of them stay below 2^128.
+fn has_narrow_boxes(all: u128, bound: u128) -> bool
+    ensures { result ≡ (nat_lt all (2 ^ 31) && nat_lt bound (2 ^ 124)) }
+{
+    all < 1 << 31 && bound < 1 << 124
 }
 
 // A number with one more digit below it.
@@ -145,14 +156,13 @@ fn stepped(packed: i128, step: i128) -> i128
 }
 
 impl PackedSums {
-    /// Packs the sums of a measure whose scores all together are less than half of the base, and
-    /// whose squared sums fit 128 bits at every corner of a box.
-    pub fn new(sums: RankSums) -> PackedSums
-        requires some { 1 ≤ length sums.rows.items }
-        requires small { let all =
-            absolute_sum (subjects sums.later.scores.items sums.later.columns.items) in
-            all < half_for (length sums.rows.items) }
-        requires room { sums.bound < 2 ^ 124 }
+    /// Packs the sums of a measure whose scores' magnitudes all together are less than half of the
+    /// base.
+    pub fn new(sums: RankSums, all: u128) -> PackedSums
+        requires some { 2 ≤ length sums.rows.items }
+        requires all { all
+            ≡ absolute_sum (subjects sums.later.scores.items sums.later.columns.items) }
+        requires small { all < half_for (length sums.rows.items) }
         ensures sums { result.sums ≡ sums }
         ensures half { result.half ≡ half_for (length sums.rows.items) }
     {
@@ -160,6 +170,7 @@ impl PackedSums {
         PackedSums {
             bits: bits_for(groups),
             half: half_for(groups),
+            narrow: has_narrow_boxes(all, sums.bound()),
             sums,
         }
     }
@@ -175,6 +186,31 @@ impl PackedSums {
         let parts = &mut numbers[..choice.len()];
         self.sums.step(stage, remaining, choice, parts);
         numeral(self.half, parts)
+    }
+
+    // What is known of a key by its sums, each with a number of its own.
+    fn wide_verdict(
+        &self,
+        stage: usize,
+        remaining: &[i128],
+        outlook: &[i128],
+        partial: &[i128],
+        tail: Tail,
+    ) -> Verdict
+        requires place { let m = packed_meaning self.now.half (sums_meaning self.now.sums) in
+            IsPlace m stage remaining.now partial.now }
+        requires outlook { let m = sums_meaning self.now.sums in
+            outlook.now ≡ m.outlook stage (sizes_in remaining.now) }
+        ensures { let m = sums_meaning self.now.sums in
+            let sums = unpacked self.now.half m partial.now in
+            let low = m.low stage (sizes_in remaining.now) sums in
+            let high = m.high stage (sizes_in remaining.now) sums in
+            result ≡ judged m.tail m.rule tail low high }
+    {
+        let mut numbers = [0i128; 8];
+        let sums = &mut numbers[..self.sums.slots()];
+        unpack(self.bits, self.half, only(partial), sums);
+        self.sums.verdict_by(stage, remaining, outlook, sums, tail)
     }
 }
 
@@ -224,12 +260,15 @@ impl Measure for PackedSums {
     #[inline(always)]
     fn verdict_by(
         &self,
-        _stage: usize,
+        stage: usize,
         remaining: &[i128],
         outlook: &[i128],
         partial: &[i128],
         tail: Tail,
     ) -> Verdict {
+        if !self.narrow {
+            return self.wide_verdict(stage, remaining, outlook, partial, tail);
+        }
         let (least, greatest) = outlook.split_at(remaining.len());
         let mut low_numbers = [0i32; 8];
         let mut high_numbers = [0i32; 8];

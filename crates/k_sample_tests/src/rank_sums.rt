@@ -150,6 +150,13 @@ impl RankSums {
         })
     }
 
+    /// What no value passes.
+    pub(crate) fn bound(&self) -> u128
+        ensures { result ≡ self.now.bound }
+    {
+        self.bound
+    }
+
     // Writes what the groups can still get, at least and at most.
     fn parts(&self, stage: usize, remaining: &[i128], least: &mut [i128], greatest: &mut [i128])
         requires sizes { let m = squares_meaning self.now.factors.items self.now.bound

@@ -185,7 +185,8 @@ fn compared(alloc: Global, kind: ScoreKind, samples: &[&str], way: Way) -> Resul
 
 // Two groups of two (see below), and the half-times of mucociliary clearance (Hollander and Wolfe,
 // Nonparametric Statistical Methods), whose P-value is that of qn.test in the package kSamples.
-// With one subject in each of eight groups every labelling has the same sum of squares.
+// With one subject in each of eight groups every labelling has the same sum of squares. The values
+// of the last row sum to more than 2^31, and its numbers were counted by listing.
 const NORMAL: &str = "2.9 3.0 2.5 2.6 3.2";
 
 const OBSTRUCTIVE: &str = "3.8 2.7 4.0 2.4";
@@ -210,6 +211,12 @@ fn kruskal_wallis(rt: HostRuntime) -> Result<(), Fail> {
             40320,
         ),
         (Median, &["5", "5 5", "5"], (32, 32, 12), 12),
+        (
+            Raw,
+            &["100000000000 -7 3", "99999999999 2 5", "-100000000001 11"],
+            (69999999994800000000404, 6, 560),
+            272,
+        ),
     ] {
         let found = compared(rt.alloc(), kind, samples, Way::Network)?;
         assert_eq!(rt; (found.statistic, found.scale, found.total), head);
@@ -252,10 +259,26 @@ fn both_ways_by_scores(rt: HostRuntime) -> Result<(), Fail> {
     Ok(())
 }
 
-// Sums that one number does not hold: of two and of three groups at least 2^31.
+// Sums that one number holds, of at least 2^31, so that ends of boxes need more than 32 bits.
+#[test]
+fn wide_boxes(rt: HostRuntime) -> Result<(), Fail> {
+    agree_by(&rt, rt.alloc(), Raw, &["600000000000000000 1", "2 5"])?;
+    agree_by(
+        &rt,
+        rt.alloc(),
+        Raw,
+        &["-2000000000 5", "1999999999 7", "-3 11"],
+    )?;
+    Ok(())
+}
+
+// Four values of nearly 10^18 and one: together more than 2^62.
+const GREAT: &str = "999999999999999999 999999999999999998 999999999999999997 700000000000000000";
+
+// Sums that one number does not hold: of two groups at least 2^62, of three at least 2^41.
 #[test]
 fn sums_apart(rt: HostRuntime) -> Result<(), Fail> {
-    agree_by(&rt, rt.alloc(), Raw, &["600000000000000000 1", "2 5"])?;
+    agree_by(&rt, rt.alloc(), Raw, &[GREAT, "999999999999999996"])?;
     agree_by(&rt, rt.alloc(), Raw, &["3000000000000 4", "-7 2", "5"])?;
     Ok(())
 }

@@ -1,13 +1,15 @@
 use Rattle.std.proofs.Common.{◌≡◌, ◌∙◌, ℕ, List, ap, false, length, refl, sym, true}
+use Rattle.std.proofs.lemmas.Bool.{ltb-true}
 use Rattle.weights.specs.Rules.{rule_of}
+use Rattle.scores.specs.Scores.{absolute_sum}
 use Rattle.sample_reader.specs.Groups.{group_sizes}
 use Rattle.label_network.specs.LabelNetwork.{label_network}
-use Rattle.k_sample_tests.specs.KruskalWallis.{ScoredGroups, kruskal_wallis_test}
+use Rattle.k_sample_tests.specs.KruskalWallis.{ScoredGroups, kruskal_wallis_test, pooled_scores}
 use Rattle.k_sample_tests.specs.PackedSums.{packed_meaning}
 use Rattle.k_sample_tests.specs.PackedSumSteps.{sums_meaning}
-use Rattle.k_sample_tests.specs.RankSums.{fits_one, half_for, wide_meaning}
+use Rattle.k_sample_tests.specs.RankSums.{fits_one, half_for, unpacked_meaning}
 use Rattle.k_sample_tests.specs.declared.packed_sums.PackedSums.{PackedSums}
-use Rattle.k_sample_tests.proofs.FittingKruskalWallis.{follows, is-squaring, network-packed, network-wide, roomy, scores-long, small-sums}
+use Rattle.k_sample_tests.proofs.FittingKruskalWallis.{column-total, follows, is-squaring, network-packed, network-unpacked, scores-long}
 use Rattle.k_sample_tests.proofs.kruskal_wallis_ways.KruskalWallisPrepared.stages_of.Goals as goal
 
 pub new-requires-clause-subjects : goal.new-requires-clause-subjects
@@ -37,30 +39,27 @@ returns-in_ok-new-clause-follows c = follows c.args.self.now c.made-made.ensures
 pub returns-in_ok-new-2-clause-follows : goal.returns-in_ok-new-2-clause-follows
 returns-in_ok-new-2-clause-follows c = follows c.args.self.now c.made-made.ensures.fitting c.args.tail
 
+pub new-packed-requires-clause-all : goal.new-packed-requires-clause-all
+new-packed-requires-clause-all c =
+    let made = c.made-made.ensures in
+    rw (c.in_ok-measure.ensures.scores ∙ c.as_slice-2.ensures ∙ made.column_scores, c.in_ok-measure.ensures.columns ∙ c.as_slice-columns.ensures ∙ made.column_sizes) (made.sum ∙ sym (column-total c.args.self.now made.fitting))
+
 pub new-packed-requires-clause-small : goal.new-packed-requires-clause-small
 new-packed-requires-clause-small c =
     let samples : ScoredGroups = c.args.self.now in
     let made = c.made-made.ensures in
-    let same : c.fits_one.result ≡ fits_one samples = rw (made.sum, made.bound, c.as_slice-rows.ensures ∙ made.sizes) at c.fits_one.ensures in
+    let same : c.fits_one.result ≡ fits_one samples = rw (made.sum, c.as_slice-rows.ensures ∙ made.sizes) at c.fits_one.ensures in
     let e : fits_one samples ≡ true = sym same ∙ c.if-fits_one.true in
-    rw (c.in_ok-measure.ensures.scores ∙ c.as_slice-2.ensures ∙ made.column_scores, c.in_ok-measure.ensures.columns ∙ c.as_slice-columns.ensures ∙ made.column_sizes, c.in_ok-measure.ensures.rows ∙ c.as_slice-rows.ensures ∙ made.sizes) (small-sums samples made.fitting e)
-
-pub new-packed-requires-clause-room : goal.new-packed-requires-clause-room
-new-packed-requires-clause-room c =
-    let samples : ScoredGroups = c.args.self.now in
-    let made = c.made-made.ensures in
-    let same : c.fits_one.result ≡ fits_one samples = rw (made.sum, made.bound, c.as_slice-rows.ensures ∙ made.sizes) at c.fits_one.ensures in
-    let e : fits_one samples ≡ true = sym same ∙ c.if-fits_one.true in
-    rw (c.in_ok-measure.ensures.bound, made.bound) (roomy samples made.fitting e)
+    rw (made.sum, c.in_ok-measure.ensures.rows ∙ c.as_slice-rows.ensures ∙ made.sizes) (ltb-true (absolute_sum (pooled_scores samples)) (half_for (length (group_sizes samples.groups))) e)
 
 pub returns-in_ok-new-clause-built : goal.returns-in_ok-new-clause-built
 returns-in_ok-new-clause-built c =
     let samples : ScoredGroups = c.args.self.now in
     let made = c.made-made.ensures in
-    let same : c.fits_one.result ≡ fits_one samples = rw (made.sum, made.bound, c.as_slice-rows.ensures ∙ made.sizes) at c.fits_one.ensures in
+    let same : c.fits_one.result ≡ fits_one samples = rw (made.sum, c.as_slice-rows.ensures ∙ made.sizes) at c.fits_one.ensures in
     let e : fits_one samples ≡ true = sym same ∙ c.if-fits_one.true in
     let rule : c.rule-rule.result ≡ rule_of (kruskal_wallis_test samples) c.args.tail = c.rule-rule.ensures (kruskal_wallis_test samples) made.frame in
-    let wide : sums_meaning c.in_ok-measure.measure ≡ wide_meaning samples c.args.tail = c.in_ok-measure.ensures.meaning ∙ rw (c.as_slice.ensures.value ∙ made.factors, made.bound, c.as_slice-2.ensures ∙ made.column_scores, c.as_slice-columns.ensures ∙ made.column_sizes, c.as_slice-rows.ensures ∙ made.sizes, rule) refl in
+    let wide : sums_meaning c.in_ok-measure.measure ≡ unpacked_meaning samples c.args.tail = c.in_ok-measure.ensures.meaning ∙ rw (c.as_slice.ensures.value ∙ made.factors, made.bound, c.as_slice-2.ensures ∙ made.column_scores, c.as_slice-columns.ensures ∙ made.column_sizes, c.as_slice-rows.ensures ∙ made.sizes, rule) refl in
     let sums : c.in_ok-new.field-0.sums ≡ c.in_ok-measure.measure = ap (λ (p : PackedSums). p.sums) c.in_ok-new.ensures ∙ c.new-packed.ensures.sums in
     let base : c.in_ok-new.field-0.half ≡ half_for (length (group_sizes samples.groups)) = ap (λ (p : PackedSums). p.half) c.in_ok-new.ensures ∙ c.new-packed.ensures.half ∙ ap (λ (xs : List ℕ). half_for (length xs)) (c.in_ok-measure.ensures.rows ∙ c.as_slice-rows.ensures ∙ made.sizes) in
     ap (λ h. label_network (packed_meaning h (sums_meaning c.in_ok-new.field-0.sums))) base
@@ -72,8 +71,8 @@ pub returns-in_ok-new-2-clause-built : goal.returns-in_ok-new-2-clause-built
 returns-in_ok-new-2-clause-built c =
     let samples : ScoredGroups = c.args.self.now in
     let made = c.made-made.ensures in
-    let same : c.fits_one.result ≡ fits_one samples = rw (made.sum, made.bound, c.as_slice-rows.ensures ∙ made.sizes) at c.fits_one.ensures in
+    let same : c.fits_one.result ≡ fits_one samples = rw (made.sum, c.as_slice-rows.ensures ∙ made.sizes) at c.fits_one.ensures in
     let e : fits_one samples ≡ false = sym same ∙ c.if-fits_one.false in
     let rule : c.rule-rule.result ≡ rule_of (kruskal_wallis_test samples) c.args.tail = c.rule-rule.ensures (kruskal_wallis_test samples) made.frame in
-    let wide : sums_meaning c.in_ok-measure.measure ≡ wide_meaning samples c.args.tail = c.in_ok-measure.ensures.meaning ∙ rw (c.as_slice.ensures.value ∙ made.factors, made.bound, c.as_slice-2.ensures ∙ made.column_scores, c.as_slice-columns.ensures ∙ made.column_sizes, c.as_slice-rows.ensures ∙ made.sizes, rule) refl in
-    ap (λ m. label_network (sums_meaning m)) c.in_ok-new-2.ensures ∙ ap label_network wide ∙ network-wide samples made.fitting c.args.tail e
+    let wide : sums_meaning c.in_ok-measure.measure ≡ unpacked_meaning samples c.args.tail = c.in_ok-measure.ensures.meaning ∙ rw (c.as_slice.ensures.value ∙ made.factors, made.bound, c.as_slice-2.ensures ∙ made.column_scores, c.as_slice-columns.ensures ∙ made.column_sizes, c.as_slice-rows.ensures ∙ made.sizes, rule) refl in
+    ap (λ m. label_network (sums_meaning m)) c.in_ok-new-2.ensures ∙ ap label_network wide ∙ network-unpacked samples made.fitting c.args.tail e

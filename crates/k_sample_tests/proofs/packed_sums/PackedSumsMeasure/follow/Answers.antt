@@ -8,7 +8,7 @@ use Rattle.k_sample_tests.proofs.PackedKeys.{one-long, step-fits, step-sum}
 use Rattle.k_sample_tests.proofs.packed_sums.PackedSumsMeasure.follow.Goals as goal
 
 pub only-requires : goal.only-requires
-only-requires c = one-long c.args.self.now.sums c.args.self.now.bits c.args.self.now.half c.args.self.now.right c.args._stage c.args._remaining.now c.args.partial.now c.requires.allowed.place
+only-requires c = one-long c.args.self.now c.args._stage c.args._remaining.now c.args.partial.now c.requires.allowed.place
 
 pub only-requires-2 : goal.only-requires-2
 only-requires-2 c = ap length c.requires.step
@@ -19,7 +19,7 @@ stepped-requires c =
     let b : FitsSigned w128 c.only-2.result = search rules in
     let one : to_z w128 (of_z w128 c.only.result) ≡ so_far c.args.partial.now = to_z-of_z w128 c.only.result a ∙ c.only.ensures in
     let two = to_z-of_z w128 c.only-2.result b ∙ c.only-2.ensures ∙ ap (λ ns. score_of ns 0) c.requires.step in
-    rw (one, two) (step-fits c.args.self.now.sums c.args.self.now.bits c.args.self.now.half c.args.self.now.right c.args._stage c.args._remaining.now c.args._choice.now c.args.partial.now c.requires.allowed)
+    rw (one, two) (step-fits c.args.self.now c.args._stage c.args._remaining.now c.args._choice.now c.args.partial.now c.requires.allowed)
 
 pub returns : goal.returns
 returns c =
@@ -30,4 +30,4 @@ returns c =
     let two = to_z-of_z w128 c.only-2.result b ∙ c.only-2.ensures ∙ ap (λ ns. score_of ns 0) c.requires.step in
     let given = rw (one, two) at c.stepped.ensures in
     one_item c.args.next.now (to_z w128 (of_z w128 c.stepped.result)) c.requires.room
-    ∙ ap (λ (z : ℤ). z ∷ []) (to_z-of_z w128 c.stepped.result s ∙ given ∙ step-sum c.args.self.now.sums c.args.self.now.bits c.args.self.now.half c.args.self.now.right c.args._stage c.args._remaining.now c.args._choice.now c.args.partial.now c.requires.allowed)
+    ∙ ap (λ (z : ℤ). z ∷ []) (to_z-of_z w128 c.stepped.result s ∙ given ∙ step-sum c.args.self.now c.args._stage c.args._remaining.now c.args._choice.now c.args.partial.now c.requires.allowed)

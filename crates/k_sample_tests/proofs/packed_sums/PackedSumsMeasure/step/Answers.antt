@@ -7,7 +7,7 @@ use Rattle.k_sample_tests.proofs.PackedKeys.{step}
 use Rattle.k_sample_tests.proofs.packed_sums.PackedSumsMeasure.step.Goals as goal
 
 pub added-requires : goal.added-requires
-added-requires c = step c.args.self.now.sums c.args.self.now.bits c.args.self.now.half c.args.self.now.right c.args.stage c.args.remaining.now c.args.choice.now c.requires.way
+added-requires c = step c.args.self.now c.args.stage c.args.remaining.now c.args.choice.now c.requires.way
 
 pub returns : goal.returns
 returns c =

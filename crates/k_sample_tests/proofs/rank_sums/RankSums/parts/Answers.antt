@@ -4,25 +4,25 @@ use Rattle.k_sample_tests.proofs.RankKeys.{are-tabled, long, sizes, within-stage
 use Rattle.k_sample_tests.proofs.rank_sums.RankSums.parts.Goals as goal
 
 pub slice_bounds-numbers-end : goal.slice_bounds-numbers-end
-slice_bounds-numbers-end c = omega (arith, long c.args.self.now.factors.items c.args.self.now.bound c.args.self.now.later.scores.items c.args.self.now.later.columns.items c.args.self.now.rows.items c.args.self.now.judge.rule c.args.self.now.later.width c.args.self.now.judge.tail c.args.self.now.right c.args.stage c.args.remaining.now c.requires.sizes.partial c.requires.sizes.place, c.args.self.now.right.squaring.few_rows)
+slice_bounds-numbers-end c = omega (arith, long c.args.self.now c.args.stage c.args.remaining.now c.requires.sizes.partial c.requires.sizes.place, c.args.self.now.right.squaring.few_rows)
 
 pub slice_bounds-sizes-end : goal.slice_bounds-sizes-end
-slice_bounds-sizes-end c = sym (room-of (length c.args.remaining.now) (omega (arith, long c.args.self.now.factors.items c.args.self.now.bound c.args.self.now.later.scores.items c.args.self.now.later.columns.items c.args.self.now.rows.items c.args.self.now.judge.rule c.args.self.now.later.width c.args.self.now.judge.tail c.args.self.now.right c.args.stage c.args.remaining.now c.requires.sizes.partial c.requires.sizes.place, c.args.self.now.right.squaring.few_rows)))
+slice_bounds-sizes-end c = sym (room-of (length c.args.remaining.now) (omega (arith, long c.args.self.now c.args.stage c.args.remaining.now c.requires.sizes.partial c.requires.sizes.place, c.args.self.now.right.squaring.few_rows)))
 
 pub read_sizes-requires-clause-sizes : goal.read_sizes-requires-clause-sizes
-read_sizes-requires-clause-sizes c = sizes c.args.self.now.factors.items c.args.self.now.bound c.args.self.now.later.scores.items c.args.self.now.later.columns.items c.args.self.now.rows.items c.args.self.now.judge.rule c.args.self.now.later.width c.args.self.now.judge.tail c.args.self.now.right c.args.stage c.args.remaining.now c.requires.sizes.partial c.requires.sizes.place
+read_sizes-requires-clause-sizes c = sizes c.args.self.now c.args.stage c.args.remaining.now c.requires.sizes.partial c.requires.sizes.place
 
 pub read_sizes-requires-clause-room : goal.read_sizes-requires-clause-room
-read_sizes-requires-clause-room c = room-of (length c.args.remaining.now) (omega (arith, long c.args.self.now.factors.items c.args.self.now.bound c.args.self.now.later.scores.items c.args.self.now.later.columns.items c.args.self.now.rows.items c.args.self.now.judge.rule c.args.self.now.later.width c.args.self.now.judge.tail c.args.self.now.right c.args.stage c.args.remaining.now c.requires.sizes.partial c.requires.sizes.place, c.args.self.now.right.squaring.few_rows))
+read_sizes-requires-clause-room c = room-of (length c.args.remaining.now) (omega (arith, long c.args.self.now c.args.stage c.args.remaining.now c.requires.sizes.partial c.requires.sizes.place, c.args.self.now.right.squaring.few_rows))
 
 pub least_parts-requires-clause-stage : goal.least_parts-requires-clause-stage
-least_parts-requires-clause-stage c = within-stages c.args.self.now.factors.items c.args.self.now.bound c.args.self.now.later.scores.items c.args.self.now.later.columns.items c.args.self.now.rows.items c.args.self.now.judge.rule c.args.self.now.later.width c.args.self.now.judge.tail c.args.self.now.right c.args.stage c.args.remaining.now c.requires.sizes.partial c.requires.sizes.place
+least_parts-requires-clause-stage c = within-stages c.args.self.now c.args.stage c.args.remaining.now c.requires.sizes.partial c.requires.sizes.place
 
 pub least_parts-requires-clause-held : goal.least_parts-requires-clause-held
-least_parts-requires-clause-held c = rw c.read_sizes.ensures (are-tabled c.args.self.now.factors.items c.args.self.now.bound c.args.self.now.later.scores.items c.args.self.now.later.columns.items c.args.self.now.rows.items c.args.self.now.judge.rule c.args.self.now.later.width c.args.self.now.judge.tail c.args.self.now.right c.args.stage c.args.remaining.now c.requires.sizes.partial c.requires.sizes.place c.args.self.now.later.right.wide)
+least_parts-requires-clause-held c = rw c.read_sizes.ensures (are-tabled c.args.self.now c.args.stage c.args.remaining.now c.requires.sizes.partial c.requires.sizes.place c.args.self.now.later.right.wide)
 
 pub greatest_parts-requires-clause-stage : goal.greatest_parts-requires-clause-stage
-greatest_parts-requires-clause-stage c = within-stages c.args.self.now.factors.items c.args.self.now.bound c.args.self.now.later.scores.items c.args.self.now.later.columns.items c.args.self.now.rows.items c.args.self.now.judge.rule c.args.self.now.later.width c.args.self.now.judge.tail c.args.self.now.right c.args.stage c.args.remaining.now c.requires.sizes.partial c.requires.sizes.place
+greatest_parts-requires-clause-stage c = within-stages c.args.self.now c.args.stage c.args.remaining.now c.requires.sizes.partial c.requires.sizes.place
 
 pub greatest_parts-requires-clause-held : goal.greatest_parts-requires-clause-held
-greatest_parts-requires-clause-held c = rw c.read_sizes.ensures (are-tabled c.args.self.now.factors.items c.args.self.now.bound c.args.self.now.later.scores.items c.args.self.now.later.columns.items c.args.self.now.rows.items c.args.self.now.judge.rule c.args.self.now.later.width c.args.self.now.judge.tail c.args.self.now.right c.args.stage c.args.remaining.now c.requires.sizes.partial c.requires.sizes.place c.args.self.now.later.right.wide)
+greatest_parts-requires-clause-held c = rw c.read_sizes.ensures (are-tabled c.args.self.now c.args.stage c.args.remaining.now c.requires.sizes.partial c.requires.sizes.place c.args.self.now.later.right.wide)

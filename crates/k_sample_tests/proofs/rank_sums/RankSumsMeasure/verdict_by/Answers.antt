@@ -3,22 +3,22 @@ use Rattle.k_sample_tests.proofs.RankKeys.{back-is, front-is, greatest-addable, 
 use Rattle.k_sample_tests.proofs.rank_sums.RankSumsMeasure.verdict_by.Goals as goal
 
 pub split_at-requires : goal.split_at-requires
-split_at-requires c = omega (arith, outlook-long c.args.self.now.factors.items c.args.self.now.bound c.args.self.now.later.scores.items c.args.self.now.later.columns.items c.args.self.now.rows.items c.args.self.now.judge.rule c.args.self.now.later.width c.args.self.now.judge.tail c.args.self.now.right c.args._stage c.args._remaining.now c.args.partial.now c.requires.place c.args.outlook.now c.requires.outlook)
+split_at-requires c = omega (arith, outlook-long c.args.self.now c.args._stage c.args._remaining.now c.args.partial.now c.requires.place c.args.outlook.now c.requires.outlook)
 
 pub interval-interval-requires-clause-one_each : goal.interval-interval-requires-clause-one_each
-interval-interval-requires-clause-one_each c = (partial_is c.args.self.now.factors.items c.args.self.now.bound c.args.self.now.later.scores.items c.args.self.now.later.columns.items c.args.self.now.rows.items c.args.self.now.judge.rule c.args.self.now.later.width c.args.self.now.judge.tail c.args.self.now.right c.args._stage c.args._remaining.now c.args.partial.now c.requires.place).wide
+interval-interval-requires-clause-one_each c = (partial_is c.args.self.now c.args._stage c.args._remaining.now c.args.partial.now c.requires.place).wide
 
 pub interval-interval-requires-clause-least : goal.interval-interval-requires-clause-least
-interval-interval-requires-clause-least c = rw (c.split_at.ensures.front, front-is c.args.self.now.factors.items c.args.self.now.bound c.args.self.now.later.scores.items c.args.self.now.later.columns.items c.args.self.now.rows.items c.args.self.now.judge.rule c.args.self.now.later.width c.args.self.now.judge.tail c.args.self.now.right c.args._stage c.args._remaining.now c.args.partial.now c.requires.place c.args.outlook.now c.requires.outlook) (least-addable c.args.self.now.factors.items c.args.self.now.bound c.args.self.now.later.scores.items c.args.self.now.later.columns.items c.args.self.now.rows.items c.args.self.now.judge.rule c.args.self.now.later.width c.args.self.now.judge.tail c.args.self.now.right c.args._stage c.args._remaining.now c.args.partial.now c.requires.place)
+interval-interval-requires-clause-least c = rw (c.split_at.ensures.front, front-is c.args.self.now c.args._stage c.args._remaining.now c.args.partial.now c.requires.place c.args.outlook.now c.requires.outlook) (least-addable c.args.self.now c.args._stage c.args._remaining.now c.args.partial.now c.requires.place)
 
 pub interval-interval-requires-clause-greatest : goal.interval-interval-requires-clause-greatest
-interval-interval-requires-clause-greatest c = rw (c.split_at.ensures.back, back-is c.args.self.now.factors.items c.args.self.now.bound c.args.self.now.later.scores.items c.args.self.now.later.columns.items c.args.self.now.rows.items c.args.self.now.judge.rule c.args.self.now.later.width c.args.self.now.judge.tail c.args.self.now.right c.args._stage c.args._remaining.now c.args.partial.now c.requires.place c.args.outlook.now c.requires.outlook) (greatest-addable c.args.self.now.factors.items c.args.self.now.bound c.args.self.now.later.scores.items c.args.self.now.later.columns.items c.args.self.now.rows.items c.args.self.now.judge.rule c.args.self.now.later.width c.args.self.now.judge.tail c.args.self.now.right c.args._stage c.args._remaining.now c.args.partial.now c.requires.place)
+interval-interval-requires-clause-greatest c = rw (c.split_at.ensures.back, back-is c.args.self.now c.args._stage c.args._remaining.now c.args.partial.now c.requires.place c.args.outlook.now c.requires.outlook) (greatest-addable c.args.self.now c.args._stage c.args._remaining.now c.args.partial.now c.requires.place)
 
 pub interval-interval-requires-clause-as_many : goal.interval-interval-requires-clause-as_many
-interval-interval-requires-clause-as_many c = ap length (c.split_at.ensures.front ∙ front-is c.args.self.now.factors.items c.args.self.now.bound c.args.self.now.later.scores.items c.args.self.now.later.columns.items c.args.self.now.rows.items c.args.self.now.judge.rule c.args.self.now.later.width c.args.self.now.judge.tail c.args.self.now.right c.args._stage c.args._remaining.now c.args.partial.now c.requires.place c.args.outlook.now c.requires.outlook) ∙ least-long c.args.self.now.factors.items c.args.self.now.bound c.args.self.now.later.scores.items c.args.self.now.later.columns.items c.args.self.now.rows.items c.args.self.now.judge.rule c.args.self.now.later.width c.args.self.now.judge.tail c.args.self.now.right c.args._stage c.args._remaining.now c.args.partial.now c.requires.place
+interval-interval-requires-clause-as_many c = ap length (c.split_at.ensures.front ∙ front-is c.args.self.now c.args._stage c.args._remaining.now c.args.partial.now c.requires.place c.args.outlook.now c.requires.outlook) ∙ least-long c.args.self.now c.args._stage c.args._remaining.now c.args.partial.now c.requires.place
 
 pub interval-interval-requires-clause-and_as_many : goal.interval-interval-requires-clause-and_as_many
-interval-interval-requires-clause-and_as_many c = ap length (c.split_at.ensures.back ∙ back-is c.args.self.now.factors.items c.args.self.now.bound c.args.self.now.later.scores.items c.args.self.now.later.columns.items c.args.self.now.rows.items c.args.self.now.judge.rule c.args.self.now.later.width c.args.self.now.judge.tail c.args.self.now.right c.args._stage c.args._remaining.now c.args.partial.now c.requires.place c.args.outlook.now c.requires.outlook) ∙ greatest-long c.args.self.now.factors.items c.args.self.now.bound c.args.self.now.later.scores.items c.args.self.now.later.columns.items c.args.self.now.rows.items c.args.self.now.judge.rule c.args.self.now.later.width c.args.self.now.judge.tail c.args.self.now.right c.args._stage c.args._remaining.now c.args.partial.now c.requires.place
+interval-interval-requires-clause-and_as_many c = ap length (c.split_at.ensures.back ∙ back-is c.args.self.now c.args._stage c.args._remaining.now c.args.partial.now c.requires.place c.args.outlook.now c.requires.outlook) ∙ greatest-long c.args.self.now c.args._stage c.args._remaining.now c.args.partial.now c.requires.place
 
 pub verdict-requires-clause-low : goal.verdict-requires-clause-low
 verdict-requires-clause-low c = c.args.self.now.right.squaring.rule_fits c.interval-interval.result.low
@@ -27,4 +27,4 @@ pub verdict-requires-clause-high : goal.verdict-requires-clause-high
 verdict-requires-clause-high c = c.args.self.now.right.squaring.rule_fits c.interval-interval.result.high
 
 pub returns : goal.returns
-returns c = c.verdict.ensures ∙ rw (c.interval-interval.ensures.low, c.interval-interval.ensures.high, c.split_at.ensures.front, c.split_at.ensures.back, front-is c.args.self.now.factors.items c.args.self.now.bound c.args.self.now.later.scores.items c.args.self.now.later.columns.items c.args.self.now.rows.items c.args.self.now.judge.rule c.args.self.now.later.width c.args.self.now.judge.tail c.args.self.now.right c.args._stage c.args._remaining.now c.args.partial.now c.requires.place c.args.outlook.now c.requires.outlook, back-is c.args.self.now.factors.items c.args.self.now.bound c.args.self.now.later.scores.items c.args.self.now.later.columns.items c.args.self.now.rows.items c.args.self.now.judge.rule c.args.self.now.later.width c.args.self.now.judge.tail c.args.self.now.right c.args._stage c.args._remaining.now c.args.partial.now c.requires.place c.args.outlook.now c.requires.outlook) refl
+returns c = c.verdict.ensures ∙ rw (c.interval-interval.ensures.low, c.interval-interval.ensures.high, c.split_at.ensures.front, c.split_at.ensures.back, front-is c.args.self.now c.args._stage c.args._remaining.now c.args.partial.now c.requires.place c.args.outlook.now c.requires.outlook, back-is c.args.self.now c.args._stage c.args._remaining.now c.args.partial.now c.requires.place c.args.outlook.now c.requires.outlook) refl
