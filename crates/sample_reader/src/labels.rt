@@ -1,5 +1,5 @@
 // The names of groups.
-ghost use Rattle.std.specs.Prelude.{◌≡◌, ◌<◌, [], ◌∷◌, ◌++◌, bytes_eq, length, IfOk, OnOk, OnErr};
+ghost use Rattle.std.specs.Prelude.{◌≡◌, ◌<◌, [], ◌∷◌, ◌++◌, bytes_eq, length, map, IfOk, OnOk, OnErr};
 ghost use Rattle.std.specs.List.{slice_index_or};
 ghost use Rattle.sample_reader.specs.Groups.{number_among, with_item};
 
@@ -55,6 +55,13 @@ impl Labels {
         ensures { result.now ≡ slice_index_or self.now number [] }
     {
         self.labels[number].as_slice()
+    }
+
+    /// The labels in their order, each with its bytes.
+    pub fn as_slice(&self) -> &[Vec<u8>]
+        ensures { map (λ label. label.items) result.now ≡ self.now }
+    {
+        self.labels.as_slice()
     }
 
     // How many labels stand before the first that is this one.

@@ -160,5 +160,6 @@ fn keeps_labels(rt: HostRuntime) -> Result<(), NoMemory> {
     assert!(rt; labels.len() == 2);
     assert!(rt; labels.label(0) == b"left".as_slice());
     assert!(rt; labels.label(1) == b"".as_slice());
+    assert!(rt; labels.as_slice().len() == 2);
     Ok(())
 }

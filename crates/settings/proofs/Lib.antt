@@ -1,3 +1,4 @@
+mod Distinct
 pub mod GivenOnce
 pub mod ClapWalk
 pub mod ClapFinds

@@ -21,7 +21,7 @@ use Rattle.settings.specs.Meaning.{command_of, is_complete, meaning_for, meaning
 use Rattle.settings.specs.Options.{form_of, listed_names, setting, settings_without_options, suited, with_option, with_options}
 use Rattle.settings.specs.Tests.{reads_file, shape_of, test_named}
 use Rattle.settings.specs.Usable.{AreLabels, AreUsable, AreWithin, IsDrillNumber, IsUsable}
-use Rattle.settings.specs.Values.{are_distinct, are_labels, at_least, column_scores_form, columns_of, distinct_fields, fields_form, greatest_number, is_empty, labels_in, number_form, number_of, numbers_of, order_of, peak_form, row_scores_form, scores_of, separator_of, tail_of}
+use Rattle.settings.specs.Values.{are_distinct, are_labels, at_least, column_scores_form, columns_of, distinct_fields, fields_form, is_empty, labels_in, number_form, number_of, numbers_of, order_of, peak_form, row_scores_form, scores_of, separator_of, tail_of}
 use Rattle.settings.specs.Words.{Given, none_given, value_in, with_words}
 use Rattle.settings.specs.declared.command_line.CommandLine.{CommandLine}
 use Rattle.settings.specs.declared.command_line.CommandLine.TheVariants.{Test, Drill}
@@ -32,6 +32,7 @@ use Rattle.settings.specs.declared.names.TestName.{TestName}
 use Rattle.settings.specs.declared.names.UsageFault.{UsageFault}
 use Rattle.settings.specs.declared.names.UsageFault.TheVariants.{Form, Value, Pairing}
 use Rattle.settings.specs.declared.settings.Settings.{Settings}
+use Rattle.settings.specs.declared.settings.TheConstants.{GREATEST_NUMBER}
 use Rattle.settings.specs.declared.tails.TailChoice.{TailChoice}
 use Rattle.scores.specs.declared.kinds.ScoreKind.{ScoreKind}
 
@@ -72,13 +73,13 @@ numbers_of-AreWithin form text = if_some (AreWithin form) (numbers_of form text)
 number_of-IsDrillNumber : (text : List ℕ) → IfSome (number_of number_form text) IsDrillNumber
 number_of-IsDrillNumber text = by_numbers (numbers_of number_form text) (numbers-AreOf number_form text)
   where
-    small : (number : ℤ) → IsWithin (pos 0) (pos greatest_number) number → IsDrillNumber (nat_abs number)
+    small : (number : ℤ) → IsWithin (pos 0) (pos GREATEST_NUMBER) number → IsDrillNumber (nat_abs number)
     small number within = grind (arith, ints)
 
     by_numbers : (found : Option (List ℤ)) → ((numbers : List ℤ) → found ≡ Some numbers → AreOf number_form numbers) → IfSome (option_map (λ numbers. nat_abs (slice_index_or numbers 0 (pos 0))) found) IsDrillNumber
     by_numbers None are = tt
     by_numbers (Some []) are = omega arith
-    by_numbers (Some (number ∷ numbers)) are = small number (All-head (IsWithin (pos 0) (pos greatest_number)) number numbers (are (number ∷ numbers) refl).within)
+    by_numbers (Some (number ∷ numbers)) are = small number (All-head (IsWithin (pos 0) (pos GREATEST_NUMBER)) number numbers (are (number ∷ numbers) refl).within)
 
 -- ---- columns
 

@@ -1,4 +1,4 @@
--- Worked command lines, at which the definitions compute.
+-- A limit that definitions cite, and worked command lines, at which the definitions compute.
 use Rattle.std.proofs.Common.{◌≡◌, ◌∷◌, [], Ok, Err, codes, negsuc, pos, refl, true}
 use Rattle.number_text.specs.ListTexts.{list_of}
 use Rattle.record_reader.specs.declared.picks.Picks.TheVariants.{Listed}
@@ -8,7 +8,11 @@ use Rattle.settings.specs.declared.command_line.CommandLine.TheVariants.{Help, T
 use Rattle.settings.specs.declared.names.OptionName.TheVariants as option
 use Rattle.settings.specs.declared.names.TestName.TheVariants as test
 use Rattle.settings.specs.declared.names.UsageFault.TheVariants.{Form, Value, Pairing}
+use Rattle.settings.specs.declared.settings.TheConstants.{GREATEST_NUMBER}
 use Rattle.settings.specs.declared.tails.TailChoice.TheVariants.{Less}
+
+greatest_number : GREATEST_NUMBER ≡ 2147483647
+greatest_number = refl
 
 help_alone : meaning_of (codes "--help" ∷ []) ≡ Ok Help
 help_alone = refl

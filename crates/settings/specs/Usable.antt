@@ -4,11 +4,12 @@ use Rattle.number_text.specs.ListTexts.{IsWithin}
 use Rattle.record_reader.specs.Layouts.{MayPick}
 use Rattle.record_reader.specs.Records.{IsSeparator}
 use Rattle.settings.specs.Tests.{shape_of}
-use Rattle.settings.specs.Values.{column_scores_form, greatest_number, row_scores_form}
+use Rattle.settings.specs.Values.{column_scores_form, row_scores_form}
 use Rattle.settings.specs.declared.command_line.CommandLine.{CommandLine}
 use Rattle.settings.specs.declared.command_line.CommandLine.TheVariants.{Help, Test, Drill}
 use Rattle.settings.specs.declared.lists.ListForm.{ListForm}
 use Rattle.settings.specs.declared.settings.Settings.{Settings}
+use Rattle.settings.specs.declared.settings.TheConstants.{GREATEST_NUMBER}
 
 -- 2 to 8 labels, none empty, no two equal
 pub record AreLabels (labels : List (List ℕ)) : Type 0 where
@@ -23,7 +24,7 @@ AreWithin form numbers = All (IsWithin form.low form.high) numbers
 
 -- the number of made data
 abbrev pub IsDrillNumber : ℕ → Type 0
-IsDrillNumber number = number ≤ greatest_number
+IsDrillNumber number = number ≤ GREATEST_NUMBER
 
 -- Settings that can be used: no order of the groups or one, scores that are not too great, as many
 -- fields as the layout has where they are listed, and a separator.

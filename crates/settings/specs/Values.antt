@@ -11,6 +11,7 @@ use Rattle.scores.specs.declared.kinds.ScoreKind.{ScoreKind}
 use Rattle.scores.specs.declared.kinds.ScoreKind.TheVariants.{Wilcoxon, Ansari, Mood, Savage, Median, Raw}
 use Rattle.settings.specs.Names.{score_word}
 use Rattle.settings.specs.declared.lists.ListForm.{ListForm}
+use Rattle.settings.specs.declared.settings.TheConstants.{GREATEST_NUMBER}
 use Rattle.settings.specs.declared.tails.TailChoice.{TailChoice}
 use Rattle.settings.specs.declared.tails.TailChoice.TheVariants.{All, Less, Greater, Two}
 
@@ -93,11 +94,8 @@ column_scores_form =
     record { low = pos 0 -ℤ pos 1000000000; high = pos 1000000000; fewest = 2; most = 64 }
 
 -- the number of made data, from 0 to the greatest
-abbrev pub greatest_number : ℕ
-greatest_number = 2147483647
-
 abbrev pub number_form : ListForm
-number_form = record { low = pos 0; high = pos greatest_number; fewest = 1; most = 1 }
+number_form = record { low = pos 0; high = pos GREATEST_NUMBER; fewest = 1; most = 1 }
 
 -- the fields that are picked of a row
 abbrev pub fields_form : Shape → ListForm

@@ -108,10 +108,13 @@ const COLUMN_SCORES: ListForm = ListForm {
     ..ROW_SCORES
 };
 
+// The greatest number of made data.
+const GREATEST_NUMBER: u64 = 2_147_483_647;
+
 // The number of made data.
 const NUMBER: ListForm = ListForm {
     low: 0,
-    high: 2_147_483_647,
+    high: GREATEST_NUMBER as i64,
     fewest: 1,
     most: 1,
 };

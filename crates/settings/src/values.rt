@@ -1,5 +1,5 @@
 // The values of options, read from their texts.
-ghost use Rattle.std.specs.Prelude.{◌≡◌, ◌<◌, ◌+◌, IfOk, drop, length, slice_index_or, [], bytes_eq};
+ghost use Rattle.std.specs.Prelude.{◌≡◌, IfOk};
 ghost use Rattle.std.specs.List.{list_any};
 ghost use Rattle.std.specs.Option.{ok_or};
 ghost use Rattle.settings.specs.Faults.{Meets};
@@ -85,42 +85,23 @@ fn labels_in(alloc: Global, text: &[u8]) -> Result<Labels, NoMemory>
 fn are_labels(labels: &Labels) -> bool
     ensures { result ≡ are_labels labels.now }
 {
-    2 <= labels.len() && labels.len() <= 8 && !has_empty(labels) && are_distinct(labels)
+    2 <= labels.len() && labels.len() <= 8 && !has_empty(labels) && are_distinct(labels.as_slice())
 }
 
 fn has_empty(labels: &Labels) -> bool
     ensures { result ≡ list_any is_empty labels.now }
 {
-    for number in 0..labels.len() {
-        if labels.label(number).is_empty() {
-            return true;
-        }
-    }
-    false
+    labels.as_slice().iter().any(|label| label.is_empty())
 }
 
-fn are_distinct(labels: &Labels) -> bool
-    ensures { result ≡ are_distinct bytes_eq labels.now }
+// Whether no two items of a list are equal.
+pub(crate) fn are_distinct<T: PartialEq>(items: &[T]) -> bool
+    ensures { result ≡ are_distinct T.eq items.now }
 {
-    for number in 0..labels.len() {
-        if stands_after(labels, number) {
+    for place in 0..items.len() {
+        if items[place + 1..].contains(&items[place]) {
             return false;
         }
     }
     true
-}
-
-// Whether a label stands once more after its place.
-fn stands_after(labels: &Labels, number: usize) -> bool
-    requires { number < length labels.now }
-    ensures { result ≡ list_any (bytes_eq (slice_index_or labels.now number []))
-        (drop (number + 1) labels.now) }
-{
-    let count = labels.len();
-    for later in number + 1..count {
-        if labels.label(number) == labels.label(later) {
-            return true;
-        }
-    }
-    false
 }
