@@ -19,14 +19,14 @@ use Rattle.weights.proofs.Sums.{sum_by-filter, sum_by-one, sum_by-same}
 use Rattle.midranks.specs.Ties.{tie_groups, values_in, with_one_more}
 use Rattle.midranks.specs.declared.ties.Tie.{Tie}
 use Rattle.midranks.proofs.TieLemmas.{sum_by-groups, summed}
-use Rattle.scores.specs.Scores.{absolute_sum}
+use Rattle.scores.specs.Scores.{absolute_sum, labelled_sum}
+use Rattle.scores.proofs.LabelledSums.{labelled-least, labelled-most}
 use Rattle.stage_network.specs.Addends.{additive_network}
 use Rattle.stage_network.specs.Follows.{Follows}
 use Rattle.stage_network.proofs.AdditiveLaws.{additive_intervals}
-use Rattle.one_sample_tests.specs.SignedSamples.{marks_test, plus_sum}
+use Rattle.one_sample_tests.specs.SignedSamples.{marks_test}
 use Rattle.one_sample_tests.specs.SignNetwork.{mark_addends}
 use Rattle.one_sample_tests.specs.SampleSteps.{AreStages, sizes_in}
-use Rattle.one_sample_tests.proofs.PlusSums.{sum-least, sum-most}
 use Rattle.one_sample_tests.proofs.MarkSums.{by_groups, by_marks, number_of_marks}
 use Rattle.one_sample_tests.proofs.MarkNetwork.{ends_at, sound_stages}
 
@@ -60,7 +60,7 @@ all-weigh [] = tt
 all-weigh (r ∷ rs) = (omega arith, all-weigh rs)
 
 module _ (scores : List ℤ) (observed : List ℕ) (scale : ℕ) where
-  pub measured-is : (tail : Tail) (r : List ℕ) → measured (marks_test scores observed scale) tail r ≡ plus_sum scores r
+  pub measured-is : (tail : Tail) (r : List ℕ) → measured (marks_test scores observed scale) tail r ≡ labelled_sum 1 scores r
   measured-is Less r = refl
   measured-is Greater r = refl
   measured-is Two r = refl
@@ -76,10 +76,10 @@ module _ (scores : List ℤ) (observed : List ℕ) (scale : ℕ) where
     rule-fits Less v l h = record { least_factor = lit≤ tt; observed = lit≤ tt; times = no-times v; apart = no-distance v }
     rule-fits Greater v l h = record { least_factor = lit≤ tt; observed = lit≤ tt; times = no-times v; apart = no-distance v }
     rule-fits Two v l h =
-        far-fits (absolute_sum scores) bound _ (far-small (absolute_sum scores) bound (plus_sum scores observed) (sum-least scores observed some) (sum-most scores observed some)) v l h
+        far-fits (absolute_sum scores) bound _ (far-small (absolute_sum scores) bound (labelled_sum 1 scores observed) (labelled-least 1 scores observed some) (labelled-most 1 scores observed)) v l h
 
     pub rules-fit : RulesFit (marks_test scores observed scale)
-    rules-fit = record { fits = λ tail r m. subst (RuleFits (rule_of (marks_test scores observed scale) tail)) (sym (measured-is tail r)) (rule-fits tail (plus_sum scores r) (sum-least scores r some) (sum-most scores r some)) }
+    rules-fit = record { fits = λ tail r m. subst (RuleFits (rule_of (marks_test scores observed scale) tail)) (sym (measured-is tail r)) (rule-fits tail (labelled_sum 1 scores r) (labelled-least 1 scores r some) (labelled-most 1 scores r)) }
 
 -- ---- of its network
 
@@ -123,6 +123,6 @@ module _ (scores : List ℤ) (observed : List ℕ) (scale : ℕ) (some : AllByRe
         intervals = additive_intervals (mark_addends groups tail rule) (sound_stages groups tail rule (are-stages tail));
         ends = λ p.
             ends_at groups tail rule p ∙ sym (by_groups scores (λ u. cond (p u) 1 0)) ∙ sym (by_marks scores (λ u. cond (p u) 1 0))
-            ∙ sum_by-same (λ r. cond (p (plus_sum scores r)) 1 0) (λ r. cond (p (measured test tail r)) 1 0) (λ r. ap (λ z. cond (p z) 1 0) (sym (measured-is scores observed scale tail r))) (sign_lists (length scores))
+            ∙ sum_by-same (λ r. cond (p (labelled_sum 1 scores r)) 1 0) (λ r. cond (p (measured test tail r)) 1 0) (λ r. ap (λ z. cond (p z) 1 0) (sym (measured-is scores observed scale tail r))) (sign_lists (length scores))
             ∙ sym (sum_by-filter unit_weight (λ r. p (measured test tail r)) (sign_lists (length scores)));
       }

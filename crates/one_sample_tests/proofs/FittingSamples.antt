@@ -23,13 +23,13 @@ use Rattle.weights.proofs.Filters.{all_append}
 use Rattle.midranks.specs.Midranks.{doubled_midrank}
 use Rattle.midranks.specs.Ties.{tie_groups}
 use Rattle.scores.specs.RawScores.{decimals, raw_score}
-use Rattle.scores.specs.Scores.{absolute_sum}
+use Rattle.scores.specs.Scores.{absolute_sum, labelled_sum}
 use Rattle.scores.specs.declared.kinds.Scored.{Scored}
 use Rattle.stage_network.specs.Follows.{Follows}
 use Rattle.table_reader.specs.TableLayout.{TableData}
 use Rattle.one_sample_tests.specs.declared.kinds.SignKind.{SignKind}
 use Rattle.one_sample_tests.specs.declared.kinds.SignKind.TheVariants.{SignedRank, Sign, RawSigned}
-use Rattle.one_sample_tests.specs.SignedSamples.{SignedSample, discordant, magnitudes, nonzero, one_sample_test, plus_sum, sign_scale, sign_scores, signs_of, used_scores, used_sizes}
+use Rattle.one_sample_tests.specs.SignedSamples.{SignedSample, discordant, magnitudes, nonzero, one_sample_test, sign_scale, sign_scores, signs_of, used_scores, used_sizes}
 use Rattle.one_sample_tests.specs.SignNetwork.{one_sample_network}
 use Rattle.one_sample_tests.specs.SampleSteps.{AreSignScores, AreStages, IsMadeOf}
 use Rattle.one_sample_tests.proofs.FittingMarks.{are-stages, marks-follow, measured-is, rules-fit, total-is}
@@ -82,7 +82,7 @@ module _ (sample : SignedSample) (total : 2 ^ length (used_scores sample) ≤ MA
   pub stages-fit : (tail : Tail) → AreStages (tie_groups (used_scores sample)) (rule_of (one_sample_test sample) tail)
   stages-fit = are-stages (used_scores sample) (signs_of (nonzero sample.differences)) (sign_scale sample.kind (used_sizes sample)) (used-some sample) total bound
 
-pub measured_at : (sample : SignedSample) (tail : Tail) (r : List ℕ) → measured (one_sample_test sample) tail r ≡ plus_sum (used_scores sample) r
+pub measured_at : (sample : SignedSample) (tail : Tail) (r : List ℕ) → measured (one_sample_test sample) tail r ≡ labelled_sum 1 (used_scores sample) r
 measured_at sample = measured-is (used_scores sample) (signs_of (nonzero sample.differences)) (sign_scale sample.kind (used_sizes sample))
 
 -- ---- refusals
@@ -123,7 +123,7 @@ scored-some kind ds scores e = rw e (All-from_recursion (λ s. pos 0 ≤ℤ s) (
 
 pub framed : (sample : SignedSample) (scored : Scored) (marks : List ℕ) (t : ℕ) → AreSignScores sample.kind (used_sizes sample) scored → marks ≡ signs_of (nonzero sample.differences) → t ≡ 2 ^ length (nonzero sample.differences)
     → let centre = pos (absolute_sum scored.list) in
-    IsFrameOf (one_sample_test sample) (record { statistic = plus_sum scored.list marks; scale = scored.scale; total = t; two = Far 2 centre (distance 2 centre (plus_sum scored.list marks)) })
+    IsFrameOf (one_sample_test sample) (record { statistic = labelled_sum 1 scored.list marks; scale = scored.scale; total = t; two = Far 2 centre (distance 2 centre (labelled_sum 1 scored.list marks)) })
 framed sample scored marks t a e f = record {
   statistic = rw (a.list, e) refl;
   scale = a.scale;

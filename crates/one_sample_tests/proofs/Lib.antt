@@ -1,4 +1,3 @@
-mod PlusSums
 mod MarkSums
 mod MarkNetwork
 mod FittingMarks

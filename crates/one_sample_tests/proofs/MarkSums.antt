@@ -14,7 +14,7 @@ use Rattle.weights.proofs.Sums.{sum_by-fronts, sum_by-plus, sum_by-same}
 use Rattle.midranks.specs.Ties.{tie_groups, with_one_more}
 use Rattle.midranks.specs.declared.ties.Tie.{Tie}
 use Rattle.midranks.proofs.TieLemmas.{same-from_test}
-use Rattle.one_sample_tests.specs.SignedSamples.{plus_sum}
+use Rattle.scores.specs.Scores.{labelled_sum}
 
 -- the first subject's mark is minus or plus
 abbrev pub over_marks : List ℤ → (ℤ → ℕ) → ℕ
@@ -29,14 +29,14 @@ zero-plus : (t : ℤ) → pos 0 +ℤ t ≡ t
 zero-plus t = omega (arith, ints)
 
 -- of lists of marks
-pub by_marks : (scores : List ℤ) (f : ℤ → ℕ) → sum_by (λ r. f (plus_sum scores r)) (sign_lists (length scores)) ≡ over_marks scores f
-by_marks [] f = sum_by-cons (λ r. f (plus_sum [] r)) [] [] ∙ omega arith
+pub by_marks : (scores : List ℤ) (f : ℤ → ℕ) → sum_by (λ r. f (labelled_sum 1 scores r)) (sign_lists (length scores)) ≡ over_marks scores f
+by_marks [] f = sum_by-cons (λ r. f (labelled_sum 1 [] r)) [] [] ∙ omega arith
 by_marks (s ∷ scores) f =
     let m : ℕ = length scores in
-    let parts = λ (l : ℕ). sum_by (λ rest. f (plus_sum (s ∷ scores) (l ∷ rest))) (lists_over m 2) in
-    let minus : parts 0 ≡ over_marks scores f = sum_by-same (λ rest. f (plus_sum (s ∷ scores) (0 ∷ rest))) (λ rest. f (plus_sum scores rest)) (λ rest. ap f (zero-plus (plus_sum scores rest))) (lists_over m 2) ∙ by_marks scores f in
+    let parts = λ (l : ℕ). sum_by (λ rest. f (labelled_sum 1 (s ∷ scores) (l ∷ rest))) (lists_over m 2) in
+    let minus : parts 0 ≡ over_marks scores f = sum_by-same (λ rest. f (labelled_sum 1 (s ∷ scores) (0 ∷ rest))) (λ rest. f (labelled_sum 1 scores rest)) (λ rest. ap f (zero-plus (labelled_sum 1 scores rest))) (lists_over m 2) ∙ by_marks scores f in
     let plus : parts 1 ≡ over_marks scores (λ t. f (s +ℤ t)) = by_marks scores (λ t. f (s +ℤ t)) in
-    sum_by-fronts (λ r. f (plus_sum (s ∷ scores) r)) (λ l. l) (λ l. lists_over m 2) (labels 2)
+    sum_by-fronts (λ r. f (labelled_sum 1 (s ∷ scores) r)) (λ l. l) (λ l. lists_over m 2) (labels 2)
     ∙ omega (arith, sum_by-cons parts 0 (1 ∷ []), sum_by-cons parts 1 [], minus, plus)
 
 pub number_of_marks : (m : ℕ) → sum_by (λ signs. 1) (sign_lists m) ≡ 2 ^ m

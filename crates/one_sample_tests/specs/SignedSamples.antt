@@ -3,29 +3,23 @@
 -- test (the same chapter), the randomization test of differences (Fisher, The Design of
 -- Experiments, 1935) and the test of the discordant pairs of a table (McNemar, Psychometrika 12,
 -- 1947). All are conditional on the absolute differences, and leave out those that are zero.
-use Rattle.std.specs.Prelude.{ℕ, ℤ, pos, ◌-ℤ◌, ◌+ℤ◌, ◌*◌, nat_abs, List, [], ◌∷◌, ◌++◌, length, map, replicate, not, nat_eq, int_lt, slice_index, if◌then◌else◌}
+use Rattle.std.specs.Prelude.{ℕ, ℤ, pos, ◌-ℤ◌, ◌*◌, nat_abs, List, [], ◌∷◌, ◌++◌, length, map, replicate, not, int_lt, slice_index, if◌then◌else◌}
 use Rattle.std.specs.List.{filter}
 use Rattle.std.specs.Ordering.{int_eq}
 use Rattle.weights.specs.Conditional.{ConditionalTest, by_distance, every_tail, unit_weight}
 use Rattle.weights.specs.Labellings.{sign_lists}
-use Rattle.scores.specs.Scores.{absolute_sum, scale_of, score_list}
+use Rattle.scores.specs.Scores.{absolute_sum, labelled_sum, scale_of, score_list}
 use Rattle.scores.specs.declared.kinds.ScoreKind.TheVariants as score
 use Rattle.table_reader.specs.TableLayout.{TableData}
 use Rattle.one_sample_tests.specs.declared.kinds.SignKind.{SignKind}
 use Rattle.one_sample_tests.specs.declared.kinds.SignKind.TheVariants.{SignedRank, Sign, RawSigned}
 
--- the sum of the scores of the plus marks, which are 1
-abbrev pub plus_sum : List ℤ → List ℕ → ℤ
-plus_sum [] marks = pos 0
-plus_sum (s ∷ scores) [] = pos 0
-plus_sum (s ∷ scores) (m ∷ marks) = (if nat_eq m 1 then s else pos 0) +ℤ plus_sum scores marks
-
--- all ways to mark the subjects by plus and minus, and the sum of the scores of the plus marks; its
--- mean is half the sum of all scores
+-- all ways to mark the subjects by plus and minus, and the sum of the scores of the plus marks,
+-- which are 1; its mean is half the sum of all scores
 abbrev pub marks_test : List ℤ → List ℕ → ℕ → ConditionalTest
 marks_test scores observed scale = record {
   reference = sign_lists (length scores);
-  statistic = plus_sum scores;
+  statistic = labelled_sum 1 scores;
   observed = observed;
   weight = unit_weight;
   has_tail = every_tail;

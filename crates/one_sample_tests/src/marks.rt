@@ -1,10 +1,9 @@
-// The differences that are used, their absolute values, their signs, and sums over plus marks.
-ghost use Rattle.std.specs.Prelude.{◌≡◌, ◌≤◌, ◌+◌, ◌+ℤ◌, pos, nat_abs, nat_eq, unsigned_abs, if◌then◌else◌, IfOk};
+// The differences that are used, their absolute values and their signs.
+ghost use Rattle.std.specs.Prelude.{◌≡◌, ◌≤◌, pos, nat_abs, IfOk};
 ghost use Rattle.weights.specs.declared.TheConstants.{MAX};
 ghost use Rattle.weights.specs.Labellings.{sign_lists};
 ghost use Rattle.enumerate.specs.Walk.{BeginsWith};
-ghost use Rattle.scores.specs.Scores.{absolute_sum};
-ghost use Rattle.one_sample_tests.specs.SignedSamples.{magnitudes, nonzero, plus_sum, signs_of};
+ghost use Rattle.one_sample_tests.specs.SignedSamples.{magnitudes, nonzero, signs_of};
 ghost use Rattle.one_sample_tests.specs.SampleSteps.{AreDifferences};
 
 use std::alloc::Global;
@@ -63,24 +62,4 @@ pub(crate) fn first_marks(alloc: Global, count: usize) -> Result<Bytes, NoMemory
         marks.push(0)?;
     }
     Ok(marks)
-}
-
-// A sum with the score of one more subject, where its mark is plus.
-fn plus_marked(sum: i128, score: i128, mark: u8) -> i128
-    requires { unsigned_abs sum + unsigned_abs score ≤ MAX }
-    ensures { result ≡ sum +ℤ (if nat_eq mark 1 then score else pos 0) }
-{
-    if mark == 1 { sum + score } else { sum }
-}
-
-/// The sum of the scores of the plus marks.
-pub(crate) fn plus_sum(scores: &[i128], marks: &[u8]) -> i128
-    requires { absolute_sum scores.now ≤ MAX }
-    ensures { result ≡ plus_sum scores.now marks.now }
-{
-    let mut sum: i128 = 0;
-    for i in 0..scores.len().min(marks.len()) {
-        sum = plus_marked(sum, scores[i], marks[i]);
-    }
-    sum
 }

@@ -3,14 +3,14 @@ ghost use Rattle.std.specs.Prelude.{◌≡◌, ◌≤◌, ◌*◌, ◌^◌, leng
 ghost use Rattle.weights.specs.Conditional.{distance};
 ghost use Rattle.weights.specs.declared.TheConstants.{MAX};
 ghost use Rattle.midranks.specs.declared.TheConstants.{MOST_VALUES};
-ghost use Rattle.scores.specs.Scores.{absolute_sum};
-ghost use Rattle.one_sample_tests.specs.SignedSamples.{nonzero, plus_sum, sample_of};
+ghost use Rattle.scores.specs.Scores.{absolute_sum, labelled_sum};
+ghost use Rattle.one_sample_tests.specs.SignedSamples.{nonzero, sample_of};
 ghost use Rattle.one_sample_tests.specs.SampleSteps.{AreDifferences, AreNotNegative, IsMadeOf, IsSignScored};
 
 use crate::kinds::SignKind;
-use crate::marks::{magnitudes, nonzero, plus_sum, signs};
+use crate::marks::{magnitudes, nonzero, signs};
 use midranks::{Ties, tie_groups};
-use scores::{ScoreFault, ScoreKind, Scored, scored};
+use scores::{ScoreFault, ScoreKind, Scored, labelled_sum, scored};
 use std::alloc::Global;
 use weights::{Frame, Ints, PrepareFault, Rule, WideOf, bounded_product};
 
@@ -60,7 +60,7 @@ fn frame_of(scored: &Scored, marks: &[u8], total: u128) -> Frame
     requires fits { 2 * absolute_sum scored.now.list ≤ MAX }
     ensures { let scores = scored.now.list in
         let centre = pos (absolute_sum scores) in
-        let statistic = plus_sum scores marks.now in
+        let statistic = labelled_sum 1 scores marks.now in
         result ≡ record {
           statistic = statistic;
           scale = scored.now.scale;
@@ -68,7 +68,7 @@ fn frame_of(scored: &Scored, marks: &[u8], total: u128) -> Frame
           two = Rule.Far 2 centre (distance 2 centre statistic);
         } }
 {
-    let statistic = plus_sum(scored.list.as_slice(), marks);
+    let statistic = labelled_sum(scored.list.as_slice(), marks, 1);
     Frame {
         statistic,
         scale: scored.scale,

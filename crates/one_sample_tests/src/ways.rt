@@ -1,8 +1,9 @@
 // Both ways to the answer of a test of one sample.
 use crate::mark_stages::MarkStages;
-use crate::marks::{first_marks, plus_sum};
+use crate::marks::first_marks;
 use crate::one_sample::OneSample;
 use enumerate::{Plain, next_signs};
+use scores::labelled_sum;
 use stage_network::{AdditiveStages, Judge, Prepared};
 use std::alloc::Global;
 use weights::{Bytes, Frame, NoMemory, Tail};
@@ -25,7 +26,7 @@ impl Plain for OneSample {
     }
 
     fn value(&self, labels: &[u8]) -> i128 {
-        plus_sum(self.made().scores.as_slice(), labels)
+        labelled_sum(self.made().scores.as_slice(), labels, 1)
     }
 }
 

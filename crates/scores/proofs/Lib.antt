@@ -1,5 +1,6 @@
 pub mod MultipleLemmas
 pub mod Positive
+pub mod LabelledSums
 mod AverageLemmas
 mod PlaceSums
 mod RawLemmas

@@ -1,5 +1,5 @@
 -- Scores of values, as whole numbers over one scale.
-use Rattle.std.specs.Prelude.{◌≡◌, ℕ, ℤ, pos, ◌*◌, ◌/◌, ◌^◌, nat_abs, List, length, map, take, drop}
+use Rattle.std.specs.Prelude.{◌≡◌, ℕ, ℤ, pos, ◌*◌, ◌/◌, ◌^◌, ◌+ℤ◌, nat_abs, nat_eq, List, [], ◌∷◌, length, map, take, drop, if◌then◌else◌}
 use Rattle.std.specs.List.{sum, sum_by}
 use Rattle.midranks.specs.Midranks.{doubled_midrank, number_below, number_equal}
 use Rattle.midranks.specs.Ties.{tie_groups}
@@ -57,6 +57,13 @@ scale_of Raw values = 10 ^ decimals values
 -- the sum of the absolute scores
 abbrev pub absolute_sum : List ℤ → ℕ
 absolute_sum scores = sum_by nat_abs scores
+
+-- the sum of the scores of the subjects with a label
+abbrev pub labelled_sum : ℕ → List ℤ → List ℕ → ℤ
+labelled_sum label [] labels = pos 0
+labelled_sum label (s ∷ scores) [] = pos 0
+labelled_sum label (s ∷ scores) (l ∷ labels) =
+    (if nat_eq l label then s else pos 0) +ℤ labelled_sum label scores labels
 
 abbrev pub score_sum : ScoreKind → List ℤ → ℕ
 score_sum kind values = absolute_sum (score_list kind values)

@@ -4,6 +4,7 @@
 
 mod averages;
 mod kinds;
+mod labelled_sums;
 mod multiples;
 mod places;
 mod ranks;
@@ -14,5 +15,6 @@ mod sums;
 mod tests;
 
 pub use kinds::{ScoreFault, ScoreKind, Scored};
+pub use labelled_sums::labelled_sum;
 pub use multiples::common_multiple;
 pub use scores::scored;

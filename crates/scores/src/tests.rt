@@ -3,7 +3,7 @@ ghost use Rattle.std.specs.Prelude.{◌≤◌, length, IfOk};
 ghost use Rattle.midranks.specs.declared.TheConstants.{MOST_VALUES};
 
 use crate::ScoreKind::{Ansari, Median, Mood, Raw, Savage, Wilcoxon};
-use crate::{ScoreFault, ScoreKind, Scored, scored};
+use crate::{ScoreFault, ScoreKind, Scored, labelled_sum, scored};
 use midranks::MOST_VALUES;
 use std::alloc::Global;
 use std::process::Abort;
@@ -193,4 +193,11 @@ fn sums_past_the_greatest_statistic_are_too_wide(rt: HostRuntime) {
         let scored = scores(&rt, rt.alloc(), kind, values.as_slice());
         assert_eq!(rt; scored.is_some(), fits, "{kind:?} of {number}");
     }
+}
+
+#[test]
+fn scores_are_summed_by_label(rt: HostRuntime) {
+    assert_eq!(rt; labelled_sum(&[2, -5, 11], &[1, 0, 1], 1), 13);
+    assert_eq!(rt; labelled_sum(&[2, -5, 11], &[1, 0, 1], 0), -5);
+    assert_eq!(rt; labelled_sum(&[2, -5, 11], &[7], 7), 2);
 }

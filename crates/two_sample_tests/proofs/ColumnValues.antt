@@ -13,8 +13,8 @@ use Rattle.label_network.specs.Endings.{partial_after, labelling_value}
 use Rattle.label_network.specs.LaterSums.{subjects}
 use Rattle.label_network.specs.Linear.{row_sum, score_of, so_far, column_sum, linear_meaning}
 use Rattle.two_sample_tests.specs.Columns.{row_scores}
-use Rattle.two_sample_tests.specs.TwoSamples.{second_sum}
-use Rattle.two_sample_tests.proofs.ScoreSums.{second-none}
+use Rattle.scores.specs.Scores.{labelled_sum}
+use Rattle.scores.proofs.LabelledSums.{labelled-none}
 
 -- how many labels are 1
 abbrev ones : List ℕ → ℕ
@@ -40,13 +40,13 @@ none : (s t : ℤ) → t ≡ (pos 0 *ℤ s) +ℤ t
 none s t = rw (zero-*ℤ s) (omega (arith, ints))
 
 -- of subjects who share a score, those with the label 1 count
-block : (c : ℕ) (s : ℤ) (rest : List ℤ) (xs : List ℕ) → second_sum (replicate c s ++ rest) xs ≡ (pos (ones (take c xs)) *ℤ s) +ℤ second_sum rest (drop c xs)
-block zero s rest xs = none s (second_sum rest xs)
-block (suc c) s rest [] = rw (zero-*ℤ s, second-none rest) refl
+block : (c : ℕ) (s : ℤ) (rest : List ℤ) (xs : List ℕ) → labelled_sum 1 (replicate c s ++ rest) xs ≡ (pos (ones (take c xs)) *ℤ s) +ℤ labelled_sum 1 rest (drop c xs)
+block zero s rest xs = none s (labelled_sum 1 rest xs)
+block (suc c) s rest [] = rw (zero-*ℤ s, labelled-none 1 rest) refl
 block (suc c) s rest (x ∷ xs) = by (nat_eq x 1) (sum_by-cons (λ l. cond (nat_eq l 1) 1 0) x (take c xs)) (block c s rest xs)
   where
-    by : (b : Bool) → ones (x ∷ take c xs) ≡ cond b 1 0 + ones (take c xs) → second_sum (replicate c s ++ rest) xs ≡ (pos (ones (take c xs)) *ℤ s) +ℤ second_sum rest (drop c xs)
-        → cond b s (pos 0) +ℤ second_sum (replicate c s ++ rest) xs ≡ (pos (ones (x ∷ take c xs)) *ℤ s) +ℤ second_sum rest (drop c xs)
+    by : (b : Bool) → ones (x ∷ take c xs) ≡ cond b 1 0 + ones (take c xs) → labelled_sum 1 (replicate c s ++ rest) xs ≡ (pos (ones (take c xs)) *ℤ s) +ℤ labelled_sum 1 rest (drop c xs)
+        → cond b s (pos 0) +ℤ labelled_sum 1 (replicate c s ++ rest) xs ≡ (pos (ones (x ∷ take c xs)) *ℤ s) +ℤ labelled_sum 1 rest (drop c xs)
     by true e f = taken _ _ s _ _ e f
     by false e f = passed _ _ s _ _ e f
 
@@ -58,7 +58,7 @@ drop-head (suc g) (v ∷ vs) s ss d = let rest = drop-head g vs s ss d in (rest.
 
 module _ (rows : List ℕ) (scores : List ℤ) (columns : List ℕ) (tail : Tail) (rule : Rule) where
   value-from : (cs : List ℕ) (ss : List ℤ) (g : ℕ) (r : List ℕ) (p : List ℤ) (xs : List ℕ) → drop g scores ≡ ss → length ss ≡ length cs
-      → so_far (partial_after (linear_meaning row_scores rows scores columns tail rule) g r p (columns_of 2 cs xs)) ≡ so_far p +ℤ second_sum (subjects ss cs) xs
+      → so_far (partial_after (linear_meaning row_scores rows scores columns tail rule) g r p (columns_of 2 cs xs)) ≡ so_far p +ℤ labelled_sum 1 (subjects ss cs) xs
   value-from [] [] g r p xs d e = plus-zero (so_far p)
     where
       plus-zero : (t : ℤ) → t ≡ t +ℤ pos 0
@@ -75,10 +75,10 @@ module _ (rows : List ℕ) (scores : List ℤ) (columns : List ℕ) (tail : Tail
       moved : (a y z t u : ℤ) → y ≡ z → u ≡ z +ℤ t → (a +ℤ y) +ℤ t ≡ a +ℤ u
       moved a y z t u b f = omega (arith, ints, b, f)
 
-  pub value-is : length scores ≡ length columns → length rows ≡ 2 → (xs : List ℕ) → labelling_value (linear_meaning row_scores rows scores columns tail rule) xs ≡ second_sum (subjects scores columns) xs
+  pub value-is : length scores ≡ length columns → length rows ≡ 2 → (xs : List ℕ) → labelling_value (linear_meaning row_scores rows scores columns tail rule) xs ≡ labelled_sum 1 (subjects scores columns) xs
   value-is long two xs =
       ap (λ n. so_far (partial_after (linear_meaning row_scores rows scores columns tail rule) 0 rows (pos 0 ∷ []) (columns_of n columns xs))) two
-      ∙ value-from columns scores 0 rows (pos 0 ∷ []) xs refl long ∙ zero-plus (second_sum (subjects scores columns) xs)
+      ∙ value-from columns scores 0 rows (pos 0 ∷ []) xs refl long ∙ zero-plus (labelled_sum 1 (subjects scores columns) xs)
     where
       zero-plus : (t : ℤ) → pos 0 +ℤ t ≡ t
       zero-plus t = omega (arith, ints)

@@ -26,7 +26,8 @@ use Rattle.weights.proofs.FirstLabel.{number_of_labellings-positive}
 use Rattle.weights.proofs.Sums.{sum_by-one}
 use Rattle.midranks.specs.Ties.{tie_groups}
 use Rattle.midranks.specs.declared.ties.Tie.{Tie}
-use Rattle.scores.specs.Scores.{absolute_sum, scale_of, score_of}
+use Rattle.scores.specs.Scores.{absolute_sum, labelled_sum, scale_of, score_of}
+use Rattle.scores.proofs.LabelledSums.{labelled-within}
 use Rattle.scores.specs.declared.kinds.ScoreKind.{ScoreKind}
 use Rattle.sample_reader.specs.Groups.{group_sizes}
 use Rattle.sample_reader.specs.PooledSample.{labels_of, pooled}
@@ -44,10 +45,10 @@ use Rattle.two_sample_tests.specs.Columns.{row_scores, two_sample_meaning, two_s
 use Rattle.two_sample_tests.specs.SampleSteps.{AreFitting, IsMadeOf}
 use Rattle.two_sample_tests.specs.SubjectSteps.{AreBounded, AreSubjects, IsScoredBy}
 use Rattle.two_sample_tests.specs.declared.scored_samples.ScoredSubjects.{ScoredSubjects}
-use Rattle.two_sample_tests.specs.TwoSamples.{TwoSamples, pooled_scores, score_test, second_sum, two_sample_test}
+use Rattle.two_sample_tests.specs.TwoSamples.{TwoSamples, pooled_scores, score_test, two_sample_test}
 use Rattle.pooled_columns.proofs.PooledValues.{length-pooled, pooled-rises}
 use Rattle.pooled_columns.proofs.TieColumns.{grouped}
-use Rattle.two_sample_tests.proofs.ScoreSums.{by-marks, second-within, sizes-are, total-within}
+use Rattle.two_sample_tests.proofs.ScoreSums.{by-marks, sizes-are, total-within}
 use Rattle.two_sample_tests.proofs.ColumnValues.{value-is}
 
 abs-minus : (a c : ℤ) → unsigned_abs (a -ℤ c) ≤ unsigned_abs a + unsigned_abs c
@@ -90,7 +91,7 @@ module _ (second : ℕ) (scores : List ℤ) (within : second ≤ length scores) 
 
 -- of a test
 module _ (sizes : List ℕ) (scores : List ℤ) (observed : List ℕ) (scale : ℕ) where
-  pub measured-is : (tail : Tail) (r : List ℕ) → measured (score_test sizes scores observed scale) tail r ≡ second_sum scores r
+  pub measured-is : (tail : Tail) (r : List ℕ) → measured (score_test sizes scores observed scale) tail r ≡ labelled_sum 1 scores r
   measured-is Less r = refl
   measured-is Greater r = refl
   measured-is Two r = refl
@@ -109,16 +110,16 @@ module _ (sizes : List ℕ) (scores : List ℤ) (observed : List ℕ) (scale : �
     rule-fits Less v h = record { least_factor = lit≤ tt; observed = lit≤ tt; times = no-times v; apart = no-distance v }
     rule-fits Greater v h = record { least_factor = lit≤ tt; observed = lit≤ tt; times = no-times v; apart = no-distance v }
     rule-fits Two v h =
-        far-fits (slice_index sizes 1) scores within few bound _ (far-small (slice_index sizes 1) scores within few bound (second_sum scores observed) (second-within scores observed)) v h
+        far-fits (slice_index sizes 1) scores within few bound _ (far-small (slice_index sizes 1) scores within few bound (labelled_sum 1 scores observed) (labelled-within 1 scores observed)) v h
 
     pub rules-fit : RulesFit (score_test sizes scores observed scale)
-    rules-fit = record { fits = λ tail r m. subst (RuleFits (rule_of (score_test sizes scores observed scale) tail)) (sym (measured-is tail r)) (rule-fits tail (second_sum scores r) (second-within scores r)) }
+    rules-fit = record { fits = λ tail r m. subst (RuleFits (rule_of (score_test sizes scores observed scale) tail)) (sym (measured-is tail r)) (rule-fits tail (labelled_sum 1 scores r) (labelled-within 1 scores r)) }
 
 -- of two samples
 sum-two : (a b : ℕ) → sum (a ∷ b ∷ []) ≡ a + b
 sum-two a b = omega (arith, sum_by-cons (λ v. v) a (b ∷ []), sum_by-cons (λ v. v) b [])
 
-pub measured_at : (samples : TwoSamples) (tail : Tail) (r : List ℕ) → measured (two_sample_test samples) tail r ≡ second_sum (pooled_scores samples) r
+pub measured_at : (samples : TwoSamples) (tail : Tail) (r : List ℕ) → measured (two_sample_test samples) tail r ≡ labelled_sum 1 (pooled_scores samples) r
 measured_at samples = measured-is (group_sizes samples.groups) (pooled_scores samples) (labels_of (pooled samples.groups)) (scale_of samples.kind (pooled_values samples.groups))
 
 pub as-many : (samples : TwoSamples) → length (pooled_scores samples) ≡ length (pooled_values samples.groups)
@@ -193,7 +194,7 @@ module _ (samples : TwoSamples) (f : AreFitting samples) where
         reference = refl;
         alike = λ xs. refl;
         values = λ xs m.
-            measured-is (group_sizes samples.groups) (pooled_scores samples) (labels_of (pooled samples.groups)) (scale_of samples.kind (pooled_values samples.groups)) tail xs ∙ ap (λ s. second_sum s xs) (sym column-subjects)
+            measured-is (group_sizes samples.groups) (pooled_scores samples) (labels_of (pooled samples.groups)) (scale_of samples.kind (pooled_values samples.groups)) tail xs ∙ ap (λ s. labelled_sum 1 s xs) (sym column-subjects)
             ∙ sym (value-is (group_sizes samples.groups) (column_scores samples.kind (pooled_values samples.groups)) (column_sizes (pooled_values samples.groups)) tail (rule_of (two_sample_test samples) tail) columns-level two-sizes xs);
       })
 
@@ -255,9 +256,9 @@ fitting-of kind groups two total made a bound = fitting kind groups two total (r
 
 -- what is said of the test of scored subjects
 pub framed : (samples : TwoSamples) (made : ScoredSubjects) (second t : ℕ) → AreSubjects samples.kind (pooled samples.groups) made → second ≡ slice_index (group_sizes samples.groups) 1 → t ≡ number_of_labellings (group_sizes samples.groups)
-    → IsFrameOf (two_sample_test samples) (record { statistic = second_sum made.scored.list made.marks; scale = made.scored.scale; total = t; two = Far (length made.scored.list) (pos second *ℤ total_score made.scored.list) (distance (length made.scored.list) (pos second *ℤ total_score made.scored.list) (second_sum made.scored.list made.marks)) })
+    → IsFrameOf (two_sample_test samples) (record { statistic = labelled_sum 1 made.scored.list made.marks; scale = made.scored.scale; total = t; two = Far (length made.scored.list) (pos second *ℤ total_score made.scored.list) (distance (length made.scored.list) (pos second *ℤ total_score made.scored.list) (labelled_sum 1 made.scored.list made.marks)) })
 framed samples made second t a e f =
-    let statistic : second_sum made.scored.list made.marks ≡ second_sum (pooled_scores samples) (labels_of (pooled samples.groups)) = ap (λ ss. second_sum ss made.marks) a.scored.list ∙ ap (second_sum (pooled_scores samples)) a.marks ∙ by-marks (pooled_scores samples) (pooled samples.groups) in
+    let statistic : labelled_sum 1 made.scored.list made.marks ≡ labelled_sum 1 (pooled_scores samples) (labels_of (pooled samples.groups)) = ap (λ ss. labelled_sum 1 ss made.marks) a.scored.list ∙ ap (labelled_sum 1 (pooled_scores samples)) a.marks ∙ by-marks (pooled_scores samples) (pooled samples.groups) in
     record {
       statistic = statistic;
       scale = a.scored.scale;

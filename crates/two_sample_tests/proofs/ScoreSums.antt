@@ -3,13 +3,12 @@ use Rattle.std.proofs.Common.{◌≡◌, ℕ, zero, suc, ◌+◌, ◌<◌, ◌�
 use Rattle.std.specs.Prelude.{ℤ, pos, ◌+ℤ◌, unsigned_abs, nat_abs}
 use Rattle.std.proofs.lemmas.Int.{ints}
 use Rattle.std.proofs.lemmas.List.Sums.{sum_by-cons}
-use Rattle.scores.specs.Scores.{absolute_sum}
+use Rattle.scores.specs.Scores.{absolute_sum, labelled_sum}
 use Rattle.sample_reader.specs.PooledSample.{labels_of}
 use Rattle.sample_reader.specs.declared.subjects.Subject.{Subject}
 use Rattle.label_network.specs.LaterSums.{total_score, absolute_sum as sizes_of}
 use Rattle.label_network.proofs.Absolute.{size-plus, total-size}
 use Rattle.two_sample_tests.specs.SubjectSteps.{second_marks}
-use Rattle.two_sample_tests.specs.TwoSamples.{second_sum}
 
 -- one sum of absolute values is the other
 pub sizes-are : (scores : List ℤ) → sizes_of scores ≡ absolute_sum scores
@@ -19,26 +18,13 @@ sizes-are (s ∷ scores) = ap (λ n. unsigned_abs s + n) (sizes-are scores) ∙ 
 pub total-within : (scores : List ℤ) → unsigned_abs (total_score scores) ≤ absolute_sum scores
 total-within scores = omega (arith, total-size scores, sizes-are scores)
 
-pub second-within : (scores : List ℤ) (labels : List ℕ) → unsigned_abs (second_sum scores labels) ≤ absolute_sum scores
-second-within [] labels = omega arith
-second-within (s ∷ scores) [] = omega arith
-second-within (s ∷ scores) (l ∷ labels) = by (nat_eq l 1) (second-within scores labels) (sum_by-cons nat_abs s scores)
-  where
-    by : (b : Bool) → unsigned_abs (second_sum scores labels) ≤ absolute_sum scores → absolute_sum (s ∷ scores) ≡ nat_abs s + absolute_sum scores → unsigned_abs (cond b s (pos 0) +ℤ second_sum scores labels) ≤ absolute_sum (s ∷ scores)
-    by true h e = omega (arith, size-plus s (second_sum scores labels), h, e)
-    by false h e = omega (arith, size-plus (pos 0) (second_sum scores labels), h, e)
-
-pub second-none : (scores : List ℤ) → second_sum scores [] ≡ pos 0
-second-none [] = refl
-second-none (s ∷ scores) = refl
-
 -- marks do as labels
-pub by-marks : (scores : List ℤ) (subjects : List Subject) → second_sum scores (second_marks subjects) ≡ second_sum scores (labels_of subjects)
+pub by-marks : (scores : List ℤ) (subjects : List Subject) → labelled_sum 1 scores (second_marks subjects) ≡ labelled_sum 1 scores (labels_of subjects)
 by-marks [] subjects = refl
 by-marks (s ∷ scores) [] = refl
 by-marks (s ∷ scores) (x ∷ subjects) = by (nat_eq x.label 1) (by-marks scores subjects)
   where
-    by : (b : Bool) → second_sum scores (second_marks subjects) ≡ second_sum scores (labels_of subjects) → cond (nat_eq (cond b 1 0) 1) s (pos 0) +ℤ second_sum scores (second_marks subjects) ≡ cond b s (pos 0) +ℤ second_sum scores (labels_of subjects)
+    by : (b : Bool) → labelled_sum 1 scores (second_marks subjects) ≡ labelled_sum 1 scores (labels_of subjects) → cond (nat_eq (cond b 1 0) 1) s (pos 0) +ℤ labelled_sum 1 scores (second_marks subjects) ≡ cond b s (pos 0) +ℤ labelled_sum 1 scores (labels_of subjects)
     by true e = ap (λ t. s +ℤ t) e
     by false e = ap (λ t. pos 0 +ℤ t) e
 
@@ -56,53 +42,10 @@ ended s t all a b = omega (arith, ints, a, b)
 size-more : (scores : List ℤ) (i : ℕ) → i < length scores → absolute_sum (drop i scores) ≡ unsigned_abs (get_or scores i (pos 0)) + absolute_sum (drop (i + 1) scores)
 size-more scores i h = rw (add-one, drop-cons scores i (pos 0) h) (sum_by-cons nat_abs (get_or scores i (pos 0)) (drop (suc i) scores))
 
--- what the scores before place i sum to, of those with the label 1
-pub record IsSecondSum (scores : List ℤ) (labels : List ℕ) (i : ℕ) (sum : ℤ) : Type 0 where
-  pub summing : sum +ℤ second_sum (drop i scores) (drop i labels) ≡ second_sum scores labels
-  pub small : unsigned_abs sum + absolute_sum (drop i scores) ≤ absolute_sum scores
-
--- and of all
+-- what the scores before place i sum to
 pub record IsTotal (scores : List ℤ) (i : ℕ) (sum : ℤ) : Type 0 where
   pub summing : sum +ℤ total_score (drop i scores) ≡ total_score scores
   pub small : unsigned_abs sum + absolute_sum (drop i scores) ≤ absolute_sum scores
-
-module _ (scores : List ℤ) (labels : List ℕ) where
-  pub second-first : IsSecondSum scores labels 0 (pos 0)
-  second-first = record { summing = zero-plus (second_sum scores labels); small = omega arith }
-
-  module _ (i : ℕ) (here : i < length scores) (there : i < length labels) (s : ℤ) (a : IsSecondSum scores labels i s) where
-    step : second_sum (drop i scores) (drop i labels) ≡ cond (nat_eq (get_or labels i 0) 1) (get_or scores i (pos 0)) (pos 0) +ℤ second_sum (drop (i + 1) scores) (drop (i + 1) labels)
-    step = rw (add-one, drop-cons scores i (pos 0) here, drop-cons labels i 0 there) refl
-
-    pub second-room : unsigned_abs s + unsigned_abs (get_or scores i (pos 0)) ≤ absolute_sum scores
-    second-room = omega (arith, a.small, size-more scores i here)
-
-    pub second-next : IsSecondSum scores labels (i + 1) (s +ℤ cond (nat_eq (get_or labels i 0) 1) (get_or scores i (pos 0)) (pos 0))
-    second-next = record {
-      summing = joined s _ (cond (nat_eq (get_or labels i 0) 1) (get_or scores i (pos 0)) (pos 0)) _ _ a.summing step;
-      small = by (nat_eq (get_or labels i 0) 1);
-    }
-      where
-        by : (b : Bool) → unsigned_abs (s +ℤ cond b (get_or scores i (pos 0)) (pos 0)) + absolute_sum (drop (i + 1) scores) ≤ absolute_sum scores
-        by true = omega (arith, a.small, size-more scores i here, size-plus s (get_or scores i (pos 0)))
-        by false = omega (arith, a.small, size-more scores i here, size-plus s (pos 0))
-
-  past-end : (i : ℕ) → (i < length scores → i < length labels → ⊥) → second_sum (drop i scores) (drop i labels) ≡ pos 0
-  past-end i past = by (drop i scores) refl (drop i labels) refl
-    where
-      by : (ss : List ℤ) → drop i scores ≡ ss → (ls : List ℕ) → drop i labels ≡ ls → second_sum ss ls ≡ pos 0
-      by [] d ls e = refl
-      by (s ∷ ss) d [] e = refl
-      by (s ∷ ss) d (l ∷ ls) e = absurd (past (within scores i s ss d) (within labels i l ls e))
-        where
-          within : {X : Type 0} (xs : List X) (i : ℕ) (y : X) (ys : List X) → drop i xs ≡ y ∷ ys → i < length xs
-          within [] zero y ys e = absurd (cc e)
-          within [] (suc i) y ys e = absurd (cc e)
-          within (x ∷ xs) zero y ys e = omega arith
-          within (x ∷ xs) (suc i) y ys e = omega (arith, within xs i y ys e)
-
-  pub second-end : (i : ℕ) (s : ℤ) → (i < length scores → i < length labels → ⊥) → IsSecondSum scores labels i s → s ≡ second_sum scores labels
-  second-end i s past a = ended s _ _ a.summing (past-end i past)
 
 module _ (scores : List ℤ) where
   pub total-first : IsTotal scores 0 (pos 0)

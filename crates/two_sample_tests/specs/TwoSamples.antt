@@ -3,29 +3,23 @@
 -- Bradley (the same, chapter 5) and of Mood (1954), Savage's test of exponential scores (1956), the
 -- median test (Brown and Mood, 1951) and, with the values as scores, the permutation test (Fisher;
 -- Pitman, 1937). All are conditional on the pooled sample's values, with their ties.
-use Rattle.std.specs.Prelude.{ℕ, ℤ, pos, ◌*◌, ◌+ℤ◌, ◌*ℤ◌, List, [], ◌∷◌, length, nat_eq, slice_index, if◌then◌else◌}
+use Rattle.std.specs.Prelude.{ℕ, ℤ, pos, ◌*◌, ◌*ℤ◌, List, length, slice_index}
 use Rattle.weights.specs.Conditional.{ConditionalTest, by_distance, every_tail, unit_weight}
 use Rattle.weights.specs.Labellings.{labellings}
-use Rattle.scores.specs.Scores.{absolute_sum, scale_of, score_list}
+use Rattle.scores.specs.Scores.{absolute_sum, labelled_sum, scale_of, score_list}
 use Rattle.label_network.specs.LaterSums.{total_score}
 use Rattle.scores.specs.declared.kinds.ScoreKind.{ScoreKind}
 use Rattle.sample_reader.specs.Groups.{GroupData, group_sizes}
 use Rattle.sample_reader.specs.PooledSample.{labels_of, pooled}
 use Rattle.pooled_columns.specs.PooledColumns.{pooled_values}
 
--- the sum of the scores of the second sample, whose subjects have the label 1
-abbrev pub second_sum : List ℤ → List ℕ → ℤ
-second_sum [] labels = pos 0
-second_sum (s ∷ scores) [] = pos 0
-second_sum (s ∷ scores) (l ∷ labels) =
-    (if nat_eq l 1 then s else pos 0) +ℤ second_sum scores labels
-
 -- all ways to label the subjects with the samples' sizes, and the sum of the second sample's
--- scores; with N subjects, n of them in the second sample, its mean is n/N of the sum of all scores
+-- scores, whose subjects have the label 1; with N subjects, n of them in the second sample, its
+-- mean is n/N of the sum of all scores
 abbrev pub score_test : List ℕ → List ℤ → List ℕ → ℕ → ConditionalTest
 score_test sizes scores observed scale = record {
   reference = labellings sizes;
-  statistic = second_sum scores;
+  statistic = labelled_sum 1 scores;
   observed = observed;
   weight = unit_weight;
   has_tail = every_tail;

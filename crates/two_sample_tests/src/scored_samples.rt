@@ -5,15 +5,15 @@ ghost use Rattle.weights.specs.Labellings.{number_of_labellings};
 ghost use Rattle.weights.specs.declared.TheConstants.{MAX};
 ghost use Rattle.midranks.specs.declared.TheConstants.{MOST_VALUES};
 ghost use Rattle.sample_reader.specs.Data.{data_of};
+ghost use Rattle.scores.specs.Scores.{labelled_sum};
 ghost use Rattle.label_network.specs.LaterSums.{total_score};
-ghost use Rattle.two_sample_tests.specs.TwoSamples.{second_sum};
 ghost use Rattle.two_sample_tests.specs.SubjectSteps.{AreBounded, IsScoredBy, second_marks};
 ghost use Rattle.two_sample_tests.specs.SampleSteps.{IsMadeOf};
 
-use crate::sums::{second_sum, times, total_score};
+use crate::sums::{times, total_score};
 use pooled_columns::{Columns, columns_of};
 use sample_reader::{Groups, Subject, pooled_subjects, values};
-use scores::{ScoreFault, ScoreKind, Scored, scored};
+use scores::{ScoreFault, ScoreKind, Scored, labelled_sum, scored};
 use std::alloc::Global;
 use weights::{Bytes, Frame, Ints, NoMemory, Nums, PrepareFault, Rule, WideOf, bounded_product};
 
@@ -76,7 +76,7 @@ fn frame_of(subjects: &ScoredSubjects, second: u64, total: u128) -> Frame
     ensures { let scores = subjects.now.scored.list in
         let q = length scores in
         let c = pos second *ℤ total_score scores in
-        let statistic = second_sum scores subjects.now.marks in
+        let statistic = labelled_sum 1 scores subjects.now.marks in
         result ≡ record {
           statistic = statistic;
           scale = subjects.now.scored.scale;
@@ -85,7 +85,7 @@ fn frame_of(subjects: &ScoredSubjects, second: u64, total: u128) -> Frame
         } }
 {
     let scores = subjects.scored.list.as_slice();
-    let statistic = second_sum(scores, subjects.marks.as_slice());
+    let statistic = labelled_sum(scores, subjects.marks.as_slice(), 1);
     let centre = times(second, total_score(scores));
     Frame {
         statistic,

@@ -1,8 +1,8 @@
 // Both ways to the answer of a test of two samples.
-use crate::sums::second_sum;
 use crate::two_sample::TwoSample;
 use enumerate::{Plain, first_labelling, next_labelling};
 use label_network::{LabelStages, LinearMeasure};
+use scores::labelled_sum;
 use stage_network::{Judge, Prepared};
 use std::alloc::Global;
 use weights::{Bytes, Frame, NoMemory, Tail};
@@ -25,7 +25,7 @@ impl Plain for TwoSample {
     }
 
     fn value(&self, labels: &[u8]) -> i128 {
-        second_sum(self.made().scores.as_slice(), labels)
+        labelled_sum(self.made().scores.as_slice(), labels, 1)
     }
 }
 
