@@ -15,6 +15,7 @@ mod tests;
 mod units;
 mod ways;
 
+pub use ends::End;
 pub use keys::read_sizes;
 pub use label_stages::LabelStages;
 pub use later_scores::LaterScores;
