@@ -30,14 +30,18 @@ raised-below x half h = omega (arith, ints, h)
 lowered : (x : ℤ) (half : ℕ) → unsigned_abs x < half → pos (unsigned_abs (x +ℤ pos half)) -ℤ pos half ≡ x
 lowered x half h = omega (arith, ints, h)
 
-more-below : (base a n power : ℕ) → a < base → n < power → n * base + a < base * power
-more-below base a n power h k =
+-- a digit below a number
+size-more : (base a n power : ℕ) → a < base → n < power → a + base * n < base * power
+size-more base a n power h k =
     let one : base * (n + 1) ≤ base * power = mul-le-mul_left base (omega (arith, k)) in
-    let two : base * (n + 1) ≡ n * base + base = split base n in
+    let two : base * (n + 1) ≡ base * n + base = split base n in
     omega (arith, one, two, h)
   where
-    split : (b n : ℕ) → b * (n + 1) ≡ n * b + b
+    split : (b n : ℕ) → b * (n + 1) ≡ b * n + b
     split b n = grind arith
+
+flipped : (a b n : ℕ) → a + b * n ≡ n * b + a
+flipped a b n = grind arith
 
 module _ (half : ℕ) where
   pub packed : (sums : List ℤ) → absolute_sum sums < half → IsPack half sums
@@ -55,7 +59,7 @@ module _ (half : ℕ) where
             ∙ ap (λ z. z +ℤ (pos (2 * half) *ℤ pos rest.number)) (raised x half first)
             ∙ ap (λ z. pos digit +ℤ z) (pos-*ℤ-pos (2 * half) rest.number)
             ∙ joined digit (2 * half) rest.number;
-        below = subst (λ n. number < n) (sym (pow-succ' (2 * half) (length sums))) (more-below (2 * half) digit rest.number ((2 * half) ^ length sums) small rest.below);
+        below = subst (λ n. number < n) (sym (pow-succ' (2 * half) (length sums))) (subst (λ n. n < 2 * half * (2 * half) ^ length sums) (flipped digit (2 * half) rest.number) (size-more (2 * half) digit rest.number ((2 * half) ^ length sums) small rest.below));
         back =
             ap (λ d. (pos d -ℤ pos half) ∷ map (λ d. pos d -ℤ pos half) (digits (2 * half) (length sums) (number / (2 * half)))) (mod-mul-add rest.number (2 * half) digit small)
             ∙ ap (λ n. (pos digit -ℤ pos half) ∷ map (λ d. pos d -ℤ pos half) (digits (2 * half) (length sums) n)) (div-mul-add rest.number (2 * half) digit small)
@@ -64,10 +68,7 @@ module _ (half : ℕ) where
       }
     where
       joined : (d b n : ℕ) → pos d +ℤ pos (b * n) ≡ pos (n * b + d)
-      joined d b n = rw (times b n) (omega (arith, ints))
-        where
-          times : (b n : ℕ) → b * n ≡ n * b
-          times b n = grind arith
+      joined d b n = ap pos (flipped d b n)
 
   pub unpack-pack : (k : ℕ) (sums : List ℤ) → length sums ≡ k → absolute_sum sums < half → unpack half k (pack half sums) ≡ sums
   unpack-pack k sums l h =
@@ -91,15 +92,6 @@ pack-plus half (x ∷ sums) (a ∷ added) l =
     four x a h p n = omega (arith, ints)
 
 -- ---- how great a number is
-
-size-more : (base a n power : ℕ) → a < base → n < power → a + base * n < base * power
-size-more base a n power h k =
-    let one : base * (n + 1) ≤ base * power = mul-le-mul_left base (omega (arith, k)) in
-    let two : base * (n + 1) ≡ base * n + base = split base n in
-    omega (arith, one, two, h)
-  where
-    split : (b n : ℕ) → b * (n + 1) ≡ b * n + b
-    split b n = grind arith
 
 pub numeral-size : (base : ℕ) (xs : List ℤ) → ((i : ℕ) → unsigned_abs (get_or xs i (pos 0)) < base) → unsigned_abs (numeral base xs) < base ^ length xs
 numeral-size base [] each = let one : base ^ 0 ≡ 1 = pow-zero base in omega (arith, one)

@@ -25,8 +25,9 @@ use Rattle.midranks.specs.Ties.{tie_groups}
 use Rattle.midranks.specs.declared.ties.Tie.{Tie}
 use Rattle.completion_bounds.specs.Boxes.{factored_squares}
 use Rattle.scores.specs.PlaceScores.{common_multiple}
-use Rattle.scores.specs.Scores.{absolute_sum, scale_of, score_of, score_sum}
+use Rattle.scores.specs.Scores.{AreScores, absolute_sum, scale_of, score_of, score_sum}
 use Rattle.scores.specs.declared.kinds.ScoreKind.{ScoreKind}
+use Rattle.scores.specs.declared.kinds.Scored.{Scored}
 use Rattle.scores.proofs.MultipleLemmas.{common_multiple-all}
 use Rattle.scores.proofs.Positive.{scale-some}
 use Rattle.sample_reader.specs.Data.{data_of}
@@ -40,6 +41,7 @@ use Rattle.label_network.specs.LaterSums.{absolute_sum as sizes_of, subjects}
 use Rattle.label_network.specs.Meanings.{IsMeasure}
 use Rattle.label_network.proofs.LabelFollows.{label_follows}
 use Rattle.pooled_columns.specs.PooledColumns.{column_scores, column_sizes, pooled_values}
+use Rattle.pooled_columns.proofs.AbsoluteSums.{sizes-are}
 use Rattle.pooled_columns.proofs.PooledValues.{pooled-rises}
 use Rattle.pooled_columns.proofs.TieColumns.{grouped}
 use Rattle.k_sample_tests.specs.KruskalWallis.{ScoredGroups, group_sums, kruskal_wallis_test, pooled_scores, size_factors, squares_statistic, squares_test}
@@ -48,7 +50,7 @@ use Rattle.k_sample_tests.specs.RankSums.{fits_one, half_for, kruskal_wallis_net
 use Rattle.k_sample_tests.specs.RankSumSteps.{AreFitting, IsMadeOf, IsScoredBy, IsSquaring}
 use Rattle.k_sample_tests.proofs.FittingUmbrella.{columns-sum, no-distance, no-times, past-limit}
 use Rattle.k_sample_tests.proofs.GroupFacts.{few_rows, few_subjects, none-empty, sizes-whole, some_rows}
-use Rattle.k_sample_tests.proofs.GroupSums.{sizes-are, squares-most, sums-within}
+use Rattle.k_sample_tests.proofs.GroupSums.{squares-most, sums-within}
 use Rattle.k_sample_tests.proofs.PackedKeys.{packed_squares}
 use Rattle.k_sample_tests.proofs.PackedValues.{packed-value}
 use Rattle.k_sample_tests.proofs.RankNarrows.{squares_measure}
@@ -239,6 +241,28 @@ scale-fits samples f =
     let part : scale_of samples.kind (pooled_values samples.groups) ≤ max (absolute_sum (pooled_scores samples)) (scale_of samples.kind (pooled_values samples.groups)) = omega arith in
     let whole = mul-le-mul (multiple-some (group_sizes samples.groups) f.none_empty) (mul-le-mul part part) in
     omega (arith, whole, f.bound_fits)
+
+-- what is found of the groups of a file: their scores, the multiple and the bound
+pub record AreFound (kind : ScoreKind) (groups : Groups) (scored : Scored) (multiple bound : ℕ) : Type 0 where
+  pub scores : AreScores kind (pooled_values (data_of groups)) scored
+  pub multiple_is : multiple ≡ common_multiple (group_sizes (data_of groups))
+  pub bound_is : bound ≡ (kruskal_wallis_test (record { kind = kind; groups = data_of groups })).bound
+  pub fitting : AreFitting (record { kind = kind; groups = data_of groups })
+
+pub are-found : (kind : ScoreKind) (groups : Groups) (values : List ℤ) (sizes : List ℕ) (scored : Scored) (multiple most bound : ℕ)
+    → values ≡ pooled_values (data_of groups) → sizes ≡ group_sizes (data_of groups) → AreScores kind values scored → multiple ≡ common_multiple sizes → most ≡ max scored.sum scored.scale
+    → (multiple * (most * most) ≤ MAX) × (bound ≡ multiple * (most * most)) → number_of_labellings groups.sizes ≤ MAX → AreFound kind groups scored multiple bound
+are-found kind groups values sizes scored multiple most bound v s a n x b total =
+    let scores : AreScores kind (pooled_values (data_of groups)) scored = subst (λ vs. AreScores kind vs scored) v a in
+    let multiple_is : multiple ≡ common_multiple (group_sizes (data_of groups)) = n ∙ ap common_multiple s in
+    let most_is : most ≡ max (score_sum kind (pooled_values (data_of groups))) (scale_of kind (pooled_values (data_of groups))) = x ∙ rw (scores.sum, scores.scale) refl in
+    let bound_is : bound ≡ (kruskal_wallis_test (record { kind = kind; groups = data_of groups })).bound = b.1 ∙ rw (multiple_is, most_is) refl in
+    record {
+      scores = scores;
+      multiple_is = multiple_is;
+      bound_is = bound_is;
+      fitting = fitting kind groups total (subst (λ n. n ≤ MAX) (sym b.1 ∙ bound_is) b.0);
+    }
 
 -- what is said of the test
 pub framed : (samples : ScoredGroups) (v : ℤ) (scale t : ℕ) (two : Rule) → v ≡ squares_statistic (group_sizes samples.groups) (pooled_scores samples) (labels_of (pooled samples.groups)) → scale ≡ (kruskal_wallis_test samples).scale → t ≡ number_of_labellings (group_sizes samples.groups) → two ≡ Far 0 (pos 0) (distance 0 (pos 0) v)

@@ -1,14 +1,12 @@
 -- Sums of the scores of groups: how great they are, and one subject after another.
-use Rattle.std.proofs.Common.{◌≡◌, ℕ, zero, suc, ◌+◌, ◌*◌, ◌<◌, ◌≤◌, Bool, true, false, cond, List, [], ◌∷◌, length, map, drop, get_or, refl, sym, ◌∙◌, ap, arith, add-one, drop-cons, nat_eq}
-use Rattle.std.specs.Prelude.{ℤ, pos, ◌+ℤ◌, nat_abs, unsigned_abs}
+use Rattle.std.proofs.Common.{◌≡◌, ℕ, zero, suc, ◌+◌, ◌*◌, ◌<◌, ◌≤◌, Bool, true, false, cond, List, [], ◌∷◌, length, map, drop, get_or, refl, ◌∙◌, arith, add-one, drop-cons, nat_eq}
+use Rattle.std.specs.Prelude.{ℤ, pos, ◌+ℤ◌, unsigned_abs}
 use Rattle.std.specs.List.{AllByRecursion, range_with_len}
 use Rattle.std.proofs.Math.Nat.{mul-le-mul, mul-le-mul_left}
 use Rattle.std.proofs.lemmas.Bool.{eqb-true}
 use Rattle.std.proofs.lemmas.Int.{ints}
-use Rattle.std.proofs.lemmas.List.Sums.{sum_by-cons}
 use Rattle.weights.specs.Labellings.{labels}
 use Rattle.completion_bounds.specs.Boxes.{factored_squares}
-use Rattle.scores.specs.Scores.{absolute_sum as score_sizes}
 use Rattle.label_network.specs.LaterSums.{absolute_sum}
 use Rattle.label_network.proofs.Absolute.{size-plus}
 use Rattle.k_sample_tests.specs.KruskalWallis.{group_sum, group_sums}
@@ -41,11 +39,6 @@ module _ (s : ℤ) (x : ℕ) (f : ℕ → ℤ) where
           let one : unsigned_abs (with_score a) ≤ unsigned_abs s + unsigned_abs (f a) = rw e (size-plus s (f a)) in
           omega (arith, one, none-there n (a + 1) (omega (arith, here)))
       by false e rest = omega (arith, without a false e refl, rest)
-
--- one sum of absolute values is the other
-pub sizes-are : (scores : List ℤ) → absolute_sum scores ≡ score_sizes scores
-sizes-are [] = refl
-sizes-are (s ∷ scores) = ap (λ n. unsigned_abs s + n) (sizes-are scores) ∙ sym (sum_by-cons nat_abs s scores)
 
 zeros : (is : List ℕ) → absolute_sum (map (λ i. pos 0) is) ≡ 0
 zeros [] = refl

@@ -7,19 +7,21 @@ use Rattle.weights.specs.declared.tails.Tail.{Tail}
 use Rattle.weights.specs.declared.rules.Rule.{Rule}
 use Rattle.std.proofs.Math.Nat.{mul-le-mul_right}
 use Rattle.completion_bounds.specs.Boxes.{greatest_squares}
+use Rattle.label_network.specs.declared.ends.End.{End}
+use Rattle.label_network.specs.declared.ends.End.TheVariants.{Least, Greatest}
 use Rattle.label_network.specs.LaterSums.{absolute_sum, later_scores, subjects}
 use Rattle.label_network.specs.Linear.{score_of}
 use Rattle.label_network.specs.Meanings.{Meaning, AreReached, IsEnd, IsMeasure, IsMove, IsPlace, IsRoom, IsStep, sizes_in}
 use Rattle.k_sample_tests.specs.PackedSums.{numeral, pack, packed_meaning, unpack, unpacked}
 use Rattle.k_sample_tests.specs.PackedSumSteps.{AreDigits, AreNarrow, sums_meaning}
-use Rattle.k_sample_tests.specs.RankSums.{greatest_parts, least_parts, plus_each, score_parts, squares_meaning}
-use Rattle.k_sample_tests.specs.RankSumSteps.{IsSquaring}
+use Rattle.k_sample_tests.specs.RankSums.{plus_each, score_parts, squares_meaning}
+use Rattle.k_sample_tests.specs.RankSumSteps.{IsSquaring, parts_of}
 use Rattle.k_sample_tests.specs.declared.packed_sums.PackedSums.{PackedSums}
 use Rattle.k_sample_tests.proofs.Corners.{corners, plus-within}
 use Rattle.k_sample_tests.proofs.Digits.{pack-plus, packed, unpack-pack}
 use Rattle.k_sample_tests.proofs.PackedNarrows.{end_of, move_of, packed_measure, place_of, reached_next, reached_pack, room_of, step_of}
 use Rattle.k_sample_tests.proofs.RankWriting.{sums-room}
-use Rattle.k_sample_tests.proofs.RankKeys.{back-is, choice-long, column-fits, counts-within, front-is, greatest-long, greatest-within, least-long, least-within, long, outlook-long, partial_is}
+use Rattle.k_sample_tests.proofs.RankKeys.{back-is, choice-long, column-fits, counts-within, end-long, end-within, front-is, long, outlook-long, partial_is}
 use Rattle.k_sample_tests.proofs.RankNarrows.{length-parts, length-plus, reached_partial, squares_measure}
 
 module _ (factors : List ℕ) (bound : ℕ) (scores : List ℤ) (columns rows : List ℕ) (tail : Tail) (rule : Rule) (h : IsSquaring factors bound scores columns rows rule) (half : ℕ) (small : absolute_sum (subjects scores columns) < half) where
@@ -154,49 +156,40 @@ module _ (s : PackedSums) where
     place-wide = (partial_is s.sums g f (sums e) (place g f e a)).wide
 
     -- both halves of the outlook
-    module _ (outlook front rear : List ℤ) (o : outlook ≡ m.outlook g (sizes_in f)) (fronts : front ≡ take (length f) outlook) (rears : rear ≡ drop (length f) outlook) where
+    module _ (outlook : List ℤ) (o : outlook ≡ m.outlook g (sizes_in f)) where
       same-long : length f ≡ length (sums e)
       same-long = places-long ∙ sym place-wide
 
       pub outlook-wide : length f ≤ length outlook
       outlook-wide = omega (arith, same-long, outlook-long s.sums g f (sums e) (place g f e a) outlook o)
 
-      pub front-parts : front ≡ least_parts (later g) (sizes_in f)
-      front-parts = fronts ∙ ap (λ n. take n outlook) same-long ∙ front-is s.sums g f (sums e) (place g f e a) outlook o
+      pub front-parts : (front : List ℤ) → front ≡ take (length f) outlook → front ≡ parts_of Least (later g) (sizes_in f)
+      front-parts front t = t ∙ ap (λ n. take n outlook) same-long ∙ front-is s.sums g f (sums e) (place g f e a) outlook o
 
-      pub rear-parts : rear ≡ greatest_parts (later g) (sizes_in f)
-      rear-parts = rears ∙ ap (λ n. drop n outlook) same-long ∙ back-is s.sums g f (sums e) (place g f e a) outlook o
+      pub rear-parts : (rear : List ℤ) → rear ≡ drop (length f) outlook → rear ≡ parts_of Greatest (later g) (sizes_in f)
+      rear-parts rear t = t ∙ ap (λ n. drop n outlook) same-long ∙ back-is s.sums g f (sums e) (place g f e a) outlook o
 
-      pub front-long : length front ≡ groups
-      front-long = ap length front-parts ∙ least-long s.sums g f (sums e) (place g f e a) ∙ place-wide
+    -- one of them, with a number for each group
+    module _ (end : End) (half-part : List ℤ) (is : half-part ≡ parts_of end (later g) (sizes_in f)) where
+      pub part-long : length half-part ≡ groups
+      part-long = ap length is ∙ end-long s.sums g f (sums e) (place g f e a) end ∙ place-wide
 
-      pub rear-long : length rear ≡ groups
-      rear-long = ap length rear-parts ∙ greatest-long s.sums g f (sums e) (place g f e a) ∙ place-wide
+      -- and the sums of the key's number
+      module _ (n : ℕ) (z : ℤ) (l : n ≡ groups) (t : z ≡ get_or e 0 (pos 0)) where
+        pub side-is : plus_each (unpack half n z) half-part ≡ plus_each (sums e) (parts_of end (later g) (sizes_in f))
+        side-is = ap (λ p. plus_each p half-part) (sums-are e n z l t) ∙ ap (plus_each (sums e)) is
 
-      pub lows-are : (z : ℤ) → z ≡ get_or e 0 (pos 0) → plus_each (unpack half (length front) z) front ≡ plus_each (sums e) (least_parts (later g) (sizes_in f))
-      lows-are z t = ap (λ p. plus_each p front) (sums-are e (length front) z front-long t) ∙ ap (plus_each (sums e)) front-parts
+        pub side-long : length (plus_each (unpack half n z) half-part) ≡ groups
+        side-long = ap length side-is ∙ length-plus (sums e) _ (end-long s.sums g f (sums e) (place g f e a) end) ∙ place-wide
 
-      pub highs-are : (z : ℤ) → z ≡ get_or e 0 (pos 0) → plus_each (unpack half (length front) z) rear ≡ plus_each (sums e) (greatest_parts (later g) (sizes_in f))
-      highs-are z t = ap (λ p. plus_each p rear) (sums-are e (length front) z front-long t) ∙ ap (plus_each (sums e)) rear-parts
-
-      pub lows-long : (z : ℤ) → z ≡ get_or e 0 (pos 0) → length (plus_each (unpack half (length front) z) front) ≡ groups
-      lows-long z t = ap length (lows-are z t) ∙ length-plus (sums e) _ (least-long s.sums g f (sums e) (place g f e a)) ∙ place-wide
-
-      pub highs-long : (z : ℤ) → z ≡ get_or e 0 (pos 0) → length (plus_each (unpack half (length front) z) rear) ≡ groups
-      highs-long z t = ap length (highs-are z t) ∙ length-plus (sums e) _ (greatest-long s.sums g f (sums e) (place g f e a)) ∙ place-wide
-
-      -- the ends of a narrow box
-      pub front-narrow : s.narrow ≡ true → (z : ℤ) → z ≡ get_or e 0 (pos 0) → AreNarrow (unpack half (length front) z) front
-      front-narrow n z t = subst (λ p. AreNarrow p front) (sym (sums-are e (length front) z front-long t)) (subst (AreNarrow (sums e)) (sym front-parts) (record { each = λ i l. omega (arith, least-within s.sums g f (sums e) (place g f e a) i, (s.right.boxes n).small) }))
-
-      pub rear-narrow : s.narrow ≡ true → (z : ℤ) → z ≡ get_or e 0 (pos 0) → AreNarrow (unpack half (length front) z) rear
-      rear-narrow n z t = subst (λ p. AreNarrow p rear) (sym (sums-are e (length front) z front-long t)) (subst (AreNarrow (sums e)) (sym rear-parts) (record { each = λ i l. omega (arith, greatest-within s.sums g f (sums e) (place g f e a) i, (s.right.boxes n).small) }))
+        pub side-narrow : s.narrow ≡ true → AreNarrow (unpack half n z) half-part
+        side-narrow w = subst (λ p. AreNarrow p half-part) (sym (sums-are e n z l t)) (subst (AreNarrow (sums e)) (sym is) (record { each = λ i _. omega (arith, end-within s.sums g f (sums e) (place g f e a) end i, (s.right.boxes w).small) }))
 
     -- and its squared sums at the corners
-    pub box-fits : s.narrow ≡ true → greatest_squares (plus_each (sums e) (least_parts (later g) (sizes_in f))) (plus_each (sums e) (greatest_parts (later g) (sizes_in f))) s.sums.factors.items < 2 ^ 128
+    pub box-fits : s.narrow ≡ true → greatest_squares (plus_each (sums e) (parts_of Least (later g) (sizes_in f))) (plus_each (sums e) (parts_of Greatest (later g) (sizes_in f))) s.sums.factors.items < 2 ^ 128
     box-fits n =
         let all = corners (absolute_sum (subjects s.sums.later.scores.items s.sums.later.columns.items)) s.sums.bound s.sums.factors.items _ _ squaring.bounded
-        (plus-within _ (sums e) (least_parts (later g) (sizes_in f)) (least-within s.sums g f (sums e) (place g f e a)))
-        (plus-within _ (sums e) (greatest_parts (later g) (sizes_in f)) (greatest-within s.sums g f (sums e) (place g f e a))) in
+        (plus-within _ (sums e) (parts_of Least (later g) (sizes_in f)) (end-within s.sums g f (sums e) (place g f e a) Least))
+        (plus-within _ (sums e) (parts_of Greatest (later g) (sizes_in f)) (end-within s.sums g f (sums e) (place g f e a) Greatest)) in
         let few : length s.sums.factors.items * s.sums.bound ≤ 8 * s.sums.bound = mul-le-mul_right s.sums.bound (omega (arith, squaring.one_each, squaring.few_rows)) in
         omega (arith, all, few, (s.right.boxes n).room)

@@ -10,12 +10,15 @@ use Rattle.std.proofs.lemmas.List.{length-map}
 use Rattle.std.proofs.lemmas.List.Sums.{sum_by-take-drop}
 use Rattle.weights.specs.declared.TheConstants.{MAX}
 use Rattle.weights.proofs.ChoiceLists.{IsChoice}
+use Rattle.label_network.specs.declared.ends.End.{End}
+use Rattle.label_network.specs.declared.ends.End.TheVariants.{Least, Greatest}
+use Rattle.label_network.specs.LaterSteps.{better_of}
 use Rattle.label_network.specs.LabelSteps.{AreSizes}
-use Rattle.label_network.specs.LaterSums.{absolute_sum, greatest_sum, later_scores, least_sum, subjects}
+use Rattle.label_network.specs.LaterSums.{absolute_sum, later_scores, part_sum, subjects}
 use Rattle.label_network.specs.LaterTables.{IsTabled}
 use Rattle.label_network.specs.Linear.{score_of}
 use Rattle.label_network.specs.Meanings.{IsPlace, allowed, sizes_in}
-use Rattle.label_network.proofs.Absolute.{greatest-size, least-size}
+use Rattle.label_network.proofs.Absolute.{part-size}
 use Rattle.label_network.proofs.Enough.{group-enough}
 use Rattle.label_network.proofs.Later.{fits-length, later-length}
 use Rattle.label_network.proofs.LinearKeys.{reached-stage}
@@ -23,7 +26,7 @@ use Rattle.label_network.proofs.Narrowing.{IsLeft, chosen}
 use Rattle.label_network.proofs.Rows.{length-abs}
 use Rattle.label_network.proofs.Sizes.{sizes-of_pos}
 use Rattle.k_sample_tests.specs.RankSums.{greatest_parts, least_parts, score_parts}
-use Rattle.k_sample_tests.specs.RankSumSteps.{AreAddable, AreTabled}
+use Rattle.k_sample_tests.specs.RankSumSteps.{AreAddable, AreTabled, parts_of}
 use Rattle.k_sample_tests.specs.PackedSumSteps.{sums_meaning}
 use Rattle.k_sample_tests.specs.declared.rank_sums.RankSums.{RankSums}
 use Rattle.k_sample_tests.proofs.PairFits.{at-within}
@@ -88,37 +91,28 @@ module _ (m : RankSums) where
               (group-enough (m.later.width - 1) m.rows.items (sizes_in f) (later g) i (enough i) left.within whole);
         }
 
-    pub least-within : (i : ℕ) → unsigned_abs (get_or p i (pos 0)) + unsigned_abs (get_or (least_parts (later g) (sizes_in f)) i (pos 0)) ≤ absolute_sum (subjects m.later.scores.items m.later.columns.items)
-    least-within i = omega (arith, size-within p i, parts-within (λ n. least_sum n (later g)) (absolute_sum (later g)) (λ n. least-size n (later g)) (sizes_in f) i, partial_is.small)
+    pub end-within : (end : End) (i : ℕ) → unsigned_abs (get_or p i (pos 0)) + unsigned_abs (get_or (parts_of end (later g) (sizes_in f)) i (pos 0)) ≤ absolute_sum (subjects m.later.scores.items m.later.columns.items)
+    end-within end i = omega (arith, size-within p i, parts-within (λ n. part_sum (better_of end) n (later g)) (absolute_sum (later g)) (λ n. part-size end n (later g)) (sizes_in f) i, partial_is.small)
 
-    pub greatest-within : (i : ℕ) → unsigned_abs (get_or p i (pos 0)) + unsigned_abs (get_or (greatest_parts (later g) (sizes_in f)) i (pos 0)) ≤ absolute_sum (subjects m.later.scores.items m.later.columns.items)
-    greatest-within i = omega (arith, size-within p i, parts-within (λ n. greatest_sum n (later g)) (absolute_sum (later g)) (λ n. greatest-size n (later g)) (sizes_in f) i, partial_is.small)
-
-    pub least-addable : AreAddable p (least_parts (later g) (sizes_in f))
-    least-addable = record { each = λ i l. omega (arith, least-within i, m.right.squaring.sums_fit) }
-
-    pub greatest-addable : AreAddable p (greatest_parts (later g) (sizes_in f))
-    greatest-addable = record { each = λ i l. omega (arith, greatest-within i, m.right.squaring.sums_fit) }
+    pub end-addable : (end : End) → AreAddable p (parts_of end (later g) (sizes_in f))
+    end-addable end = record { each = λ i l. omega (arith, end-within end i, m.right.squaring.sums_fit) }
 
     pub as-many : length (sizes_in f) ≡ length p
     as-many = fits-length (sizes_in f) m.rows.items left.within ∙ sym partial_is.wide
 
-    pub least-long : length (least_parts (later g) (sizes_in f)) ≡ length p
-    least-long = length-map (sizes_in f) (λ n. least_sum n (later g)) ∙ as-many
-
-    pub greatest-long : length (greatest_parts (later g) (sizes_in f)) ≡ length p
-    greatest-long = length-map (sizes_in f) (λ n. greatest_sum n (later g)) ∙ as-many
+    pub end-long : (end : End) → length (parts_of end (later g) (sizes_in f)) ≡ length p
+    end-long end = length-map (sizes_in f) (λ n. part_sum (better_of end) n (later g)) ∙ as-many
 
     -- both halves of the outlook
     module _ (outlook : List ℤ) (e : outlook ≡ least_parts (later g) (sizes_in f) ++ greatest_parts (later g) (sizes_in f)) where
       pub outlook-long : length outlook ≡ length p + length p
-      outlook-long = ap length e ∙ length-append (least_parts (later g) (sizes_in f)) (greatest_parts (later g) (sizes_in f)) ∙ rw (least-long, greatest-long) refl
+      outlook-long = ap length e ∙ length-append (least_parts (later g) (sizes_in f)) (greatest_parts (later g) (sizes_in f)) ∙ rw (end-long Least, end-long Greatest) refl
 
       pub front-is : take (length p) outlook ≡ least_parts (later g) (sizes_in f)
-      front-is = rw (e, ← least-long) (take-append_seam (least_parts (later g) (sizes_in f)) (greatest_parts (later g) (sizes_in f)))
+      front-is = rw (e, ← end-long Least) (take-append_seam (least_parts (later g) (sizes_in f)) (greatest_parts (later g) (sizes_in f)))
 
       pub back-is : drop (length p) outlook ≡ greatest_parts (later g) (sizes_in f)
-      back-is = rw (e, ← least-long) (drop-append_seam (least_parts (later g) (sizes_in f)) (greatest_parts (later g) (sizes_in f)))
+      back-is = rw (e, ← end-long Least) (drop-append_seam (least_parts (later g) (sizes_in f)) (greatest_parts (later g) (sizes_in f)))
 
     -- a choice there
     module _ (before : g < length m.later.columns.items) (x : List ℕ) (o : Contains (allowed (sums_meaning m) g (sizes_in f)) x) where

@@ -1,5 +1,5 @@
 -- Words for the bodies of the test of Kruskal and Wallis.
-use Rattle.std.specs.Prelude.{◌≡◌, ⊤, ℕ, ◌+◌, ◌-◌, ◌<◌, ◌≤◌, ℤ, pos, unsigned_abs, List, length, get_or, Result, Ok, Err}
+use Rattle.std.specs.Prelude.{◌≡◌, ⊤, ℕ, ◌+◌, ◌-◌, ◌<◌, ◌≤◌, ℤ, pos, unsigned_abs, List, length, map, get_or, Result, Ok, Err}
 use Rattle.std.specs.List.{All, sum}
 use Rattle.weights.specs.Frames.{IsFrameOf}
 use Rattle.weights.specs.Labellings.{number_of_labellings}
@@ -15,7 +15,9 @@ use Rattle.scores.specs.Scores.{AreScores, absolute_sum as absolute_sum_of, scor
 use Rattle.scores.specs.declared.kinds.ScoreKind.{ScoreKind}
 use Rattle.scores.specs.declared.kinds.Scored.{Scored}
 use Rattle.sample_reader.specs.Groups.{group_sizes}
-use Rattle.label_network.specs.LaterSums.{absolute_sum, subjects}
+use Rattle.label_network.specs.LaterSums.{absolute_sum, part_sum, subjects}
+use Rattle.label_network.specs.LaterSteps.{better_of}
+use Rattle.label_network.specs.declared.ends.End.{End}
 use Rattle.label_network.specs.LaterTables.{IsTabled}
 use Rattle.pooled_columns.specs.PooledColumns.{column_scores, column_sizes, pooled_values}
 use Rattle.k_sample_tests.specs.KruskalWallis.{ScoredGroups, kruskal_wallis_test, pooled_scores, size_factors}
@@ -25,6 +27,10 @@ use Rattle.k_sample_tests.specs.declared.group_scores.GroupScores.{GroupScores}
 pub record AreAddable (partial added : List ℤ) : Type 0 where
   pub each : (i : ℕ) → i < length partial
       → unsigned_abs (get_or partial i (pos 0)) + unsigned_abs (get_or added i (pos 0)) ≤ MAX
+
+-- what groups of these sizes get of the later scores at an end, each by itself
+abbrev pub parts_of : End → List ℤ → List ℕ → List ℤ
+parts_of end later sizes = map (λ n. part_sum (better_of end) n later) sizes
 
 -- of the later scores as many are held as each of the sizes
 pub record AreTabled (width : ℕ) (later : List ℤ) (sizes : List ℕ) : Type 0 where

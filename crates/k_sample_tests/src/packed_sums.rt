@@ -2,7 +2,7 @@
 ghost use Rattle.std.specs.Prelude.{◌≡◌, ◌+◌, ◌*◌, ◌/◌, ◌%◌, ◌^◌, ◌<◌, ◌≤◌, ◌&&◌, length, nat_lt, pos, unsigned_abs, ◌+ℤ◌, ◌-ℤ◌, ◌*ℤ◌};
 ghost use Rattle.weights.specs.declared.TheConstants.{MAX};
 ghost use Rattle.label_network.specs.LaterSums.{absolute_sum, subjects};
-ghost use Rattle.label_network.specs.Meanings.{IsPlace, IsStep, sizes_in};
+ghost use Rattle.label_network.specs.Meanings.{IsPlace, sizes_in};
 ghost use Rattle.stage_network.specs.Judged.{judged};
 ghost use Rattle.k_sample_tests.specs.PackedSums.{numeral, packed_meaning, unpack, unpacked};
 ghost use Rattle.k_sample_tests.specs.PackedSumSteps.{AreDigits, AreNarrow, ArePacked, IsHalf, sums_meaning};
@@ -156,8 +156,8 @@ fn stepped(packed: i128, step: i128) -> i128
 }
 
 impl PackedSums {
-    /// Packs the sums of a measure whose scores' magnitudes all together are less than half of the
-    /// base.
+    /// Packs the sums of a measure. The magnitudes of its scores come to `all`, which is less than
+    /// half of the base.
     pub fn new(sums: RankSums, all: u128) -> PackedSums
         requires some { 2 ≤ length sums.rows.items }
         requires all { all
@@ -175,20 +175,9 @@ impl PackedSums {
         }
     }
 
-    // What a choice adds to a partial.
-    fn added(&self, stage: usize, remaining: &[i128], choice: &[u64]) -> i128
-        requires { IsStep (sums_meaning self.now.sums) stage remaining.now choice.now }
-        ensures { let m = sums_meaning self.now.sums in
-            let step = m.step stage (sizes_in remaining.now) choice.now in
-            result ≡ numeral (2 * self.now.half) step }
-    {
-        let mut numbers = [0i128; 8];
-        let parts = &mut numbers[..choice.len()];
-        self.sums.step(stage, remaining, choice, parts);
-        numeral(self.half, parts)
-    }
-
-    // What is known of a key by its sums, each with a number of its own.
+    // What is known of a key by its sums, each with a number of its own. Apart, so that the steps
+    // for a narrow box stay few where they are inlined.
+    #[inline(never)]
     fn wide_verdict(
         &self,
         stage: usize,
@@ -237,7 +226,10 @@ impl Measure for PackedSums {
     }
 
     fn step(&self, stage: usize, remaining: &[i128], choice: &[u64], step: &mut [i128]) {
-        step[0] = self.added(stage, remaining, choice);
+        let mut numbers = [0i128; 8];
+        let parts = &mut numbers[..choice.len()];
+        self.sums.step(stage, remaining, choice, parts);
+        step[0] = numeral(self.half, parts);
     }
 
     #[inline(always)]

@@ -3,16 +3,16 @@ ghost use Rattle.std.specs.Prelude.{◌≡◌, ◌+◌, ◌-◌, ◌*◌, ◌^�
 ghost use Rattle.std.specs.List.{Contains, sum};
 ghost use Rattle.weights.specs.declared.TheConstants.{MAX};
 ghost use Rattle.completion_bounds.specs.Boxes.{greatest_squares, least_squares};
-ghost use Rattle.label_network.specs.LaterSums.{absolute_sum, greatest_sum, later_scores, least_sum};
+ghost use Rattle.label_network.specs.LaterSums.{later_scores};
 ghost use Rattle.label_network.specs.Linear.{score_of};
 ghost use Rattle.label_network.specs.Meanings.{IsMove, IsPlace, IsRoom, IsStep, sizes_in};
 ghost use Rattle.stage_network.specs.Judged.{judged};
 ghost use Rattle.k_sample_tests.specs.RankSums.{greatest_parts, least_parts, plus_each, score_parts, squares_meaning};
-ghost use Rattle.k_sample_tests.specs.RankSumSteps.{AreAddable, AreEnough, AreRankSums, AreTabled, IsSquaring};
+ghost use Rattle.k_sample_tests.specs.RankSumSteps.{AreAddable, AreEnough, AreRankSums, AreTabled, IsSquaring, parts_of};
 
 use crate::group_sums::squares_of;
 use completion_bounds::{box_bounds, narrow_squares};
-use label_network::{LaterScores, Measure, read_sizes};
+use label_network::{End, LaterScores, Measure, read_sizes};
 use stage_network::{Interval, Judge, Verdict};
 use std::alloc::Global;
 use weights::{NoMemory, Tail};
@@ -85,33 +85,18 @@ fn plus_each(partial: &[i128], added: &[i128], next: &mut [i128])
     }
 }
 
-// Writes the least sums of a stage's later scores that groups of these sizes can get.
-fn least_parts(later: &LaterScores, stage: usize, sizes: &[u64], parts: &mut [i128])
+// Writes the sums of a stage's later scores, least or greatest, that groups of these sizes can get.
+fn write_parts(end: End, later: &LaterScores, stage: usize, sizes: &[u64], parts: &mut [i128])
     requires stage { stage ≤ length later.now.columns.items }
     requires held { let scores =
         later_scores later.now.scores.items later.now.columns.items stage in
         AreTabled later.now.width scores sizes.now }
     requires room { length parts.old ≡ length sizes.now }
     ensures { let scores = later_scores later.now.scores.items later.now.columns.items stage in
-        parts.new ≡ least_parts scores sizes.now }
+        parts.new ≡ parts_of end scores sizes.now }
 {
     for i in 0..sizes.len() {
-        parts[i] = later.least(stage, sizes[i]);
-    }
-}
-
-// And the greatest.
-fn greatest_parts(later: &LaterScores, stage: usize, sizes: &[u64], parts: &mut [i128])
-    requires stage { stage ≤ length later.now.columns.items }
-    requires held { let scores =
-        later_scores later.now.scores.items later.now.columns.items stage in
-        AreTabled later.now.width scores sizes.now }
-    requires room { length parts.old ≡ length sizes.now }
-    ensures { let scores = later_scores later.now.scores.items later.now.columns.items stage in
-        parts.new ≡ greatest_parts scores sizes.now }
-{
-    for i in 0..sizes.len() {
-        parts[i] = later.greatest(stage, sizes[i]);
+        parts[i] = later.part(end, stage, sizes[i]);
     }
 }
 
@@ -175,8 +160,8 @@ impl RankSums {
         let mut numbers = [0u64; 8];
         let sizes = &mut numbers[..remaining.len()];
         read_sizes(remaining, sizes);
-        least_parts(&self.later, stage, sizes, least);
-        greatest_parts(&self.later, stage, sizes, greatest);
+        write_parts(End::Least, &self.later, stage, sizes, least);
+        write_parts(End::Greatest, &self.later, stage, sizes, greatest);
     }
 
     // Between which sums of squares a key ends, whose groups can come to sums between these.
@@ -205,20 +190,6 @@ impl RankSums {
         let highs = &mut high_numbers[..partial.len()];
         plus_each(partial, least, lows);
         plus_each(partial, greatest, highs);
-        self.between(lows, highs)
-    }
-
-    // Between which sums of squares a key ends, whose groups can come to sums in this box.
-    #[inline(always)]
-    fn between(&self, lows: &[i128], highs: &[i128]) -> Interval
-        requires factors { length self.now.factors.items ≡ length lows.now }
-        requires as_many { length highs.now ≡ length lows.now }
-        requires fits { self.now.bound ≤ MAX }
-        ensures low { result.low ≡ pos (min (least_squares lows.now highs.now
-            self.now.factors.items) self.now.bound) }
-        ensures high { result.high ≡ pos (min (greatest_squares lows.now highs.now
-            self.now.factors.items) self.now.bound) }
-    {
         let (low, high) = box_bounds(lows, highs, self.factors.as_slice(), self.bound);
         Interval {
             low: low as i128,

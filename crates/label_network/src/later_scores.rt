@@ -235,9 +235,9 @@ impl LaterScores {
         self.table(end)[place]
     }
 
-    // The sum of `take` of a stage's later scores.
+    /// The sum of the `take` least scores of the later subjects, or of the greatest.
     #[inline(always)]
-    fn part(&self, end: End, stage: usize, take: u64) -> i128
+    pub fn part(&self, end: End, stage: usize, take: u64) -> i128
         requires stage { stage ≤ length self.now.columns.items }
         requires few { let later =
             later_scores self.now.scores.items self.now.columns.items stage in
@@ -258,38 +258,6 @@ impl LaterScores {
         }
     }
 
-    /// The sum of the `take` least scores of the later subjects.
-    #[inline(always)]
-    pub fn least(&self, stage: usize, take: u64) -> i128
-        requires stage { stage ≤ length self.now.columns.items }
-        requires few { let later =
-            later_scores self.now.scores.items self.now.columns.items stage in
-            take ≤ length later }
-        requires held { let later =
-            later_scores self.now.scores.items self.now.columns.items stage in
-            IsTabled self.now.width take later }
-        ensures { let later = later_scores self.now.scores.items self.now.columns.items stage in
-            result ≡ least_sum take later }
-    {
-        self.part(End::Least, stage, take)
-    }
-
-    /// The sum of the `take` greatest.
-    #[inline(always)]
-    pub fn greatest(&self, stage: usize, take: u64) -> i128
-        requires stage { stage ≤ length self.now.columns.items }
-        requires few { let later =
-            later_scores self.now.scores.items self.now.columns.items stage in
-            take ≤ length later }
-        requires held { let later =
-            later_scores self.now.scores.items self.now.columns.items stage in
-            IsTabled self.now.width take later }
-        ensures { let later = later_scores self.now.scores.items self.now.columns.items stage in
-            result ≡ greatest_sum take later }
-    {
-        self.part(End::Greatest, stage, take)
-    }
-
     /// The sums of the `take` least and of the `take` greatest.
     #[inline(always)]
     pub(crate) fn ends(&self, stage: usize, take: u64) -> Interval
@@ -308,8 +276,8 @@ impl LaterScores {
             result.high ≡ greatest_sum take later }
     {
         Interval {
-            low: self.least(stage, take),
-            high: self.greatest(stage, take),
+            low: self.part(End::Least, stage, take),
+            high: self.part(End::Greatest, stage, take),
         }
     }
 }

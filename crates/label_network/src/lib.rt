@@ -16,6 +16,7 @@ mod tests;
 mod ways;
 
 pub use choice_order::total_of;
+pub use ends::End;
 pub use keys::read_sizes;
 pub use label_stages::LabelStages;
 pub use later_scores::LaterScores;

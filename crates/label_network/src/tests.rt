@@ -4,7 +4,7 @@ ghost use Rattle.weights.specs.Rules.{RuleFits};
 
 use crate::{LabelStages, LaterScores, LinearMeasure};
 use enumerate::next_labelling;
-use stage_network::{Judge, TailSum, spread_by_rooms, tail_sum, tail_sum_by_rooms};
+use stage_network::{Interval, Judge, TailSum, spread_by_rooms, tail_sum, tail_sum_by_rooms};
 use std::alloc::Global;
 use std::test::Fail;
 use weights::{Line, NoMemory, Rule, Tail};
@@ -151,10 +151,10 @@ fn ends_of_later_scores(rt: HostRuntime) -> Result<(), Fail> {
     let later = LaterScores::new(rt.alloc(), &[3, -1, 2], &[1, 2, 1], 2)?;
     assert_eq!(rt; later.count(0), 4);
     assert_eq!(rt; later.total(0), 3);
-    assert_eq!(rt; (later.least(0, 2), later.greatest(0, 2)), (-2, 5));
-    assert_eq!(rt; (later.least(0, 3), later.greatest(0, 3)), (0, 4));
-    assert_eq!(rt; (later.least(1, 1), later.greatest(1, 1)), (-1, 2));
-    assert_eq!(rt; (later.least(1, 3), later.greatest(1, 3)), (0, 0));
-    assert_eq!(rt; (later.least(3, 0), later.greatest(3, 0)), (0, 0));
+    assert_eq!(rt; later.ends(0, 2), Interval { low: -2, high: 5 });
+    assert_eq!(rt; later.ends(0, 3), Interval { low: 0, high: 4 });
+    assert_eq!(rt; later.ends(1, 1), Interval { low: -1, high: 2 });
+    assert_eq!(rt; later.ends(1, 3), Interval { low: 0, high: 0 });
+    assert_eq!(rt; later.ends(3, 0), Interval { low: 0, high: 0 });
     Ok(())
 }

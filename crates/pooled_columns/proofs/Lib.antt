@@ -1,3 +1,4 @@
+pub mod AbsoluteSums
 pub mod PooledValues
 pub mod PooledLabels
 pub mod TieColumns

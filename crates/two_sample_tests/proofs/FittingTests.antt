@@ -46,9 +46,10 @@ use Rattle.two_sample_tests.specs.SampleSteps.{AreFitting, IsMadeOf}
 use Rattle.two_sample_tests.specs.SubjectSteps.{AreBounded, AreSubjects, IsScoredBy}
 use Rattle.two_sample_tests.specs.declared.scored_samples.ScoredSubjects.{ScoredSubjects}
 use Rattle.two_sample_tests.specs.TwoSamples.{TwoSamples, pooled_scores, score_test, two_sample_test}
+use Rattle.pooled_columns.proofs.AbsoluteSums.{sizes-are}
 use Rattle.pooled_columns.proofs.PooledValues.{length-pooled, pooled-rises}
 use Rattle.pooled_columns.proofs.TieColumns.{grouped}
-use Rattle.two_sample_tests.proofs.ScoreSums.{by-marks, sizes-are, total-within}
+use Rattle.two_sample_tests.proofs.ScoreSums.{by-marks, total-within}
 use Rattle.two_sample_tests.proofs.ColumnValues.{value-is}
 
 abs-minus : (a c : ℤ) → unsigned_abs (a -ℤ c) ≤ unsigned_abs a + unsigned_abs c

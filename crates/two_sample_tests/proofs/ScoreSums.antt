@@ -6,14 +6,10 @@ use Rattle.std.proofs.lemmas.List.Sums.{sum_by-cons}
 use Rattle.scores.specs.Scores.{absolute_sum, labelled_sum}
 use Rattle.sample_reader.specs.PooledSample.{labels_of}
 use Rattle.sample_reader.specs.declared.subjects.Subject.{Subject}
-use Rattle.label_network.specs.LaterSums.{total_score, absolute_sum as sizes_of}
+use Rattle.label_network.specs.LaterSums.{total_score}
 use Rattle.label_network.proofs.Absolute.{size-plus, total-size}
+use Rattle.pooled_columns.proofs.AbsoluteSums.{sizes-are}
 use Rattle.two_sample_tests.specs.SubjectSteps.{second_marks}
-
--- one sum of absolute values is the other
-pub sizes-are : (scores : List ℤ) → sizes_of scores ≡ absolute_sum scores
-sizes-are [] = refl
-sizes-are (s ∷ scores) = ap (λ n. unsigned_abs s + n) (sizes-are scores) ∙ sym (sum_by-cons nat_abs s scores)
 
 pub total-within : (scores : List ℤ) → unsigned_abs (total_score scores) ≤ absolute_sum scores
 total-within scores = omega (arith, total-size scores, sizes-are scores)

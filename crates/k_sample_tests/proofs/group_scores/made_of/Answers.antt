@@ -1,4 +1,4 @@
-use Rattle.std.proofs.Common.{◌≡◌, ◌≤◌, ◌*◌, ◌∙◌, Err, max, ap, subst, arith, refl, rules, FitsSigned}
+use Rattle.std.proofs.Common.{◌≡◌, ◌≤◌, ◌*◌, ◌∙◌, Err, ap, subst, arith, refl, rules, FitsSigned}
 use mir.Syntax.{w128}
 use Rattle.std.proofs.lemmas.Int.{to_z-of_z}
 use Rattle.std.proofs.lemmas.Result.{err_from_is_err_and}
@@ -6,7 +6,7 @@ use Rattle.weights.specs.Labellings.{number_of_labellings}
 use Rattle.weights.specs.declared.TheConstants.{MAX}
 use Rattle.midranks.specs.Ties.{tie_groups}
 use Rattle.scores.specs.PlaceScores.{common_multiple}
-use Rattle.scores.specs.Scores.{AreScores, scale_of, score_of, score_sum}
+use Rattle.scores.specs.Scores.{score_of}
 use Rattle.sample_reader.specs.Data.{data_of}
 use Rattle.sample_reader.specs.Groups.{group_sizes}
 use Rattle.sample_reader.specs.PooledSample.{labels_of, pooled, values_of}
@@ -14,9 +14,9 @@ use Rattle.pooled_columns.specs.ColumnSteps.{first_scores}
 use Rattle.pooled_columns.specs.PooledColumns.{column_sizes, pooled_values}
 use Rattle.pooled_columns.proofs.PooledValues.{pooled-rises}
 use Rattle.pooled_columns.proofs.TieColumns.{first_scores-are}
-use Rattle.k_sample_tests.specs.KruskalWallis.{ScoredGroups, kruskal_wallis_test, size_factors}
-use Rattle.k_sample_tests.specs.RankSumSteps.{AreFitting, IsScoredBy}
-use Rattle.k_sample_tests.proofs.FittingKruskalWallis.{fitting, framed, multiple-some, multiple-wide, scale-fits, scores-refused, sizes-fit, statistic-within}
+use Rattle.k_sample_tests.specs.KruskalWallis.{ScoredGroups, size_factors}
+use Rattle.k_sample_tests.specs.RankSumSteps.{IsScoredBy}
+use Rattle.k_sample_tests.proofs.FittingKruskalWallis.{are-found, framed, multiple-some, multiple-wide, scale-fits, scores-refused, sizes-fit, statistic-within}
 use Rattle.k_sample_tests.proofs.FittingUmbrella.{past-limit}
 use Rattle.k_sample_tests.proofs.GroupFacts.{few_subjects, labels-small, none-empty}
 use Rattle.k_sample_tests.proofs.group_scores.made_of.Goals as goal
@@ -48,83 +48,52 @@ times_square-requires c =
 
 pub squares_statistic-statistic-requires-clause-few_rows : goal.squares_statistic-statistic-requires-clause-few_rows
 squares_statistic-statistic-requires-clause-few_rows c =
-    let samples : ScoredGroups = record { kind = c.args.kind; groups = data_of c.args.groups.now } in
-    let values : c.as_slice.result.now ≡ pooled_values samples.groups = c.as_slice.ensures ∙ c.in_ok-values.ensures ∙ ap values_of (c.deref.ensures.value ∙ c.in_ok-pooled.ensures) in
-    let are : AreScores c.args.kind (pooled_values samples.groups) c.in_ok-scored.scored = subst (λ vs. AreScores c.args.kind vs c.in_ok-scored.scored) values c.in_ok-scored.ensures in
-    let multiple : c.in-Some.multiple ≡ common_multiple (group_sizes samples.groups) = c.in-Some.ensures.least.1 ∙ ap common_multiple (c.as_slice-2.ensures ∙ c.in_ok-sizes.ensures ∙ c.args.groups.now.counted) in
-    let most : c.max.result ≡ max (score_sum c.args.kind (pooled_values samples.groups)) (scale_of c.args.kind (pooled_values samples.groups)) = c.max.ensures ∙ rw (are.sum, are.scale) refl in
-    let bound : c.in-Some-times_square.bound ≡ (kruskal_wallis_test samples).bound = c.in-Some-times_square.ensures.1 ∙ rw (multiple, most) refl in
-    let factors : c.in_ok-factors.factors.items ≡ size_factors (group_sizes samples.groups) = c.in_ok-factors.ensures ∙ ap size_factors (c.as_slice-3.ensures ∙ c.in_ok-sizes.ensures ∙ c.args.groups.now.counted) in
-    let small : c.in-Some-times_square.bound ≤ MAX = rw c.in-Some-times_square.ensures.1 c.in-Some-times_square.ensures.0 in
-    let fit : AreFitting samples = fitting c.args.kind c.args.groups.now (omega (arith, c.requires.total, c.requires.fits)) (subst (λ n. n ≤ MAX) bound small) in
-    rw (c.as_slice-8.ensures ∙ c.in_ok-sizes.ensures ∙ c.args.groups.now.counted) fit.few_rows
+    let values : c.as_slice.result.now ≡ pooled_values (data_of c.args.groups.now) = c.as_slice.ensures ∙ c.in_ok-values.ensures ∙ ap values_of (c.deref.ensures.value ∙ c.in_ok-pooled.ensures) in
+    let found = are-found c.args.kind c.args.groups.now _ _ _ _ _ c.in-Some-times_square.bound values (c.as_slice-2.ensures ∙ c.in_ok-sizes.ensures ∙ c.args.groups.now.counted) c.in_ok-scored.ensures c.in-Some.ensures.least.1 c.max.ensures c.in-Some-times_square.ensures (omega (arith, c.requires.total, c.requires.fits)) in
+    rw (c.as_slice-8.ensures ∙ c.in_ok-sizes.ensures ∙ c.args.groups.now.counted) found.fitting.few_rows
 
 pub squares_statistic-statistic-requires-clause-sums_fit : goal.squares_statistic-statistic-requires-clause-sums_fit
 squares_statistic-statistic-requires-clause-sums_fit c =
     let samples : ScoredGroups = record { kind = c.args.kind; groups = data_of c.args.groups.now } in
-    let values : c.as_slice.result.now ≡ pooled_values samples.groups = c.as_slice.ensures ∙ c.in_ok-values.ensures ∙ ap values_of (c.deref.ensures.value ∙ c.in_ok-pooled.ensures) in
-    let are : AreScores c.args.kind (pooled_values samples.groups) c.in_ok-scored.scored = subst (λ vs. AreScores c.args.kind vs c.in_ok-scored.scored) values c.in_ok-scored.ensures in
-    let multiple : c.in-Some.multiple ≡ common_multiple (group_sizes samples.groups) = c.in-Some.ensures.least.1 ∙ ap common_multiple (c.as_slice-2.ensures ∙ c.in_ok-sizes.ensures ∙ c.args.groups.now.counted) in
-    let most : c.max.result ≡ max (score_sum c.args.kind (pooled_values samples.groups)) (scale_of c.args.kind (pooled_values samples.groups)) = c.max.ensures ∙ rw (are.sum, are.scale) refl in
-    let bound : c.in-Some-times_square.bound ≡ (kruskal_wallis_test samples).bound = c.in-Some-times_square.ensures.1 ∙ rw (multiple, most) refl in
-    let factors : c.in_ok-factors.factors.items ≡ size_factors (group_sizes samples.groups) = c.in_ok-factors.ensures ∙ ap size_factors (c.as_slice-3.ensures ∙ c.in_ok-sizes.ensures ∙ c.args.groups.now.counted) in
-    let small : c.in-Some-times_square.bound ≤ MAX = rw c.in-Some-times_square.ensures.1 c.in-Some-times_square.ensures.0 in
-    let fit : AreFitting samples = fitting c.args.kind c.args.groups.now (omega (arith, c.requires.total, c.requires.fits)) (subst (λ n. n ≤ MAX) bound small) in
-    rw (c.as_slice-6.ensures ∙ are.list) (sizes-fit samples fit)
+    let values : c.as_slice.result.now ≡ pooled_values (data_of c.args.groups.now) = c.as_slice.ensures ∙ c.in_ok-values.ensures ∙ ap values_of (c.deref.ensures.value ∙ c.in_ok-pooled.ensures) in
+    let found = are-found c.args.kind c.args.groups.now _ _ _ _ _ c.in-Some-times_square.bound values (c.as_slice-2.ensures ∙ c.in_ok-sizes.ensures ∙ c.args.groups.now.counted) c.in_ok-scored.ensures c.in-Some.ensures.least.1 c.max.ensures c.in-Some-times_square.ensures (omega (arith, c.requires.total, c.requires.fits)) in
+    rw (c.as_slice-6.ensures ∙ found.scores.list) (sizes-fit samples found.fitting)
 
 pub squares_statistic-statistic-requires-clause-within : goal.squares_statistic-statistic-requires-clause-within
 squares_statistic-statistic-requires-clause-within c =
     let samples : ScoredGroups = record { kind = c.args.kind; groups = data_of c.args.groups.now } in
-    let values : c.as_slice.result.now ≡ pooled_values samples.groups = c.as_slice.ensures ∙ c.in_ok-values.ensures ∙ ap values_of (c.deref.ensures.value ∙ c.in_ok-pooled.ensures) in
-    let are : AreScores c.args.kind (pooled_values samples.groups) c.in_ok-scored.scored = subst (λ vs. AreScores c.args.kind vs c.in_ok-scored.scored) values c.in_ok-scored.ensures in
-    let multiple : c.in-Some.multiple ≡ common_multiple (group_sizes samples.groups) = c.in-Some.ensures.least.1 ∙ ap common_multiple (c.as_slice-2.ensures ∙ c.in_ok-sizes.ensures ∙ c.args.groups.now.counted) in
-    let most : c.max.result ≡ max (score_sum c.args.kind (pooled_values samples.groups)) (scale_of c.args.kind (pooled_values samples.groups)) = c.max.ensures ∙ rw (are.sum, are.scale) refl in
-    let bound : c.in-Some-times_square.bound ≡ (kruskal_wallis_test samples).bound = c.in-Some-times_square.ensures.1 ∙ rw (multiple, most) refl in
-    let factors : c.in_ok-factors.factors.items ≡ size_factors (group_sizes samples.groups) = c.in_ok-factors.ensures ∙ ap size_factors (c.as_slice-3.ensures ∙ c.in_ok-sizes.ensures ∙ c.args.groups.now.counted) in
-    let small : c.in-Some-times_square.bound ≤ MAX = rw c.in-Some-times_square.ensures.1 c.in-Some-times_square.ensures.0 in
-    let fit : AreFitting samples = fitting c.args.kind c.args.groups.now (omega (arith, c.requires.total, c.requires.fits)) (subst (λ n. n ≤ MAX) bound small) in
-    rw (c.as_slice-8.ensures ∙ c.in_ok-sizes.ensures ∙ c.args.groups.now.counted, c.as_slice-6.ensures ∙ are.list, c.as_slice-9.ensures.value ∙ factors, bound) (statistic-within samples c.as_slice-7.result.now)
+    let values : c.as_slice.result.now ≡ pooled_values (data_of c.args.groups.now) = c.as_slice.ensures ∙ c.in_ok-values.ensures ∙ ap values_of (c.deref.ensures.value ∙ c.in_ok-pooled.ensures) in
+    let found = are-found c.args.kind c.args.groups.now _ _ _ _ _ c.in-Some-times_square.bound values (c.as_slice-2.ensures ∙ c.in_ok-sizes.ensures ∙ c.args.groups.now.counted) c.in_ok-scored.ensures c.in-Some.ensures.least.1 c.max.ensures c.in-Some-times_square.ensures (omega (arith, c.requires.total, c.requires.fits)) in
+    rw (c.as_slice-8.ensures ∙ c.in_ok-sizes.ensures ∙ c.args.groups.now.counted, c.as_slice-6.ensures ∙ found.scores.list, c.as_slice-9.ensures.value ∙ c.in_ok-factors.ensures ∙ ap size_factors (c.as_slice-3.ensures ∙ c.in_ok-sizes.ensures ∙ c.args.groups.now.counted), found.bound_is) (statistic-within samples c.as_slice-7.result.now)
 
 pub overflow_mul-frame : goal.overflow_mul-frame
 overflow_mul-frame c =
     let samples : ScoredGroups = record { kind = c.args.kind; groups = data_of c.args.groups.now } in
-    let values : c.as_slice.result.now ≡ pooled_values samples.groups = c.as_slice.ensures ∙ c.in_ok-values.ensures ∙ ap values_of (c.deref.ensures.value ∙ c.in_ok-pooled.ensures) in
-    let are : AreScores c.args.kind (pooled_values samples.groups) c.in_ok-scored.scored = subst (λ vs. AreScores c.args.kind vs c.in_ok-scored.scored) values c.in_ok-scored.ensures in
-    let multiple : c.in-Some.multiple ≡ common_multiple (group_sizes samples.groups) = c.in-Some.ensures.least.1 ∙ ap common_multiple (c.as_slice-2.ensures ∙ c.in_ok-sizes.ensures ∙ c.args.groups.now.counted) in
-    let most : c.max.result ≡ max (score_sum c.args.kind (pooled_values samples.groups)) (scale_of c.args.kind (pooled_values samples.groups)) = c.max.ensures ∙ rw (are.sum, are.scale) refl in
-    let bound : c.in-Some-times_square.bound ≡ (kruskal_wallis_test samples).bound = c.in-Some-times_square.ensures.1 ∙ rw (multiple, most) refl in
-    let factors : c.in_ok-factors.factors.items ≡ size_factors (group_sizes samples.groups) = c.in_ok-factors.ensures ∙ ap size_factors (c.as_slice-3.ensures ∙ c.in_ok-sizes.ensures ∙ c.args.groups.now.counted) in
-    let small : c.in-Some-times_square.bound ≤ MAX = rw c.in-Some-times_square.ensures.1 c.in-Some-times_square.ensures.0 in
-    let fit : AreFitting samples = fitting c.args.kind c.args.groups.now (omega (arith, c.requires.total, c.requires.fits)) (subst (λ n. n ≤ MAX) bound small) in
-    let square : c.in_ok-scored.scored.scale * c.in_ok-scored.scored.scale ≤ MAX = rw are.scale (scale-fits samples fit) in
+    let values : c.as_slice.result.now ≡ pooled_values (data_of c.args.groups.now) = c.as_slice.ensures ∙ c.in_ok-values.ensures ∙ ap values_of (c.deref.ensures.value ∙ c.in_ok-pooled.ensures) in
+    let found = are-found c.args.kind c.args.groups.now _ _ _ _ _ c.in-Some-times_square.bound values (c.as_slice-2.ensures ∙ c.in_ok-sizes.ensures ∙ c.args.groups.now.counted) c.in_ok-scored.ensures c.in-Some.ensures.least.1 c.max.ensures c.in-Some-times_square.ensures (omega (arith, c.requires.total, c.requires.fits)) in
+    let square : c.in_ok-scored.scored.scale * c.in_ok-scored.scored.scale ≤ MAX = rw found.scores.scale (scale-fits samples found.fitting) in
     omega (arith, square)
 
 pub returns : goal.returns
 returns c =
     let samples : ScoredGroups = record { kind = c.args.kind; groups = data_of c.args.groups.now } in
-    let values : c.as_slice.result.now ≡ pooled_values samples.groups = c.as_slice.ensures ∙ c.in_ok-values.ensures ∙ ap values_of (c.deref.ensures.value ∙ c.in_ok-pooled.ensures) in
-    let are : AreScores c.args.kind (pooled_values samples.groups) c.in_ok-scored.scored = subst (λ vs. AreScores c.args.kind vs c.in_ok-scored.scored) values c.in_ok-scored.ensures in
-    let multiple : c.in-Some.multiple ≡ common_multiple (group_sizes samples.groups) = c.in-Some.ensures.least.1 ∙ ap common_multiple (c.as_slice-2.ensures ∙ c.in_ok-sizes.ensures ∙ c.args.groups.now.counted) in
-    let most : c.max.result ≡ max (score_sum c.args.kind (pooled_values samples.groups)) (scale_of c.args.kind (pooled_values samples.groups)) = c.max.ensures ∙ rw (are.sum, are.scale) refl in
-    let bound : c.in-Some-times_square.bound ≡ (kruskal_wallis_test samples).bound = c.in-Some-times_square.ensures.1 ∙ rw (multiple, most) refl in
-    let factors : c.in_ok-factors.factors.items ≡ size_factors (group_sizes samples.groups) = c.in_ok-factors.ensures ∙ ap size_factors (c.as_slice-3.ensures ∙ c.in_ok-sizes.ensures ∙ c.args.groups.now.counted) in
-    let small : c.in-Some-times_square.bound ≤ MAX = rw c.in-Some-times_square.ensures.1 c.in-Some-times_square.ensures.0 in
-    let fit : AreFitting samples = fitting c.args.kind c.args.groups.now (omega (arith, c.requires.total, c.requires.fits)) (subst (λ n. n ≤ MAX) bound small) in
+    let values : c.as_slice.result.now ≡ pooled_values (data_of c.args.groups.now) = c.as_slice.ensures ∙ c.in_ok-values.ensures ∙ ap values_of (c.deref.ensures.value ∙ c.in_ok-pooled.ensures) in
+    let found = are-found c.args.kind c.args.groups.now _ _ _ _ _ c.in-Some-times_square.bound values (c.as_slice-2.ensures ∙ c.in_ok-sizes.ensures ∙ c.args.groups.now.counted) c.in_ok-scored.ensures c.in-Some.ensures.least.1 c.max.ensures c.in-Some-times_square.ensures (omega (arith, c.requires.total, c.requires.fits)) in
     let v : FitsSigned w128 c.squares_statistic-statistic.result = search rules in
     let labels : c.as_slice-7.result.now ≡ labels_of (pooled samples.groups) = c.as_slice-7.ensures ∙ c.in_ok-labels.ensures ∙ ap labels_of (c.deref-2.ensures.value ∙ c.in_ok-pooled.ensures) in
     let held : c.as_slice-4.result.now ≡ pooled_values samples.groups = c.as_slice-4.ensures ∙ c.in_ok-values.ensures ∙ ap values_of (c.deref.ensures.value ∙ c.in_ok-pooled.ensures) in
-    let statistic = rw (c.as_slice-8.ensures ∙ c.in_ok-sizes.ensures ∙ c.args.groups.now.counted, c.as_slice-6.ensures ∙ are.list, labels) at c.squares_statistic-statistic.ensures in
+    let statistic = rw (c.as_slice-8.ensures ∙ c.in_ok-sizes.ensures ∙ c.args.groups.now.counted, c.as_slice-6.ensures ∙ found.scores.list, labels) at c.squares_statistic-statistic.ensures in
     record {
       sizes = c.in_ok-sizes.ensures ∙ c.args.groups.now.counted;
-      factors = factors;
-      bound = bound;
-      scores = are.list;
-      sum = are.sum;
+      factors = c.in_ok-factors.ensures ∙ ap size_factors (c.as_slice-3.ensures ∙ c.in_ok-sizes.ensures ∙ c.args.groups.now.counted);
+      bound = found.bound_is;
+      scores = found.scores.list;
+      sum = found.scores.sum;
       column_sizes = c.in_ok-columns.ensures.sizes ∙ ap column_sizes held;
       column_scores =
           c.in_ok-columns.ensures.scores ∙ ap (λ vs. first_scores (tie_groups vs) c.as_slice-5.result.now) held
-          ∙ ap (first_scores (tie_groups (pooled_values samples.groups))) (c.as_slice-5.ensures ∙ are.list)
+          ∙ ap (first_scores (tie_groups (pooled_values samples.groups))) (c.as_slice-5.ensures ∙ found.scores.list)
           ∙ first_scores-are (score_of c.args.kind (pooled_values samples.groups)) (pooled_values samples.groups) (pooled-rises samples.groups);
-      frame = framed samples _ _ _ _ (to_z-of_z w128 c.squares_statistic-statistic.result v ∙ statistic) (rw (multiple, are.scale) refl) (c.requires.total ∙ ap number_of_labellings c.args.groups.now.counted) c.far.ensures;
-      fitting = fit;
+      frame = framed samples _ _ _ _ (to_z-of_z w128 c.squares_statistic-statistic.result v ∙ statistic) (rw (found.multiple_is, found.scores.scale) refl) (c.requires.total ∙ ap number_of_labellings c.args.groups.now.counted) c.far.ensures;
+      fitting = found.fitting;
     }

@@ -15,14 +15,14 @@ read_sizes-requires-clause-sizes c = sizes c.args.self.now c.args.stage c.args.r
 pub read_sizes-requires-clause-room : goal.read_sizes-requires-clause-room
 read_sizes-requires-clause-room c = room-of (length c.args.remaining.now) (omega (arith, long c.args.self.now c.args.stage c.args.remaining.now c.requires.sizes.partial c.requires.sizes.place, c.args.self.now.right.squaring.few_rows))
 
-pub least_parts-requires-clause-stage : goal.least_parts-requires-clause-stage
-least_parts-requires-clause-stage c = within-stages c.args.self.now c.args.stage c.args.remaining.now c.requires.sizes.partial c.requires.sizes.place
+pub write_parts-requires-clause-stage : goal.write_parts-requires-clause-stage
+write_parts-requires-clause-stage c = within-stages c.args.self.now c.args.stage c.args.remaining.now c.requires.sizes.partial c.requires.sizes.place
 
-pub least_parts-requires-clause-held : goal.least_parts-requires-clause-held
-least_parts-requires-clause-held c = rw c.read_sizes.ensures (are-tabled c.args.self.now c.args.stage c.args.remaining.now c.requires.sizes.partial c.requires.sizes.place c.args.self.now.later.right.wide)
+pub write_parts-requires-clause-held : goal.write_parts-requires-clause-held
+write_parts-requires-clause-held c = rw c.read_sizes.ensures (are-tabled c.args.self.now c.args.stage c.args.remaining.now c.requires.sizes.partial c.requires.sizes.place c.args.self.now.later.right.wide)
 
-pub greatest_parts-requires-clause-stage : goal.greatest_parts-requires-clause-stage
-greatest_parts-requires-clause-stage c = within-stages c.args.self.now c.args.stage c.args.remaining.now c.requires.sizes.partial c.requires.sizes.place
+pub write_parts-requires-2-clause-stage : goal.write_parts-requires-2-clause-stage
+write_parts-requires-2-clause-stage c = within-stages c.args.self.now c.args.stage c.args.remaining.now c.requires.sizes.partial c.requires.sizes.place
 
-pub greatest_parts-requires-clause-held : goal.greatest_parts-requires-clause-held
-greatest_parts-requires-clause-held c = rw c.read_sizes.ensures (are-tabled c.args.self.now c.args.stage c.args.remaining.now c.requires.sizes.partial c.requires.sizes.place c.args.self.now.later.right.wide)
+pub write_parts-requires-2-clause-held : goal.write_parts-requires-2-clause-held
+write_parts-requires-2-clause-held c = rw c.read_sizes.ensures (are-tabled c.args.self.now c.args.stage c.args.remaining.now c.requires.sizes.partial c.requires.sizes.place c.args.self.now.later.right.wide)

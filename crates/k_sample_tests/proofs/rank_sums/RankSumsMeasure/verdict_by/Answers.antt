@@ -1,5 +1,6 @@
 use Rattle.std.proofs.Common.{◌∙◌, ap, arith, length, refl}
-use Rattle.k_sample_tests.proofs.RankKeys.{back-is, front-is, greatest-addable, greatest-long, least-addable, least-long, outlook-long, partial_is}
+use Rattle.label_network.specs.declared.ends.End.TheVariants.{Least, Greatest}
+use Rattle.k_sample_tests.proofs.RankKeys.{back-is, front-is, end-addable, end-long, outlook-long, partial_is}
 use Rattle.k_sample_tests.proofs.rank_sums.RankSumsMeasure.verdict_by.Goals as goal
 
 pub split_at-requires : goal.split_at-requires
@@ -9,16 +10,16 @@ pub interval-interval-requires-clause-one_each : goal.interval-interval-requires
 interval-interval-requires-clause-one_each c = (partial_is c.args.self.now c.args._stage c.args._remaining.now c.args.partial.now c.requires.place).wide
 
 pub interval-interval-requires-clause-least : goal.interval-interval-requires-clause-least
-interval-interval-requires-clause-least c = rw (c.split_at.ensures.front, front-is c.args.self.now c.args._stage c.args._remaining.now c.args.partial.now c.requires.place c.args.outlook.now c.requires.outlook) (least-addable c.args.self.now c.args._stage c.args._remaining.now c.args.partial.now c.requires.place)
+interval-interval-requires-clause-least c = rw (c.split_at.ensures.front, front-is c.args.self.now c.args._stage c.args._remaining.now c.args.partial.now c.requires.place c.args.outlook.now c.requires.outlook) (end-addable c.args.self.now c.args._stage c.args._remaining.now c.args.partial.now c.requires.place Least)
 
 pub interval-interval-requires-clause-greatest : goal.interval-interval-requires-clause-greatest
-interval-interval-requires-clause-greatest c = rw (c.split_at.ensures.back, back-is c.args.self.now c.args._stage c.args._remaining.now c.args.partial.now c.requires.place c.args.outlook.now c.requires.outlook) (greatest-addable c.args.self.now c.args._stage c.args._remaining.now c.args.partial.now c.requires.place)
+interval-interval-requires-clause-greatest c = rw (c.split_at.ensures.back, back-is c.args.self.now c.args._stage c.args._remaining.now c.args.partial.now c.requires.place c.args.outlook.now c.requires.outlook) (end-addable c.args.self.now c.args._stage c.args._remaining.now c.args.partial.now c.requires.place Greatest)
 
 pub interval-interval-requires-clause-as_many : goal.interval-interval-requires-clause-as_many
-interval-interval-requires-clause-as_many c = ap length (c.split_at.ensures.front ∙ front-is c.args.self.now c.args._stage c.args._remaining.now c.args.partial.now c.requires.place c.args.outlook.now c.requires.outlook) ∙ least-long c.args.self.now c.args._stage c.args._remaining.now c.args.partial.now c.requires.place
+interval-interval-requires-clause-as_many c = ap length (c.split_at.ensures.front ∙ front-is c.args.self.now c.args._stage c.args._remaining.now c.args.partial.now c.requires.place c.args.outlook.now c.requires.outlook) ∙ end-long c.args.self.now c.args._stage c.args._remaining.now c.args.partial.now c.requires.place Least
 
 pub interval-interval-requires-clause-and_as_many : goal.interval-interval-requires-clause-and_as_many
-interval-interval-requires-clause-and_as_many c = ap length (c.split_at.ensures.back ∙ back-is c.args.self.now c.args._stage c.args._remaining.now c.args.partial.now c.requires.place c.args.outlook.now c.requires.outlook) ∙ greatest-long c.args.self.now c.args._stage c.args._remaining.now c.args.partial.now c.requires.place
+interval-interval-requires-clause-and_as_many c = ap length (c.split_at.ensures.back ∙ back-is c.args.self.now c.args._stage c.args._remaining.now c.args.partial.now c.requires.place c.args.outlook.now c.requires.outlook) ∙ end-long c.args.self.now c.args._stage c.args._remaining.now c.args.partial.now c.requires.place Greatest
 
 pub verdict-requires-clause-low : goal.verdict-requires-clause-low
 verdict-requires-clause-low c = c.args.self.now.right.squaring.rule_fits c.interval-interval.result.low
