@@ -14,7 +14,7 @@ use Rattle.label_network.specs.LaterSums.{absolute_sum, subjects}
 use Rattle.label_network.specs.Linear.{score_of}
 use Rattle.label_network.specs.Meanings.{Meaning}
 use Rattle.label_network.proofs.Absolute.{size-plus, sizes-block}
-use Rattle.k_sample_tests.specs.KruskalWallis.{group_sum}
+use Rattle.scores.specs.Scores.{labelled_sum}
 use Rattle.k_sample_tests.specs.PackedSums.{pack, packed_meaning, unpack, unpacked}
 use Rattle.k_sample_tests.specs.RankSums.{plus_each, score_parts, squares_meaning}
 use Rattle.k_sample_tests.proofs.Digits.{unpack-pack}
@@ -28,7 +28,7 @@ sizes-each (p ∷ ps) [] = omega arith
 sizes-each (p ∷ ps) (a ∷ rest) = omega (arith, size-plus p a, sizes-each ps rest)
 
 -- what a column adds is what its scores alone would give the groups
-alone : (is : List ℕ) (c : ℕ) (s : ℤ) (xs : List ℕ) → score_parts s (map (λ i. count_of i (take c xs)) is) ≡ map (λ i. group_sum i (replicate c s ++ []) xs) is
+alone : (is : List ℕ) (c : ℕ) (s : ℤ) (xs : List ℕ) → score_parts s (map (λ i. count_of i (take c xs)) is) ≡ map (λ i. labelled_sum i (replicate c s ++ []) xs) is
 alone [] c s xs = refl
 alone (i ∷ is) c s xs = rw (block i c s [] xs, alone is c s xs, plus-zero (pos (count_of i (take c xs)) *ℤ s)) refl
   where

@@ -17,13 +17,14 @@ use Rattle.label_network.specs.Endings.{partial_after, labelling_value}
 use Rattle.label_network.specs.LaterSums.{subjects}
 use Rattle.label_network.specs.Linear.{score_of}
 use Rattle.label_network.proofs.LaterArcs.{more-times}
-use Rattle.k_sample_tests.specs.KruskalWallis.{group_sum, group_sums}
+use Rattle.scores.specs.Scores.{labelled_sum}
+use Rattle.k_sample_tests.specs.KruskalWallis.{group_sums}
 use Rattle.k_sample_tests.specs.RankSums.{plus_each, score_parts, squares_meaning}
 use Rattle.k_sample_tests.proofs.RankNarrows.{length-parts, length-plus}
 
 -- ---- one group
 
-pub group-none : (i : ℕ) (scores : List ℤ) → group_sum i scores [] ≡ pos 0
+pub group-none : (i : ℕ) (scores : List ℤ) → labelled_sum i scores [] ≡ pos 0
 group-none i [] = refl
 group-none i (s ∷ scores) = refl
 
@@ -41,13 +42,13 @@ none : (s t : ℤ) → t ≡ (pos 0 *ℤ s) +ℤ t
 none s t = rw (zero-*ℤ s) (omega (arith, ints))
 
 -- of subjects who share a score, those with the label i count
-pub block : (i c : ℕ) (s : ℤ) (rest : List ℤ) (xs : List ℕ) → group_sum i (replicate c s ++ rest) xs ≡ (pos (count_of i (take c xs)) *ℤ s) +ℤ group_sum i rest (drop c xs)
-block i zero s rest xs = none s (group_sum i rest xs)
+pub block : (i c : ℕ) (s : ℤ) (rest : List ℤ) (xs : List ℕ) → labelled_sum i (replicate c s ++ rest) xs ≡ (pos (count_of i (take c xs)) *ℤ s) +ℤ labelled_sum i rest (drop c xs)
+block i zero s rest xs = none s (labelled_sum i rest xs)
 block i (suc c) s rest [] = rw (zero-*ℤ s, group-none i rest) refl
 block i (suc c) s rest (x ∷ xs) = by (nat_eq x i) (sum_by-cons (λ l. cond (nat_eq l i) 1 0) x (take c xs)) (block i c s rest xs)
   where
-    by : (b : Bool) → count_of i (x ∷ take c xs) ≡ cond b 1 0 + count_of i (take c xs) → group_sum i (replicate c s ++ rest) xs ≡ (pos (count_of i (take c xs)) *ℤ s) +ℤ group_sum i rest (drop c xs)
-        → cond b s (pos 0) +ℤ group_sum i (replicate c s ++ rest) xs ≡ (pos (count_of i (x ∷ take c xs)) *ℤ s) +ℤ group_sum i rest (drop c xs)
+    by : (b : Bool) → count_of i (x ∷ take c xs) ≡ cond b 1 0 + count_of i (take c xs) → labelled_sum i (replicate c s ++ rest) xs ≡ (pos (count_of i (take c xs)) *ℤ s) +ℤ labelled_sum i rest (drop c xs)
+        → cond b s (pos 0) +ℤ labelled_sum i (replicate c s ++ rest) xs ≡ (pos (count_of i (x ∷ take c xs)) *ℤ s) +ℤ labelled_sum i rest (drop c xs)
     by true e f = taken _ _ s _ _ e f
     by false e f = passed _ _ s _ _ e f
 
@@ -57,13 +58,13 @@ joined : (p a b c : ℤ) → c ≡ a +ℤ b → (p +ℤ a) +ℤ b ≡ p +ℤ c
 joined p a b c e = omega (arith, ints, e)
 
 blocks : (is : List ℕ) (p : List ℤ) (c : ℕ) (s : ℤ) (rest : List ℤ) (xs : List ℕ) → length p ≡ length is
-    → plus_each (plus_each p (score_parts s (map (λ i. count_of i (take c xs)) is))) (map (λ i. group_sum i rest (drop c xs)) is) ≡ plus_each p (map (λ i. group_sum i (replicate c s ++ rest) xs) is)
+    → plus_each (plus_each p (score_parts s (map (λ i. count_of i (take c xs)) is))) (map (λ i. labelled_sum i rest (drop c xs)) is) ≡ plus_each p (map (λ i. labelled_sum i (replicate c s ++ rest) xs) is)
 blocks [] [] c s rest xs l = refl
 blocks [] (p ∷ ps) c s rest xs l = absurd (omega (arith, l))
 blocks (i ∷ is) [] c s rest xs l = absurd (omega (arith, l))
 blocks (i ∷ is) (p ∷ ps) c s rest xs l = rw (joined p _ _ _ (block i c s rest xs), blocks is ps c s rest xs (omega (arith, l))) refl
 
-plus-none : (p : List ℤ) (is xs : List ℕ) → length p ≡ length is → p ≡ plus_each p (map (λ i. group_sum i [] xs) is)
+plus-none : (p : List ℤ) (is xs : List ℕ) → length p ≡ length is → p ≡ plus_each p (map (λ i. labelled_sum i [] xs) is)
 plus-none [] is xs l = refl
 plus-none (p ∷ ps) [] xs l = absurd (omega (arith, l))
 plus-none (p ∷ ps) (i ∷ is) xs l = rw (← plus-none ps is xs (omega (arith, l)), plus-zero p) refl
@@ -82,7 +83,7 @@ pub length-labels : (k : ℕ) → length (labels k) ≡ k
 length-labels k = length-range_with_len 0 k
 
 pub length-sums : (k : ℕ) (scores : List ℤ) (xs : List ℕ) → length (group_sums k scores xs) ≡ k
-length-sums k scores xs = length-map (labels k) (λ i. group_sum i scores xs) ∙ length-labels k
+length-sums k scores xs = length-map (labels k) (λ i. labelled_sum i scores xs) ∙ length-labels k
 
 pub drop-head : (g : ℕ) (scores : List ℤ) (s : ℤ) (ss : List ℤ) → drop g scores ≡ s ∷ ss → (score_of scores g ≡ s) × (drop (g + 1) scores ≡ ss)
 drop-head zero [] s ss d = absurd (cc d)

@@ -4,7 +4,8 @@ use Rattle.std.specs.Prelude.{ℤ, pos, ◌+ℤ◌}
 use Rattle.std.proofs.lemmas.List.{get_or-map, length-take}
 use Rattle.std.proofs.lemmas.List.FromFn.{get_or-range_with_len}
 use Rattle.weights.specs.Labellings.{labels}
-use Rattle.k_sample_tests.specs.KruskalWallis.{group_sum, group_sums}
+use Rattle.scores.specs.Scores.{labelled_sum}
+use Rattle.k_sample_tests.specs.KruskalWallis.{group_sums}
 use Rattle.k_sample_tests.specs.RankSums.{plus_each}
 use Rattle.k_sample_tests.proofs.RankValues.{length-labels}
 
@@ -17,8 +18,8 @@ plus-at (p ∷ ps) (a ∷ rest) (suc i) l h = plus-at ps rest i (omega (arith, l
 pub part-at : (f : ℕ → ℤ) (xs : List ℕ) (i : ℕ) → i < length xs → get_or (map f xs) i (pos 0) ≡ f (get_or xs i 0)
 part-at f xs i h = get_or-map f xs i 0 (pos 0) h
 
-pub sum-at : (k i : ℕ) (scores : List ℤ) (xs : List ℕ) → i < k → get_or (group_sums k scores xs) i (pos 0) ≡ group_sum i scores xs
-sum-at k i scores xs h = part-at (λ i. group_sum i scores xs) (labels k) i (omega (arith, h, length-labels k)) ∙ ap (λ j. group_sum j scores xs) (get_or-range_with_len 0 k i 0 h ∙ none i)
+pub sum-at : (k i : ℕ) (scores : List ℤ) (xs : List ℕ) → i < k → get_or (group_sums k scores xs) i (pos 0) ≡ labelled_sum i scores xs
+sum-at k i scores xs h = part-at (λ i. labelled_sum i scores xs) (labels k) i (omega (arith, h, length-labels k)) ∙ ap (λ j. labelled_sum j scores xs) (get_or-range_with_len 0 k i 0 h ∙ none i)
   where
     none : (i : ℕ) → 0 + i ≡ i
     none i = omega arith

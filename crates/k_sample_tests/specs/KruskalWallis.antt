@@ -16,16 +16,9 @@ use Rattle.sample_reader.specs.PooledSample.{labels_of, pooled}
 use Rattle.stage_network.specs.Judged.{is_tail}
 use Rattle.pooled_columns.specs.PooledColumns.{pooled_values}
 
--- the sum of the scores of the subjects with the label i
-abbrev pub group_sum : ℕ → List ℤ → List ℕ → ℤ
-group_sum i [] xs = pos 0
-group_sum i (s ∷ scores) [] = pos 0
-group_sum i (s ∷ scores) (x ∷ xs) =
-    (if nat_eq x i then s else pos 0) +ℤ group_sum i scores xs
-
 -- of each of k groups
 abbrev pub group_sums : ℕ → List ℤ → List ℕ → List ℤ
-group_sums k scores xs = map (λ i. group_sum i scores xs) (labels k)
+group_sums k scores xs = map (λ i. labelled_sum i scores xs) (labels k)
 
 -- the least common multiple of the sizes, divided by each of them
 abbrev pub size_factors : List ℕ → List ℕ

@@ -5,9 +5,10 @@ ghost use Rattle.weights.specs.declared.TheConstants.{MAX};
 ghost use Rattle.completion_bounds.specs.Boxes.{factored_squares};
 ghost use Rattle.label_network.specs.LaterSums.{absolute_sum};
 ghost use Rattle.scores.specs.PlaceScores.{common_multiple};
-ghost use Rattle.k_sample_tests.specs.KruskalWallis.{group_sum, group_sums, size_factors, squares_statistic};
+ghost use Rattle.k_sample_tests.specs.KruskalWallis.{group_sums, size_factors, squares_statistic};
 
 use completion_bounds::box_bounds;
+use scores::labelled_sum;
 use std::alloc::Global;
 use weights::NoMemory;
 
@@ -28,37 +29,13 @@ pub(crate) fn size_factors(
     Ok(factors)
 }
 
-// A sum with the score of one more subject, where it is in the group.
-fn plus_member(sum: i128, score: i128, label: u8, group: u64) -> i128
-    requires { unsigned_abs sum + unsigned_abs score ≤ MAX }
-    ensures { result ≡ sum +ℤ (if nat_eq label group then score else pos 0) }
-{
-    if label as u64 == group {
-        sum + score
-    } else {
-        sum
-    }
-}
-
-// The sum of the scores of a group's subjects.
-fn group_sum(scores: &[i128], labels: &[u8], group: u64) -> i128
-    requires { absolute_sum scores.now ≤ MAX }
-    ensures { result ≡ group_sum group scores.now labels.now }
-{
-    let mut sum: i128 = 0;
-    for i in 0..scores.len().min(labels.len()) {
-        sum = plus_member(sum, scores[i], labels[i], group);
-    }
-    sum
-}
-
-// Writes those of the groups in their order.
+// Writes the sums of the scores of the groups, in their order.
 fn group_sums(scores: &[i128], labels: &[u8], sums: &mut [i128])
     requires { absolute_sum scores.now ≤ MAX }
     ensures { sums.new ≡ group_sums (length sums.old) scores.now labels.now }
 {
     for i in 0..sums.len() {
-        sums[i] = group_sum(scores, labels, i as u64);
+        sums[i] = labelled_sum(scores, labels, i as u64);
     }
 }
 

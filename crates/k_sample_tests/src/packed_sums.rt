@@ -8,9 +8,8 @@ ghost use Rattle.k_sample_tests.specs.PackedSums.{numeral, packed_meaning, unpac
 ghost use Rattle.k_sample_tests.specs.PackedSumSteps.{AreDigits, AreNarrow, ArePacked, IsHalf, sums_meaning};
 ghost use Rattle.k_sample_tests.specs.RankSums.{half_for, plus_each};
 
-use crate::pair_counts::only;
 use crate::rank_sums::RankSums;
-use label_network::Measure;
+use label_network::{Measure, only};
 use stage_network::Verdict;
 use weights::Tail;
 

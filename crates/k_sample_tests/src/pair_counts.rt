@@ -11,7 +11,7 @@ ghost use Rattle.k_sample_tests.specs.UmbrellaSteps.{IsCounting};
 
 use crate::pair_points::{column_points, signed, subject_pairs};
 use crate::used_pairs::UsedPair;
-use label_network::{Measure, read_sizes};
+use label_network::{Measure, only, plus, read_sizes};
 use stage_network::{Interval, Judge, Verdict};
 use std::alloc::Global;
 use weights::{NoMemory, Tail};
@@ -26,22 +26,6 @@ pub struct PairCounts {
     columns: Vec<u64>,
     judge: Judge,
     ghost right: { IsCounting pairs.items rows.items columns.items judge.rule },
-}
-
-#[inline(always)]
-pub(crate) fn only(numbers: &[i128]) -> i128
-    requires { length numbers.now ≡ 1 }
-    ensures { result ≡ so_far numbers.now }
-{
-    numbers[0]
-}
-
-#[inline(always)]
-fn plus(partial: i128, added: i128) -> i128
-    requires { unsigned_abs partial + unsigned_abs added ≤ MAX }
-    ensures { result ≡ partial +ℤ added }
-{
-    partial + added
 }
 
 impl PairCounts {

@@ -12,7 +12,7 @@ ghost use Rattle.k_sample_tests.specs.RankSumSteps.{AreAddable, AreEnough, AreRa
 
 use crate::group_sums::squares_of;
 use completion_bounds::{box_bounds, narrow_squares};
-use label_network::{End, LaterScores, Measure, read_sizes};
+use label_network::{End, LaterScores, Measure, count_times, plus, read_sizes};
 use stage_network::{Interval, Judge, Verdict};
 use std::alloc::Global;
 use weights::{NoMemory, Tail};
@@ -44,22 +44,6 @@ fn most_of(sizes: &[u64], all: u64) -> u64
     most
 }
 
-#[inline(always)]
-fn times(count: u64, score: i128) -> i128
-    requires { count * unsigned_abs score ≤ MAX }
-    ensures { result ≡ pos count *ℤ score }
-{
-    count as i128 * score
-}
-
-#[inline(always)]
-pub(crate) fn plus(sum: i128, added: i128) -> i128
-    requires { unsigned_abs sum + unsigned_abs added ≤ MAX }
-    ensures { result ≡ sum +ℤ added }
-{
-    sum + added
-}
-
 // Writes what subjects with one score add to each group.
 #[inline(always)]
 fn score_parts(score: i128, counts: &[u64], parts: &mut [i128])
@@ -68,7 +52,7 @@ fn score_parts(score: i128, counts: &[u64], parts: &mut [i128])
     ensures { parts.new ≡ score_parts score counts.now }
 {
     for i in 0..counts.len() {
-        parts[i] = times(counts[i], score);
+        parts[i] = count_times(counts[i], score);
     }
 }
 

@@ -10,7 +10,8 @@ ghost use Rattle.label_network.specs.LaterSums.{total_score};
 ghost use Rattle.two_sample_tests.specs.SubjectSteps.{AreBounded, IsScoredBy, second_marks};
 ghost use Rattle.two_sample_tests.specs.SampleSteps.{IsMadeOf};
 
-use crate::sums::{times, total_score};
+use crate::sums::total_score;
+use label_network::count_times;
 use pooled_columns::{Columns, columns_of};
 use sample_reader::{Groups, Subject, pooled_subjects, values};
 use scores::{ScoreFault, ScoreKind, Scored, labelled_sum, scored};
@@ -86,7 +87,7 @@ fn frame_of(subjects: &ScoredSubjects, second: u64, total: u128) -> Frame
 {
     let scores = subjects.scored.list.as_slice();
     let statistic = labelled_sum(scores, subjects.marks.as_slice(), 1);
-    let centre = times(second, total_score(scores));
+    let centre = count_times(second, total_score(scores));
     Frame {
         statistic,
         scale: subjects.scored.scale,

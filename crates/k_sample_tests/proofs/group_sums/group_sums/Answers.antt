@@ -1,3 +1,4 @@
+use Rattle.pooled_columns.proofs.AbsoluteSums.{sizes-are}
 use Rattle.std.proofs.Common.{◌∙◌, arith, length, rules, sym, FitsSigned}
 use Rattle.std.specs.Prelude.{pos}
 use mir.Syntax.{w128}
@@ -9,13 +10,16 @@ use Rattle.k_sample_tests.proofs.RankValues.{length-sums}
 use Rattle.k_sample_tests.proofs.RankWriting.{sum-at}
 use Rattle.k_sample_tests.proofs.group_sums.group_sums.Goals as goal
 
+pub labelled_sum-requires : goal.labelled_sum-requires
+labelled_sum-requires c = omega (arith, c.requires, sizes-are c.args.scores.now)
+
 pub loop-i-preserved : goal.loop-i-preserved
 loop-i-preserved c =
-    let s : FitsSigned w128 c.group_sum.result = search rules in
+    let s : FitsSigned w128 c.labelled_sum.result = search rules in
     record {
       long = search rules;
-      filled = grown c.loop-i.sums (group_sums (length c.args.sums.now) c.args.scores.now c.args.labels.now) c.loop-i.i (to_z w128 (of_z w128 c.group_sum.result)) (pos 0) (omega (arith, c.loop-i.invariant.long, c.loop-i-test.true)) (omega (arith, length-sums (length c.args.sums.now) c.args.scores.now c.args.labels.now, c.loop-i-test.true)) c.loop-i.invariant.filled
-          (to_z-of_z w128 c.group_sum.result s ∙ c.group_sum.ensures ∙ sym (sum-at (length c.args.sums.now) c.loop-i.i c.args.scores.now c.args.labels.now c.loop-i-test.true));
+      filled = grown c.loop-i.sums (group_sums (length c.args.sums.now) c.args.scores.now c.args.labels.now) c.loop-i.i (to_z w128 (of_z w128 c.labelled_sum.result)) (pos 0) (omega (arith, c.loop-i.invariant.long, c.loop-i-test.true)) (omega (arith, length-sums (length c.args.sums.now) c.args.scores.now c.args.labels.now, c.loop-i-test.true)) c.loop-i.invariant.filled
+          (to_z-of_z w128 c.labelled_sum.result s ∙ c.labelled_sum.ensures ∙ sym (sum-at (length c.args.sums.now) c.loop-i.i c.args.scores.now c.args.labels.now c.loop-i-test.true));
     }
 
 pub returns : goal.returns

@@ -12,22 +12,22 @@ use Rattle.k_sample_tests.proofs.RankNarrows.{length-parts}
 use Rattle.k_sample_tests.proofs.RankWriting.{part-at}
 use Rattle.k_sample_tests.proofs.rank_sums.score_parts.Goals as goal
 
-pub times-requires : goal.times-requires
-times-requires c =
+pub count_times-requires : goal.count_times-requires
+count_times-requires c =
     let s : FitsSigned w128 c.args.score = search rules in
     let part : get_or c.args.counts.now c.loop-i.i 0 * unsigned_abs c.args.score ≤ sum c.args.counts.now * unsigned_abs c.args.score = mul-le-mul_right (unsigned_abs c.args.score) (at-within c.args.counts.now c.loop-i.i) in
     rw (to_z-of_z w128 c.args.score s) (omega (arith, part, c.requires.fits))
 
 pub loop-i-preserved : goal.loop-i-preserved
 loop-i-preserved c =
-    let s : FitsSigned w128 c.times.result = search rules in
+    let s : FitsSigned w128 c.count_times.result = search rules in
     let v : FitsSigned w128 c.args.score = search rules in
-    let given = rw (to_z-of_z w128 c.args.score v) at c.times.ensures in
+    let given = rw (to_z-of_z w128 c.args.score v) at c.count_times.ensures in
     let filled = rw (to_z-of_z w128 c.args.score v) at c.loop-i.invariant.filled in
     rw (to_z-of_z w128 c.args.score v) (record {
       long = search rules;
-      filled = grown c.loop-i.parts (score_parts c.args.score c.args.counts.now) c.loop-i.i (to_z w128 (of_z w128 c.times.result)) (pos 0) (omega (arith, c.loop-i.invariant.long, c.loop-i-test.true)) (omega (arith, length-parts c.args.score c.args.counts.now, c.loop-i-test.true)) filled
-          (to_z-of_z w128 c.times.result s ∙ given ∙ sym (part-at (λ n. pos n *ℤ c.args.score) c.args.counts.now c.loop-i.i c.loop-i-test.true));
+      filled = grown c.loop-i.parts (score_parts c.args.score c.args.counts.now) c.loop-i.i (to_z w128 (of_z w128 c.count_times.result)) (pos 0) (omega (arith, c.loop-i.invariant.long, c.loop-i-test.true)) (omega (arith, length-parts c.args.score c.args.counts.now, c.loop-i-test.true)) filled
+          (to_z-of_z w128 c.count_times.result s ∙ given ∙ sym (part-at (λ n. pos n *ℤ c.args.score) c.args.counts.now c.loop-i.i c.loop-i-test.true));
     })
 
 pub returns : goal.returns

@@ -15,8 +15,8 @@ labelled_sum-statistic-requires c = rw c.as_slice-scores.ensures (sum-within _ _
 pub total_score-requires : goal.total_score-requires
 total_score-requires c = rw c.as_slice-scores.ensures (sum-within _ _ c.requires.some c.requires.bound)
 
-pub times-centre-requires : goal.times-centre-requires
-times-centre-requires c =
+pub count_times-centre-requires : goal.count_times-centre-requires
+count_times-centre-requires c =
     let t : FitsSigned w128 c.total_score.result = search rules in
     let whole : to_z w128 (of_z w128 c.total_score.result) ≡ total_score c.args.subjects.now.scored.list = to_z-of_z w128 c.total_score.result t ∙ c.total_score.ensures ∙ ap total_score c.as_slice-scores.ensures in
     rw whole (centre-fits c.args.second c.args.subjects.now.scored.list c.requires.within c.requires.few c.requires.bound)
@@ -25,8 +25,8 @@ pub far-requires : goal.far-requires
 far-requires c =
     let t : FitsSigned w128 c.total_score.result = search rules in
     let whole : to_z w128 (of_z w128 c.total_score.result) ≡ total_score c.args.subjects.now.scored.list = to_z-of_z w128 c.total_score.result t ∙ c.total_score.ensures ∙ ap total_score c.as_slice-scores.ensures in
-    let r : FitsSigned w128 c.times-centre.result = search rules in
-    let centre : to_z w128 (of_z w128 c.times-centre.result) ≡ pos c.args.second *ℤ total_score c.args.subjects.now.scored.list = to_z-of_z w128 c.times-centre.result r ∙ c.times-centre.ensures ∙ ap (λ z. pos c.args.second *ℤ z) whole in
+    let r : FitsSigned w128 c.count_times-centre.result = search rules in
+    let centre : to_z w128 (of_z w128 c.count_times-centre.result) ≡ pos c.args.second *ℤ total_score c.args.subjects.now.scored.list = to_z-of_z w128 c.count_times-centre.result r ∙ c.count_times-centre.ensures ∙ ap (λ z. pos c.args.second *ℤ z) whole in
     let v : FitsSigned w128 c.labelled_sum-statistic.result = search rules in
     let statistic : to_z w128 (of_z w128 c.labelled_sum-statistic.result) ≡ labelled_sum 1 c.args.subjects.now.scored.list c.args.subjects.now.marks = to_z-of_z w128 c.labelled_sum-statistic.result v ∙ c.labelled_sum-statistic.ensures ∙ ap (λ ss. labelled_sum 1 ss c.as_slice.result.now) c.as_slice-scores.ensures ∙ ap (labelled_sum 1 c.args.subjects.now.scored.list) c.as_slice.ensures in
     rw (c.as_slice-scores.ensures, centre, statistic) (far-fits c.args.second c.args.subjects.now.scored.list c.requires.within c.requires.few c.requires.bound 0 (omega arith) (labelled_sum 1 c.args.subjects.now.scored.list c.args.subjects.now.marks) (labelled-within 1 c.args.subjects.now.scored.list c.args.subjects.now.marks))
@@ -35,8 +35,8 @@ pub returns : goal.returns
 returns c =
     let t : FitsSigned w128 c.total_score.result = search rules in
     let whole : to_z w128 (of_z w128 c.total_score.result) ≡ total_score c.args.subjects.now.scored.list = to_z-of_z w128 c.total_score.result t ∙ c.total_score.ensures ∙ ap total_score c.as_slice-scores.ensures in
-    let r : FitsSigned w128 c.times-centre.result = search rules in
-    let centre : to_z w128 (of_z w128 c.times-centre.result) ≡ pos c.args.second *ℤ total_score c.args.subjects.now.scored.list = to_z-of_z w128 c.times-centre.result r ∙ c.times-centre.ensures ∙ ap (λ z. pos c.args.second *ℤ z) whole in
+    let r : FitsSigned w128 c.count_times-centre.result = search rules in
+    let centre : to_z w128 (of_z w128 c.count_times-centre.result) ≡ pos c.args.second *ℤ total_score c.args.subjects.now.scored.list = to_z-of_z w128 c.count_times-centre.result r ∙ c.count_times-centre.ensures ∙ ap (λ z. pos c.args.second *ℤ z) whole in
     let v : FitsSigned w128 c.labelled_sum-statistic.result = search rules in
     let statistic : to_z w128 (of_z w128 c.labelled_sum-statistic.result) ≡ labelled_sum 1 c.args.subjects.now.scored.list c.args.subjects.now.marks = to_z-of_z w128 c.labelled_sum-statistic.result v ∙ c.labelled_sum-statistic.ensures ∙ ap (λ ss. labelled_sum 1 ss c.as_slice.result.now) c.as_slice-scores.ensures ∙ ap (labelled_sum 1 c.args.subjects.now.scored.list) c.as_slice.ensures in
     rw (statistic, c.far.ensures, c.as_slice-scores.ensures, centre, statistic) refl
