@@ -5,7 +5,9 @@ use Rattle.std.proofs.lemmas.List.Sums.{sum_by-cons, sum_by-drop_more, sum_by-ta
 use Rattle.std.proofs.lemmas.List.Elements.{All-contains, All-from_recursion}
 use Rattle.weights.specs.Grouped.{fits, choices}
 use Rattle.label_network.specs.ChoiceOrder.{later_choices}
-use Rattle.label_network.specs.LabelSteps.{least, after_or, choice_after, choices_from}
+use Rattle.std.specs.Prelude.{ℤ}
+use Rattle.label_network.specs.LabelSteps.{AreSizes, least, after_or, choice_after, choices_from}
+use Rattle.label_network.specs.Meanings.{sizes_in}
 use Rattle.weights.proofs.ChoiceLists.{IsChoice, choices-each}
 use Rattle.label_network.proofs.LaterChoices.{next-later}
 use Rattle.std.proofs.lemmas.List.{take_all, length-drop, length-set, append-nil}
@@ -79,8 +81,22 @@ put_back x y i a h =
     let front : take (i + 1) (set x i a) ≡ take i x ++ a ∷ [] = rw add-one (take-suc-set x i a h) in
     rw (front, append_assoc) refl
 
-pub take_rest : (i : ℕ) (x : List ℕ) → take (length x - i) (drop i x) ≡ drop i x
-take_rest i x = take_all (length x - i) (drop i x) (omega (arith, length-drop {A = ℕ}))
+pub take_rest : {X : Type 0} (i : ℕ) (xs : List X) → take (length xs - i) (drop i xs) ≡ drop i xs
+take_rest {X = X} i xs = take_all (length xs - i) (drop i xs) (omega (arith, length-drop {A = X}))
+
+-- the sizes of the rows from a place on
+pub drop-sizes : (i : ℕ) (zs : List ℤ) → sizes_in (drop i zs) ≡ drop i (sizes_in zs)
+drop-sizes zero zs = refl
+drop-sizes (suc i) [] = refl
+drop-sizes (suc i) (z ∷ zs) = drop-sizes i zs
+
+pub sizes-drop : (i : ℕ) (zs : List ℤ) → AreSizes zs → AreSizes (drop i zs)
+sizes-drop zero zs s = s
+sizes-drop (suc i) [] s = s
+sizes-drop (suc i) (z ∷ zs) s = sizes-drop i zs (record { each = λ j h. s.each (suc j) (omega (arith, h)) })
+
+pub rest-sizes : (i : ℕ) (zs : List ℤ) → sizes_in (take (length zs - i) (drop i zs)) ≡ drop i (sizes_in zs)
+rest-sizes i zs = ap sizes_in (take_rest i zs) ∙ drop-sizes i zs
 
 put_end : (a : ℕ) (xs ys : List ℕ) → a ≤ length xs → put_mid a (length xs - a) xs ys ≡ take a xs ++ ys
 put_end a xs ys h =

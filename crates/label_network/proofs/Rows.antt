@@ -131,3 +131,10 @@ get-within [] (a ∷ x) i f = absurd (cc f)
 get-within (r ∷ rs) [] i f = absurd (cc f)
 get-within (r ∷ rs) (a ∷ x) zero f = leb-true a r (first_and (nat_le a r) (fits x rs) f).0
 get-within (r ∷ rs) (a ∷ x) (suc i) f = get-within rs x i (first_and (nat_le a r) (fits x rs) f).1
+
+-- the sum of a front, one place more
+pub sum-more : (xs : List ℕ) (i : ℕ) → i < length xs → sum (take (i + 1) xs) ≡ sum (take i xs) + get_or xs i 0
+sum-more xs i h = omega (arith, sum_by-take-drop (λ v. v) xs i, sum_by-take-drop (λ v. v) xs (i + 1), sum_by-drop_more (λ v. v) xs i 0 h)
+
+pub sum-front : (xs : List ℕ) (i : ℕ) → sum (take i xs) ≤ sum xs
+sum-front xs i = omega (arith, sum_by-take-drop (λ v. v) xs i)

@@ -1,23 +1,14 @@
-// The sizes in a key: read, written, taken from, and what is chosen and counted of them.
-ghost use Rattle.std.specs.Prelude.{◌≡◌, ◌+◌, ◌-◌, ◌^◌, ◌<◌, ◌≤◌, [], ◌∷◌, length, map, nat_abs, pos, true, if◌then◌else◌};
-ghost use Rattle.std.specs.List.{sum, Contains};
-ghost use Rattle.weights.specs.Grouped.{choices, fits, minus};
+// The sizes in a key: read, written, taken from and counted.
+ghost use Rattle.std.specs.Prelude.{◌≡◌, ◌-◌, ◌^◌, ◌<◌, ◌≤◌, length, map, nat_abs, pos, true};
+ghost use Rattle.std.specs.List.{sum};
+ghost use Rattle.weights.specs.Grouped.{fits, minus};
 ghost use Rattle.weights.specs.Labellings.{number_of_labellings};
 ghost use Rattle.weights.specs.declared.TheConstants.{MAX};
-ghost use Rattle.label_network.specs.ChoiceOrder.{later_choices};
-ghost use Rattle.label_network.specs.LabelSteps.{AreSizes, IsHeld, IsSize, least};
+ghost use Rattle.label_network.specs.LabelSteps.{AreSizes, IsHeld, IsSize};
 ghost use Rattle.label_network.specs.Meanings.{sizes_in};
 
-use crate::choice_order::{first_counts, next_counts, total_of};
+use crate::choice_order::{size_in, total_of};
 use crate::ways::Ways;
-
-#[inline(always)]
-fn size_in(number: i128) -> u64
-    requires { IsSize number }
-    ensures { result ≡ nat_abs number }
-{
-    number as u64
-}
 
 /// Writes the sizes that the numbers of a key stand for.
 pub fn read_sizes(front: &[i128], sizes: &mut [u64])
@@ -58,35 +49,6 @@ pub fn take_away(front: &[i128], choice: &[u64], left: &mut [i128])
     for i in 0..front.len() {
         left[i] = less(front[i], choice[i]);
     }
-}
-
-pub fn first_in(column: u64, front: &[i128], choice: &mut [u64])
-    requires few { length front.now ≤ 8 }
-    requires sizes { AreSizes front.now }
-    requires small { sum (sizes_in front.now) < 2 ^ 64 }
-    requires enough { column ≤ sum (sizes_in front.now) }
-    requires room { length choice.old ≡ length front.now }
-    ensures { choice.new ≡ least column (sizes_in front.now) }
-{
-    let mut numbers = [0u64; 8];
-    let sizes = &mut numbers[..front.len()];
-    read_sizes(front, sizes);
-    first_counts(column, sizes, choice);
-}
-
-pub fn next_in(column: u64, front: &[i128], choice: &mut [u64]) -> bool
-    requires few { length front.now ≤ 8 }
-    requires sizes { AreSizes front.now }
-    requires small { sum (sizes_in front.now) < 2 ^ 64 }
-    requires allowed { Contains (choices column (sizes_in front.now)) choice.old }
-    ensures { let rest = later_choices column (sizes_in front.now) choice.new in
-        later_choices column (sizes_in front.now) choice.old
-        ≡ (if result then choice.new ∷ rest else []) }
-{
-    let mut numbers = [0u64; 8];
-    let sizes = &mut numbers[..front.len()];
-    read_sizes(front, sizes);
-    next_counts(column, sizes, choice)
 }
 
 // How many labellings there are of the sizes that remain.

@@ -3,7 +3,8 @@ ghost use Rattle.std.specs.Prelude.{◌≡◌, IfOk, length};
 ghost use Rattle.label_network.specs.LabelNetwork.{IsMargin, label_network};
 ghost use Rattle.label_network.specs.Meanings.{sizes_in};
 
-use crate::keys::{first_in, next_in, rest_in, take_away, weight_in, write_sizes};
+use crate::choice_order::{first_counts, next_counts};
+use crate::keys::{rest_in, take_away, weight_in, write_sizes};
 use crate::measure::Measure;
 use crate::ways::Ways;
 use stage_network::{Roomed, Stages, Verdict, behind, front};
@@ -88,12 +89,12 @@ impl<M: Measure> Stages for LabelStages<M> {
         if stage >= self.columns.len() {
             return false;
         }
-        first_in(self.columns[stage], front(key, self.rows.len()), choice);
+        first_counts(self.columns[stage], front(key, self.rows.len()), choice);
         true
     }
 
     fn next_choice(&self, stage: usize, key: &[i128], choice: &mut [u64]) -> bool {
-        next_in(self.columns[stage], front(key, self.rows.len()), choice)
+        next_counts(self.columns[stage], front(key, self.rows.len()), choice)
     }
 
     fn apply(&self, stage: usize, key: &[i128], choice: &[u64], next: &mut [i128]) -> u128 {

@@ -1,6 +1,7 @@
 use Rattle.std.proofs.Common.{◌≡◌, ℕ, ◌≤◌, List, ◌++◌, length, take, drop}
 use Rattle.std.specs.List.{sum}
 use Rattle.label_network.specs.LabelSteps.{least}
+use Rattle.label_network.specs.Meanings.{sizes_in}
 use Rattle.label_network.proofs.choice_order.first_counts.Given as goal
 
 pub record Filled (total : ℕ) (sizes counts : List ℕ) (i later left : ℕ) : Type 0 where
@@ -10,4 +11,4 @@ pub record Filled (total : ℕ) (sizes counts : List ℕ) (i later left : ℕ) :
   pub same : take i counts ++ least left (drop i sizes) ≡ least total sizes
 
 abbrev pub invariant-loop-i : goal.invariant-loop-i
-invariant-loop-i l = Filled l.total l.sizes l.counts l.i l.later l.left
+invariant-loop-i l = Filled l.total (sizes_in l.sizes) l.counts l.i l.later l.left

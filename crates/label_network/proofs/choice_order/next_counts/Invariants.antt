@@ -1,6 +1,7 @@
 use Rattle.std.proofs.Common.{◌≡◌, ℕ, ◌≤◌, List, length, drop, None}
 use Rattle.std.specs.List.{sum}
 use Rattle.label_network.specs.LabelSteps.{choice_after}
+use Rattle.label_network.specs.Meanings.{sizes_in}
 use Rattle.label_network.proofs.choice_order.next_counts.Given as goal
 
 pub record Searched (sizes before counts : List ℕ) (i later : ℕ) : Type 0 where
@@ -10,7 +11,7 @@ pub record Searched (sizes before counts : List ℕ) (i later : ℕ) : Type 0 wh
   pub none : choice_after later (drop i sizes) (drop i counts) ≡ None
 
 abbrev pub invariant-loop-i : goal.invariant-loop-i
-invariant-loop-i l = Searched l.sizes l.fn.counts l.counts l.i l.later
+invariant-loop-i l = Searched (sizes_in l.sizes) l.fn.counts l.counts l.i l.later
 
 abbrev pub decreases-loop-i : goal.decreases-loop-i
 decreases-loop-i l = l.i
