@@ -164,6 +164,7 @@ impl PackedSums {
         requires small { all < half_for (length sums.rows.items) }
         ensures sums { result.sums ≡ sums }
         ensures half { result.half ≡ half_for (length sums.rows.items) }
+        ensures narrow { result.narrow ≡ (nat_lt all (2 ^ 31) && nat_lt sums.bound (2 ^ 124)) }
     {
         let groups = sums.slots();
         PackedSums {

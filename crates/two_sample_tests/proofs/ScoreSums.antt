@@ -1,5 +1,5 @@
 -- Sums of scores: how large they are, and one subject after another.
-use Rattle.std.proofs.Common.{◌≡◌, ℕ, zero, suc, ◌+◌, ◌<◌, ◌≤◌, Bool, true, false, cond, List, [], ◌∷◌, length, drop, get_or, refl, sym, ◌∙◌, ap, arith, add-one, drop-cons, drop_of_length-le, nat_eq}
+use Rattle.std.proofs.Common.{◌≡◌, ℕ, zero, suc, ◌+◌, ◌<◌, ◌≤◌, Bool, true, false, cond, List, [], ◌∷◌, length, drop, get_or, refl, ap, arith, add-one, drop-cons, drop_of_length-le, nat_eq}
 use Rattle.std.specs.Prelude.{ℤ, pos, ◌+ℤ◌, unsigned_abs, nat_abs}
 use Rattle.std.proofs.lemmas.Int.{ints}
 use Rattle.std.proofs.lemmas.List.Sums.{sum_by-cons}
