@@ -48,7 +48,8 @@ use Rattle.two_sample_tests.specs.declared.scored_samples.ScoredSubjects.{Scored
 use Rattle.two_sample_tests.specs.TwoSamples.{TwoSamples, pooled_scores, score_test, two_sample_test}
 use Rattle.pooled_columns.proofs.PooledValues.{length-pooled, pooled-rises}
 use Rattle.pooled_columns.proofs.TieColumns.{grouped}
-use Rattle.two_sample_tests.proofs.ScoreSums.{by-marks, sizes-are, total-within}
+use Rattle.pooled_columns.proofs.ScoreSizes.{sizes-are}
+use Rattle.two_sample_tests.proofs.ScoreSums.{by-marks, total-within}
 use Rattle.two_sample_tests.proofs.ColumnValues.{value-is}
 
 abs-minus : (a c : ℤ) → unsigned_abs (a -ℤ c) ≤ unsigned_abs a + unsigned_abs c
