@@ -3,7 +3,7 @@
 -- test (the same chapter), the randomization test of differences (Fisher, The Design of
 -- Experiments, 1935) and the test of the discordant pairs of a table (McNemar, Psychometrika 12,
 -- 1947). All are conditional on the absolute differences, and leave out those that are zero.
-use Rattle.std.specs.Prelude.{ℕ, ℤ, pos, ◌-ℤ◌, ◌*◌, nat_abs, List, [], ◌∷◌, ◌++◌, length, map, replicate, not, int_lt, slice_index, if◌then◌else◌}
+use Rattle.std.specs.Prelude.{ℕ, ℤ, pos, ◌-ℤ◌, ◌*◌, nat_abs, List, ◌++◌, length, map, replicate, not, int_lt, slice_index, if◌then◌else◌}
 use Rattle.std.specs.List.{filter}
 use Rattle.std.specs.Ordering.{int_eq}
 use Rattle.weights.specs.Conditional.{ConditionalTest, by_distance, every_tail, unit_weight}

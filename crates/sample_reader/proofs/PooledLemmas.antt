@@ -5,7 +5,6 @@ use Rattle.std.specs.Cmp.{IsTotalOrder, int_cmp_total, nat_cmp_total}
 use Rattle.std.proofs.lemmas.Cmp.{on_total, then_total}
 use Rattle.std.proofs.lemmas.Map.Lookups.{CmpEqualImpliesEq, exact_pairs, exact_signed, exact_unsigned}
 use Rattle.sample_reader.specs.PooledSample.{subject, subject_cmp, paired_subjects}
-use Rattle.sample_reader.specs.declared.subjects.Subject.{Subject}
 
 pub subjects-total : IsTotalOrder subject_cmp
 subjects-total = then_total (on_total (λ s. s.value) int_cmp_total) (on_total (λ s. s.label) nat_cmp_total)

@@ -42,16 +42,16 @@ labelled-none label (s ∷ scores) = refl
 
 -- ---- one subject after another
 
-zero-plus : (t : ℤ) → pos 0 +ℤ t ≡ t
+pub zero-plus : (t : ℤ) → pos 0 +ℤ t ≡ t
 zero-plus t = omega (arith, ints)
 
-joined : (s t p r all : ℤ) → s +ℤ t ≡ all → t ≡ p +ℤ r → (s +ℤ p) +ℤ r ≡ all
+pub joined : (s t p r all : ℤ) → s +ℤ t ≡ all → t ≡ p +ℤ r → (s +ℤ p) +ℤ r ≡ all
 joined s t p r all a b = omega (arith, ints, a, b)
 
-ended : (s t all : ℤ) → s +ℤ t ≡ all → t ≡ pos 0 → s ≡ all
+pub ended : (s t all : ℤ) → s +ℤ t ≡ all → t ≡ pos 0 → s ≡ all
 ended s t all a b = omega (arith, ints, a, b)
 
-size-more : (scores : List ℤ) (i : ℕ) → i < length scores → absolute_sum (drop i scores) ≡ unsigned_abs (get_or scores i (pos 0)) + absolute_sum (drop (i + 1) scores)
+pub size-more : (scores : List ℤ) (i : ℕ) → i < length scores → absolute_sum (drop i scores) ≡ unsigned_abs (get_or scores i (pos 0)) + absolute_sum (drop (i + 1) scores)
 size-more scores i h = rw (add-one, drop-cons scores i (pos 0) h) (sum_by-cons nat_abs (get_or scores i (pos 0)) (drop (suc i) scores))
 
 -- what the scores before place i sum to, of those with the label

@@ -65,6 +65,7 @@ labelled_sum label (s ∷ scores) [] = pos 0
 labelled_sum label (s ∷ scores) (l ∷ labels) =
     (if nat_eq l label then s else pos 0) +ℤ labelled_sum label scores labels
 
+-- the sum of the absolute scores of a kind
 abbrev pub score_sum : ScoreKind → List ℤ → ℕ
 score_sum kind values = absolute_sum (score_list kind values)
 

@@ -1,5 +1,5 @@
 //! Scores of values: what each value of a list counts for in a test, as whole numbers over one
-//! scale.
+//! scale, and their sum over the subjects with a label.
 #![tactic(auto)]
 
 mod averages;

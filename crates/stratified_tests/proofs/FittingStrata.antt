@@ -1,13 +1,13 @@
 -- What holds of a test of strata whose total and bound pass no limit, and where it is refused.
-use Rattle.std.proofs.Common.{◌≡◌, ℕ, zero, suc, ◌+◌, ◌-◌, ◌*◌, ◌/◌, ◌<◌, ◌≤◌, Bool, true, false, cond, List, [], ◌∷◌, ◌++◌, append_assoc, length, length-append, length-take, take, drop, get_or, map, replicate, nat_eq, Some, None, Err, refl, sym, ◌∙◌, ap, subst, arith, lit≤, inl, inr, add-one, drop-cons}
-use Rattle.std.specs.Prelude.{ℤ, pos, ◌-ℤ◌, ◌*ℤ◌, nat_abs, slice_index, All}
-use Rattle.std.specs.List.{AllByRecursion, concat, count_by, sum_by}
+use Rattle.std.proofs.Common.{◌≡◌, ℕ, zero, suc, ◌+◌, ◌-◌, ◌*◌, ◌/◌, ◌<◌, ◌≤◌, cond, List, [], ◌∷◌, ◌++◌, length, length-append, length-take, take, drop, get_or, map, replicate, nat_eq, Some, None, refl, sym, ◌∙◌, ap, subst, arith, lit≤, inl, inr, add-one, drop-cons}
+use Rattle.std.specs.Prelude.{ℤ, pos, ◌-ℤ◌, ◌*ℤ◌, nat_abs, All}
+use Rattle.std.specs.List.{AllByRecursion, concat, sum_by}
 use Rattle.std.proofs.Math.IntN.{zero-*ℤ}
 use Rattle.std.proofs.Math.Nat.{div-mul-le_self, mul-le-mul, mul-le-mul_left, mul-le-mul_right}
-use Rattle.std.proofs.Math.Seq.{drop-append_seam, take-append_seam}
+use Rattle.std.proofs.Math.Seq.{take-append_seam}
 use Rattle.std.proofs.lemmas.Bool.{cases_lt, le-ltb, lt-ltb}
 use Rattle.std.proofs.lemmas.Int.{ints}
-use Rattle.std.proofs.lemmas.List.{get_or-drop, get_or-take, length-replicate, take-append-le}
+use Rattle.std.proofs.lemmas.List.{get_or-drop, get_or-take, length-replicate}
 use Rattle.std.proofs.lemmas.List.Elements.{All-from_recursion, recursion_from_All}
 use Rattle.std.proofs.lemmas.List.Sums.{count_by-le-length, sum_by-append, sum_by-cons}
 use Rattle.weights.specs.declared.rules.Rule.TheVariants.{Far}
@@ -17,17 +17,17 @@ use Rattle.weights.specs.declared.TheConstants.{MAX}
 use Rattle.weights.specs.declared.wide.WideOf.TheVariants.{Total, Statistic}
 use Rattle.weights.specs.Conditional.{distance, total, unit_weight}
 use Rattle.weights.specs.Frames.{IsFrameOf, IsShown, RulesFit}
-use Rattle.weights.specs.Rules.{RuleFits, measured, rule_of}
+use Rattle.weights.specs.Rules.{RuleFits, rule_of}
 use Rattle.weights.specs.Wide.{too_wide}
 use Rattle.stage_network.specs.Follows.{Follows}
 use Rattle.stratified_tests.specs.declared.stratum.Stratum.{Stratum}
-use Rattle.stratified_tests.specs.Strata.{first_column, first_row, greatest_cell, least_cell, second_row, size, strata_in, strata_of, stratum_of}
+use Rattle.stratified_tests.specs.Strata.{first_column, first_row, greatest_cell, least_cell, size, strata_in, strata_of}
 use Rattle.stratified_tests.specs.StrataTests.{centre_by, first_cell, first_cells, multiple_of, own_labels, stratified_test}
 use Rattle.stratified_tests.specs.StrataNetwork.{stratified_network, stratum_at}
 use Rattle.stratified_tests.specs.StrataSteps.{AreFitting, AreStages, IsSmall, greatest_sum, labelled_in_all}
 use Rattle.stratified_tests.proofs.CellSums.{zeros_in}
 use Rattle.stratified_tests.proofs.Multiples.{multiple-many}
-use Rattle.stratified_tests.proofs.StrataLaws.{all-some, cells-joined, cells-meet, measured-is, strata-follow, total-is}
+use Rattle.stratified_tests.proofs.StrataLaws.{all-some, cells-joined, measured-is, strata-follow, total-is}
 
 -- ---- sums
 

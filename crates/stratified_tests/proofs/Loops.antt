@@ -1,18 +1,18 @@
 -- Steps of the loops over strata.
-use Rattle.std.proofs.Common.{◌≡◌, ℕ, zero, suc, ◌+◌, ◌-◌, ◌*◌, ◌/◌, ◌<◌, ◌≤◌, List, [], ◌∷◌, ◌++◌, append_assoc, append-nil, length, take, drop, get_or, map, nat_eq, cond, Bool, refl, sym, ◌∙◌, ap, arith, add-one, drop-cons}
-use Rattle.std.specs.Prelude.{min, slice_index}
-use Rattle.std.specs.List.{AllByRecursion, sum_by}
+use Rattle.std.proofs.Common.{◌≡◌, ℕ, zero, suc, ◌+◌, ◌-◌, ◌*◌, ◌/◌, ◌<◌, ◌≤◌, List, [], ◌∷◌, ◌++◌, append_assoc, append-nil, length, take, drop, get_or, nat_eq, cond, refl, sym, ◌∙◌, ap, arith, add-one, drop-cons}
+use Rattle.std.specs.Prelude.{min}
+use Rattle.std.specs.List.{sum_by}
 use Rattle.std.proofs.Math.Nat.{mul-le-mul, mul-le-mul_left, mul-le-mul_right}
-use Rattle.std.proofs.lemmas.List.{drop_min, get_or-drop, get_or-take, take_min}
+use Rattle.std.proofs.lemmas.List.{drop_min, get_or-drop, get_or-take}
 use Rattle.weights.specs.Numbers.{lcm}
 use Rattle.weights.specs.declared.TheConstants.{MAX}
 use Rattle.stratified_tests.specs.declared.stratum.Stratum.{Stratum}
-use Rattle.stratified_tests.specs.Strata.{first_column, first_row, size, strata_in, strata_of, stratum_of}
-use Rattle.stratified_tests.specs.StrataTests.{centre_by, first_cell, first_cells, multiple_of}
+use Rattle.stratified_tests.specs.Strata.{size, strata_in, strata_of, stratum_of}
+use Rattle.stratified_tests.specs.StrataTests.{first_cell, first_cells, multiple_of}
 use Rattle.stratified_tests.specs.StrataNetwork.{stratum_at}
-use Rattle.stratified_tests.specs.StrataSteps.{IsSmall, first_labels, labelled, labelled_in_all}
-use Rattle.stratified_tests.proofs.StrataLaws.{all-some, labelled-some, no-labels}
-use Rattle.stratified_tests.proofs.FittingStrata.{cell-within, centre-within, cells-within, sum-end, sum-step}
+use Rattle.stratified_tests.specs.StrataSteps.{first_labels, labelled, labelled_in_all}
+use Rattle.stratified_tests.proofs.StrataLaws.{all-some, labelled-some}
+use Rattle.stratified_tests.proofs.FittingStrata.{cells-within, sum-end, sum-step}
 use Rattle.stratified_tests.proofs.Multiples.{last-within}
 use Rattle.stratified_tests.proofs.StrataWalk.{own_first}
 

@@ -1,7 +1,7 @@
 -- The network of strata keeps the laws, and its stages are the labellings of the strata, grouped by their first cells.
-use Rattle.std.proofs.Common.{◌≡◌, ℕ, zero, suc, ◌+◌, ◌-◌, ◌*◌, ◌<◌, ◌≤◌, Bool, true, false, cond, List, [], ◌∷◌, ◌++◌, length, length-append, drop, take, map, get_or, set, refl, sym, ◌∙◌, ap, subst, arith, add-one, suc-add, nat_eq, inl, inr}
-use Rattle.std.specs.Prelude.{ℤ, pos, ◌+ℤ◌, ◌≤ℤ◌, min, max, nat_abs, slice_index, Contains, All}
-use Rattle.std.specs.List.{AllByRecursion, concat, count_by, range_with_len, sum, sum_by}
+use Rattle.std.proofs.Common.{◌≡◌, ℕ, zero, suc, ◌+◌, ◌-◌, ◌*◌, ◌<◌, ◌≤◌, List, [], ◌∷◌, ◌++◌, length, drop, take, map, get_or, set, refl, sym, ◌∙◌, ap, subst, arith, add-one, suc-add}
+use Rattle.std.specs.Prelude.{ℤ, pos, ◌+ℤ◌, slice_index, Contains}
+use Rattle.std.specs.List.{AllByRecursion, concat, range_with_len, sum, sum_by}
 use Rattle.std.proofs.Math.Nat.{mul-le-mul, mul-le-mul_left, mul-le-mul_right}
 use Rattle.std.proofs.Math.Seq.{drop-append_seam}
 use Rattle.std.proofs.lemmas.Int.{ints}
@@ -14,15 +14,14 @@ use Rattle.weights.specs.declared.tails.Tail.{Tail}
 use Rattle.weights.specs.declared.tails.Tail.TheVariants.{Less, Greater, Two}
 use Rattle.weights.specs.declared.TheConstants.{MAX}
 use Rattle.weights.specs.Conditional.{total, unit_weight}
-use Rattle.weights.specs.Labellings.{labellings, product}
 use Rattle.weights.specs.Numbers.{binomial}
 use Rattle.weights.specs.Rules.{RuleFits, measured, rule_of}
 use Rattle.weights.proofs.Binomials.{binomial-positive}
 use Rattle.weights.proofs.Filters.{all_map, all_weaker}
 use Rattle.weights.proofs.FirstLabel.{number_of_labellings-positive}
-use Rattle.weights.proofs.Members.{IsLabelling, labelling_from, range-below}
+use Rattle.weights.proofs.Members.{labelling_from, range-below}
 use Rattle.weights.proofs.Sums.{sum_by-map, sum_by-one, sum_by-same}
-use Rattle.stage_network.specs.Addends.{Addends, additive_network, first_sum, high, low, over_earlier, over_stages, reach, stage_total, stride, totals, value_of, zeros}
+use Rattle.stage_network.specs.Addends.{Addends, first_sum, high, low, over_earlier, over_stages, reach, stage_total, stride, totals, zeros}
 use Rattle.stage_network.specs.Follows.{Follows}
 use Rattle.stage_network.specs.SoundAddends.{AddsBetween, IsAdditive}
 use Rattle.stage_network.proofs.AdditiveFollows.{additive_follows}
@@ -30,7 +29,7 @@ use Rattle.stage_network.proofs.Flat.{AllAt, AllParts, IsJoined, total_flat}
 use Rattle.stage_network.proofs.Parts.{AreStages as AreParts, IsStage, Pieces, product_weight, summed}
 use Rattle.stratified_tests.specs.declared.stratum.Stratum.{Stratum}
 use Rattle.stratified_tests.specs.Strata.{first_column, first_row, greatest_cell, least_cell, second_row, size}
-use Rattle.stratified_tests.specs.StrataTests.{first_cell, first_cells, row_labellings, strata_labellings, stratified_test}
+use Rattle.stratified_tests.specs.StrataTests.{first_cell, first_cells, row_labellings, stratified_test}
 use Rattle.stratified_tests.specs.StrataNetwork.{cell_weight, cells_from, strata_addends, stratified_network, stratum_at}
 use Rattle.stratified_tests.specs.StrataSteps.{AreStages, IsSmall, greatest_sum, labelled, labelled_in_all}
 use Rattle.stratified_tests.proofs.CellSums.{allowed_cells, by_cells, divided}

@@ -1,12 +1,11 @@
 -- The walk through the labellings of strata, stratum by stratum.
 use Rattle.std.proofs.Common.{◌≡◌, ℕ, suc, ◌+◌, ◌-◌, ◌≤◌, List, [], ◌∷◌, ◌++◌, append-nil, length, take, drop, map, replicate, Bool, true, false, refl, sym, ◌∙◌, ap, subst, arith, length-append, length-drop}
 use Rattle.std.specs.Prelude.{Contains, Result, Ok, Err, IfOk}
-use Rattle.std.specs.List.{AllByRecursion, concat, sum, sum_by}
+use Rattle.std.specs.List.{AllByRecursion, sum_by}
 use Rattle.std.proofs.Math.Seq.{drop-append_seam, take-append_seam, take-length}
 use Rattle.std.proofs.lemmas.List.{take-append-drop}
 use Rattle.std.proofs.lemmas.List.Elements.{All-contains, All-contains_itself, All-from_recursion, recursion_from_All}
 use Rattle.std.proofs.lemmas.List.Sums.{sum_by-cons}
-use Rattle.weights.specs.Labellings.{labellings, product}
 use Rattle.weights.proofs.Filters.{all_append, all_map, all_weaker}
 use Rattle.weights.proofs.Members.{labelling_from}
 use Rattle.enumerate.specs.Walk.{BeginsWith, StepsThrough, members_after}

@@ -1,5 +1,5 @@
 -- What is kept of a prepared test, and of its network.
-use Rattle.std.specs.Prelude.{◌≡◌, ⊤, ℕ, pos, ◌*◌, ◌<◌, ◌≤◌, List, [], ◌∷◌, ◌++◌, All, length, replicate}
+use Rattle.std.specs.Prelude.{◌≡◌, ℕ, pos, ◌*◌, ◌≤◌, List, [], ◌∷◌, ◌++◌, All, length, replicate}
 use Rattle.std.specs.List.{sum_by}
 use Rattle.weights.specs.Frames.{IsFrameOf}
 use Rattle.weights.specs.Labellings.{number_of_labellings}

@@ -1,7 +1,7 @@
 -- The exact test of association in strata, each a table of two rows and two columns (Mantel and
 -- Haenszel, Journal of the National Cancer Institute 22, 1959; Birch, Journal of the Royal
 -- Statistical Society B 26, 1964). It is conditional on the sums of each table's rows and columns.
-use Rattle.std.specs.Prelude.{ℕ, ℤ, pos, ◌+◌, ◌*◌, ◌/◌, List, [], ◌∷◌, ◌++◌, map, take, drop, replicate, nat_eq, if◌then◌else◌}
+use Rattle.std.specs.Prelude.{ℕ, pos, ◌+◌, ◌*◌, ◌/◌, List, [], ◌∷◌, ◌++◌, map, take, drop, replicate, nat_eq, if◌then◌else◌}
 use Rattle.std.specs.List.{concat, count_by, sum_by}
 use Rattle.weights.specs.Conditional.{ConditionalTest, by_distance, every_tail, unit_weight}
 use Rattle.weights.specs.Labellings.{labellings, product}

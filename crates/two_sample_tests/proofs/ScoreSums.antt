@@ -1,9 +1,8 @@
 -- Sums of scores: how large they are, and one subject after another.
-use Rattle.std.proofs.Common.{◌≡◌, ℕ, zero, suc, ◌+◌, ◌<◌, ◌≤◌, Bool, true, false, cond, List, [], ◌∷◌, length, drop, get_or, refl, ap, arith, add-one, drop-cons, drop_of_length-le, nat_eq}
-use Rattle.std.specs.Prelude.{ℤ, pos, ◌+ℤ◌, unsigned_abs, nat_abs}
-use Rattle.std.proofs.lemmas.Int.{ints}
-use Rattle.std.proofs.lemmas.List.Sums.{sum_by-cons}
+use Rattle.std.proofs.Common.{◌≡◌, ℕ, ◌+◌, ◌<◌, ◌≤◌, Bool, true, false, cond, List, [], ◌∷◌, length, drop, get_or, refl, ap, arith, add-one, drop-cons, drop_of_length-le, nat_eq}
+use Rattle.std.specs.Prelude.{ℤ, pos, ◌+ℤ◌, unsigned_abs}
 use Rattle.scores.specs.Scores.{absolute_sum, labelled_sum}
+use Rattle.scores.proofs.LabelledSums.{ended, joined, size-more, zero-plus}
 use Rattle.sample_reader.specs.PooledSample.{labels_of}
 use Rattle.sample_reader.specs.declared.subjects.Subject.{Subject}
 use Rattle.label_network.specs.LaterSums.{total_score}
@@ -25,18 +24,6 @@ by-marks (s ∷ scores) (x ∷ subjects) = by (nat_eq x.label 1) (by-marks score
     by false e = ap (λ t. pos 0 +ℤ t) e
 
 -- ---- one subject after another
-
-zero-plus : (t : ℤ) → pos 0 +ℤ t ≡ t
-zero-plus t = omega (arith, ints)
-
-joined : (s t p r all : ℤ) → s +ℤ t ≡ all → t ≡ p +ℤ r → (s +ℤ p) +ℤ r ≡ all
-joined s t p r all a b = omega (arith, ints, a, b)
-
-ended : (s t all : ℤ) → s +ℤ t ≡ all → t ≡ pos 0 → s ≡ all
-ended s t all a b = omega (arith, ints, a, b)
-
-size-more : (scores : List ℤ) (i : ℕ) → i < length scores → absolute_sum (drop i scores) ≡ unsigned_abs (get_or scores i (pos 0)) + absolute_sum (drop (i + 1) scores)
-size-more scores i h = rw (add-one, drop-cons scores i (pos 0) h) (sum_by-cons nat_abs (get_or scores i (pos 0)) (drop (suc i) scores))
 
 -- what the scores before place i sum to
 pub record IsTotal (scores : List ℤ) (i : ℕ) (sum : ℤ) : Type 0 where

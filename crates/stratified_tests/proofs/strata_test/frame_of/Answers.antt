@@ -1,4 +1,4 @@
-use Rattle.std.proofs.Common.{◌≡◌, ◌≤◌, ◌*◌, ℕ, List, refl, arith}
+use Rattle.std.proofs.Common.{◌≡◌, ◌≤◌, List, refl, arith}
 use Rattle.std.specs.Prelude.{pos}
 use Rattle.std.specs.List.{sum_by}
 use Rattle.std.proofs.lemmas.Int.{ints}

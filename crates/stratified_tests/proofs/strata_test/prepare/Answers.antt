@@ -1,10 +1,10 @@
-use Rattle.std.proofs.Common.{◌≡◌, ◌∙◌, ◌≤◌, ◌*◌, ℕ, List, ap, sym, subst, refl, arith}
+use Rattle.std.proofs.Common.{◌≡◌, ◌∙◌, ◌≤◌, ℕ, List, ap, sym, subst}
 use Rattle.std.specs.List.{sum_by}
 use Rattle.weights.specs.declared.TheConstants.{MAX}
 use Rattle.weights.specs.Frames.{IsFrameOf}
 use Rattle.stratified_tests.specs.declared.stratum.Stratum.{Stratum}
 use Rattle.stratified_tests.specs.Strata.{size, strata_of}
-use Rattle.stratified_tests.specs.StrataTests.{multiple_of, strata_test, stratified_test}
+use Rattle.stratified_tests.specs.StrataTests.{stratified_test}
 use Rattle.stratified_tests.specs.StrataSteps.{AreFitting, AreMade, labelled_in_all}
 use Rattle.stratified_tests.proofs.FittingStrata.{bound-wide, framed-at, multiple-wide, not-wide, strata-few, strata-small, total-wide}
 use Rattle.stratified_tests.proofs.strata_test.prepare.Goals as goal

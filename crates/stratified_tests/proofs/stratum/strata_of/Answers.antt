@@ -1,4 +1,4 @@
-use Rattle.std.proofs.Common.{◌≡◌, ◌∙◌, ap, sym, arith, refl}
+use Rattle.std.proofs.Common.{sym}
 use Rattle.stratified_tests.proofs.Loops.{read-next, stratum-is}
 use Rattle.stratified_tests.proofs.stratum.strata_of.Goals as goal
 

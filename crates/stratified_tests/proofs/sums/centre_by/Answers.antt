@@ -1,10 +1,7 @@
-use Rattle.std.proofs.Common.{◌≡◌, ◌≤◌, ◌+◌, ◌*◌, ◌/◌, refl, arith}
-use Rattle.std.specs.List.{AllByRecursion}
+use Rattle.std.proofs.Common.{◌*◌, ◌/◌, refl, arith}
 use Rattle.std.proofs.Math.Nat.{mul-le-mul_left}
 use Rattle.std.proofs.lemmas.List.Elements.{recursion_from_All}
-use Rattle.stratified_tests.specs.declared.stratum.Stratum.{Stratum}
 use Rattle.stratified_tests.specs.Strata.{first_column, first_row, size}
-use Rattle.stratified_tests.specs.StrataNetwork.{stratum_at}
 use Rattle.stratified_tests.specs.StrataSteps.{IsSmall}
 use Rattle.stratified_tests.proofs.StrataLaws.{at-most, small-at}
 use Rattle.stratified_tests.proofs.FittingStrata.{centre-within}

@@ -1,6 +1,4 @@
-use Rattle.std.proofs.Common.{◌≡◌, ◌≤◌, ◌*◌, ◌∙◌, ap, arith, refl}
-use Rattle.stratified_tests.specs.StrataNetwork.{stratum_at}
-use Rattle.stratified_tests.specs.StrataSteps.{labelled}
+use Rattle.std.proofs.Common.{arith}
 use Rattle.stratified_tests.proofs.Loops.{one-within, product-next, product-within}
 use Rattle.stratified_tests.proofs.sums.labelled_in_all.Goals as goal
 

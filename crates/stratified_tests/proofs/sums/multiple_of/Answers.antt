@@ -1,5 +1,5 @@
-use Rattle.std.proofs.Common.{◌≡◌, ◌≤◌, ◌∙◌, ap, arith, refl}
-use Rattle.stratified_tests.proofs.Loops.{multiple-more, multiple-within}
+use Rattle.std.proofs.Common.{arith}
+use Rattle.stratified_tests.proofs.Loops.{multiple-within}
 use Rattle.stratified_tests.proofs.sums.multiple_of.Goals as goal
 
 pub returns-in_err-multiple : goal.returns-in_err-multiple

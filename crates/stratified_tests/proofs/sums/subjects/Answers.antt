@@ -2,7 +2,6 @@ use Rattle.std.proofs.Common.{arith}
 use Rattle.std.proofs.lemmas.List.Elements.{recursion_from_All}
 use Rattle.stratified_tests.specs.Strata.{size}
 use Rattle.stratified_tests.specs.StrataSteps.{IsSmall}
-use Rattle.stratified_tests.proofs.StrataLaws.{small-at}
 use Rattle.stratified_tests.proofs.FittingStrata.{subjects-few}
 use Rattle.stratified_tests.proofs.Loops.{sum-first, sum-next, sum-room, sum-whole}
 use Rattle.stratified_tests.proofs.sums.subjects.Goals as goal

@@ -1,6 +1,6 @@
-use Rattle.std.proofs.Common.{◌≡◌, ◌∙◌, ◌-◌, ℕ, List, [], ◌∷◌, ◌++◌, length, take, drop, true, false, ap, sym, subst, arith, rules}
+use Rattle.std.proofs.Common.{◌∙◌, ◌-◌, List, [], ◌∷◌, ◌++◌, length, take, drop, true, false, ap, sym, subst, arith, rules}
 use Rattle.std.specs.Prelude.{Contains}
-use Rattle.std.specs.List.{AllByRecursion, sum_by}
+use Rattle.std.specs.List.{AllByRecursion}
 use Rattle.enumerate.specs.Walk.{StepsThrough}
 use Rattle.stratified_tests.specs.declared.stratum.Stratum.{Stratum}
 use Rattle.stratified_tests.specs.Strata.{first_row, second_row, size}

@@ -1,5 +1,4 @@
-use Rattle.std.proofs.Common.{◌≡◌, ◌∙◌, ap, sym, subst, [], ◌∷◌}
-use Rattle.weights.specs.Labellings.{labellings}
+use Rattle.std.proofs.Common.{◌≡◌, ◌∙◌}
 use Rattle.enumerate.specs.Walk.{BeginsWith}
 use Rattle.stratified_tests.specs.StrataNetwork.{stratum_at}
 use Rattle.stratified_tests.specs.StrataTests.{row_labellings}

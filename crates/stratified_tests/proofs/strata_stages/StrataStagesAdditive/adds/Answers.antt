@@ -1,12 +1,10 @@
-use Rattle.std.proofs.Common.{◌≡◌, ◌∙◌, ◌≤◌, get_or, ap, set, arith}
+use Rattle.std.proofs.Common.{◌≡◌, ◌∙◌, get_or, ap, set, arith}
 use Rattle.std.specs.Prelude.{pos, slice_index}
 use Rattle.std.proofs.lemmas.Int.{ints}
 use mir.Syntax.{w128}
 use mir.Val.{to_z}
-use Rattle.weights.specs.declared.TheConstants.{MAX}
 use Rattle.stratified_tests.specs.StrataNetwork.{stratum_at}
-use Rattle.stratified_tests.specs.StrataSteps.{labelled}
-use Rattle.stratified_tests.proofs.StrataLaws.{AreWays, are-ways, choice-cell, cell-fits, one-number, one-within}
+use Rattle.stratified_tests.proofs.StrataLaws.{AreWays, are-ways, choice-cell, cell-fits, one-number}
 use Rattle.stratified_tests.proofs.strata_stages.StrataStagesAdditive.adds.Goals as goal
 use Rattle.stratified_tests.proofs.strata_stages.StrataStagesAdditive.adds.Goals.{After-as_slice}
 

@@ -1,4 +1,4 @@
-use Rattle.std.proofs.Common.{◌≡◌, ◌∙◌, ap, sym}
+use Rattle.std.proofs.Common.{◌∙◌, ap, sym}
 use Rattle.stratified_tests.specs.StrataNetwork.{stratum_at}
 use Rattle.stratified_tests.specs.StrataSteps.{labelled}
 use Rattle.stratified_tests.proofs.StrataLaws.{cell-fits, stage-total}

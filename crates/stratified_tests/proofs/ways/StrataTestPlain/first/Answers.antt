@@ -1,4 +1,4 @@
-use Rattle.std.proofs.Common.{◌≡◌, ◌∙◌, sym, subst, arith}
+use Rattle.std.proofs.Common.{◌≡◌, ◌∙◌, sym, subst}
 use Rattle.enumerate.specs.Walk.{BeginsWith}
 use Rattle.stratified_tests.specs.Strata.{strata_of}
 use Rattle.stratified_tests.specs.StrataTests.{strata_labellings}
