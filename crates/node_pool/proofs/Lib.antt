@@ -3,4 +3,5 @@ pub mod Numbers
 pub mod Spots
 pub mod Tables
 pub mod NodeLists
+pub mod Cells
 pub mod Pools

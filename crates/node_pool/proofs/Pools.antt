@@ -11,8 +11,8 @@ use Rattle.node_pool.proofs.Tables.{table-more, table-none}
 use Rattle.node_pool.proofs.Puts.{none_distinct, put-new, put-held, put-distinct, put-merge, put-placed, put-keeps, put-longer, weight-held, held-member, not-member}
 use Rattle.node_pool.proofs.NodeLists.{length-nodes, nodes-at, nodes-set, nodes-more, row-more, key_at-more, key_at-new}
 
-pub pool-none : (width : ℕ) (buckets : List ℕ) (spare rr wr sr : ℕ) → width ≤ 16 → AllEmpty buckets → 2 * spare ≤ length buckets → 1 ≤ length buckets → length buckets ≤ 2 ^ 32 → spare * width ≤ rr → spare ≤ wr → spare ≤ sr → IsPool width [] [] [] buckets spare rr wr sr
-pool-none width buckets spare rr wr sr b empty half some small r w s =
+pub pool-none : (width : ℕ) (buckets : List ℕ) (spare sr : ℕ) → width ≤ 16 → AllEmpty buckets → 2 * spare ≤ length buckets → 1 ≤ length buckets → length buckets ≤ 2 ^ 32 → spare ≤ sr → IsPool width [] [] [] buckets spare sr
+pool-none width buckets spare sr b empty half some small s =
     let none : 0 + spare ≡ spare = omega arith in
     record {
       widest = b;
@@ -23,12 +23,10 @@ pool-none width buckets spare rr wr sr b empty half some small r w s =
       some = some;
       small = small;
       apart = none_distinct;
-      rows_fit = rw none r;
-      weights_fit = rw none w;
       slots_fit = rw none s;
     }
 
-module _ {width : ℕ} {row : List ℤ} {ws slots buckets : List ℕ} {spare rr wr sr : ℕ} (pool : IsPool width row ws slots buckets spare rr wr sr) where
+module _ {width : ℕ} {row : List ℤ} {ws slots buckets : List ℕ} {spare sr : ℕ} (pool : IsPool width row ws slots buckets spare sr) where
   pub pool-row : IsRow width row ws
   pool-row = record { long = rw pool.weighed pool.long }
 
@@ -63,7 +61,7 @@ module _ {width : ℕ} {row : List ℤ} {ws slots buckets : List ℕ} {spare rr 
         ∙ ap (λ (a : Node). set (nodes_of width row ws) place (node key (a.weight + w))) (sym (nodes-at width row ws place d weighs))
         ∙ sym (put-held key w (nodes_of width row ws) place d pool.apart low (here d))
 
-    pub raised-pool : (w : ℕ) → IsPool width row (set ws place (get_or ws place 0 + w)) slots buckets spare rr wr sr
+    pub raised-pool : (w : ℕ) → IsPool width row (set ws place (get_or ws place 0 + w)) slots buckets spare sr
     raised-pool w = record {
       widest = pool.widest;
       table = pool.table;
@@ -73,8 +71,6 @@ module _ {width : ℕ} {row : List ℤ} {ws slots buckets : List ℕ} {spare rr 
       some = pool.some;
       small = pool.small;
       apart = rw (raised-nodes w) (put-distinct key w (nodes_of width row ws) pool.apart);
-      rows_fit = pool.rows_fit;
-      weights_fit = pool.weights_fit;
       slots_fit = pool.slots_fit;
     }
 
@@ -97,31 +93,18 @@ module _ {width : ℕ} {row : List ℤ} {ws slots buckets : List ℕ} {spare rr 
     pub slots-room : 1 ≤ spare → length slots < sr
     slots-room some = omega (arith, pool.slots_fit, some)
 
-    pub weights-room : 1 ≤ spare → length ws < wr
-    weights-room some = omega (arith, pool.weights_fit, pool.weighed, some)
-
-    pub row-room : length key ≡ width → 1 ≤ spare → length row + length key ≤ rr
-    row-room wide some = omega (arith, pool.rows_fit, one_more (length slots) spare width some, pool.long, wide)
-      where
-        one_more : (n s w : ℕ) → 1 ≤ s → n * w + w ≤ (n + s) * w
-        one_more n s w h = grind arith
-
     put-last : (w : ℕ) → put key w (nodes_of width row ws) ≡ nodes_of width row ws ++ node key w ∷ []
     put-last w = put-new key w (nodes_of width row ws) none_there
 
     added-nodes : (w : ℕ) → length key ≡ width → nodes_of width (row ++ key) (ws ++ w ∷ []) ≡ put key w (nodes_of width row ws)
     added-nodes w wide = nodes-more pool-row key w wide ∙ sym (put-last w)
 
-    rows-more : (n s w : ℕ) → 1 ≤ s → ((n + 1) + (s - 1)) * w ≡ (n + s) * w
-    rows-more n s w h = let e : (n + 1) + (s - 1) ≡ n + s = omega arith in rw e refl
-
-    pub added-pool : (w rr' wr' sr' : ℕ) → length key ≡ width → 1 ≤ spare → rr ≤ rr' → wr ≤ wr' → sr ≤ sr' → IsPool width (row ++ key) (ws ++ w ∷ []) (slots ++ slot ∷ []) (set buckets slot (length slots + 1)) (spare - 1) rr' wr' sr'
-    added-pool w rr' wr' sr' wide some r v s =
+    pub added-pool : (w sr' : ℕ) → length key ≡ width → 1 ≤ spare → sr ≤ sr' → IsPool width (row ++ key) (ws ++ w ∷ []) (slots ++ slot ∷ []) (set buckets slot (length slots + 1)) (spare - 1) sr'
+    added-pool w sr' wide some s =
         let here : key_at width (row ++ key) (length slots) ≡ key = key_at-new width (length slots) row key pool.long wide in
         let count : length (slots ++ slot ∷ []) ≡ length slots + 1 = length_push slots slot in
         let weights : length (ws ++ w ∷ []) ≡ length ws + 1 = length_push ws w in
         let size : length (set buckets slot (length slots + 1)) ≡ length buckets = length-set buckets slot (length slots + 1) in
-        let rows : ((length slots + 1) + (spare - 1)) * width ≡ (length slots + spare) * width = rows-more (length slots) spare width some in
         let longer = row-more pool-row key w wide in
         record {
           widest = pool.widest;
@@ -136,8 +119,6 @@ module _ {width : ℕ} {row : List ℤ} {ws slots buckets : List ℕ} {spare rr 
           some = rw size pool.some;
           small = rw size pool.small;
           apart = rw (added-nodes w wide) (put-distinct key w (nodes_of width row ws) pool.apart);
-          rows_fit = rw (count, rows) (omega (arith, pool.rows_fit, r));
-          weights_fit = rw count (omega (arith, pool.weights_fit, v, some));
           slots_fit = rw count (omega (arith, pool.slots_fit, s, some));
         }
 

@@ -1,6 +1,8 @@
 -- How a pool and a list of nodes lie in memory.
-use Rattle.std.specs.Prelude.{◌≡◌, ℕ, ℤ, ◌+◌, ◌*◌, ◌^◌, ◌≤◌, List, [], ◌∷◌, take, drop, length, cond}
-use Rattle.std.specs.List.{IsDistinct}
+use Rattle.std.specs.Prelude.{◌≡◌, ℕ, zero, suc, ℤ, pos, ◌+◌, ◌*◌, ◌^◌, ◌≤◌, List, [], ◌∷◌, ◌++◌, take, drop, length, get_or, cond}
+use Rattle.std.specs.Int.{cast_unsigned}
+use Rattle.std.specs.List.{AllByRecursion, IsDistinct}
+use mir.Syntax.{w128}
 use Rattle.node_pool.specs.Nodes.{Node, key_eq, keys}
 use Rattle.node_pool.specs.TableSteps.{IsTable}
 
@@ -23,9 +25,40 @@ pub record IsSizeFor (least count size : ℕ) : Type 0 where
   pub small : size ≤ 2 ^ 32
   pub half : 2 * count ≤ size
 
--- a row of keys, their weights, slots and buckets, with room for more
+-- the weight that a number of a cell stands for, by its bits
+abbrev pub weight_of : ℤ → ℕ
+weight_of number = cast_unsigned w128 number
+
+-- the keys and the weights of n cells: behind the numbers of its key each has its weight
+abbrev pub keys_of : ℕ → ℕ → List ℤ → List ℤ
+keys_of width zero cells = []
+keys_of width (suc n) cells = take width cells ++ keys_of width n (drop (width + 1) cells)
+
+abbrev pub weights_of : ℕ → ℕ → List ℤ → List ℕ
+weights_of width zero cells = []
+weights_of width (suc n) cells =
+    weight_of (get_or cells width (pos 0)) ∷ weights_of width n (drop (width + 1) cells)
+
+abbrev pub cell_nodes : ℕ → ℕ → List ℤ → List Node
+cell_nodes width n cells = nodes_of width (keys_of width n cells) (weights_of width n cells)
+
+-- the key of a cell
+abbrev pub cell_key : ℕ → List ℤ → ℕ → List ℤ
+cell_key width cells i = take width (drop (i * (width + 1)) cells)
+
+-- where a cell has its weight
+abbrev pub weight_place : ℕ → ℕ → ℕ
+weight_place width i = i * (width + 1) + width
+
+-- n cells with room for more, each weight within a limit
+pub record AreCells (width limit n : ℕ) (cells : List ℤ) (spare cell_room : ℕ) : Type 0 where
+  pub long : length cells ≡ n * (width + 1)
+  pub light : AllByRecursion (λ w. w ≤ limit) (weights_of width n cells)
+  pub fit : (n + spare) * (width + 1) ≤ cell_room
+
+-- a row of keys, their weights, slots and buckets, with slots for more
 pub record IsPool (width : ℕ) (row : List ℤ) (weights slots buckets : List ℕ)
-    (spare row_room weight_room slot_room : ℕ) : Type 0 where
+    (spare slot_room : ℕ) : Type 0 where
   pub widest : width ≤ 16
   pub table : IsTable width (length slots) row slots buckets
   pub long : length row ≡ length slots * width
@@ -34,9 +67,14 @@ pub record IsPool (width : ℕ) (row : List ℤ) (weights slots buckets : List �
   pub some : 1 ≤ length buckets
   pub small : length buckets ≤ 2 ^ 32
   pub apart : IsDistinct key_eq (keys (nodes_of width row weights))
-  pub rows_fit : (length slots + spare) * width ≤ row_room
-  pub weights_fit : length slots + spare ≤ weight_room
   pub slots_fit : length slots + spare ≤ slot_room
+
+-- the same of cells
+pub record IsCellPool (width limit : ℕ) (cells : List ℤ) (slots buckets : List ℕ)
+    (spare cell_room slot_room : ℕ) : Type 0 where
+  pub stored : AreCells width limit (length slots) cells spare cell_room
+  pub pool : IsPool width (keys_of width (length slots) cells)
+      (weights_of width (length slots) cells) slots buckets spare slot_room
 
 -- a row that has a key for each weight
 pub record IsRow (width : ℕ) (row : List ℤ) (weights : List ℕ) : Type 0 where

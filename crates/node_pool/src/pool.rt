@@ -1,52 +1,52 @@
 // A finite map from keys to weights, with room that was asked for before.
 ghost use Rattle.std.specs.Prelude.{◌≡◌, ◌+◌, ◌-◌, ◌*◌, ◌^◌, ◌<◌, ◌≤◌, [], ◌∷◌, ◌++◌, false, length};
 ghost use Rattle.std.specs.Prelude.{vec_len, vec_capacity, IfOk, IfSome, OnOk, OnErr};
-ghost use Rattle.std.specs.Prelude.{slice_index, slice_index_or, slice_set, map, if◌then◌else◌};
+ghost use Rattle.std.specs.Prelude.{slice_index_or, slice_set, pos, if◌then◌else◌};
 ghost use Rattle.std.specs.List.{IsDistinct};
 ghost use Rattle.node_pool.specs.Nodes.{Node, key_eq, keys, is_held, weight_in};
 ghost use Rattle.node_pool.specs.Pool.{Pool, IsMerge, IsPlaced};
-ghost use Rattle.node_pool.specs.PoolSteps.{IsSizeFor};
+ghost use Rattle.node_pool.specs.PoolSteps.{IsSizeFor, weight_of};
 
 use crate::room::{append_within, push_within};
-use crate::table::{Found, clear_buckets, find, key_at, rehash};
+use crate::table::{Found, cell_key, clear_buckets, find, rehash};
 use std::alloc::Global;
-use std::marker::Model;
+use std::marker::{Model, PhantomData};
 use weights::{Count, NoMemory};
 
 /// A finite map from keys, lists of `width` numbers, to weights, and a number, spare: how many new
 /// keys can be added before memory is needed. Only [`NodePool::new`] and [`NodePool::reserve`] take
 /// memory.
 ///
-/// The keys lie flat in one row, beside their weights. Buckets name their places, by open
-/// addressing with linear steps: a power of two, at most half full. A list of the slots in use
-/// makes emptying cheap.
+/// The keys lie flat in one row of cells, each with its weight behind it, so that both come with one
+/// reach into memory. Buckets name their places, by open addressing with linear steps: a power of
+/// two, at most half full. A list of the slots in use makes emptying cheap.
 #[derive(Drop)]
 pub struct NodePool<C: Count> {
     alloc: Global,
     width: usize,
-    row: Vec<i128>,
-    weights: Vec<C>,
+    cells: Vec<i128>,
+    counts: PhantomData<C>,
     slots: Vec<u32>,
     buckets: Vec<u32>,
     spare: usize,
 }
 
 impl<C: Count> Model for NodePool<C> {
-    ghost use Rattle.std.specs.Prelude.{map, vec_capacity};
+    ghost use Rattle.std.specs.Prelude.{length, vec_capacity};
     ghost use Rattle.node_pool.specs.Pool.{Pool};
-    ghost use Rattle.node_pool.specs.PoolSteps.{IsPool, nodes_of};
+    ghost use Rattle.node_pool.specs.PoolSteps.{IsCellPool, cell_nodes};
 
     ghost Value = { Pool };
 
     ghost view = { λ p. record {
       width = p.width;
-      nodes = nodes_of p.width p.row.items (map C.number p.weights.items);
+      nodes = cell_nodes p.width (length p.slots.items) p.cells.items;
       spare = p.spare;
     } };
 
-    ghost invariant = { λ p. let weights = map C.number p.weights.items in
-        IsPool p.width p.row.items weights p.slots.items p.buckets.items p.spare
-        (vec_capacity p.row) (vec_capacity p.weights) (vec_capacity p.slots) };
+    ghost invariant = { λ p.
+        IsCellPool p.width C.LIMIT p.cells.items p.slots.items p.buckets.items p.spare
+        (vec_capacity p.cells) (vec_capacity p.slots) };
 }
 
 // How many buckets a new pool has.
@@ -55,49 +55,77 @@ const FEWEST: usize = 16;
 // The greatest number of keys.
 const MOST: usize = 1 << 31;
 
-// Adds a weight to the one at a place, where the sum is within the limit.
+// The weight that a number of a cell stands for.
 #[inline(always)]
-fn raise<C: Count>(weights: &mut Vec<C>, place: usize, weight: C)
-    requires within { place < vec_len weights.old }
-    requires fits { slice_index (map C.number weights.old.items) place + C.number weight ≤ C.LIMIT }
-    ensures numbers { let old = map C.number weights.old.items in
-        map C.number weights.new.items
-        ≡ slice_set old place (slice_index old place + C.number weight) }
-    ensures room { vec_capacity weights.new ≡ vec_capacity weights.old }
+fn weight_in<C: Count>(number: i128) -> C
+    requires { weight_of number ≤ C.LIMIT }
+    ensures { C.number result ≡ weight_of number }
 {
-    match weights[place].checked_add(weight) {
-        Some(sum) => weights[place] = sum,
+    match C::of(number.cast_unsigned()) {
+        Some(weight) => weight,
         None => unreachable!(),
     }
+}
+
+// The number that stands for a weight in a cell.
+#[inline(always)]
+fn number_for<C: Count>(weight: C) -> i128
+    ensures { weight_of result ≡ C.number weight }
+{
+    weight.value().cast_signed()
+}
+
+// Adds a weight to that of a number of a cell, where the sum is within the limit.
+#[inline(always)]
+fn raised<C: Count>(number: i128, weight: C) -> i128
+    requires fits { weight_of number + C.number weight ≤ C.LIMIT }
+    ensures { weight_of result ≡ weight_of number + C.number weight }
+{
+    match weight_in::<C>(number).checked_add(weight) {
+        Some(sum) => number_for(sum),
+        None => unreachable!(),
+    }
+}
+
+// Adds a weight to the one at a place of cells.
+#[inline(always)]
+fn raise<C: Count>(cells: &mut Vec<i128>, place: usize, weight: C)
+    requires within { place < vec_len cells.old }
+    requires fits { let number = slice_index_or cells.old.items place (pos 0) in
+        weight_of number + C.number weight ≤ C.LIMIT }
+    ensures cells { let number = slice_index_or cells.new.items place (pos 0) in
+        cells.new.items ≡ slice_set cells.old.items place number }
+    ensures weight { let number = slice_index_or cells.old.items place (pos 0) in
+        weight_of (slice_index_or cells.new.items place (pos 0))
+        ≡ weight_of number + C.number weight }
+    ensures room { vec_capacity cells.new ≡ vec_capacity cells.old }
+{
+    cells[place] = raised(cells[place], weight);
 }
 
 // Adds a key with its slot and its weight, where there is room, and answers its place. Apart, so
 // that the steps for a held key stay few where they are inlined.
 #[inline(never)]
-fn put<C: Count>(
+fn put(
     slots: &mut Vec<u32>,
-    row: &mut Vec<i128>,
-    weights: &mut Vec<C>,
+    cells: &mut Vec<i128>,
     slot: usize,
     key: &[i128],
-    weight: C,
+    number: i128,
 ) -> usize
     requires small { slot < 2 ^ 32 }
     requires slots_fit { vec_len slots.old < vec_capacity slots.old }
-    requires rows_fit { vec_len row.old + length key.now ≤ vec_capacity row.old }
-    requires weights_fit { vec_len weights.old < vec_capacity weights.old }
+    requires cells_fit { vec_len cells.old + length key.now < vec_capacity cells.old }
     ensures place { result ≡ length slots.old.items }
     ensures slots { slots.new.items ≡ slots.old.items ++ slot ∷ [] }
-    ensures row { row.new.items ≡ row.old.items ++ key.now }
-    ensures weights { weights.new.items ≡ weights.old.items ++ weight ∷ [] }
+    ensures cells { cells.new.items ≡ (cells.old.items ++ key.now) ++ number ∷ [] }
     ensures slot_room { vec_capacity slots.old ≤ vec_capacity slots.new }
-    ensures row_room { vec_capacity row.old ≤ vec_capacity row.new }
-    ensures weight_room { vec_capacity weights.old ≤ vec_capacity weights.new }
+    ensures cell_room { vec_capacity cells.old ≤ vec_capacity cells.new }
 {
     let place = slots.len();
     push_within(slots, slot as u32);
-    append_within(row, key);
-    push_within(weights, weight);
+    append_within(cells, key);
+    push_within(cells, number);
     place
 }
 
@@ -133,8 +161,8 @@ impl<C: Count> NodePool<C> {
         Ok(NodePool {
             alloc,
             width,
-            row: Vec::new(alloc),
-            weights: Vec::new(alloc),
+            cells: Vec::new(alloc),
+            counts: PhantomData,
             slots: Vec::new(alloc),
             buckets,
             spare: 0,
@@ -157,7 +185,7 @@ impl<C: Count> NodePool<C> {
         ensures key { (d : Node) → result.now ≡ (slice_index_or self.now.nodes i d).key }
         ensures wide { length result.now ≡ self.now.width }
     {
-        key_at(self.width, &self.row, i)
+        cell_key(self.width, &self.cells, i)
     }
 
     /// The weight at a place.
@@ -166,7 +194,7 @@ impl<C: Count> NodePool<C> {
         requires { i < length self.now.nodes }
         ensures { (d : Node) → C.number result ≡ (slice_index_or self.now.nodes i d).weight }
     {
-        self.weights[i]
+        weight_in(self.cells[i * (self.width + 1) + self.width])
     }
 
     /// How many keys can be added before memory is needed.
@@ -210,11 +238,10 @@ impl<C: Count> NodePool<C> {
             None => return Err(NoMemory),
         };
         let spare = size / 2 - count;
-        self.row.reserve(spare * self.width)?;
-        self.weights.reserve(spare)?;
+        self.cells.reserve(spare * (self.width + 1))?;
         self.slots.reserve(spare)?;
         let mut buckets = vec![in self.alloc; 0u32; size]?;
-        rehash(self.width, &self.row, &mut self.slots, &mut buckets);
+        rehash(self.width, &self.cells, &mut self.slots, &mut buckets);
         self.buckets = buckets;
         self.spare = spare;
         Ok(())
@@ -246,9 +273,10 @@ impl<C: Count> NodePool<C> {
             self.new.spare ≡ (if held then self.old.spare else self.old.spare - 1) }
         ensures placed { IsPlaced self.old.nodes key.now self.new.nodes result }
     {
-        match find(self.width, &self.row, &self.slots, &self.buckets, key) {
+        match find(self.width, &self.cells, &self.slots, &self.buckets, key) {
             Found::At(place) => {
-                raise(&mut self.weights, place, weight);
+                let behind = place * (self.width + 1) + self.width;
+                raise(&mut self.cells, behind, weight);
                 place
             }
             Found::Free(slot) => {
@@ -256,11 +284,10 @@ impl<C: Count> NodePool<C> {
                 self.spare -= 1;
                 put(
                     &mut self.slots,
-                    &mut self.row,
-                    &mut self.weights,
+                    &mut self.cells,
                     slot,
                     key,
-                    weight,
+                    number_for(weight),
                 )
             }
         }
@@ -275,7 +302,6 @@ impl<C: Count> NodePool<C> {
         clear_buckets(&self.slots, &mut self.buckets);
         self.spare += self.slots.len();
         self.slots.clear();
-        self.row.clear();
-        self.weights.clear();
+        self.cells.clear();
     }
 }

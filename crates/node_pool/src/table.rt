@@ -2,6 +2,7 @@
 ghost use Rattle.std.specs.Prelude.{◌≡◌, ℕ, ◌+◌, ◌-◌, ◌*◌, ◌^◌, ◌<◌, ◌≤◌, ◌↔◌, IsTrue, length, slice_index, if◌then◌else◌, ◌==◌, [], ◌∷◌};
 ghost use Rattle.std.specs.List.{count_by};
 ghost use Rattle.node_pool.specs.HashSteps.{home_of};
+ghost use Rattle.node_pool.specs.PoolSteps.{cell_key, keys_of};
 ghost use Rattle.node_pool.specs.TableSteps.{IsTable, IsWalk, IsFound, key_at, is_full, AllEmpty};
 
 use crate::hashes::{home_of, home_of_one};
@@ -39,18 +40,20 @@ pub enum Found {
 // Searches for a key of one number, which is most often what a key is. The number is held in a
 // local: comparing slices would read it back from memory at each step.
 #[inline(always)]
-fn find_one(keys: &[i128], slots: &[u32], buckets: &[u32], number: i128) -> Found
-    requires table { IsTable 1 (length slots.now) keys.now slots.now buckets.now }
+fn find_one(cells: &[i128], slots: &[u32], buckets: &[u32], number: i128) -> Found
+    requires table { let keys = keys_of 1 (length slots.now) cells.now in
+        IsTable 1 (length slots.now) keys slots.now buckets.now }
     requires room { length slots.now < length buckets.now }
-    requires long { length keys.now ≡ length slots.now }
-    ensures { IsFound 1 (length slots.now) keys.now buckets.now (number ∷ []) result }
+    requires long { length cells.now ≡ length slots.now * 2 }
+    ensures { let keys = keys_of 1 (length slots.now) cells.now in
+        IsFound 1 (length slots.now) keys buckets.now (number ∷ []) result }
 {
     let home = home_of_one(buckets.len(), number);
     let mut slot = home;
     let mut steps = 0usize;
     while buckets[slot] != 0 {
         let place = buckets[slot] as usize - 1;
-        if keys[place] == number {
+        if cells[2 * place] == number {
             return Found::At(place);
         }
         slot = next_slot(buckets.len(), slot);
@@ -61,22 +64,25 @@ fn find_one(keys: &[i128], slots: &[u32], buckets: &[u32], number: i128) -> Foun
 
 // Searches for a key.
 #[inline(always)]
-pub fn find(width: usize, keys: &[i128], slots: &[u32], buckets: &[u32], key: &[i128]) -> Found
-    requires table { IsTable width (length slots.now) keys.now slots.now buckets.now }
+pub fn find(width: usize, cells: &[i128], slots: &[u32], buckets: &[u32], key: &[i128]) -> Found
+    requires table { let keys = keys_of width (length slots.now) cells.now in
+        IsTable width (length slots.now) keys slots.now buckets.now }
     requires room { length slots.now < length buckets.now }
-    requires long { length keys.now ≡ length slots.now * width }
+    requires long { length cells.now ≡ length slots.now * (width + 1) }
     requires wide { length key.now ≡ width }
-    ensures { IsFound width (length slots.now) keys.now buckets.now key.now result }
+    requires widest { width ≤ 16 }
+    ensures { let keys = keys_of width (length slots.now) cells.now in
+        IsFound width (length slots.now) keys buckets.now key.now result }
 {
     if width == 1 {
-        return find_one(keys, slots, buckets, key[0]);
+        return find_one(cells, slots, buckets, key[0]);
     }
     let home = home_of(buckets.len(), key);
     let mut slot = home;
     let mut steps = 0usize;
     while buckets[slot] != 0 {
         let place = buckets[slot] as usize - 1;
-        if same_key(key_at(width, keys, place), key) {
+        if same_key(cell_key(width, cells, place), key) {
             return Found::At(place);
         }
         slot = next_slot(buckets.len(), slot);
@@ -104,15 +110,18 @@ fn free_slot(buckets: &[u32], home: usize) -> usize
 }
 
 // Enters every key into empty buckets.
-pub fn rehash(width: usize, keys: &[i128], slots: &mut [u32], buckets: &mut [u32])
+pub fn rehash(width: usize, cells: &[i128], slots: &mut [u32], buckets: &mut [u32])
     requires empty { AllEmpty buckets.old }
     requires room { length slots.old < length buckets.old }
     requires small { length buckets.old ≤ 2 ^ 32 }
-    requires long { length keys.now ≡ length slots.old * width }
-    ensures table { IsTable width (length slots.new) keys.now slots.new buckets.new }
+    requires long { length cells.now ≡ length slots.old * (width + 1) }
+    requires widest { width ≤ 16 }
+    ensures table { let keys = keys_of width (length slots.old) cells.now in
+        IsTable width (length slots.new) keys slots.new buckets.new }
+    ensures long { length slots.new ≡ length slots.old }
 {
     for i in 0..slots.len() {
-        let home = home_of(buckets.len(), key_at(width, keys, i));
+        let home = home_of(buckets.len(), cell_key(width, cells, i));
         let slot = free_slot(buckets, home);
         buckets[slot] = i as u32 + 1;
         slots[i] = slot as u32;
@@ -147,4 +156,15 @@ pub fn key_at(width: usize, row: &[i128], i: usize) -> &[i128]
 {
     let start = i * width;
     &row[start..start + width]
+}
+
+/// The key of a cell: behind the numbers of its key each cell has one more.
+#[inline(always)]
+pub fn cell_key(width: usize, cells: &[i128], i: usize) -> &[i128]
+    requires wide { width ≤ 16 }
+    requires within { i * (width + 1) + width ≤ length cells.now }
+    ensures { result.now ≡ cell_key width cells.now i }
+{
+    let start = i * (width + 1);
+    &cells[start..start + width]
 }

@@ -1,4 +1,5 @@
 use Rattle.std.proofs.Common.{◌≢◌, ℕ, ◌-◌, ◌<◌, length, get_or}
+use Rattle.node_pool.specs.PoolSteps.{keys_of}
 use Rattle.node_pool.specs.TableSteps.{spot, key_at}
 use Rattle.node_pool.proofs.Spots.{IsAlong}
 use Rattle.node_pool.proofs.table.find.Given as goal
@@ -7,7 +8,7 @@ use Rattle.node_pool.proofs.table.find.Given as goal
 abbrev pub invariant-loop-slot : goal.invariant-loop-slot
 invariant-loop-slot l = record {
   along : IsAlong l.buckets l.home l.slot l.steps;
-  missed : (e : ℕ) → e < l.steps → key_at l.width l.keys (get_or l.buckets (spot (length l.buckets) l.home e) 0 - 1) ≢ l.key;
+  missed : (e : ℕ) → e < l.steps → key_at l.width (keys_of l.width (length l.slots) l.cells) (get_or l.buckets (spot (length l.buckets) l.home e) 0 - 1) ≢ l.key;
 }
 
 abbrev pub decreases-loop-slot : goal.decreases-loop-slot

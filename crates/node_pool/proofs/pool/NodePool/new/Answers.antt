@@ -10,5 +10,8 @@ zeros (suc n) (suc s) = zeros n s
 pub invariant_of-result : goal.invariant_of-result
 invariant_of-result g c =
     let all : c.in_ok-buckets.buckets.items ≡ replicate 16 0 = search rules in
-    rw (c.new.ensures.items, c.new-2.ensures.items, c.new-3.ensures.items, all)
-    (pool-none c.args.width (replicate 16 0) 0 _ _ _ c.requires (zeros 16) (omega arith) (omega arith) (omega arith) (omega arith) (omega arith) (omega arith))
+    rw (c.new.ensures.items, c.new-2.ensures.items, all)
+    (record {
+      stored = record { long = omega arith; light = tt; fit = omega arith };
+      pool = pool-none c.args.width (replicate 16 0) 0 _ c.requires (zeros 16) (omega arith) (omega arith) (omega arith) (omega arith);
+    })
