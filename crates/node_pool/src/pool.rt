@@ -17,8 +17,8 @@ use weights::{Count, NoMemory};
 /// keys can be added before memory is needed. Only [`NodePool::new`] and [`NodePool::reserve`] take
 /// memory.
 ///
-/// The keys lie flat in one row of cells, each with its weight behind it, so that both come with one
-/// reach into memory. Buckets name their places, by open addressing with linear steps: a power of
+/// The keys lie flat in one row of cells, each with its weight behind it, so that one reach into
+/// memory brings both. Buckets name their places, by open addressing with linear steps: a power of
 /// two, at most half full. A list of the slots in use makes emptying cheap.
 #[derive(Drop)]
 pub struct NodePool<C: Count> {
