@@ -16,7 +16,7 @@ use Rattle.sample_reader.specs.PooledSample.{labels_of, pooled}
 use Rattle.stage_network.specs.Judged.{is_tail}
 use Rattle.pooled_columns.specs.PooledColumns.{pooled_values}
 
--- of each of k groups
+-- the sum of the scores of each of k groups
 abbrev pub group_sums : ℕ → List ℤ → List ℕ → List ℤ
 group_sums k scores xs = map (λ i. labelled_sum i scores xs) (labels k)
 

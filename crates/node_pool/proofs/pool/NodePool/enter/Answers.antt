@@ -1,9 +1,9 @@
-use Rattle.std.proofs.Common.{◌≡◌, ◌≤◌, ◌+◌, ◌-◌, ◌<◌, ℕ, ℤ, List, suc, [], ◌∷◌, ◌++◌, length, get_or, set, vec_capacity, append_assoc, ap, sym, subst, ◌∙◌, arith, rules, FitsSigned, to_z, of_z}
+use Rattle.std.proofs.Common.{◌≡◌, ◌≤◌, ◌+◌, ◌<◌, [], ◌∷◌, ◌++◌, length, get_or, set, vec_capacity, ap, sym, ◌∙◌, arith, FitsSigned, to_z, of_z}
 use Rattle.std.specs.Prelude.{pos}
 use mir.Syntax.{w128}
 use Rattle.std.proofs.lemmas.Int.{to_z-of_z}
-use Rattle.std.proofs.lemmas.List.{get_or_read, length_push}
-use Rattle.node_pool.specs.PoolSteps.{AreCells, keys_of, weight_of, weight_place, weights_of}
+use Rattle.std.proofs.lemmas.List.{length_push}
+use Rattle.node_pool.specs.PoolSteps.{keys_of, weight_of, weight_place, weights_of}
 use Rattle.node_pool.specs.TableSteps.{IsHeldAt, IsFreeAt}
 use Rattle.node_pool.proofs.Cells.{cell-fits, cells-room, pushed-cells, pushed-keys, pushed-weights, raised-cells, raised-keys, raised-weights, weight-at}
 use Rattle.node_pool.proofs.Pools.{held-true, raised-fits, raised-pool, raised-merge, raised-placed, held-false, slots-room, added-pool, added-merge, added-placed}

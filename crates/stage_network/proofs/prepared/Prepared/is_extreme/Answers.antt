@@ -3,7 +3,7 @@ use mir.Syntax.{w128}
 use mir.Val.{to_z, of_z}
 use Rattle.std.proofs.lemmas.Int.{to_z-of_z}
 use Rattle.weights.specs.Conditional.{ConditionalTest}
-use Rattle.weights.specs.Rules.{passes, measured, rule_of}
+use Rattle.weights.specs.Rules.{passes, rule_of}
 use Rattle.weights.proofs.ByRule.{is_extreme-by_rule}
 use Rattle.stage_network.proofs.prepared.Prepared.is_extreme.Goals as goal
 
