@@ -3,13 +3,13 @@
 -- samples differ. Of each group the sum R of its scores is squared and divided by the group's size
 -- n. With midranks as scores, the book's H rises with the sum of these. It is conditional on the
 -- pooled sample's values with their ties.
-use Rattle.std.specs.Prelude.{ℕ, ℤ, pos, ◌*◌, ◌/◌, ◌+ℤ◌, List, [], ◌∷◌, length, map, max, nat_eq, if◌then◌else◌}
+use Rattle.std.specs.Prelude.{ℕ, ℤ, pos, ◌*◌, ◌/◌, List, length, map, max}
 use Rattle.weights.specs.Conditional.{ConditionalTest, by_distance, unit_weight}
 use Rattle.weights.specs.Labellings.{labellings, labels}
 use Rattle.weights.specs.declared.tails.Tail.TheVariants.{Greater}
 use Rattle.completion_bounds.specs.Boxes.{factored_squares}
 use Rattle.scores.specs.PlaceScores.{common_multiple}
-use Rattle.scores.specs.Scores.{absolute_sum, scale_of, score_list}
+use Rattle.scores.specs.Scores.{absolute_sum, scale_of, score_list, labelled_sum}
 use Rattle.scores.specs.declared.kinds.ScoreKind.{ScoreKind}
 use Rattle.sample_reader.specs.Groups.{GroupData, group_sizes}
 use Rattle.sample_reader.specs.PooledSample.{labels_of, pooled}

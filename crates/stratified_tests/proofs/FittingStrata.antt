@@ -1,5 +1,5 @@
 -- What holds of a test of strata whose total and bound pass no limit, and where it is refused.
-use Rattle.std.proofs.Common.{◌≡◌, ℕ, zero, suc, ◌+◌, ◌-◌, ◌*◌, ◌/◌, ◌<◌, ◌≤◌, cond, List, [], ◌∷◌, ◌++◌, length, length-append, length-take, take, drop, get_or, map, replicate, nat_eq, Some, None, refl, sym, ◌∙◌, ap, subst, arith, lit≤, inl, inr, add-one, drop-cons}
+use Rattle.std.proofs.Common.{◌≡◌, ℕ, zero, suc, ◌+◌, ◌*◌, ◌/◌, ◌<◌, ◌≤◌, cond, List, [], ◌∷◌, ◌++◌, length, length-append, length-take, take, drop, get_or, map, replicate, nat_eq, Some, None, refl, sym, ◌∙◌, ap, subst, arith, lit≤, inl, inr, add-one, drop-cons}
 use Rattle.std.specs.Prelude.{ℤ, pos, ◌-ℤ◌, ◌*ℤ◌, nat_abs, All}
 use Rattle.std.specs.List.{AllByRecursion, concat, sum_by}
 use Rattle.std.proofs.Math.IntN.{zero-*ℤ}

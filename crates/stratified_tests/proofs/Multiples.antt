@@ -1,5 +1,5 @@
 -- Common multiples of the sizes of strata: they do not fall with one stratum more.
-use Rattle.std.proofs.Common.{◌≡◌, ◌<◌, ◌≤◌, ◌+◌, ◌-◌, ◌*◌, ◌/◌, ◌%◌, ℕ, zero, suc, Bool, true, false, cond, List, [], ◌∷◌, drop, nat_eq, refl, arith}
+use Rattle.std.proofs.Common.{◌≡◌, ◌<◌, ◌≤◌, ◌+◌, ◌*◌, ◌/◌, ◌%◌, ℕ, zero, suc, Bool, true, false, cond, List, [], ◌∷◌, drop, nat_eq, refl, arith}
 use Rattle.std.specs.Int.{IsGcd}
 use Rattle.std.specs.List.{sum_by}
 use Rattle.std.proofs.Math.Nat.{mul-le-mul_right}

@@ -3,7 +3,7 @@ use Rattle.std.specs.Prelude.{Contains}
 use Rattle.std.specs.List.{AllByRecursion}
 use Rattle.enumerate.specs.Walk.{StepsThrough}
 use Rattle.stratified_tests.specs.declared.stratum.Stratum.{Stratum}
-use Rattle.stratified_tests.specs.Strata.{first_row, second_row, size}
+use Rattle.stratified_tests.specs.Strata.{first_row, second_row}
 use Rattle.stratified_tests.specs.StrataTests.{strata_labellings}
 use Rattle.stratified_tests.specs.StrataNetwork.{stratum_at}
 use Rattle.stratified_tests.specs.StrataSteps.{IsSmall}
