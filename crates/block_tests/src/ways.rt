@@ -76,11 +76,14 @@ fn page_stages(
 }
 
 impl Prepared for BlockTest {
+    ghost use Rattle.stage_network.specs.Addends.{additive_shape};
     ghost use Rattle.block_tests.specs.BlockNetworks.{block_network};
 
     type Built = OneOf<AdditiveStages<SquareBlocks>, AdditiveStages<PageBlocks>>;
 
     ghost network = { block_network };
+
+    ghost shape = { λ _ _. additive_shape };
 
     fn frame(&self) -> Frame {
         self.frame_made()
@@ -92,6 +95,10 @@ impl Prepared for BlockTest {
 
     fn measure(&self, labels: &[u8], _tail: Tail) -> i128 {
         self.value(labels)
+    }
+
+    fn is_shared(&self) -> bool {
+        true
     }
 
     fn stages_of(&self, alloc: Global, tail: Tail) -> Result<Self::Built, NoMemory> {

@@ -12,7 +12,7 @@ use Rattle.weights.specs.declared.TheConstants.{MAX}
 use Rattle.weights.proofs.Sums.{sum_by-filter-≤}
 use Rattle.stage_network.specs.Follows.{answer_of, asked_tail, tail_of}
 use Rattle.stage_network.specs.declared.answers.Way.{Way}
-use Rattle.stage_network.specs.declared.sums.TailSum.{TailSum}
+use Rattle.stage_network.specs.declared.tail_sums.TailSum.{TailSum}
 use Rattle.report.specs.Report.{HasQuotients, IsPart}
 
 total-fits : (test : ConditionalTest) → too_wide test ≡ None → total test ≤ MAX

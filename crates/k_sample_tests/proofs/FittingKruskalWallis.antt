@@ -46,7 +46,7 @@ use Rattle.pooled_columns.proofs.PooledValues.{pooled-rises}
 use Rattle.pooled_columns.proofs.TieColumns.{grouped}
 use Rattle.k_sample_tests.specs.KruskalWallis.{ScoredGroups, group_sums, kruskal_wallis_test, pooled_scores, size_factors, squares_statistic, squares_test}
 use Rattle.k_sample_tests.specs.PackedSums.{packed_meaning}
-use Rattle.k_sample_tests.specs.RankSums.{fits_one, half_for, kruskal_wallis_network, unpacked_meaning}
+use Rattle.k_sample_tests.specs.RankSums.{fits_one, half_for, kruskal_wallis_meaning, kruskal_wallis_network, unpacked_meaning}
 use Rattle.k_sample_tests.specs.RankSumSteps.{AreFitting, IsMadeOf, IsScoredBy, IsSquaring}
 use Rattle.k_sample_tests.proofs.FittingUmbrella.{columns-sum, no-distance, no-times, past-limit}
 use Rattle.k_sample_tests.proofs.GroupFacts.{few_rows, few_subjects, none-empty, sizes-whole, some_rows}
@@ -214,11 +214,11 @@ module _ (samples : ScoredGroups) (f : AreFitting samples) where
       by false e = follows-unpacked tail
 
   -- which of the two it is
-  pub network-packed : (tail : Tail) → fits_one samples ≡ true → label_network (packed_meaning (half_for (length (group_sizes samples.groups))) (unpacked_meaning samples tail)) ≡ kruskal_wallis_network samples tail
-  network-packed tail e = ap (λ b. label_network (cond b (packed_meaning (half_for (length (group_sizes samples.groups))) (unpacked_meaning samples tail)) (unpacked_meaning samples tail))) (sym e)
+  pub meaning-packed : (tail : Tail) → fits_one samples ≡ true → packed_meaning (half_for (length (group_sizes samples.groups))) (unpacked_meaning samples tail) ≡ kruskal_wallis_meaning samples tail
+  meaning-packed tail e = ap (λ b. cond b (packed_meaning (half_for (length (group_sizes samples.groups))) (unpacked_meaning samples tail)) (unpacked_meaning samples tail)) (sym e)
 
-  pub network-unpacked : (tail : Tail) → fits_one samples ≡ false → label_network (unpacked_meaning samples tail) ≡ kruskal_wallis_network samples tail
-  network-unpacked tail e = ap (λ b. label_network (cond b (packed_meaning (half_for (length (group_sizes samples.groups))) (unpacked_meaning samples tail)) (unpacked_meaning samples tail))) (sym e)
+  pub meaning-unpacked : (tail : Tail) → fits_one samples ≡ false → unpacked_meaning samples tail ≡ kruskal_wallis_meaning samples tail
+  meaning-unpacked tail e = ap (λ b. cond b (packed_meaning (half_for (length (group_sizes samples.groups))) (unpacked_meaning samples tail)) (unpacked_meaning samples tail)) (sym e)
 
   pub not-wide : too_wide (kruskal_wallis_test samples) ≡ None
   not-wide = rw (le-ltb MAX (total (kruskal_wallis_test samples)) bounded, le-ltb MAX (kruskal_wallis_test samples).bound f.bound_fits) refl

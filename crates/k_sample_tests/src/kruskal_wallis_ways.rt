@@ -51,11 +51,14 @@ impl Plain for KruskalWallis {
 }
 
 impl Prepared for KruskalWallis {
-    ghost use Rattle.k_sample_tests.specs.RankSums.{kruskal_wallis_network};
+    ghost use Rattle.label_network.specs.LabelNetwork.{label_shape};
+    ghost use Rattle.k_sample_tests.specs.RankSums.{kruskal_wallis_meaning, kruskal_wallis_network};
 
     type Built = OneOf<LabelStages<PackedSums>, LabelStages<RankSums>>;
 
     ghost network = { kruskal_wallis_network };
+
+    ghost shape = { λ s tail. label_shape (kruskal_wallis_meaning s tail) };
 
     fn frame(&self) -> Frame {
         self.made().frame

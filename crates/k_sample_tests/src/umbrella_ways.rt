@@ -37,11 +37,14 @@ impl Plain for Umbrella {
 }
 
 impl Prepared for Umbrella {
-    ghost use Rattle.k_sample_tests.specs.PairCounts.{umbrella_network};
+    ghost use Rattle.label_network.specs.LabelNetwork.{label_shape};
+    ghost use Rattle.k_sample_tests.specs.PairCounts.{umbrella_meaning, umbrella_network};
 
     type Built = LabelStages<PairCounts>;
 
     ghost network = { umbrella_network };
+
+    ghost shape = { λ s tail. label_shape (umbrella_meaning s tail) };
 
     fn frame(&self) -> Frame {
         self.made().frame
@@ -53,6 +56,10 @@ impl Prepared for Umbrella {
 
     fn measure(&self, labels: &[u8], _tail: Tail) -> i128 {
         self.value(labels)
+    }
+
+    fn is_shared(&self) -> bool {
+        true
     }
 
     fn stages_of(&self, alloc: Global, tail: Tail) -> Result<Self::Built, NoMemory> {

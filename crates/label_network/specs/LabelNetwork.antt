@@ -5,6 +5,7 @@ use Rattle.weights.specs.declared.TheConstants.{MAX}
 use Rattle.weights.specs.Grouped.{minus}
 use Rattle.weights.specs.Labellings.{number_of_labellings}
 use Rattle.stage_network.specs.Network.{Network}
+use Rattle.stage_network.specs.Alike.{Shape}
 use Rattle.stage_network.specs.Judged.{judged}
 use Rattle.label_network.specs.ChoiceOrder.{later_choices}
 use Rattle.label_network.specs.Meanings.{Meaning, allowed, sizes_in}
@@ -30,6 +31,14 @@ label_network m = record {
   verdict = λ t g k. judged m.tail m.rule t
       (m.low g (remaining m k) (partial m k)) (m.high g (remaining m k) (partial m k));
   value = λ k. m.value (partial m k);
+}
+
+-- a room has the sizes that remain
+abbrev pub label_shape : Meaning → Shape
+label_shape m = record {
+  room_width = length m.rows;
+  outlook_width = m.outlook_width;
+  outlook = λ g room. m.outlook g (sizes_in room);
 }
 
 -- the measure's columns and rows, of which there are few enough

@@ -31,11 +31,14 @@ impl Plain for OneSample {
 }
 
 impl Prepared for OneSample {
+    ghost use Rattle.stage_network.specs.Addends.{additive_shape};
     ghost use Rattle.one_sample_tests.specs.SignNetwork.{one_sample_network};
 
     type Built = AdditiveStages<MarkStages>;
 
     ghost network = { one_sample_network };
+
+    ghost shape = { λ _ _. additive_shape };
 
     fn frame(&self) -> Frame {
         self.made().frame
@@ -47,6 +50,10 @@ impl Prepared for OneSample {
 
     fn measure(&self, labels: &[u8], _tail: Tail) -> i128 {
         self.value(labels)
+    }
+
+    fn is_shared(&self) -> bool {
+        true
     }
 
     fn stages_of(&self, alloc: Global, tail: Tail) -> Result<Self::Built, NoMemory> {

@@ -8,7 +8,7 @@ use Rattle.weights.specs.Conditional.{ConditionalTest, is_extreme, total}
 use Rattle.weights.proofs.Sums.{sum_by-filter-≤}
 use Rattle.stage_network.specs.Follows.{answer_of, asked_tail, tail_of}
 use Rattle.stage_network.specs.declared.answers.Way.{Way}
-use Rattle.stage_network.specs.declared.sums.TailSum.{TailSum}
+use Rattle.stage_network.specs.declared.tail_sums.TailSum.{TailSum}
 use Rattle.report.specs.Report.{HasQuotients, IsPart}
 
 asked-is_part : (all : ℕ) (sum : TailSum) → sum.sum ≤ all → (asked : Bool) → IsPart all (asked_tail asked sum)

@@ -13,7 +13,8 @@ use Rattle.stage_network.specs.Completions.{is_inside, is_extreme, total_weight,
 use Rattle.stage_network.specs.Laws.{IsLawful}
 use Rattle.stage_network.specs.Network.{Network, IsReached}
 use Rattle.stage_network.specs.NodeSteps.{successor, successors, closed_part, closed_weight, AllReached}
-use Rattle.stage_network.specs.Opened.{is_open, is_undecided}
+use Rattle.stage_network.specs.Opened.{is_open_for_some, is_undecided}
+use Rattle.stage_network.proofs.NodeSums.{open-for}
 use Rattle.stage_network.proofs.Steps.{sum_by-same, sum_by-scaled, sum_by-map, filter_all, filter_none, reached-next}
 
 -- one node's successors carry its sum to the next stage
@@ -32,8 +33,8 @@ sum_by-filter f p (x ∷ xs) = rw (sum_by-cons (λ x. cond (p x) (f x) 0) x xs) 
 ])
 
 -- what is open, at this stage
-abbrev pub open_part : Network → Tail → ℕ → (List ℤ → ℕ) → Node → ℕ
-open_part n t g here a = cond (is_open n t g a.key) (a.weight * here a.key) 0
+abbrev pub open_part : Network → ℕ → (List ℤ → ℕ) → Node → ℕ
+open_part n g here a = cond (is_open_for_some n g a.key) (a.weight * here a.key) 0
 
 -- a verdict's word on the sums
 inside-sum : (n : Network) → IsLawful n → (t : Tail) (g : ℕ) (k : List ℤ) → IsReached n g k → g ≤ n.count → n.verdict t g k ≡ Inside → extreme_weight n t g k ≡ total_weight n g k
@@ -44,30 +45,32 @@ outside-sum : (n : Network) → IsLawful n → (t : Tail) (g : ℕ) (k : List �
 unfolding extreme_weight
 outside-sum n l t g k r h v = ap (sum_by (path_weight n g k)) (filter_none (is_extreme n t g k) (completions n g k) (l.outside t g k r h v))
 
--- by the verdict at a node
-by_verdict : (v : Verdict) (w e total : ℕ) → (v ≡ Inside → e ≡ total) → (v ≡ Outside → e ≡ 0) → w * e ≡ cond (is_inside v) (w * total) 0 + cond (is_undecided v) (w * e) 0
-by_verdict Inside w e total i o = rw (i refl) (omega arith)
-by_verdict Outside w e total i o = rw (o refl) (omega arith)
-by_verdict Undecided w e total i o = omega arith
+-- by the verdict at a node, and whether it is open for some tail
+by_verdict : (some : Bool) (v : Verdict) (w e total : ℕ) → (is_undecided v ≡ true → some ≡ true) → (v ≡ Inside → e ≡ total) → (v ≡ Outside → e ≡ 0) → w * e ≡ cond (cond some false (is_inside v)) (w * total) 0 + cond some (w * e) 0
+by_verdict true v w e total u i o = omega arith
+by_verdict false Inside w e total u i o = rw (i refl) (omega arith)
+by_verdict false Outside w e total u i o = rw (o refl) (omega arith)
+by_verdict false Undecided w e total u i o = (let no : false ≡ true = u refl in cc)
 
-at_most : (v : Verdict) (m : ℕ) → cond (is_inside v) m 0 + cond (is_undecided v) m 0 ≤ m
-at_most Inside m = omega arith
-at_most Outside m = omega arith
-at_most Undecided m = omega arith
+at_most : (some : Bool) (v : Verdict) (m : ℕ) → cond (cond some false (is_inside v)) m 0 + cond some m 0 ≤ m
+at_most true v m = omega arith
+at_most false Inside m = omega arith
+at_most false Outside m = omega arith
+at_most false Undecided m = omega arith
 
-pub split-extreme : (n : Network) → IsLawful n → (t : Tail) (g : ℕ) → g ≤ n.count → (nodes : List Node) → AllReached n g nodes → weighted (extreme_weight n t g) nodes ≡ closed_weight n t g nodes + sum_by (open_part n t g (extreme_weight n t g)) nodes
+pub split-extreme : (n : Network) → IsLawful n → (t : Tail) (g : ℕ) → g ≤ n.count → (nodes : List Node) → AllReached n g nodes → weighted (extreme_weight n t g) nodes ≡ closed_weight n t g nodes + sum_by (open_part n g (extreme_weight n t g)) nodes
 split-extreme n l t g h [] r = omega arith
 split-extreme n l t g h (a ∷ nodes) r =
-    let here : a.weight * extreme_weight n t g a.key ≡ closed_part n t g a + open_part n t g (extreme_weight n t g) a =
-    by_verdict (n.verdict t g a.key) a.weight (extreme_weight n t g a.key) (total_weight n g a.key) (inside-sum n l t g a.key r.0 h) (outside-sum n l t g a.key r.0 h) in
-    rw (sum_by-cons (λ a. a.weight * extreme_weight n t g a.key) a nodes, sum_by-cons (closed_part n t g) a nodes, sum_by-cons (open_part n t g (extreme_weight n t g)) a nodes)
+    let here : a.weight * extreme_weight n t g a.key ≡ closed_part n t g a + open_part n g (extreme_weight n t g) a =
+    by_verdict (is_open_for_some n g a.key) (n.verdict t g a.key) a.weight (extreme_weight n t g a.key) (total_weight n g a.key) (open-for n t g a.key) (inside-sum n l t g a.key r.0 h) (outside-sum n l t g a.key r.0 h) in
+    rw (sum_by-cons (λ a. a.weight * extreme_weight n t g a.key) a nodes, sum_by-cons (closed_part n t g) a nodes, sum_by-cons (open_part n g (extreme_weight n t g)) a nodes)
     (omega (arith, here, split-extreme n l t g h nodes r.1))
 
-pub split-total : (n : Network) (t : Tail) (g : ℕ) (nodes : List Node) → closed_weight n t g nodes + sum_by (open_part n t g (total_weight n g)) nodes ≤ weighted (total_weight n g) nodes
+pub split-total : (n : Network) (t : Tail) (g : ℕ) (nodes : List Node) → closed_weight n t g nodes + sum_by (open_part n g (total_weight n g)) nodes ≤ weighted (total_weight n g) nodes
 split-total n t g [] = omega arith
 split-total n t g (a ∷ nodes) =
-    let here : closed_part n t g a + open_part n t g (total_weight n g) a ≤ a.weight * total_weight n g a.key = at_most (n.verdict t g a.key) (a.weight * total_weight n g a.key) in
-    rw (sum_by-cons (λ a. a.weight * total_weight n g a.key) a nodes, sum_by-cons (closed_part n t g) a nodes, sum_by-cons (open_part n t g (total_weight n g)) a nodes)
+    let here : closed_part n t g a + open_part n g (total_weight n g) a ≤ a.weight * total_weight n g a.key = at_most (is_open_for_some n g a.key) (n.verdict t g a.key) (a.weight * total_weight n g a.key) in
+    rw (sum_by-cons (λ a. a.weight * total_weight n g a.key) a nodes, sum_by-cons (closed_part n t g) a nodes, sum_by-cons (open_part n g (total_weight n g)) a nodes)
     (omega (arith, here, split-total n t g nodes))
 
 -- the next stage's keys are reached

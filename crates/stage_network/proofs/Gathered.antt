@@ -12,12 +12,12 @@ use Rattle.stage_network.specs.Completions.{total_weight, extreme_weight}
 use Rattle.stage_network.specs.Laws.{IsLawful}
 use Rattle.stage_network.specs.Network.{Network, IsReached}
 use Rattle.stage_network.specs.NodeSteps.{successor, closed_weight, AllReached, AllHeavy, AreNodes}
-use Rattle.stage_network.specs.Opened.{is_open}
+use Rattle.stage_network.specs.Opened.{is_open_for_some}
 use Rattle.stage_network.proofs.Steps.{sum_by-flat_map, sum_by-same, reached-next}
 use Rattle.stage_network.specs.WaySteps.{Way, segment, way_nodes, spread_out, bucket, firsts, IsFine, AllFine}
 use Rattle.node_pool.proofs.Puts.{same_key, key_equiv, unlike, alike}
 use Rattle.stage_network.proofs.Conserved.{sum_by-filter, split-extreme, split-total, all_append, all_map}
-use Rattle.stage_network.proofs.OpenKeys.{list_any-append, map-append, distinct_filter, member-holds, all_of_members, all_filter, same-holds}
+use Rattle.stage_network.proofs.OpenKeys.{list_any-append, map-append, distinct_filter, keys-filter, member-holds, all_of_members, all_filter, same-holds}
 use Rattle.stage_network.proofs.Bounds.{weights-le-weighted}
 use Rattle.stage_network.proofs.Stepping.{reached_at}
 use Rattle.stage_network.proofs.Roomwise.{sum_by-add, all_segment, heavy_at, heavy-arc}
@@ -183,13 +183,6 @@ distinct-append : (xs ys : List (List ℤ)) → IsDistinct key_eq xs → IsDisti
 distinct-append [] ys a b c = b
 distinct-append (x ∷ xs) ys a b c = IsDistinct-cons key_eq x (xs ++ ys) (all_append_keys (λ y. key_eq x y ≡ false) xs ys (IsDistinct-head key_eq x xs a) c.0) (distinct-append xs ys (IsDistinct-tail key_eq x xs a) b c.1)
 
-pub keys-filter : (p : List ℤ → Bool) (nodes : List Node) → keys (filter (λ a. p a.key) nodes) ≡ filter p (keys nodes)
-keys-filter p [] = refl
-keys-filter p (b ∷ nodes) = elim (p b.key) as (λ t. keys (cond t (b ∷ filter (λ a. p a.key) nodes) (filter (λ a. p a.key) nodes)) ≡ cond t (b.key ∷ filter p (keys nodes)) (filter p (keys nodes))) [
-  | true ↦ ap (λ ks. b.key ∷ ks) (keys-filter p nodes)
-  | false ↦ keys-filter p nodes
-]
-
 and_or : (a b c : Bool) → ((a && c) || (b && c)) ≡ ((a || b) && c)
 and_or true true true = refl
 and_or true true false = refl
@@ -208,15 +201,15 @@ kept-members p kept work before more was now q =
     ∙ ap (λ b. b && p q) (sym (now q))
 
 -- what is open and what is closed of a room
-pub kept-extreme : (n : Network) → IsLawful n → (t : Tail) (g : ℕ) → g ≤ n.count → (kept work : List Node) → AllReached n g work → closed_weight n t g work + weighted (extreme_weight n t g) (kept ++ filter (λ a. is_open n t g a.key) work) ≡ weighted (extreme_weight n t g) kept + weighted (extreme_weight n t g) work
+pub kept-extreme : (n : Network) → IsLawful n → (t : Tail) (g : ℕ) → g ≤ n.count → (kept work : List Node) → AllReached n g work → closed_weight n t g work + weighted (extreme_weight n t g) (kept ++ filter (λ a. is_open_for_some n g a.key) work) ≡ weighted (extreme_weight n t g) kept + weighted (extreme_weight n t g) work
 kept-extreme n l t g h kept work r =
     let f = λ (a : Node). a.weight * extreme_weight n t g a.key in
-    omega (arith, sum_by-append f kept (filter (λ a. is_open n t g a.key) work), sum_by-filter f (λ a. is_open n t g a.key) work, split-extreme n l t g h work r)
+    omega (arith, sum_by-append f kept (filter (λ a. is_open_for_some n g a.key) work), sum_by-filter f (λ a. is_open_for_some n g a.key) work, split-extreme n l t g h work r)
 
-pub kept-total : (n : Network) (t : Tail) (g : ℕ) (kept work : List Node) → closed_weight n t g work + weighted (total_weight n g) (kept ++ filter (λ a. is_open n t g a.key) work) ≤ weighted (total_weight n g) kept + weighted (total_weight n g) work
+pub kept-total : (n : Network) (t : Tail) (g : ℕ) (kept work : List Node) → closed_weight n t g work + weighted (total_weight n g) (kept ++ filter (λ a. is_open_for_some n g a.key) work) ≤ weighted (total_weight n g) kept + weighted (total_weight n g) work
 kept-total n t g kept work =
     let f = λ (a : Node). a.weight * total_weight n g a.key in
-    omega (arith, sum_by-append f kept (filter (λ a. is_open n t g a.key) work), sum_by-filter f (λ a. is_open n t g a.key) work, split-total n t g work)
+    omega (arith, sum_by-append f kept (filter (λ a. is_open_for_some n g a.key) work), sum_by-filter f (λ a. is_open_for_some n g a.key) work, split-total n t g work)
 
 all_keys : (A : List ℤ → Type 0) (nodes : List Node) → AllByRecursion (λ (a : Node). A a.key) nodes → AllByRecursion A (keys nodes)
 all_keys A [] h = tt

@@ -38,3 +38,7 @@ pub mod WorkedBlocks
 pub mod WorkedRanks
 pub mod RankLaws
 pub mod RankRooms
+pub mod Alike
+pub mod Steady
+pub mod Joined
+pub mod Shared

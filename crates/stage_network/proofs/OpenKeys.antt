@@ -13,7 +13,7 @@ use Rattle.node_pool.specs.Nodes.{Node, key_eq, keys}
 use Rattle.stage_network.specs.Network.{Network}
 use Rattle.stage_network.specs.NodeSteps.{successor, successors}
 use Rattle.stage_network.proofs.NodeSums.{opened_to}
-use Rattle.stage_network.specs.Opened.{is_open, reached_openly, opened_below}
+use Rattle.stage_network.specs.Opened.{is_open, reached_through, reached_by_some, opened_by_some}
 use Rattle.node_pool.proofs.Puts.{same_key, key_equiv}
 
 -- a filter keeps keys apart
@@ -64,18 +64,18 @@ map-map : {X Y Z : Type 0} (f : Y → Z) (h : X → Y) (xs : List X) → map f (
 map-map f h [] = refl
 map-map f h (x ∷ xs) = ap (λ zs. f (h x) ∷ zs) (map-map f h xs)
 
-keys-opened_to : (n : Network) (t : Tail) (g : ℕ) (nodes : List Node) → keys (opened_to n t g nodes) ≡ flat_map (λ k. map (n.next g k) (n.choices g k)) (filter (is_open n t g) (keys nodes))
-keys-opened_to n t g [] = refl
-keys-opened_to n t g (a ∷ nodes) =
-    elim (is_open n t g a.key) as (λ b. keys (flat_map (successors n g) (cond b (a ∷ filter (λ a. is_open n t g a.key) nodes) (filter (λ a. is_open n t g a.key) nodes))) ≡ flat_map (λ k. map (n.next g k) (n.choices g k)) (cond b (a.key ∷ filter (is_open n t g) (keys nodes)) (filter (is_open n t g) (keys nodes)))) [
-      | true ↦ map-append (λ (b : Node). b.key) (successors n g a) (opened_to n t g nodes)
-          ∙ ap (λ ks. ks ++ keys (opened_to n t g nodes)) (map-map (λ (b : Node). b.key) (successor n g a) (n.choices g a.key))
-          ∙ ap (λ ks. map (n.next g a.key) (n.choices g a.key) ++ ks) (keys-opened_to n t g nodes)
-      | false ↦ keys-opened_to n t g nodes
+keys-opened_to : (n : Network) (p : ℕ → List ℤ → Bool) (g : ℕ) (nodes : List Node) → keys (opened_to n p g nodes) ≡ flat_map (λ k. map (n.next g k) (n.choices g k)) (filter (p g) (keys nodes))
+keys-opened_to n p g [] = refl
+keys-opened_to n p g (a ∷ nodes) =
+    elim (p g a.key) as (λ b. keys (flat_map (successors n g) (cond b (a ∷ filter (λ a. p g a.key) nodes) (filter (λ a. p g a.key) nodes))) ≡ flat_map (λ k. map (n.next g k) (n.choices g k)) (cond b (a.key ∷ filter (p g) (keys nodes)) (filter (p g) (keys nodes)))) [
+      | true ↦ map-append (λ (b : Node). b.key) (successors n g a) (opened_to n p g nodes)
+          ∙ ap (λ ks. ks ++ keys (opened_to n p g nodes)) (map-map (λ (b : Node). b.key) (successor n g a) (n.choices g a.key))
+          ∙ ap (λ ks. map (n.next g a.key) (n.choices g a.key) ++ ks) (keys-opened_to n p g nodes)
+      | false ↦ keys-opened_to n p g nodes
     ]
 
-pub opened_below-next : (n : Network) (t : Tail) (g : ℕ) → opened_below n t (g + 1) ≡ opened_below n t g + distinct_count key_eq (filter (is_open n t g) (reached_openly n t g))
-opened_below-next n t g = rw add-one refl
+pub opened-next : (n : Network) (t : Tail) (g : ℕ) → opened_by_some n t (g + 1) ≡ opened_by_some n t g + distinct_count key_eq (filter (is_open n t g) (reached_by_some n g))
+opened-next n t g = rw add-one refl
 
 -- what holds of the nodes' keys holds of keys that are among them
 or_true : (b : Bool) → (b || true) ≡ true
@@ -115,14 +115,28 @@ and_right true b e = e
 and_right false true e = refl
 and_right false false e = e
 
-pub openly-members : (n : Network) (t : Tail) (g : ℕ) (nodes : List Node) → ((q : List ℤ) → is_member key_eq (keys nodes) q ≡ (is_member key_eq (reached_openly n t g) q && is_open n t g q)) → (q : List ℤ) → is_member key_eq (keys (opened_to n t g nodes)) q ≡ is_member key_eq (reached_openly n t (g + 1)) q
-openly-members n t g nodes was q =
-    rw add-one (ap (λ ks. is_member key_eq ks q) (keys-opened_to n t g nodes)
-    ∙ flat_map-members (λ k. map (n.next g k) (n.choices g k)) (filter (is_open n t g) (keys nodes)) (filter (is_open n t g) (reached_openly n t g))
-    (λ q. is_member-filter key_equiv (is_open n t g) q (λ x e. ap (is_open n t g) (same_key q x e)) (keys nodes) ∙ ap (λ b. b && is_open n t g q) (was q) ∙ and_twice (is_member key_eq (reached_openly n t g) q) (is_open n t g q)
-    ∙ sym (is_member-filter key_equiv (is_open n t g) q (λ x e. ap (is_open n t g) (same_key q x e)) (reached_openly n t g))) q)
+pub openly-members : (n : Network) (p : ℕ → List ℤ → Bool) (g : ℕ) (nodes : List Node) → ((q : List ℤ) → is_member key_eq (keys nodes) q ≡ (is_member key_eq (reached_through n p g) q && p g q)) → (q : List ℤ) → is_member key_eq (keys (opened_to n p g nodes)) q ≡ is_member key_eq (reached_through n p (g + 1)) q
+openly-members n p g nodes was q =
+    rw add-one (ap (λ ks. is_member key_eq ks q) (keys-opened_to n p g nodes)
+    ∙ flat_map-members (λ k. map (n.next g k) (n.choices g k)) (filter (p g) (keys nodes)) (filter (p g) (reached_through n p g))
+    (λ q. is_member-filter key_equiv (p g) q (λ x e. ap (p g) (same_key q x e)) (keys nodes) ∙ ap (λ b. b && p g q) (was q) ∙ and_twice (is_member key_eq (reached_through n p g) q) (p g q)
+    ∙ sym (is_member-filter key_equiv (p g) q (λ x e. ap (p g) (same_key q x e)) (reached_through n p g))) q)
 
-pub openly-counted : (n : Network) (t : Tail) (g : ℕ) (nodes : List Node) → IsDistinct key_eq (keys nodes) → ((q : List ℤ) → is_member key_eq (keys nodes) q ≡ (is_member key_eq (reached_openly n t g) q && is_open n t g q)) → length nodes ≡ distinct_count key_eq (filter (is_open n t g) (reached_openly n t g))
-openly-counted n t g nodes apart was =
-    sym (length-map nodes (λ (a : Node). a.key))
-    ∙ length-from_keys key_equiv (keys nodes) (filter (is_open n t g) (reached_openly n t g)) apart (λ q. was q ∙ sym (is_member-filter key_equiv (is_open n t g) q (λ x e. ap (is_open n t g) (same_key q x e)) (reached_openly n t g)))
+-- how many pass another test, which only keys that pass meet
+and_skip : (a b c : Bool) → (c ≡ true → b ≡ true) → ((a && b) && c) ≡ (a && c)
+and_skip false b c h = refl
+and_skip true true c h = refl
+and_skip true false false h = refl
+and_skip true false true h = h refl
+
+pub keys-filter : (p : List ℤ → Bool) (nodes : List Node) → keys (filter (λ a. p a.key) nodes) ≡ filter p (keys nodes)
+keys-filter p [] = refl
+keys-filter p (a ∷ nodes) = elim (p a.key) as (λ b. keys (cond b (a ∷ filter (λ a. p a.key) nodes) (filter (λ a. p a.key) nodes)) ≡ cond b (a.key ∷ filter p (keys nodes)) (filter p (keys nodes))) [ true ↦ ap (λ ks. a.key ∷ ks) (keys-filter p nodes) | false ↦ keys-filter p nodes ]
+
+pub openly-counted : (n : Network) (p : ℕ → List ℤ → Bool) (g : ℕ) (f : List ℤ → Bool) (nodes : List Node) → IsDistinct key_eq (keys nodes) → ((k : List ℤ) → f k ≡ true → p g k ≡ true) → ((q : List ℤ) → is_member key_eq (keys nodes) q ≡ (is_member key_eq (reached_through n p g) q && p g q)) → length (filter (λ (a : Node). f a.key) nodes) ≡ distinct_count key_eq (filter f (reached_through n p g))
+openly-counted n p g f nodes apart pass was =
+    let same : (q : List ℤ) (x : List ℤ) → key_eq q x ≡ true → f q ≡ f x = λ q x e. ap f (same_key q x e) in
+    sym (length-map (filter (λ (a : Node). f a.key) nodes) (λ (a : Node). a.key))
+    ∙ ap length (keys-filter f nodes)
+    ∙ length-from_keys key_equiv (filter f (keys nodes)) (filter f (reached_through n p g)) (distinct_filter f (keys nodes) apart)
+    (λ q. is_member-filter key_equiv f q (same q) (keys nodes) ∙ ap (λ b. b && f q) (was q) ∙ and_skip (is_member key_eq (reached_through n p g) q) (p g q) (f q) (pass q) ∙ sym (is_member-filter key_equiv f q (same q) (reached_through n p g)))

@@ -1,19 +1,20 @@
 -- The nodes of one room, one after another: what is kept and closed of them.
 use Rattle.std.proofs.Common.{◌≡◌, ◌<◌, ◌≤◌, ◌+◌, ◌*◌, ◌++◌, ◌∷◌, ℕ, List, [], length, get_or, take, cond, ap, sym, subst, ◌∙◌, arith, refl}
 use Rattle.std.specs.Prelude.{ℤ}
-use Rattle.std.proofs.lemmas.List.{take_all}
+use Rattle.std.proofs.lemmas.List.{take_all, length-take-le}
+use Rattle.std.proofs.lemmas.List.Filters.{length-filter_more}
 use Rattle.weights.specs.declared.TheConstants.{MAX}
 use Rattle.weights.specs.declared.tails.Tail.{Tail}
 use Rattle.node_pool.specs.Nodes.{Node, node, weighted}
 use Rattle.stage_network.specs.Network.{Network, IsReached}
-use Rattle.stage_network.specs.Completions.{is_inside, total_weight}
+use Rattle.stage_network.specs.Completions.{total_weight}
 use Rattle.stage_network.specs.Laws.{IsLawful}
-use Rattle.stage_network.specs.Opened.{is_open}
+use Rattle.stage_network.specs.Opened.{is_open, is_open_for_some}
 use Rattle.stage_network.specs.Rooms.{IsPlace, IsRoomed}
-use Rattle.stage_network.specs.NodeSteps.{AllReached, closed_weight, inside_weight, open_nodes}
+use Rattle.stage_network.specs.NodeSteps.{AllReached, closes_inside, closed_weight, inside_weight, open_nodes, opened_in}
 use Rattle.stage_network.specs.WaySteps.{lift}
 use Rattle.stage_network.proofs.Bounds.{weights-le-weighted}
-use Rattle.stage_network.proofs.NodeSums.{inside-more, inside-fits, closed-le-weighted}
+use Rattle.stage_network.proofs.NodeSums.{inside-more, inside-fits, closed-le-weighted, length-filter-le, filter-both, open-for}
 use Rattle.stage_network.proofs.Rests.{settled}
 use Rattle.stage_network.proofs.Roomwise.{kept-next, take-next, lift-length, lift-at, lift-rooms, front-room}
 use Rattle.stage_network.proofs.Stepping.{is_node, reached_at}
@@ -35,16 +36,27 @@ module _ (r : List ℤ) (partials : List Node) (i : ℕ) (few : i < length parti
   pub next-kept : take (i + 1) (lift r partials) ≡ take i (lift r partials) ++ node (r ++ p) w ∷ []
   next-kept = take-next (lift r partials) i (node (r ++ p) w) low is
 
-  module _ (n : Network) (t : Tail) (g : ℕ) where
-    pub next-open : (kept kept' old : List Node) → kept ≡ old ++ open_nodes n t g (take i (lift r partials)) → kept' ≡ kept ++ cond (is_open n t g (r ++ p)) (node (r ++ p) w ∷ []) [] → kept' ≡ old ++ open_nodes n t g (take (i + 1) (lift r partials))
-    next-open kept kept' old was step = kept-next n t g (lift r partials) i low (node [] 0) (r ++ p) w (whole (node [] 0)) (heavy (node [] 0)) kept kept' old was step
+  pub next-open : (n : Network) (g : ℕ) (kept kept' old : List Node) → kept ≡ old ++ open_nodes n g (take i (lift r partials)) → kept' ≡ kept ++ cond (is_open_for_some n g (r ++ p)) (node (r ++ p) w ∷ []) [] → kept' ≡ old ++ open_nodes n g (take (i + 1) (lift r partials))
+  next-open n g kept kept' old was step = kept-next (is_open_for_some n g) (lift r partials) i low (node [] 0) (r ++ p) w (whole (node [] 0)) (heavy (node [] 0)) kept kept' old was step
 
-    pub next-inside : (inside inside' : ℕ) → inside ≡ inside_weight n t g (take i (lift r partials)) → inside' ≡ inside + cond (is_inside (n.verdict t g (r ++ p))) w 0 → inside' ≡ inside_weight n t g (take (i + 1) (lift r partials))
+  module _ (n : Network) (t : Tail) (g : ℕ) where
+    pub next-opened : (opened opened' : ℕ) → opened ≡ opened_in n t g (take i (lift r partials)) → opened' ≡ opened + cond (is_open n t g (r ++ p)) 1 0 → opened' ≡ opened_in n t g (take (i + 1) (lift r partials))
+    next-opened opened opened' was step =
+        omega (arith, step, was, length-filter_more (λ (a : Node). is_open n t g a.key) (lift r partials) i (node (r ++ p) w) low, ap {B = ℕ} (λ (a : Node). cond (is_open n t g a.key) 1 0) is)
+
+    pub opened-few : (opened : ℕ) → opened ≡ opened_in n t g (take i (lift r partials)) → opened ≤ i
+    opened-few opened was = omega (arith, was, length-filter-le (λ (a : Node). is_open n t g a.key) (take i (lift r partials)), length-take-le i (lift r partials) (omega (arith, low)))
+
+    pub next-inside : (inside inside' : ℕ) → inside ≡ inside_weight n t g (take i (lift r partials)) → inside' ≡ inside + cond (closes_inside n t g (r ++ p)) w 0 → inside' ≡ inside_weight n t g (take (i + 1) (lift r partials))
     next-inside inside inside' was step = omega (arith, step, was, inside-more n t g (lift r partials) i (node (r ++ p) w) low is)
 
     pub next-fits : IsLawful n → g ≤ n.count → AllReached n g (lift r partials) → (sum inside : ℕ) → sum + weighted (total_weight n g) (lift r partials) ≤ MAX → inside ≡ inside_weight n t g (take i (lift r partials)) → inside + w ≤ MAX
     next-fits lawful h reached sum inside fits was =
         omega (arith, inside-fits n t g (lift r partials) i (node (r ++ p) w) low is, weights-le-weighted n lawful g h (lift r partials) reached, was, fits)
+
+-- those that are open for a tail are open for some
+pub opened-le : (n : Network) (t : Tail) (g : ℕ) (nodes : List Node) → opened_in n t g nodes ≤ length (open_nodes n g nodes)
+opened-le n t g nodes = omega (arith, ap length (filter-both (is_open n t g) (is_open_for_some n g) (open-for n t g) nodes), length-filter-le (λ (a : Node). is_open n t g a.key) (open_nodes n g nodes))
 
 -- the key of a node of the room is reached
 pub in_room : (n : Network) (g : ℕ) (r : List ℤ) (partials : List Node) (i : ℕ) (p : List ℤ) → AllReached n g (lift r partials) → i < length partials → ((d : Node) → p ≡ (get_or partials i d).key) → IsReached n g (r ++ p)

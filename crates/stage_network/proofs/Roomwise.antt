@@ -10,7 +10,6 @@ use Rattle.std.specs.List.{IsDistinct}
 use Rattle.node_pool.specs.Nodes.{Node, node, key_eq, keys, is_held, weighted, weight_in}
 use Rattle.stage_network.specs.Network.{Network, IsReached}
 use Rattle.stage_network.specs.NodeSteps.{AllReached, AllHeavy, successor, successors}
-use Rattle.stage_network.specs.Opened.{is_open}
 use Rattle.stage_network.specs.Rooms.{AreRoommates, IsRoomed}
 use Rattle.stage_network.proofs.Steps.{sum_by-map, sum_by-same}
 use Rattle.stage_network.specs.WaySteps.{IsRun, Way, segment, way_nodes, spread_out, bucket, lift, IsFine, AllFine}
@@ -19,19 +18,18 @@ use Rattle.std.proofs.lemmas.List.{get_or_default, length-drop, length-take-le, 
 use Rattle.std.proofs.lemmas.List.Sums.{sum_by-cons, sum_by_more, sum_by-take-le, sum_by-append}
 use Rattle.std.proofs.lemmas.List.Elements.{filter_more}
 use Rattle.std.proofs.lemmas.List.Concat.{flat_map-append}
-use Rattle.weights.specs.declared.tails.Tail.{Tail}
 use Rattle.stage_network.proofs.Stepping.{reached_at}
 
--- an open node more
-module _ (n : Network) (t : Tail) (g : ℕ) (nodes : List Node) (i : ℕ) (low : i < length nodes) (d : Node) (k : List ℤ) (w : ℕ) (key : k ≡ (get_or nodes i d).key) (weight : w ≡ (get_or nodes i d).weight) where
+-- a node more that passes
+module _ (p : List ℤ → Bool) (nodes : List Node) (i : ℕ) (low : i < length nodes) (d : Node) (k : List ℤ) (w : ℕ) (key : k ≡ (get_or nodes i d).key) (weight : w ≡ (get_or nodes i d).weight) where
   is_node : node k w ≡ get_or nodes i (node k w)
   is_node = rw (key, weight) (get_or_default nodes i d (get_or nodes i d) low)
 
-  pub kept-next : (kept kept' old : List Node) → kept ≡ old ++ filter (λ a. is_open n t g a.key) (take i nodes) → kept' ≡ kept ++ cond (is_open n t g k) (node k w ∷ []) [] → kept' ≡ old ++ filter (λ a. is_open n t g a.key) (take (i + 1) nodes)
+  pub kept-next : (kept kept' old : List Node) → kept ≡ old ++ filter (λ a. p a.key) (take i nodes) → kept' ≡ kept ++ cond (p k) (node k w ∷ []) [] → kept' ≡ old ++ filter (λ a. p a.key) (take (i + 1) nodes)
   kept-next kept kept' old before step =
-      step ∙ ap (λ ns. ns ++ cond (is_open n t g k) (node k w ∷ []) []) before
-      ∙ append_assoc old (filter (λ a. is_open n t g a.key) (take i nodes)) (cond (is_open n t g k) (node k w ∷ []) [])
-      ∙ ap (λ ns. old ++ ns) (sym (filter_more (λ b. is_open n t g b.key) nodes i (node k w) low ∙ ap (λ b. filter (λ b. is_open n t g b.key) (take i nodes) ++ cond (is_open n t g b.key) (b ∷ []) []) (sym is_node)))
+      step ∙ ap (λ ns. ns ++ cond (p k) (node k w ∷ []) []) before
+      ∙ append_assoc old (filter (λ a. p a.key) (take i nodes)) (cond (p k) (node k w ∷ []) [])
+      ∙ ap (λ ns. old ++ ns) (sym (filter_more (λ b. p b.key) nodes i (node k w) low ∙ ap (λ b. filter (λ b. p b.key) (take i nodes) ++ cond (p b.key) (b ∷ []) []) (sym is_node)))
 
 -- heavy nodes
 pub heavy_at : (nodes : List Node) (i : ℕ) (d : Node) → AllHeavy nodes → i < length nodes → 1 ≤ (get_or nodes i d).weight

@@ -8,6 +8,7 @@ use Rattle.weights.specs.declared.rules.Rule.{Rule}
 use Rattle.stage_network.specs.declared.additive.SumValue.{SumValue}
 use Rattle.stage_network.specs.declared.additive.SumValue.TheVariants.{First, Squares}
 use Rattle.stage_network.specs.Network.{Network}
+use Rattle.stage_network.specs.Alike.{Shape}
 use Rattle.stage_network.specs.Judged.{judged}
 use Rattle.stage_network.specs.PartialSums.{plus, kept}
 
@@ -91,6 +92,10 @@ additive_network a = record {
   verdict = λ t g k. judged a.tail a.rule t (low a g k) (high a g k);
   value = value_of a.value;
 }
+
+-- what it is asked once for each room: its one room is empty
+abbrev pub additive_shape : Shape
+additive_shape = record { room_width = 0; outlook_width = 0; outlook = λ g room. [] }
 
 -- the choices that are still to come at a stage: from c on, or none
 abbrev pub choices_left : Addends → ℕ → Bool → List ℕ → List (List ℕ)

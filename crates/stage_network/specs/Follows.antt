@@ -8,10 +8,11 @@ use Rattle.weights.specs.declared.tails.Tails.{Tails}
 use Rattle.weights.specs.Conditional.{ConditionalTest, numerator, observed_statistic, total}
 use Rattle.weights.specs.Rules.{measured, rule_of}
 use Rattle.stage_network.specs.Network.{Network}
+use Rattle.stage_network.specs.Alike.{AreAlike, Shape}
 use Rattle.stage_network.specs.Completions.{value_weights}
 use Rattle.stage_network.specs.Judged.{HasIntervals}
 use Rattle.stage_network.specs.Opened.{opened_below}
-use Rattle.stage_network.specs.declared.sums.TailSum.{TailSum}
+use Rattle.stage_network.specs.declared.tail_sums.TailSum.{TailSum}
 use Rattle.stage_network.specs.declared.answers.Answer.{Answer}
 use Rattle.stage_network.specs.declared.answers.Way.{Way}
 use Rattle.stage_network.specs.declared.answers.Way.TheVariants as way
@@ -30,6 +31,12 @@ statistic_sums test p = sum_by test.weight (filter (λ r. p (test.statistic r)) 
 pub record Follows (test : ConditionalTest) (tail : Tail) (n : Network) : Type 0 where
   pub intervals : HasIntervals n tail (rule_of test tail)
   pub ends : (p : ℤ → Bool) → value_weights n p ≡ measured_weight test tail p
+
+-- the networks of the tails that a test has are the same but for their verdicts, and so are shaped
+abbrev pub AreShared : ConditionalTest → (Tail → Network) → (Tail → Shape) → Type 0
+AreShared test network shape = (s t : Tail)
+    → test.has_tail s ≡ true → test.has_tail t ≡ true
+    → AreAlike (network s) (network t) × (shape s ≡ shape t)
 
 -- the tails that are asked
 abbrev pub asks : Tails → Tail → Bool

@@ -62,3 +62,8 @@ pub record HasIntervals (n : Network) (tail : Tail) (rule : Rule) : Type 0 where
       → high (g + 1) (n.next g k c) ≤ℤ high g k
   pub low_ends : (k : List ℤ) → IsReached n n.count k → low n.count k ≡ n.value k
   pub high_ends : (k : List ℤ) → IsReached n n.count k → high n.count k ≡ n.value k
+
+-- the verdicts for a tail are those of some rule over intervals
+pub record IsJudged (n : Network) (t : Tail) : Type 0 where
+  pub rule : Rule
+  pub intervals : HasIntervals n t rule

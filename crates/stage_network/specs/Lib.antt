@@ -2,6 +2,8 @@ pub mod Network
 pub mod Completions
 pub mod Laws
 pub mod Opened
+pub mod Steady
+pub mod Alike
 pub mod Rooms
 pub mod Lines
 pub mod Judged

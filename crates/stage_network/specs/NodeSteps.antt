@@ -1,12 +1,12 @@
 -- Nodes of a stage: where they lead, and what is decided of them.
-use Rattle.std.specs.Prelude.{ℕ, ◌*◌, ◌≤◌, ◌<◌, List, map, filter, cond}
+use Rattle.std.specs.Prelude.{ℕ, ℤ, ◌*◌, ◌≤◌, ◌<◌, List, length, map, filter, Bool, false, cond}
 use Rattle.std.specs.List.{flat_map, sum_by, AllByRecursion}
 use Rattle.weights.specs.declared.tails.Tail.{Tail}
 use Rattle.node_pool.specs.Nodes.{Node}
 use Rattle.stage_network.specs.Network.{Network, IsReached}
 use Rattle.stage_network.specs.Completions.{is_inside, total_weight}
 use Rattle.stage_network.specs.Laws.{IsLawful}
-use Rattle.stage_network.specs.Opened.{is_open}
+use Rattle.stage_network.specs.Opened.{is_open, is_open_for_some}
 
 -- the node that a choice reaches from a node of stage g
 abbrev pub successor : Network → ℕ → Node → List ℕ → Node
@@ -20,20 +20,28 @@ successors n g a = map (successor n g a) (n.choices g a.key)
 abbrev pub all_successors : Network → ℕ → List Node → List Node
 all_successors n g nodes = flat_map (successors n g) nodes
 
--- the open ones
-abbrev pub open_nodes : Network → Tail → ℕ → List Node → List Node
-open_nodes n t g nodes = filter (λ a. is_open n t g a.key) nodes
+-- those that are open for some tail
+abbrev pub open_nodes : Network → ℕ → List Node → List Node
+open_nodes n g nodes = filter (λ a. is_open_for_some n g a.key) nodes
 
--- what a node adds to the sum, and all nodes of a stage
+-- how many are open for a tail
+abbrev pub opened_in : Network → Tail → ℕ → List Node → ℕ
+opened_in n t g nodes = length (filter (λ a. is_open n t g a.key) nodes)
+
+-- whether a key closes with all its completions extreme for a tail: it is open for none
+abbrev pub closes_inside : Network → Tail → ℕ → List ℤ → Bool
+closes_inside n t g k = cond (is_open_for_some n g k) false (is_inside (n.verdict t g k))
+
+-- what a node adds to a tail's sum, and all nodes of a stage
 abbrev pub closed_part : Network → Tail → ℕ → Node → ℕ
-closed_part n t g a = cond (is_inside (n.verdict t g a.key)) (a.weight * total_weight n g a.key) 0
+closed_part n t g a = cond (closes_inside n t g a.key) (a.weight * total_weight n g a.key) 0
 
 abbrev pub closed_weight : Network → Tail → ℕ → List Node → ℕ
 closed_weight n t g nodes = sum_by (closed_part n t g) nodes
 
--- the weight of the nodes whose completions are all extreme
+-- the weight of the nodes that close so
 abbrev pub inside_weight : Network → Tail → ℕ → List Node → ℕ
-inside_weight n t g nodes = sum_by (λ a. cond (is_inside (n.verdict t g a.key)) a.weight 0) nodes
+inside_weight n t g nodes = sum_by (λ a. cond (closes_inside n t g a.key) a.weight 0) nodes
 
 -- each node's key is reached at stage g
 abbrev pub AllReached : Network → ℕ → List Node → Type 0

@@ -1,6 +1,6 @@
 // What is answered of a test, and by which way.
 
-use crate::sums::TailSum;
+use crate::tail_sums::TailSum;
 
 /// How an answer is found: by the network of stages, or by a walk through all rearrangements.
 #[derive(Clone, Copy, Debug, PartialEq, Eq)]

@@ -1,17 +1,21 @@
 // The answer of a prepared test, by its network or by the plain walk.
-ghost use Rattle.std.specs.Prelude.{◌≡◌, ◌≤◌, true, Contains, IfOk};
+ghost use Rattle.std.specs.Prelude.{◌≡◌, ◌≤◌, true, false, None, Contains, IfOk};
 ghost use Rattle.weights.specs.Conditional.{distribution, is_extreme, total};
 ghost use Rattle.weights.specs.Rules.{measured};
 ghost use Rattle.weights.specs.Frames.{IsFrameOf, IsShown, RulesFit, first_tail};
 ghost use Rattle.weights.specs.declared.tails.Tail.{Tail};
 ghost use Rattle.stage_network.specs.Network.{Network};
-ghost use Rattle.stage_network.specs.Follows.{Follows, HasTails, answer_of, asked_tail, open_keys, tail_of};
+ghost use Rattle.stage_network.specs.Alike.{IsBuilt, Shape, shape_by};
+ghost use Rattle.stage_network.specs.Follows.{AreShared, Follows, HasTails, answer_of, asked_tail};
+ghost use Rattle.stage_network.specs.Follows.{asks, open_keys, tail_of};
+ghost use Rattle.stage_network.specs.SweepSteps.{sum_for};
 
 use crate::answers::{Answer, Way};
 use crate::lines::Spread;
 use crate::spreads::spread_by_rooms;
 use crate::stages::Roomed;
-use crate::sums::{TailSum, tail_sum_by_rooms};
+use crate::sums::{tail_sum_by_rooms, tail_sums_together};
+use crate::tail_sums::{TailSum, TailSums};
 use crate::walks::{plain_spread, plain_tail};
 use enumerate::Plain;
 use std::alloc::Global;
@@ -24,6 +28,9 @@ pub trait Prepared: Plain {
 
     /// The network of each tail.
     ghost network: { Self → Tail → Network };
+
+    /// What it is asked once for each room.
+    ghost shape: { Self → Tail → Shape };
 
     /// What is said of the test beside its tails. The rules of the tails compute no number of a
     /// rearrangement that passes a limit, and the total is at least 1.
@@ -52,13 +59,62 @@ pub trait Prepared: Plain {
         self.frame().rule(tail).passes(self.measure(labels, tail))
     }
 
+    /// Whether the networks of its tails are the same but for their verdicts, so that one sweep
+    /// serves them all.
+    fn is_shared(&self) -> bool
+        ensures { result ≡ true
+            → AreShared (Self.test self.now) (network self.now) (shape self.now) }
+    {
+        false
+    }
+
     /// The network of a tail that the test has. Its completions end at what the tail's rule
     /// measures of the rearrangements.
     fn stages_of(&self, alloc: Global, tail: Tail) -> Result<Self::Built, NoMemory>
         requires { (Self.test self.now).has_tail tail ≡ true }
         ensures built { let n = network self.now tail in
             IfOk result (λ built. Self.Built.Stages.network built ≡ n) }
+        ensures shape { let h = shape self.now tail in
+            IfOk result (λ built. shape_by Self.Built.Roomed.room_width
+            Self.Built.Roomed.outlook_width Self.Built.Roomed.outlook_of built ≡ h) }
         ensures follows { Follows (Self.test self.now) tail (network self.now tail) };
+}
+
+// The network of a tail, where it is asked.
+fn asked_stages<P: Prepared>(
+    alloc: Global,
+    problem: &P,
+    asked: bool,
+    tail: Tail,
+) -> Result<Option<P::Built>, NoMemory>
+    requires { asked ≡ true → (P.test problem.now).has_tail tail ≡ true }
+    ensures none { asked ≡ false → IfOk result (λ found. found ≡ None) }
+    ensures some { asked ≡ true → IfOk result (IsBuilt P.Built.Stages.network (shape_by
+        P.Built.Roomed.room_width P.Built.Roomed.outlook_width P.Built.Roomed.outlook_of)
+        (P.network problem.now tail) (P.shape problem.now tail)) }
+    ensures follows { asked ≡ true
+        → Follows (P.test problem.now) tail (P.network problem.now tail) }
+{
+    if !asked {
+        return Ok(None);
+    }
+    let stages = problem.stages_of(alloc, tail)?;
+    Ok(Some(stages))
+}
+
+// The sums of the asked tails by one sweep.
+fn by_one_sweep<P: Prepared>(alloc: Global, problem: &P, tails: Tails) -> Result<TailSums, NoMemory>
+    requires has { HasTails (P.test problem.now) tails }
+    requires shared { AreShared (P.test problem.now) (P.network problem.now) (P.shape problem.now) }
+    ensures { let opened = open_keys (P.network problem.now) in
+        IfOk result (λ sums. (t : Tail) → asks tails t ≡ true
+        → sum_for sums t ≡ tail_of (P.test problem.now) opened t Way.Network) }
+{
+    let less = asked_stages(alloc, problem, tails.less, Tail::Less)?;
+    let greater = asked_stages(alloc, problem, tails.greater, Tail::Greater)?;
+    let two = asked_stages(alloc, problem, tails.two, Tail::Two)?;
+    let sums = tail_sums_together(alloc, &less, &greater, &two)?;
+    Ok(sums)
 }
 
 fn by_network<P: Prepared>(alloc: Global, problem: &P, tail: Tail) -> Result<TailSum, NoMemory>
@@ -80,27 +136,69 @@ fn by_walk<P: Prepared>(alloc: Global, problem: &P, tail: Tail) -> Result<TailSu
     Ok(TailSum { sum, opened: 0 })
 }
 
-// One tail, where it is asked.
-fn tail_answer<P: Prepared>(
+// The sum of one tail; of one that is not asked nothing.
+fn by_itself<P: Prepared>(
     alloc: Global,
     problem: &P,
     asked: bool,
     tail: Tail,
     way: Way,
-) -> Result<Option<TailSum>, NoMemory>
+) -> Result<TailSum, NoMemory>
     requires { asked ≡ true → (P.test problem.now).has_tail tail ≡ true }
     ensures { let opened = open_keys (P.network problem.now) in
-        let sum = tail_of (P.test problem.now) opened tail way in
-        IfOk result (λ found. found ≡ asked_tail asked sum) }
+        asked ≡ true → IfOk result (λ sum. sum ≡ tail_of (P.test problem.now) opened tail way) }
 {
     if !asked {
-        return Ok(None);
+        return Ok(TailSum { sum: 0, opened: 0 });
     }
-    let sum = match way {
-        Way::Network => by_network(alloc, problem, tail)?,
-        Way::Plain => by_walk(alloc, problem, tail)?,
-    };
-    Ok(Some(sum))
+    match way {
+        Way::Network => by_network(alloc, problem, tail),
+        Way::Plain => by_walk(alloc, problem, tail),
+    }
+}
+
+// The sums of the asked tails, one after another.
+fn one_by_one<P: Prepared>(
+    alloc: Global,
+    problem: &P,
+    tails: Tails,
+    way: Way,
+) -> Result<TailSums, NoMemory>
+    requires { HasTails (P.test problem.now) tails }
+    ensures { let opened = open_keys (P.network problem.now) in
+        IfOk result (λ sums. (t : Tail) → asks tails t ≡ true
+        → sum_for sums t ≡ tail_of (P.test problem.now) opened t way) }
+{
+    let less = by_itself(alloc, problem, tails.less, Tail::Less, way)?;
+    let greater = by_itself(alloc, problem, tails.greater, Tail::Greater, way)?;
+    let two = by_itself(alloc, problem, tails.two, Tail::Two, way)?;
+    Ok(TailSums { less, greater, two })
+}
+
+// The sums of the asked tails.
+fn sums_of<P: Prepared>(
+    alloc: Global,
+    problem: &P,
+    tails: Tails,
+    way: Way,
+) -> Result<TailSums, NoMemory>
+    requires { HasTails (P.test problem.now) tails }
+    ensures { let opened = open_keys (P.network problem.now) in
+        IfOk result (λ sums. (t : Tail) → asks tails t ≡ true
+        → sum_for sums t ≡ tail_of (P.test problem.now) opened t way) }
+{
+    let shared = problem.is_shared();
+    match way {
+        Way::Network if shared => by_one_sweep(alloc, problem, tails),
+        Way::Network | Way::Plain => one_by_one(alloc, problem, tails, way),
+    }
+}
+
+// What is asked.
+fn where_asked(asked: bool, sum: TailSum) -> Option<TailSum>
+    ensures { result ≡ asked_tail asked sum }
+{
+    if asked { Some(sum) } else { None }
 }
 
 /// The answer of a test for tails that it has, which may be none: the observed statistic, its
@@ -118,16 +216,14 @@ pub fn answer<P: Prepared>(
     ensures some { IfOk result (λ answer. 1 ≤ answer.total) }
 {
     let frame = problem.frame();
-    let less = tail_answer(alloc, problem, tails.less, Tail::Less, way)?;
-    let greater = tail_answer(alloc, problem, tails.greater, Tail::Greater, way)?;
-    let two = tail_answer(alloc, problem, tails.two, Tail::Two, way)?;
+    let sums = sums_of(alloc, problem, tails, way)?;
     Ok(Answer {
         statistic: frame.statistic,
         scale: frame.scale,
         total: frame.total,
-        less,
-        greater,
-        two,
+        less: where_asked(tails.less, sums.less),
+        greater: where_asked(tails.greater, sums.greater),
+        two: where_asked(tails.two, sums.two),
     })
 }
 

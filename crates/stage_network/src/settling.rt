@@ -1,32 +1,36 @@
 // What is decided in a room, and which of its nodes stay open.
-ghost use Rattle.std.specs.Prelude.{◌≡◌, ◌+◌, ◌*◌, ◌^◌, ◌<◌, ◌≤◌, [], ◌∷◌, ◌++◌, length, take};
-ghost use Rattle.std.specs.Prelude.{OnOk, IfOk, if◌then◌else◌};
+ghost use Rattle.std.specs.Prelude.{◌≡◌, ◌+◌, ◌*◌, ◌<◌, ◌≤◌, [], ◌∷◌, ◌++◌, false, cond, length, take};
+ghost use Rattle.std.specs.Prelude.{OnOk, IfOk};
+ghost use Rattle.weights.specs.declared.tails.Tail.{Tail};
 ghost use Rattle.weights.specs.declared.TheConstants.{MAX};
 ghost use Rattle.node_pool.specs.Nodes.{node, weighted};
 ghost use Rattle.stage_network.specs.Network.{IsReached};
 ghost use Rattle.stage_network.specs.Completions.{is_inside, total_weight};
 ghost use Rattle.stage_network.specs.Laws.{IsLawful};
 ghost use Rattle.stage_network.specs.Opened.{is_undecided};
-ghost use Rattle.stage_network.specs.NodeSteps.{AllReached, closed_weight, open_nodes};
+ghost use Rattle.stage_network.specs.NodeSteps.{AllReached, closed_weight, open_nodes, opened_in};
 ghost use Rattle.stage_network.specs.WaySteps.{lift};
-ghost use Rattle.stage_network.specs.SweepSteps.{IsRoomful, closed_at, staying};
+ghost use Rattle.stage_network.specs.SweepSteps.{IsRoomful, closed_at, counted, staying};
+ghost use Rattle.stage_network.specs.SweepSteps.{some_undecided, sum_for, verdict_for};
 
 use crate::keys::write_key;
 use crate::nodes::StageNodes;
-use crate::stages::{Roomed, Stages, Verdict};
+use crate::stages::{Roomed, Stages};
+use crate::tail_sums::{Kept, TailSums, Verdicts};
 use node_pool::NodePool;
 use weights::{Count, NoMemory, Tail};
 
-// Adds an inside node's weight, or keeps an open node.
+// Adds what a node closes or leaves open, and keeps it where it is open for some tail.
 #[inline(always)]
 fn settle_node<C: Count>(
-    verdict: Verdict,
+    verdicts: Verdicts,
     partial: &[i128],
     weight: C,
-    inside: &mut u128,
+    inside: &mut TailSums,
     kept: &mut StageNodes<C>,
 ) -> Result<(), NoMemory>
-    requires fits { inside.old + C.number weight ≤ MAX }
+    requires fits { (t : Tail) → (sum_for inside.old t).sum + C.number weight ≤ MAX }
+    requires few { (t : Tail) → (sum_for inside.old t).opened < MAX }
     requires named { 1 ≤ kept.old.rooms }
     requires wide { kept.old.room_width + length partial.now ≡ kept.old.width }
     ensures room_width { OnOk result (kept.new.room_width ≡ kept.old.room_width) }
@@ -34,83 +38,111 @@ fn settle_node<C: Count>(
     ensures room { OnOk result (kept.new.room ≡ kept.old.room) }
     ensures named { OnOk result (kept.new.rooms ≡ kept.old.rooms) }
     ensures nodes { let added = node (kept.old.room ++ partial.now) (C.number weight) in
-        let more = if is_undecided verdict then added ∷ [] else [] in
+        let more = cond (some_undecided verdicts) (added ∷ []) [] in
         OnOk result (kept.new.nodes ≡ kept.old.nodes ++ more) }
-    ensures inside { let more = if is_inside verdict then C.number weight else 0 in
-        OnOk result (inside.new ≡ inside.old + more) }
+    ensures inside { OnOk result ((t : Tail)
+        → let closes = cond (some_undecided verdicts) false (is_inside (verdict_for verdicts t)) in
+        (sum_for inside.new t).sum ≡ (sum_for inside.old t).sum + cond closes (C.number weight) 0) }
+    ensures opened { OnOk result ((t : Tail)
+        → (sum_for inside.new t).opened ≡ (sum_for inside.old t).opened
+        + cond (is_undecided (verdict_for verdicts t)) 1 0) }
 {
-    match verdict {
-        Verdict::Inside => {
-            *inside += weight.value();
-            Ok(())
-        }
-        Verdict::Outside => Ok(()),
-        Verdict::Undecided => kept.push(partial, weight),
+    let open = verdicts.is_open();
+    *inside = inside.with_node(verdicts, open, weight.value());
+    if open {
+        kept.push(partial, weight)
+    } else {
+        Ok(())
     }
 }
 
-// The weight of the completions of nodes of a room that have this summed weight; one of them has
-// this partial.
-fn completed<S: Stages>(
+// What the weights inside a room are to be multiplied by: the weight of the completions of a node
+// there, which has this partial. It is not asked for where there is no weight.
+fn rest_of<S: Stages>(
     stages: &S,
     stage: usize,
     room: &[i128],
     partial: &[i128],
-    inside: u128,
+    inside: TailSums,
 ) -> u128
     requires reached { IsReached (S.network stages.now) stage (room.now ++ partial.now) }
     requires wide { length room.now + length partial.now ≡ (S.network stages.now).width }
-    requires fits { let n = S.network stages.now in
-        inside * total_weight n stage (room.now ++ partial.now) ≤ MAX }
-    ensures { let n = S.network stages.now in
-        result ≡ inside * total_weight n stage (room.now ++ partial.now) }
+    ensures { let n = S.network stages.now in (t : Tail) → (sum_for inside t).sum * result
+        ≡ (sum_for inside t).sum * total_weight n stage (room.now ++ partial.now) }
 {
-    if inside == 0 {
+    if inside.is_empty() {
         return 0;
     }
     let _lawful = stages.stages();
     let mut numbers = [0i128; 16];
     let key = &mut numbers[..stages.width()];
     write_key(room, partial, key);
-    inside * stages.rest(stage, key)
+    stages.rest(stage, key)
+}
+
+// What is known of a partial of a room for each tail, by the room's outlook.
+#[inline(always)]
+fn verdicts_of<S: Roomed>(
+    stages: &S,
+    stage: usize,
+    room: &[i128],
+    outlook: &[i128],
+    partial: &[i128],
+) -> Verdicts
+    requires room { length room.now ≡ S.room_width stages.now }
+    requires reached { let n = S.Stages.network stages.now in
+        IsReached n stage (room.now ++ partial.now) }
+    requires outlook { outlook.now ≡ S.outlook_of stages.now stage room.now }
+    ensures { (t : Tail) → let n = S.Stages.network stages.now in
+        verdict_for result t ≡ n.verdict t stage (room.now ++ partial.now) }
+{
+    Verdicts {
+        less: stages.verdict_by(stage, room, outlook, partial, Tail::Less),
+        greater: stages.verdict_by(stage, room, outlook, partial, Tail::Greater),
+        two: stages.verdict_by(stage, room, outlook, partial, Tail::Two),
+    }
 }
 
 // Adds what is decided in a room, and keeps its open nodes.
 fn settle_room<C: Count, S: Roomed>(
     stages: &S,
     stage: usize,
-    tail: Tail,
     nodes: &NodePool<C>,
     room: &[i128],
-    sum: u128,
+    sums: TailSums,
     kept: &mut StageNodes<C>,
-) -> Result<u128, NoMemory>
+) -> Result<TailSums, NoMemory>
     requires { let n = S.Stages.network stages.now in
-        IsRoomful n (S.room_width stages.now) stage sum room.now nodes.now kept.old }
+        IsRoomful n (S.room_width stages.now) stage sums room.now nodes.now kept.old }
     ensures here { OnOk result (kept.new.room_width ≡ length room.now) }
     ensures wide { OnOk result (kept.new.width ≡ kept.old.width) }
     ensures nodes { let n = S.Stages.network stages.now in
-        let more = open_nodes n tail stage (lift room.now nodes.now.nodes) in
+        let more = open_nodes n stage (lift room.now nodes.now.nodes) in
         OnOk result (kept.new.nodes ≡ kept.old.nodes ++ more) }
     ensures sum { let n = S.Stages.network stages.now in
-        let closed = closed_weight n tail stage (lift room.now nodes.now.nodes) in
-        IfOk result (λ all. all ≡ sum + closed) }
+        IfOk result (λ all. (t : Tail) → (sum_for all t).sum
+        ≡ (sum_for sums t).sum + closed_weight n t stage (lift room.now nodes.now.nodes)) }
+    ensures opened { let n = S.Stages.network stages.now in
+        IfOk result (λ all. (t : Tail) → (sum_for all t).opened
+        ≡ (sum_for sums t).opened + opened_in n t stage (lift room.now nodes.now.nodes)) }
 {
     kept.open(room)?;
     if nodes.len() == 0 {
-        return Ok(sum);
+        return Ok(sums);
     }
     let _width = stages.room_width();
     let mut numbers = [0i128; 16];
     let outlook = &mut numbers[..stages.outlook_width()];
     stages.outlook(stage, room, outlook);
-    let mut inside = 0u128;
+    let mut inside = TailSums::none();
     for i in 0..nodes.len() {
         let partial = nodes.key(i);
-        let verdict = stages.verdict_by(stage, room, outlook, partial, tail);
-        settle_node(verdict, partial, nodes.weight(i), &mut inside, kept)?;
+        let verdicts = verdicts_of(stages, stage, room, outlook, partial);
+        settle_node(verdicts, partial, nodes.weight(i), &mut inside, kept)?;
     }
-    Ok(sum + completed(stages, stage, room, nodes.key(0), inside))
+    let rest = rest_of(stages, stage, room, nodes.key(0), inside);
+    let _held = kept.len();
+    Ok(sums.with_room(inside, rest))
 }
 
 // Keeps all nodes of a room.
@@ -132,32 +164,35 @@ fn keep_room<C: Count>(
     Ok(())
 }
 
-/// Settles a room for a tail; without one all its nodes are kept.
+/// Settles a room: its open nodes are kept, or all.
 pub fn settle<C: Count, S: Roomed>(
     stages: &S,
     stage: usize,
-    tail: Option<Tail>,
+    keep: Kept,
     nodes: &NodePool<C>,
     room: &[i128],
-    sum: u128,
+    sums: TailSums,
     kept: &mut StageNodes<C>,
-) -> Result<u128, NoMemory>
+) -> Result<TailSums, NoMemory>
     requires { let n = S.Stages.network stages.now in
-        IsRoomful n (S.room_width stages.now) stage sum room.now nodes.now kept.old }
+        IsRoomful n (S.room_width stages.now) stage sums room.now nodes.now kept.old }
     ensures here { OnOk result (kept.new.room_width ≡ length room.now) }
     ensures wide { OnOk result (kept.new.width ≡ kept.old.width) }
     ensures nodes { let n = S.Stages.network stages.now in
-        let more = staying n tail stage (lift room.now nodes.now.nodes) in
+        let more = staying n keep stage (lift room.now nodes.now.nodes) in
         OnOk result (kept.new.nodes ≡ kept.old.nodes ++ more) }
     ensures sum { let n = S.Stages.network stages.now in
-        let closed = weighted (closed_at n tail stage) (lift room.now nodes.now.nodes) in
-        IfOk result (λ all. all ≡ sum + closed) }
+        IfOk result (λ all. (t : Tail) → (sum_for all t).sum ≡ (sum_for sums t).sum
+        + weighted (closed_at n keep t stage) (lift room.now nodes.now.nodes)) }
+    ensures opened { let n = S.Stages.network stages.now in
+        IfOk result (λ all. (t : Tail) → (sum_for all t).opened
+        ≡ (sum_for sums t).opened + counted n keep t stage (lift room.now nodes.now.nodes)) }
 {
-    match tail {
-        Some(tail) => settle_room(stages, stage, tail, nodes, room, sum, kept),
-        None => {
+    match keep {
+        Kept::Open => settle_room(stages, stage, nodes, room, sums, kept),
+        Kept::All => {
             keep_room(nodes, room, kept)?;
-            Ok(sum)
+            Ok(sums)
         }
     }
 }

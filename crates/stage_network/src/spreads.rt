@@ -12,6 +12,7 @@ use crate::nodes::StageNodes;
 use crate::stages::{Roomed, Stages};
 use crate::sums::total_of;
 use crate::sweep::sweep;
+use crate::tail_sums::Kept;
 use crate::whole::Whole;
 use crate::widths::{Width, width_of};
 use std::alloc::Global;
@@ -80,7 +81,7 @@ fn spread_in<C: Count, S: Roomed>(alloc: Global, stages: &S) -> Result<Spread, N
     requires limit { let n = S.Stages.network stages.now in total_weight n 0 n.first ≤ C.LIMIT }
     ensures { IfOk result (IsSpreadOf (value_weights (S.Stages.network stages.now))) }
 {
-    let swept = sweep::<C, S>(alloc, stages, None)?;
+    let swept = sweep::<C, S>(alloc, stages, Kept::All)?;
     node_values(alloc, stages, &swept.nodes)
 }
 

@@ -1,49 +1,50 @@
-// One sweep through the stages, room by room: with a tail only its open keys are kept, and without
-// one every key is.
-ghost use Rattle.std.specs.Prelude.{◌≡◌, ℕ, ℤ, ◌+◌, ◌<◌, ◌≤◌, List, [], ◌∷◌, length, drop, OnOk, IfOk};
+// One sweep through the stages, room by room, for all tails at once: the keys are kept that are
+// open for some tail, or every key is.
+ghost use Rattle.std.specs.Prelude.{◌≡◌, ℕ, ℤ, ◌+◌, ◌^◌, ◌<◌, ◌≤◌, List, [], ◌∷◌, length, drop, OnOk, IfOk};
 ghost use Rattle.std.specs.List.{IsDistinct};
 ghost use Rattle.weights.specs.declared.TheConstants.{MAX};
+ghost use Rattle.weights.specs.declared.tails.Tail.{Tail};
 ghost use Rattle.node_pool.specs.Nodes.{key_eq, keys, node, weighted};
 ghost use Rattle.stage_network.specs.Completions.{total_weight};
 ghost use Rattle.stage_network.specs.Rooms.{IsRoomed};
 ghost use Rattle.stage_network.specs.NodeSteps.{AreNodes, AllHeavy, AllReached};
 ghost use Rattle.stage_network.specs.WaySteps.{AreWays, spread_out};
-ghost use Rattle.stage_network.specs.SweepSteps.{IsSwept, closed_at, staying};
+ghost use Rattle.stage_network.specs.SweepSteps.{IsSwept, closed_at, counted, staying, sum_for};
 
 use crate::keys::{behind, front};
 use crate::nodes::StageNodes;
 use crate::rooms::{fill, list_ways};
 use crate::settling::settle;
 use crate::stages::{Roomed, Stages};
+use crate::tail_sums::{Kept, TailSums};
 use crate::ways::Ways;
 use node_pool::NodePool;
 use std::alloc::Global;
 use std::mem;
-use weights::{Count, Narrow, NoMemory, Tail};
+use weights::{Count, Narrow, NoMemory};
 
-/// The nodes of the last stage that are kept, the weight that was closed on the way, and how many
-/// nodes were kept in all.
+/// The nodes of the last stage that are kept, and of each tail the weight that was closed on the
+/// way and how many keys were open.
 #[derive(Drop)]
 pub struct Swept<C: Count> {
     pub nodes: StageNodes<C>,
-    pub sum: u128,
-    pub opened: u128,
+    pub sums: TailSums,
 }
 
 // Fills the rooms of the next stage, one after another, and settles each.
 fn gather<C: Count, S: Roomed>(
     stages: &S,
     stage: usize,
-    tail: Option<Tail>,
+    keep: Kept,
     nodes: &StageNodes<C>,
     rooms: &NodePool<Narrow>,
     ways: &Ways,
     step: &mut [i128],
     next: &mut [i128],
-    sum: u128,
+    sums: TailSums,
     work: &mut NodePool<C>,
     kept: &mut StageNodes<C>,
-) -> Result<u128, NoMemory>
+) -> Result<TailSums, NoMemory>
     requires nodes { AreNodes (S.Stages.network stages.now) stage nodes.now.nodes }
     requires here { nodes.now.room_width ≡ S.room_width stages.now }
     requires small { rooms.now.width ≡ S.room_width stages.now }
@@ -61,7 +62,8 @@ fn gather<C: Count, S: Roomed>(
         weighted (total_weight n (stage + 1)) all ≤ C.LIMIT }
     requires fits { let n = S.Stages.network stages.now in
         let all = spread_out n stage nodes.now.nodes ways.now.ways in
-        sum + weighted (total_weight n (stage + 1)) all ≤ MAX }
+        (t : Tail) → (sum_for sums t).sum + weighted (total_weight n (stage + 1)) all ≤ MAX }
+    requires few { (t : Tail) → (sum_for sums t).opened + 2 ^ 64 ≤ 2 ^ 128 }
     ensures step { OnOk result (length step.new ≡ length step.old) }
     ensures next { OnOk result (length next.new ≡ length next.old) }
     ensures work { OnOk result (work.new.width ≡ work.old.width) }
@@ -72,19 +74,23 @@ fn gather<C: Count, S: Roomed>(
     ensures told { let n = S.Stages.network stages.now in
         let all = spread_out n stage nodes.now.nodes ways.now.ways in
         OnOk result ((f : List ℤ → ℕ)
-        → weighted f kept.new.nodes ≡ weighted f (staying n tail (stage + 1) all)) }
+        → weighted f kept.new.nodes ≡ weighted f (staying n keep (stage + 1) all)) }
     ensures sum { let n = S.Stages.network stages.now in
         let all = spread_out n stage nodes.now.nodes ways.now.ways in
-        IfOk result (λ more. more ≡ sum + weighted (closed_at n tail (stage + 1)) all) }
+        IfOk result (λ more. (t : Tail) → (sum_for more t).sum
+        ≡ (sum_for sums t).sum + weighted (closed_at n keep t (stage + 1)) all) }
+    ensures opened { let n = S.Stages.network stages.now in
+        IfOk result (λ more. (t : Tail) → (sum_for more t).opened
+        ≡ (sum_for sums t).opened + counted n keep t (stage + 1) kept.new.nodes) }
 {
     let _count = stages.stages();
     let _width = stages.room_width();
-    let mut more = sum;
+    let mut more = sums;
     for target in 0..rooms.len() {
         work.clear();
         fill(stages, stage, nodes, rooms, ways, target, step, next, work)?;
         let _apart = work.len();
-        more = settle(stages, stage + 1, tail, work, rooms.key(target), more, kept)?;
+        more = settle(stages, stage + 1, keep, work, rooms.key(target), more, kept)?;
     }
     Ok(more)
 }
@@ -120,11 +126,11 @@ fn start<C: Count, S: Roomed>(
 pub fn sweep<C: Count, S: Roomed>(
     alloc: Global,
     stages: &S,
-    tail: Option<Tail>,
+    keep: Kept,
 ) -> Result<Swept<C>, NoMemory>
     requires limit { let n = S.Stages.network stages.now in total_weight n 0 n.first ≤ C.LIMIT }
     ensures swept { let n = S.Stages.network stages.now in
-        IfOk result (λ all. IsSwept n tail all.sum all.opened all.nodes.nodes) }
+        IfOk result (λ all. IsSwept n keep all.sums all.nodes.nodes) }
     ensures wide { IfOk result (λ all. all.nodes.width ≡ (S.Stages.network stages.now).width) }
     ensures reached { let n = S.Stages.network stages.now in
         IfOk result (λ all. AllReached n n.count all.nodes.nodes) }
@@ -148,8 +154,8 @@ pub fn sweep<C: Count, S: Roomed>(
     let mut ahead = StageNodes::<C>::new(alloc, width, partial_width);
     let mut rooms = NodePool::<Narrow>::new(alloc, width)?;
     let mut ways = Ways::new(alloc, stages.choice_width());
-    let mut sum = settle(stages, 0, tail, &work, front(key, width), 0, &mut here)?;
-    let mut opened = here.len() as u128;
+    let none = TailSums::none();
+    let mut sums = settle(stages, 0, keep, &work, front(key, width), none, &mut here)?;
     for stage in 0..count {
         rooms.clear();
         ways.clear();
@@ -164,15 +170,11 @@ pub fn sweep<C: Count, S: Roomed>(
             &mut ways,
         )?;
         ahead.clear();
-        sum = gather(
-            stages, stage, tail, &here, &rooms, &ways, step, next, sum, &mut work, &mut ahead,
+        sums = gather(
+            stages, stage, keep, &here, &rooms, &ways, step, next, sums, &mut work, &mut ahead,
         )?;
         mem::swap(&mut here, &mut ahead);
-        opened += here.len() as u128;
+        let _held = here.len();
     }
-    Ok(Swept {
-        nodes: here,
-        sum,
-        opened,
-    })
+    Ok(Swept { nodes: here, sums })
 }

@@ -130,11 +130,14 @@ impl Plain for SignedRanks {
 }
 
 impl Prepared for SignedRanks {
+    ghost use Rattle.stage_network.specs.Addends.{additive_shape};
     ghost use Rattle.stage_network.specs.WorkedRanks.{worked_network};
 
     type Built = AdditiveStages<RankStages>;
 
     ghost network = { λ _. worked_network };
+
+    ghost shape = { λ _ _. additive_shape };
 
     fn frame(&self) -> Frame {
         Frame {
@@ -151,6 +154,10 @@ impl Prepared for SignedRanks {
 
     fn measure(&self, labels: &[u8], _tail: Tail) -> i128 {
         self.value(labels)
+    }
+
+    fn is_shared(&self) -> bool {
+        true
     }
 
     fn stages_of(&self, alloc: Global, tail: Tail) -> Result<Self::Built, NoMemory> {

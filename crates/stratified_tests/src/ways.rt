@@ -31,11 +31,14 @@ impl Plain for StrataTest {
 }
 
 impl Prepared for StrataTest {
+    ghost use Rattle.stage_network.specs.Addends.{additive_shape};
     ghost use Rattle.stratified_tests.specs.StrataNetwork.{strata_network};
 
     type Built = AdditiveStages<StrataStages>;
 
     ghost network = { strata_network };
+
+    ghost shape = { λ _ _. additive_shape };
 
     fn frame(&self) -> Frame {
         self.made().frame
@@ -47,6 +50,10 @@ impl Prepared for StrataTest {
 
     fn measure(&self, labels: &[u8], _tail: Tail) -> i128 {
         self.value(labels)
+    }
+
+    fn is_shared(&self) -> bool {
+        true
     }
 
     fn stages_of(&self, alloc: Global, tail: Tail) -> Result<Self::Built, NoMemory> {

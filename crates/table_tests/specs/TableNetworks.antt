@@ -5,7 +5,8 @@ use Rattle.weights.specs.declared.tails.Tail.{Tail}
 use Rattle.weights.specs.declared.tails.Tail.TheVariants.{Less, Greater, Two}
 use Rattle.weights.specs.Rules.{rule_of}
 use Rattle.stage_network.specs.Network.{Network}
-use Rattle.label_network.specs.LabelNetwork.{label_network}
+use Rattle.stage_network.specs.Alike.{Shape}
+use Rattle.label_network.specs.LabelNetwork.{label_network, label_shape}
 use Rattle.label_network.specs.Linear.{linear_meaning}
 use Rattle.label_network.specs.Meanings.{Meaning}
 use Rattle.table_reader.specs.TableLayout.{TableData}
@@ -22,6 +23,9 @@ product_meaning scored tail =
 
 abbrev pub linear_network : ScoredTable → Tail → Network
 linear_network scored tail = label_network (product_meaning scored tail)
+
+abbrev pub linear_shape : ScoredTable → Tail → Shape
+linear_shape scored tail = label_shape (product_meaning scored tail)
 
 -- the first cell has the subjects of the first row and the first column, which score 1
 abbrev pub first_scores : List ℤ
@@ -40,3 +44,8 @@ abbrev pub fisher_network : TableData → Tail → Network
 fisher_network table Less = label_network (first_cell_meaning table Less)
 fisher_network table Greater = label_network (first_cell_meaning table Greater)
 fisher_network table Two = label_network (rarity_meaning table Two)
+
+abbrev pub fisher_shape : TableData → Tail → Shape
+fisher_shape table Less = label_shape (first_cell_meaning table Less)
+fisher_shape table Greater = label_shape (first_cell_meaning table Greater)
+fisher_shape table Two = label_shape (rarity_meaning table Two)

@@ -2,9 +2,10 @@
 use Rattle.weights.specs.Conditional.{ConditionalTest}
 use Rattle.weights.specs.declared.tails.Tail.{Tail}
 use Rattle.stage_network.specs.Network.{Network}
+use Rattle.stage_network.specs.Alike.{Shape}
 use Rattle.table_tests.specs.FisherExact.{fisher_test}
 use Rattle.table_tests.specs.LinearByLinear.{linear_test}
-use Rattle.table_tests.specs.TableNetworks.{fisher_network, linear_network}
+use Rattle.table_tests.specs.TableNetworks.{fisher_network, fisher_shape, linear_network, linear_shape}
 use Rattle.table_tests.specs.declared.table_test.TableTest.{TableTest}
 use Rattle.table_tests.specs.declared.table_test.TableTest.TheVariants.{Fisher, Linear}
 
@@ -15,3 +16,7 @@ table_test (Linear scored) = linear_test scored
 abbrev pub table_network : TableTest → Tail → Network
 table_network (Fisher table) tail = fisher_network table tail
 table_network (Linear scored) tail = linear_network scored tail
+
+abbrev pub table_shape : TableTest → Tail → Shape
+table_shape (Fisher table) tail = fisher_shape table tail
+table_shape (Linear scored) tail = linear_shape scored tail

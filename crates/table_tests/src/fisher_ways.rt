@@ -107,11 +107,13 @@ impl Plain for FisherTable {
 }
 
 impl Prepared for FisherTable {
-    ghost use Rattle.table_tests.specs.TableNetworks.{fisher_network};
+    ghost use Rattle.table_tests.specs.TableNetworks.{fisher_network, fisher_shape};
 
     type Built = OneOf<LabelStages<LinearMeasure>, LabelStages<WeightMeasure>>;
 
     ghost network = { fisher_network };
+
+    ghost shape = { fisher_shape };
 
     fn frame(&self) -> Frame {
         self.made().frame

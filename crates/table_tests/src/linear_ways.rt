@@ -36,11 +36,13 @@ impl Plain for LinearTable {
 }
 
 impl Prepared for LinearTable {
-    ghost use Rattle.table_tests.specs.TableNetworks.{linear_network};
+    ghost use Rattle.table_tests.specs.TableNetworks.{linear_network, linear_shape};
 
     type Built = LabelStages<LinearMeasure>;
 
     ghost network = { linear_network };
+
+    ghost shape = { linear_shape };
 
     fn frame(&self) -> Frame {
         self.made().frame
@@ -52,6 +54,10 @@ impl Prepared for LinearTable {
 
     fn measure(&self, labels: &[u8], _tail: Tail) -> i128 {
         self.value(labels)
+    }
+
+    fn is_shared(&self) -> bool {
+        true
     }
 
     fn stages_of(&self, alloc: Global, tail: Tail) -> Result<Self::Built, NoMemory> {

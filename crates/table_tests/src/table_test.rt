@@ -92,11 +92,13 @@ impl Plain for TableTest {
 }
 
 impl Prepared for TableTest {
-    ghost use Rattle.table_tests.specs.TableTests.{table_network};
+    ghost use Rattle.table_tests.specs.TableTests.{table_network, table_shape};
 
     type Built = OneOf<LabelStages<LinearMeasure>, LabelStages<WeightMeasure>>;
 
     ghost network = { table_network };
+
+    ghost shape = { table_shape };
 
     fn frame(&self) -> Frame {
         match self {
@@ -116,6 +118,13 @@ impl Prepared for TableTest {
         match self {
             TableTest::Fisher(table) => table.measure(labels, tail),
             TableTest::Linear(table) => table.measure(labels, tail),
+        }
+    }
+
+    fn is_shared(&self) -> bool {
+        match self {
+            TableTest::Fisher(table) => table.is_shared(),
+            TableTest::Linear(table) => table.is_shared(),
         }
     }
 

@@ -30,11 +30,14 @@ impl Plain for TwoSample {
 }
 
 impl Prepared for TwoSample {
-    ghost use Rattle.two_sample_tests.specs.Columns.{two_sample_network};
+    ghost use Rattle.label_network.specs.LabelNetwork.{label_shape};
+    ghost use Rattle.two_sample_tests.specs.Columns.{two_sample_meaning, two_sample_network};
 
     type Built = LabelStages<LinearMeasure>;
 
     ghost network = { two_sample_network };
+
+    ghost shape = { λ s tail. label_shape (two_sample_meaning s tail) };
 
     fn frame(&self) -> Frame {
         self.made().frame
@@ -46,6 +49,10 @@ impl Prepared for TwoSample {
 
     fn measure(&self, labels: &[u8], _tail: Tail) -> i128 {
         self.value(labels)
+    }
+
+    fn is_shared(&self) -> bool {
+        true
     }
 
     fn stages_of(&self, alloc: Global, tail: Tail) -> Result<Self::Built, NoMemory> {

@@ -1,12 +1,18 @@
-use Rattle.std.proofs.Common.{◌≡◌, ◌<◌, ◌≤◌, ◌+◌, ◌++◌, ◌∷◌, ℕ, List, [], length, cond, ap, sym, ◌∙◌, arith, refl, append-nil}
+use Rattle.std.proofs.Common.{◌≡◌, ◌<◌, ◌≤◌, ◌+◌, ◌++◌, ◌∷◌, ℕ, List, [], length, take, false, cond, ap, sym, ◌∙◌, arith, refl, append-nil}
 use Rattle.std.specs.Prelude.{ℤ}
+use Rattle.std.proofs.lemmas.List.{length-append}
 use Rattle.node_pool.specs.Nodes.{Node, node}
 use Rattle.stage_network.specs.Network.{Network}
 use Rattle.stage_network.specs.Completions.{is_inside}
-use Rattle.stage_network.specs.Opened.{is_open, is_undecided}
-use Rattle.stage_network.specs.NodeSteps.{open_nodes}
+use Rattle.weights.specs.declared.tails.Tail.{Tail}
+use Rattle.weights.specs.declared.tails.Tail.TheVariants.{Less, Greater, Two}
+use Rattle.stage_network.specs.declared.tail_sums.TailSum.{TailSum}
+use Rattle.stage_network.specs.declared.tail_sums.Verdicts.{Verdicts}
+use Rattle.stage_network.specs.Opened.{is_open_for_some, is_undecided}
+use Rattle.stage_network.specs.NodeSteps.{open_nodes, opened_in}
+use Rattle.stage_network.specs.SweepSteps.{some_undecided, sum_for, verdict_for}
 use Rattle.stage_network.specs.WaySteps.{lift}
-use Rattle.stage_network.proofs.RoomNodes.{next-open, next-inside, next-fits, in_room, first-place, all-nodes, closed_is, closed-fits}
+use Rattle.stage_network.proofs.RoomNodes.{opened-le, next-open, next-inside, next-opened, opened-few, next-fits, in_room, first-place, all-nodes, closed_is, closed-fits}
 use Rattle.stage_network.proofs.settling.settle_room.Goals as goal
 
 pub outlook-requires-clause-place : goal.outlook-requires-clause-place
@@ -14,25 +20,35 @@ outlook-requires-clause-place g c =
     let some : 0 < length c.args.nodes.now.nodes = omega (arith, c.if-len-eq0.false, c.len.ensures.count) in
     first-place (g.S.Stages.network c.args.stages.now) _ c.args.stage c.args.room.now c.args.nodes.now.nodes c.requires.reached c.requires.room_is some
 
-pub verdict_by-verdict-requires-clause-reached : goal.verdict_by-verdict-requires-clause-reached
-verdict_by-verdict-requires-clause-reached g c =
+pub verdicts_of-verdicts-requires-clause-reached : goal.verdicts_of-verdicts-requires-clause-reached
+verdicts_of-verdicts-requires-clause-reached g c =
     let few : c.loop-i.i < length c.args.nodes.now.nodes = omega (arith, c.loop-i-test.true, c.len-i-end.ensures.count) in
     in_room (g.S.Stages.network c.args.stages.now) c.args.stage c.args.room.now c.args.nodes.now.nodes c.loop-i.i _ c.requires.reached few c.key-partial.ensures.key
 
 pub settle_node-requires-clause-fits : goal.settle_node-requires-clause-fits
-settle_node-requires-clause-fits g c =
+settle_node-requires-clause-fits g c t =
     let few : c.loop-i.i < length c.args.nodes.now.nodes = omega (arith, c.loop-i-test.true, c.len-i-end.ensures.count) in
-    next-fits c.args.room.now c.args.nodes.now.nodes c.loop-i.i few _ _ c.key-partial.ensures.key c.weight.ensures (g.S.Stages.network c.args.stages.now) c.args.tail c.args.stage c.requires.lawful c.requires.within c.requires.reached c.args.sum c.loop-i.inside c.requires.fits c.loop-i.invariant.inside
+    next-fits c.args.room.now c.args.nodes.now.nodes c.loop-i.i few _ _ c.key-partial.ensures.key c.weight.ensures (g.S.Stages.network c.args.stages.now) t c.args.stage c.requires.lawful c.requires.within c.requires.reached (sum_for c.args.sums t).sum (sum_for c.loop-i.inside t).sum (c.requires.fits t) (c.loop-i.invariant.inside t)
+
+pub settle_node-requires-clause-few : goal.settle_node-requires-clause-few
+settle_node-requires-clause-few g c t =
+    let few : c.loop-i.i < length c.args.nodes.now.nodes = omega (arith, c.loop-i-test.true, c.len-i-end.ensures.count) in
+    omega (arith, opened-few c.args.room.now c.args.nodes.now.nodes c.loop-i.i few _ _ c.key-partial.ensures.key c.weight.ensures (g.S.Stages.network c.args.stages.now) t c.args.stage (sum_for c.loop-i.inside t).opened (c.loop-i.invariant.opened t))
 
 pub loop-i-init : goal.loop-i-init
 loop-i-init g c = record {
   nodes = c.in_ok-open.ensures.nodes ∙ sym (append-nil c.args.kept.now.nodes);
-  inside = refl;
+  inside = λ t. ap (λ (s : TailSum). s.sum) (c.none-inside.ensures t);
+  opened = λ t. ap (λ (s : TailSum). s.opened) (c.none-inside.ensures t);
   kept_room = c.in_ok-open.ensures.room;
   named = c.in_ok-open.ensures.named;
   here = c.in_ok-open.ensures.room_width ∙ c.requires.here;
   wide = c.in_ok-open.ensures.width;
 }
+
+-- a node's verdicts are the network's
+same_some : (v : Verdicts) (n : Network) (g : ℕ) (k : List ℤ) → ((t : Tail) → verdict_for v t ≡ n.verdict t g k) → some_undecided v ≡ is_open_for_some n g k
+same_some v n g k e = rw (e Less, e Greater, e Two) refl
 
 pub loop-i-preserved : goal.loop-i-preserved
 loop-i-preserved g c =
@@ -42,46 +58,66 @@ loop-i-preserved g c =
     let i : ℕ = c.loop-i.i in
     let p : List ℤ = c.key-partial.result.now in
     let w : ℕ = g.C.Count.number c.weight.result in
+    let s : ℕ = c.args.stage in
     let few : i < length partials = omega (arith, c.loop-i-test.true, c.len-i-end.ensures.count) in
-    let verdict = c.verdict_by-verdict.ensures in
-    let step : c.settle_node.new.kept.nodes ≡ c.loop-i.kept.nodes ++ cond (is_open n c.args.tail c.args.stage (r ++ p)) (node (r ++ p) w ∷ []) [] =
+    let v : Verdicts = c.verdicts_of-verdicts.result in
+    let verdict : (t : Tail) → verdict_for v t ≡ n.verdict t s (r ++ p) = c.verdicts_of-verdicts.ensures in
+    let some : some_undecided v ≡ is_open_for_some n s (r ++ p) = same_some v n s (r ++ p) verdict in
+    let step : c.settle_node.new.kept.nodes ≡ c.loop-i.kept.nodes ++ cond (is_open_for_some n s (r ++ p)) (node (r ++ p) w ∷ []) [] =
     c.in_ok-settle_node.ensures.nodes
-    ∙ ap (λ x. c.loop-i.kept.nodes ++ cond (is_undecided c.verdict_by-verdict.result) (node (x ++ p) w ∷ []) []) c.loop-i.invariant.kept_room
-    ∙ ap (λ v. c.loop-i.kept.nodes ++ cond (is_undecided v) (node (r ++ p) w ∷ []) []) verdict in
+    ∙ ap (λ x. c.loop-i.kept.nodes ++ cond (some_undecided v) (node (x ++ p) w ∷ []) []) c.loop-i.invariant.kept_room
+    ∙ ap (λ b. c.loop-i.kept.nodes ++ cond b (node (r ++ p) w ∷ []) []) some in
     record {
-      nodes = next-open r partials i few p w c.key-partial.ensures.key c.weight.ensures n c.args.tail c.args.stage c.loop-i.kept.nodes c.settle_node.new.kept.nodes c.args.kept.now.nodes c.loop-i.invariant.nodes step;
-      inside = next-inside r partials i few p w c.key-partial.ensures.key c.weight.ensures n c.args.tail c.args.stage c.loop-i.inside c.settle_node.new.inside c.loop-i.invariant.inside (c.in_ok-settle_node.ensures.inside ∙ ap (λ v. c.loop-i.inside + cond (is_inside v) w 0) verdict);
+      nodes = next-open r partials i few p w c.key-partial.ensures.key c.weight.ensures n s c.loop-i.kept.nodes c.settle_node.new.kept.nodes c.args.kept.now.nodes c.loop-i.invariant.nodes step;
+      inside = λ t. next-inside r partials i few p w c.key-partial.ensures.key c.weight.ensures n t s (sum_for c.loop-i.inside t).sum (sum_for c.settle_node.new.inside t).sum (c.loop-i.invariant.inside t)
+          (c.in_ok-settle_node.ensures.inside t ∙ ap (λ b. (sum_for c.loop-i.inside t).sum + cond (cond b false (is_inside (verdict_for v t))) w 0) some ∙ ap (λ x. (sum_for c.loop-i.inside t).sum + cond (cond (is_open_for_some n s (r ++ p)) false (is_inside x)) w 0) (verdict t));
+      opened = λ t. next-opened r partials i few p w c.key-partial.ensures.key c.weight.ensures n t s (sum_for c.loop-i.inside t).opened (sum_for c.settle_node.new.inside t).opened (c.loop-i.invariant.opened t)
+          (c.in_ok-settle_node.ensures.opened t ∙ ap (λ x. (sum_for c.loop-i.inside t).opened + cond (is_undecided x) 1 0) (verdict t));
       kept_room = c.in_ok-settle_node.ensures.room ∙ c.loop-i.invariant.kept_room;
       named = rw c.in_ok-settle_node.ensures.named c.loop-i.invariant.named;
       here = c.in_ok-settle_node.ensures.room_width ∙ c.loop-i.invariant.here;
       wide = c.in_ok-settle_node.ensures.wide ∙ c.loop-i.invariant.wide;
     }
 
-pub completed-requires-clause-reached : goal.completed-requires-clause-reached
-completed-requires-clause-reached g c =
+pub rest_of-rest-requires-clause-reached : goal.rest_of-rest-requires-clause-reached
+rest_of-rest-requires-clause-reached g c =
     let some : 0 < length c.args.nodes.now.nodes = omega (arith, c.if-len-eq0.false, c.len.ensures.count) in
     in_room (g.S.Stages.network c.args.stages.now) c.args.stage c.args.room.now c.args.nodes.now.nodes 0 _ c.requires.reached some c.key.ensures.key
 
-pub completed-requires-clause-fits : goal.completed-requires-clause-fits
-completed-requires-clause-fits g c =
+pub with_room-requires-clause-fits : goal.with_room-requires-clause-fits
+with_room-requires-clause-fits g c t =
     let n : Network = g.S.Stages.network c.args.stages.now in
-    let closed = closed_is n c.args.tail _ c.args.stage c.args.room.now c.args.nodes.now.nodes c.loop-i.i c.loop-i.inside _ c.room_width-width.ensures.roomed c.requires.room_is c.requires.within c.requires.reached (omega (arith, c.if-len-eq0.false, c.len.ensures.count)) (omega (arith, c.loop-i-test.false, c.len-i-end.ensures.count)) c.loop-i.invariant.inside c.key.ensures.key in
-    omega (arith, closed-fits n c.args.tail c.args.stage (lift c.args.room.now c.args.nodes.now.nodes) c.args.sum _ c.requires.fits closed)
+    let closed = closed_is n t _ c.args.stage c.args.room.now c.args.nodes.now.nodes c.loop-i.i (sum_for c.loop-i.inside t).sum _ c.room_width-width.ensures.roomed c.requires.room_is c.requires.within c.requires.reached (omega (arith, c.if-len-eq0.false, c.len.ensures.count)) (omega (arith, c.loop-i-test.false, c.len-i-end.ensures.count)) (c.loop-i.invariant.inside t) c.key.ensures.key in
+    omega (arith, closed-fits n t c.args.stage (lift c.args.room.now c.args.nodes.now.nodes) (sum_for c.args.sums t).sum _ (c.requires.fits t) closed, c.rest_of-rest.ensures t)
 
-pub overflow_add-result : goal.overflow_add-result
-overflow_add-result g c =
+pub with_room-requires-clause-few : goal.with_room-requires-clause-few
+with_room-requires-clause-few g c t =
     let n : Network = g.S.Stages.network c.args.stages.now in
-    let closed = closed_is n c.args.tail _ c.args.stage c.args.room.now c.args.nodes.now.nodes c.loop-i.i c.loop-i.inside _ c.room_width-width.ensures.roomed c.requires.room_is c.requires.within c.requires.reached (omega (arith, c.if-len-eq0.false, c.len.ensures.count)) (omega (arith, c.loop-i-test.false, c.len-i-end.ensures.count)) c.loop-i.invariant.inside c.key.ensures.key in
-    omega (arith, closed-fits n c.args.tail c.args.stage (lift c.args.room.now c.args.nodes.now.nodes) c.args.sum _ c.requires.fits closed, c.completed.ensures)
+    let before : List Node = take c.loop-i.i (lift c.args.room.now c.args.nodes.now.nodes) in
+    omega (
+      arith,
+      c.requires.few t,
+      c.loop-i.invariant.opened t,
+      opened-le n t c.args.stage before,
+      ap length c.loop-i.invariant.nodes,
+      length-append c.args.kept.now.nodes (open_nodes n c.args.stage before),
+      c.len-held.ensures,
+    )
 
 pub returns-clause-nodes : goal.returns-clause-nodes
 returns-clause-nodes g c =
     let n : Network = g.S.Stages.network c.args.stages.now in
     let last : length c.args.nodes.now.nodes ≤ c.loop-i.i = omega (arith, c.loop-i-test.false, c.len-i-end.ensures.count) in
-    c.loop-i.invariant.nodes ∙ ap (λ ns. c.args.kept.now.nodes ++ open_nodes n c.args.tail c.args.stage ns) (all-nodes c.args.room.now c.args.nodes.now.nodes c.loop-i.i last)
+    c.loop-i.invariant.nodes ∙ ap (λ ns. c.args.kept.now.nodes ++ open_nodes n c.args.stage ns) (all-nodes c.args.room.now c.args.nodes.now.nodes c.loop-i.i last)
 
 pub returns-clause-sum : goal.returns-clause-sum
-returns-clause-sum g c =
+returns-clause-sum g c t =
     let n : Network = g.S.Stages.network c.args.stages.now in
-    let closed = closed_is n c.args.tail _ c.args.stage c.args.room.now c.args.nodes.now.nodes c.loop-i.i c.loop-i.inside _ c.room_width-width.ensures.roomed c.requires.room_is c.requires.within c.requires.reached (omega (arith, c.if-len-eq0.false, c.len.ensures.count)) (omega (arith, c.loop-i-test.false, c.len-i-end.ensures.count)) c.loop-i.invariant.inside c.key.ensures.key in
-    ap (λ m. c.args.sum + m) (c.completed.ensures ∙ sym closed)
+    let closed = closed_is n t _ c.args.stage c.args.room.now c.args.nodes.now.nodes c.loop-i.i (sum_for c.loop-i.inside t).sum _ c.room_width-width.ensures.roomed c.requires.room_is c.requires.within c.requires.reached (omega (arith, c.if-len-eq0.false, c.len.ensures.count)) (omega (arith, c.loop-i-test.false, c.len-i-end.ensures.count)) (c.loop-i.invariant.inside t) c.key.ensures.key in
+    c.with_room.ensures.sum t ∙ ap (λ m. (sum_for c.args.sums t).sum + m) (c.rest_of-rest.ensures t ∙ sym closed)
+
+pub returns-clause-opened : goal.returns-clause-opened
+returns-clause-opened g c t =
+    let n : Network = g.S.Stages.network c.args.stages.now in
+    let last : length c.args.nodes.now.nodes ≤ c.loop-i.i = omega (arith, c.loop-i-test.false, c.len-i-end.ensures.count) in
+    c.with_room.ensures.opened t ∙ ap (λ m. (sum_for c.args.sums t).opened + m) (c.loop-i.invariant.opened t ∙ ap (opened_in n t c.args.stage) (all-nodes c.args.room.now c.args.nodes.now.nodes c.loop-i.i last))

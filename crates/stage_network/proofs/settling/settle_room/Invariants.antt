@@ -1,6 +1,8 @@
 use Rattle.std.proofs.Common.{◌≡◌, ◌≤◌, ◌++◌, length, take}
 use Rattle.stage_network.specs.Network.{Network}
-use Rattle.stage_network.specs.NodeSteps.{inside_weight, open_nodes}
+use Rattle.stage_network.specs.NodeSteps.{inside_weight, open_nodes, opened_in}
+use Rattle.stage_network.specs.SweepSteps.{sum_for}
+use Rattle.weights.specs.declared.tails.Tail.{Tail}
 use Rattle.stage_network.specs.WaySteps.{lift}
 use Rattle.stage_network.proofs.settling.settle_room.Given as goal
 
@@ -10,8 +12,9 @@ invariant-loop-i g l =
     let n : Network = g.S.Stages.network l.stages in
     let before = take l.i (lift l.room l.nodes.nodes) in
     record {
-      nodes : l.kept.nodes ≡ l.fn.kept.nodes ++ open_nodes n l.tail l.stage before;
-      inside : l.inside ≡ inside_weight n l.tail l.stage before;
+      nodes : l.kept.nodes ≡ l.fn.kept.nodes ++ open_nodes n l.stage before;
+      inside : (t : Tail) → (sum_for l.inside t).sum ≡ inside_weight n t l.stage before;
+      opened : (t : Tail) → (sum_for l.inside t).opened ≡ opened_in n t l.stage before;
       kept_room : l.kept.room ≡ l.room;
       named : 1 ≤ l.kept.rooms;
       here : l.kept.room_width ≡ length l.room;

@@ -6,10 +6,11 @@ use Rattle.stage_network.specs.Network.{Network}
 use Rattle.stage_network.specs.Completions.{total_weight}
 use Rattle.stage_network.specs.NodeSteps.{AllHeavy}
 use Rattle.stage_network.specs.WaySteps.{Way, spread_out, bucket, firsts, lift}
-use Rattle.stage_network.specs.SweepSteps.{stays, closed_at, staying}
+use Rattle.stage_network.specs.SweepSteps.{sum_for, stays, closed_at, counted, staying}
+use Rattle.weights.specs.declared.tails.Tail.TheVariants.{Less}
 use Rattle.stage_network.proofs.Roomwise.{lift-heavy, lift-distinct}
 use Rattle.stage_network.proofs.Gathered.{firsts-none, firsts-more, firsts-all, spread-heavy, spread-before, filled-reached, filled-here, bucket-fits, bucket-light, kept-apart, kept-heavy, clash}
-use Rattle.stage_network.proofs.Sweeps.{told-more, kept-holds, closed-le}
+use Rattle.stage_network.proofs.Sweeps.{told-more, kept-holds, closed-le, counted-le, counted-more, counted-nothing}
 use Rattle.stage_network.proofs.sweep.gather.Goals as goal
 
 -- the clauses of a room that was filled, by the room's own place
@@ -21,7 +22,8 @@ loop-target-init g c =
     let n : Network = g.S.Stages.network c.args.stages.now in
     let none : spread_out n c.args.stage c.args.nodes.now.nodes (firsts 0 c.args.ways.now.ways) ≡ [] = ap (spread_out n c.args.stage c.args.nodes.now.nodes) (firsts-none c.args.ways.now.ways) in
     record {
-      sum = rw none (omega arith);
+      sum = λ t. rw none (omega arith);
+      opened = λ t. rw c.requires.empty (counted-nothing n c.args.keep t (c.args.stage + 1) (sum_for c.args.sums t).opened);
       told = λ f. rw (c.requires.empty, none) refl;
       distinct = rw c.requires.empty none_distinct;
       heavy = rw c.requires.empty tt;
@@ -34,7 +36,7 @@ pub fill-requires-clause-limit : goal.fill-requires-clause-limit
 fill-requires-clause-limit g c = bucket-light _ c.args.stage _ _ _ c.requires.nodes c.loop-target.target _ c.args.ways.now.ways c.requires.ways.fine c.requires.limit
 
 pub fill-requires-clause-fits : goal.fill-requires-clause-fits
-fill-requires-clause-fits g c = bucket-light _ c.args.stage _ _ _ c.requires.nodes c.loop-target.target _ c.args.ways.now.ways c.requires.ways.fine (omega (arith, c.requires.fits))
+fill-requires-clause-fits g c = bucket-light _ c.args.stage _ _ _ c.requires.nodes c.loop-target.target _ c.args.ways.now.ways c.requires.ways.fine (omega (arith, c.requires.fits Less))
 
 pub settle-requires : goal.settle-requires
 settle-requires g c =
@@ -52,14 +54,15 @@ settle-requires g c =
       lawful = c.requires.nodes.lawful;
       within = omega (arith, c.requires.nodes.before);
       reached = filled-reached n s (g.S.Roomed.room_width c.args.stages.now) nodes rooms c.requires.nodes c.loop-target.target ways c.requires.ways.fine (lift r c.fill.new.into.nodes) (lift-heavy r c.fill.new.into.nodes c.in_ok-fill.ensures.heavy) told;
-      fits = omega (
+      fits = λ t. omega (
         arith,
         told total,
         bucket-fits n s (g.S.Roomed.room_width c.args.stages.now) nodes rooms c.requires.nodes total c.loop-target.target (weighted total (spread_out n s nodes ways)) ways (omega arith),
-        c.requires.fits,
-        closed-le n c.args.tail (s + 1) (spread_out n s nodes (firsts c.loop-target.target ways)),
-        c.loop-target.invariant.sum,
+        c.requires.fits t,
+        closed-le n c.args.keep t (s + 1) (spread_out n s nodes (firsts c.loop-target.target ways)),
+        c.loop-target.invariant.sum t,
       );
+      few = λ t. omega (arith, c.loop-target.invariant.opened t, counted-le n c.args.keep t (s + 1) c.loop-target.kept.nodes, c.requires.few t);
       room_is = long;
       long = omega (arith, long, c.in_ok-fill.ensures.wide, c.clear.ensures.width, c.loop-target.invariant.wide, c.requires.wide);
       here = c.loop-target.invariant.there ∙ sym long;
@@ -85,12 +88,13 @@ loop-target-preserved g c =
     let heavy : AllHeavy work = lift-heavy r c.fill.new.into.nodes c.in_ok-fill.ensures.heavy in
     let told : (f : List ℤ → ℕ) → weighted f work ≡ weighted f here = λ f. told_of f r _ c.fill.new.into.nodes _ (c.key.ensures.key e) (c.in_ok-fill.ensures.told e f) in
     let more : (f : List ℤ → ℕ) → weighted f after ≡ weighted f before + weighted f here = λ f. firsts-more n s nodes f t ways in
-    let p : List ℤ → Bool = stays n c.args.tail (s + 1) in
+    let p : List ℤ → Bool = stays n c.args.keep (s + 1) in
     let kept : List Node = c.loop-target.kept.nodes in
-    let is : c.settle.new.kept.nodes ≡ kept ++ staying n c.args.tail (s + 1) work = c.in_ok-more.ensures.nodes in
+    let is : c.settle.new.kept.nodes ≡ kept ++ staying n c.args.keep (s + 1) work = c.in_ok-more.ensures.nodes in
     let solid : AllHeavy before = spread-heavy n s width nodes rooms c.requires.nodes (λ a. nat_lt a.target t) ways c.requires.ways.fine in
     record {
-      sum = omega (arith, c.in_ok-more.ensures.sum, c.loop-target.invariant.sum, told (closed_at n c.args.tail (s + 1)), more (closed_at n c.args.tail (s + 1)));
+      sum = λ t. omega (arith, c.in_ok-more.ensures.sum t, c.loop-target.invariant.sum t, told (closed_at n c.args.keep t (s + 1)), more (closed_at n c.args.keep t (s + 1)));
+      opened = λ t. omega (arith, c.in_ok-more.ensures.opened t, c.loop-target.invariant.opened t, ap (counted n c.args.keep t (s + 1)) is, counted-more n c.args.keep t (s + 1) kept work);
       told = λ f. ap (weighted f) is ∙ told-more p kept work before here after c.loop-target.invariant.told told more f;
       distinct = rw is (kept-apart p kept work _ _ (clash width rooms t e c.len-target-end.ensures.apart low) c.loop-target.invariant.distinct (lift-distinct r c.fill.new.into.nodes c.len-apart.ensures.apart)
           (kept-holds _ p kept before c.loop-target.invariant.heavy solid (spread-before n s width nodes rooms c.requires.nodes e t ways c.requires.ways.fine) c.loop-target.invariant.told)

@@ -5,7 +5,8 @@ use Rattle.node_pool.specs.Nodes.{Node, key_eq, keys, weighted}
 use Rattle.stage_network.specs.Network.{Network}
 use Rattle.stage_network.specs.NodeSteps.{AllHeavy}
 use Rattle.stage_network.specs.WaySteps.{firsts, spread_out}
-use Rattle.stage_network.specs.SweepSteps.{closed_at, staying}
+use Rattle.stage_network.specs.SweepSteps.{sum_for, closed_at, counted, staying}
+use Rattle.weights.specs.declared.tails.Tail.{Tail}
 use Rattle.stage_network.proofs.sweep.gather.Given as goal
 
 -- the rooms before this one are settled
@@ -14,8 +15,9 @@ invariant-loop-target g l =
     let n : Network = g.S.Stages.network l.stages in
     let done : List Node = spread_out n l.stage l.nodes.nodes (firsts l.target l.ways.ways) in
     record {
-      sum : l.more ≡ l.sum + weighted (closed_at n l.tail (l.stage + 1)) done;
-      told : (f : List ℤ → ℕ) → weighted f l.kept.nodes ≡ weighted f (staying n l.tail (l.stage + 1) done);
+      sum : (t : Tail) → (sum_for l.more t).sum ≡ (sum_for l.fn.sums t).sum + weighted (closed_at n l.keep t (l.stage + 1)) done;
+      opened : (t : Tail) → (sum_for l.more t).opened ≡ (sum_for l.fn.sums t).opened + counted n l.keep t (l.stage + 1) l.kept.nodes;
+      told : (f : List ℤ → ℕ) → weighted f l.kept.nodes ≡ weighted f (staying n l.keep (l.stage + 1) done);
       distinct : IsDistinct key_eq (keys l.kept.nodes);
       heavy : AllHeavy l.kept.nodes;
       wide : l.work.width ≡ l.fn.work.width;

@@ -3,7 +3,9 @@ use Rattle.node_pool.specs.Nodes.{weighted}
 use Rattle.stage_network.specs.Network.{Network}
 use Rattle.stage_network.specs.Completions.{total_weight}
 use Rattle.stage_network.specs.NodeSteps.{AllReached, AllHeavy}
+use Rattle.stage_network.specs.SweepSteps.{sum_for}
 use Rattle.stage_network.proofs.Sweeps.{IsSweeping}
+use Rattle.weights.specs.declared.tails.Tail.{Tail}
 use Rattle.stage_network.proofs.sweep.sweep.Given as goal
 
 -- what is closed and what the nodes hold is all that the first key has
@@ -11,11 +13,11 @@ abbrev pub invariant-loop-stage : goal.invariant-loop-stage
 invariant-loop-stage g l =
     let n : Network = g.S.Stages.network l.stages in
     record {
-      swept : IsSweeping n l.tail l.stage l.sum l.opened l.here.nodes;
-      fits : l.sum + weighted (total_weight n l.stage) l.here.nodes ≤ total_weight n 0 n.first;
+      swept : IsSweeping n l.keep l.stage l.sums l.here.nodes;
+      fits : (t : Tail) → (sum_for l.sums t).sum + weighted (total_weight n l.stage) l.here.nodes ≤ total_weight n 0 n.first;
       reached : AllReached n l.stage l.here.nodes;
       heavy : AllHeavy l.here.nodes;
-      bounded : l.opened ≤ (l.stage + 1) * 18446744073709551615;
+      few : (t : Tail) → (sum_for l.sums t).opened ≤ (l.stage + 1) * 18446744073709551615;
       end : l.count ≡ n.count;
       here : l.here.room_width ≡ l.width;
       here_wide : l.here.width ≡ n.width;

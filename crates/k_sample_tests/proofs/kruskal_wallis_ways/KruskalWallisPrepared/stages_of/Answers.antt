@@ -3,13 +3,13 @@ use Rattle.std.proofs.lemmas.Bool.{ltb-true}
 use Rattle.weights.specs.Rules.{rule_of}
 use Rattle.scores.specs.Scores.{absolute_sum}
 use Rattle.sample_reader.specs.Groups.{group_sizes}
-use Rattle.label_network.specs.LabelNetwork.{label_network}
+use Rattle.label_network.specs.LabelNetwork.{label_network, label_shape}
 use Rattle.k_sample_tests.specs.KruskalWallis.{ScoredGroups, kruskal_wallis_test, pooled_scores}
 use Rattle.k_sample_tests.specs.PackedSums.{packed_meaning}
 use Rattle.k_sample_tests.specs.PackedSumSteps.{sums_meaning}
 use Rattle.k_sample_tests.specs.RankSums.{fits_one, half_for, unpacked_meaning}
 use Rattle.k_sample_tests.specs.declared.packed_sums.PackedSums.{PackedSums}
-use Rattle.k_sample_tests.proofs.FittingKruskalWallis.{column-total, follows, is-squaring, network-packed, network-unpacked, scores-long}
+use Rattle.k_sample_tests.proofs.FittingKruskalWallis.{column-total, follows, is-squaring, meaning-packed, meaning-unpacked, scores-long}
 use Rattle.k_sample_tests.proofs.kruskal_wallis_ways.KruskalWallisPrepared.stages_of.Goals as goal
 
 pub new-requires-clause-subjects : goal.new-requires-clause-subjects
@@ -62,10 +62,27 @@ returns-in_ok-new-clause-built c =
     let wide : sums_meaning c.in_ok-measure.measure ≡ unpacked_meaning samples c.args.tail = c.in_ok-measure.ensures.meaning ∙ rw (c.as_slice.ensures.value ∙ made.factors, made.bound, c.as_slice-2.ensures ∙ made.column_scores, c.as_slice-columns.ensures ∙ made.column_sizes, c.as_slice-rows.ensures ∙ made.sizes, rule) refl in
     let sums : c.in_ok-new.field-0.sums ≡ c.in_ok-measure.measure = ap (λ (p : PackedSums). p.sums) c.in_ok-new.ensures ∙ c.new-packed.ensures.sums in
     let base : c.in_ok-new.field-0.half ≡ half_for (length (group_sizes samples.groups)) = ap (λ (p : PackedSums). p.half) c.in_ok-new.ensures ∙ c.new-packed.ensures.half ∙ ap (λ (xs : List ℕ). half_for (length xs)) (c.in_ok-measure.ensures.rows ∙ c.as_slice-rows.ensures ∙ made.sizes) in
-    ap (λ h. label_network (packed_meaning h (sums_meaning c.in_ok-new.field-0.sums))) base
-    ∙ ap (λ m. label_network (packed_meaning (half_for (length (group_sizes samples.groups))) (sums_meaning m))) sums
-    ∙ ap (λ m. label_network (packed_meaning (half_for (length (group_sizes samples.groups))) m)) wide
-    ∙ network-packed samples made.fitting c.args.tail e
+    ap label_network (
+    ap (λ h. packed_meaning h (sums_meaning c.in_ok-new.field-0.sums)) base
+    ∙ ap (λ m. packed_meaning (half_for (length (group_sizes samples.groups))) (sums_meaning m)) sums
+    ∙ ap (λ m. packed_meaning (half_for (length (group_sizes samples.groups))) m) wide
+    ∙ meaning-packed samples made.fitting c.args.tail e)
+
+pub returns-in_ok-new-clause-shape : goal.returns-in_ok-new-clause-shape
+returns-in_ok-new-clause-shape c =
+    let samples : ScoredGroups = c.args.self.now in
+    let made = c.made-made.ensures in
+    let same : c.fits_one.result ≡ fits_one samples = rw (made.sum, c.as_slice-rows.ensures ∙ made.sizes) at c.fits_one.ensures in
+    let e : fits_one samples ≡ true = sym same ∙ c.if-fits_one.true in
+    let rule : c.rule-rule.result ≡ rule_of (kruskal_wallis_test samples) c.args.tail = c.rule-rule.ensures (kruskal_wallis_test samples) made.frame in
+    let wide : sums_meaning c.in_ok-measure.measure ≡ unpacked_meaning samples c.args.tail = c.in_ok-measure.ensures.meaning ∙ rw (c.as_slice.ensures.value ∙ made.factors, made.bound, c.as_slice-2.ensures ∙ made.column_scores, c.as_slice-columns.ensures ∙ made.column_sizes, c.as_slice-rows.ensures ∙ made.sizes, rule) refl in
+    let sums : c.in_ok-new.field-0.sums ≡ c.in_ok-measure.measure = ap (λ (p : PackedSums). p.sums) c.in_ok-new.ensures ∙ c.new-packed.ensures.sums in
+    let base : c.in_ok-new.field-0.half ≡ half_for (length (group_sizes samples.groups)) = ap (λ (p : PackedSums). p.half) c.in_ok-new.ensures ∙ c.new-packed.ensures.half ∙ ap (λ (xs : List ℕ). half_for (length xs)) (c.in_ok-measure.ensures.rows ∙ c.as_slice-rows.ensures ∙ made.sizes) in
+    ap label_shape (
+    ap (λ h. packed_meaning h (sums_meaning c.in_ok-new.field-0.sums)) base
+    ∙ ap (λ m. packed_meaning (half_for (length (group_sizes samples.groups))) (sums_meaning m)) sums
+    ∙ ap (λ m. packed_meaning (half_for (length (group_sizes samples.groups))) m) wide
+    ∙ meaning-packed samples made.fitting c.args.tail e)
 
 pub returns-in_ok-new-2-clause-built : goal.returns-in_ok-new-2-clause-built
 returns-in_ok-new-2-clause-built c =
@@ -75,4 +92,14 @@ returns-in_ok-new-2-clause-built c =
     let e : fits_one samples ≡ false = sym same ∙ c.if-fits_one.false in
     let rule : c.rule-rule.result ≡ rule_of (kruskal_wallis_test samples) c.args.tail = c.rule-rule.ensures (kruskal_wallis_test samples) made.frame in
     let wide : sums_meaning c.in_ok-measure.measure ≡ unpacked_meaning samples c.args.tail = c.in_ok-measure.ensures.meaning ∙ rw (c.as_slice.ensures.value ∙ made.factors, made.bound, c.as_slice-2.ensures ∙ made.column_scores, c.as_slice-columns.ensures ∙ made.column_sizes, c.as_slice-rows.ensures ∙ made.sizes, rule) refl in
-    ap (λ m. label_network (sums_meaning m)) c.in_ok-new-2.ensures ∙ ap label_network wide ∙ network-unpacked samples made.fitting c.args.tail e
+    ap label_network (ap sums_meaning c.in_ok-new-2.ensures ∙ wide ∙ meaning-unpacked samples made.fitting c.args.tail e)
+
+pub returns-in_ok-new-2-clause-shape : goal.returns-in_ok-new-2-clause-shape
+returns-in_ok-new-2-clause-shape c =
+    let samples : ScoredGroups = c.args.self.now in
+    let made = c.made-made.ensures in
+    let same : c.fits_one.result ≡ fits_one samples = rw (made.sum, c.as_slice-rows.ensures ∙ made.sizes) at c.fits_one.ensures in
+    let e : fits_one samples ≡ false = sym same ∙ c.if-fits_one.false in
+    let rule : c.rule-rule.result ≡ rule_of (kruskal_wallis_test samples) c.args.tail = c.rule-rule.ensures (kruskal_wallis_test samples) made.frame in
+    let wide : sums_meaning c.in_ok-measure.measure ≡ unpacked_meaning samples c.args.tail = c.in_ok-measure.ensures.meaning ∙ rw (c.as_slice.ensures.value ∙ made.factors, made.bound, c.as_slice-2.ensures ∙ made.column_scores, c.as_slice-columns.ensures ∙ made.column_sizes, c.as_slice-rows.ensures ∙ made.sizes, rule) refl in
+    ap label_shape (ap sums_meaning c.in_ok-new-2.ensures ∙ wide ∙ meaning-unpacked samples made.fitting c.args.tail e)

@@ -1,6 +1,14 @@
-use Rattle.std.proofs.Common.{◌≡◌, ◌∙◌}
+use Rattle.std.proofs.Common.{◌≡◌, ℕ, List, length, ◌∙◌, ap}
+use Rattle.std.proofs.lemmas.Result.{IfOk-weaker}
 use Rattle.weights.specs.Rules.{rule_of}
-use Rattle.k_sample_tests.specs.Umbrella.{PeakedGroups, umbrella_test}
+use Rattle.weights.specs.declared.tails.Tail.{Tail}
+use Rattle.sample_reader.specs.Groups.{group_sizes}
+use Rattle.pooled_columns.specs.PooledColumns.{column_sizes, pooled_values}
+use Rattle.k_sample_tests.specs.declared.used_pairs.UsedPair.{UsedPair}
+use Rattle.label_network.specs.LabelNetwork.{label_shape}
+use Rattle.k_sample_tests.specs.PairCounts.{pairs_meaning, umbrella_meaning}
+use Rattle.k_sample_tests.specs.declared.pair_counts.PairCounts.{PairCounts}
+use Rattle.k_sample_tests.specs.Umbrella.{PeakedGroups, umbrella_test, used_pairs}
 use Rattle.k_sample_tests.proofs.FittingUmbrella.{follows, is-counting}
 use Rattle.k_sample_tests.proofs.umbrella_ways.UmbrellaPrepared.stages_of.Goals as goal
 
@@ -16,3 +24,19 @@ returns-in_err-measure-clause-follows c = follows c.args.self.now c.made-made.re
 
 pub returns-clause-follows : goal.returns-clause-follows
 returns-clause-follows c = follows c.args.self.now c.made-made.result.now c.made-made.ensures c.args.tail
+
+pub returns-clause-shape : goal.returns-clause-shape
+returns-clause-shape c =
+    let made = c.made-made.ensures in
+    let rule : c.rule-rule.result ≡ rule_of (umbrella_test c.args.self.now) c.args.tail = c.rule-rule.ensures (umbrella_test c.args.self.now) made.frame in
+    let samples : PeakedGroups = c.args.self.now in
+    let pairs : List UsedPair = used_pairs samples.peak (length (group_sizes samples.groups)) in
+    let sizes : List ℕ = group_sizes samples.groups in
+    let t : Tail = c.args.tail in
+    let given = c.in_ok-measure.ensures
+    ∙ ap (λ x. pairs_meaning x c.as_slice-rows.result.now c.as_slice-columns.result.now t c.rule-rule.result) (c.as_slice.ensures.value ∙ made.pairs)
+    ∙ ap (λ x. pairs_meaning pairs x c.as_slice-columns.result.now t c.rule-rule.result) (c.as_slice-rows.ensures ∙ made.sizes)
+    ∙ ap (λ x. pairs_meaning pairs sizes x t c.rule-rule.result) (c.as_slice-columns.ensures ∙ made.columns)
+    ∙ ap (λ x. pairs_meaning pairs sizes (column_sizes (pooled_values samples.groups)) t x) rule in
+    let same : (m : PairCounts) → m ≡ c.in_ok-measure.measure → label_shape (pairs_meaning m.pairs.items m.rows.items m.columns.items m.judge.tail m.judge.rule) ≡ label_shape (umbrella_meaning c.args.self.now c.args.tail) = λ m e. ap (λ (m : PairCounts). label_shape (pairs_meaning m.pairs.items m.rows.items m.columns.items m.judge.tail m.judge.rule)) e ∙ ap label_shape given in
+    IfOk-weaker c.new-2.result (λ m. m ≡ c.in_ok-measure.measure) (λ m. label_shape (pairs_meaning m.pairs.items m.rows.items m.columns.items m.judge.tail m.judge.rule) ≡ label_shape (umbrella_meaning c.args.self.now c.args.tail)) same c.new-2.ensures

@@ -1,7 +1,7 @@
 use Rattle.std.proofs.Common.{◌≡◌, ◌∙◌, refl, ap}
 use Rattle.std.proofs.lemmas.Result.{IfOk-weaker}
 use Rattle.weights.specs.Rules.{rule_of}
-use Rattle.label_network.specs.LabelNetwork.{label_network}
+use Rattle.label_network.specs.LabelNetwork.{label_network, label_shape}
 use Rattle.label_network.specs.Linear.{linear_meaning}
 use Rattle.label_network.specs.declared.linear.LinearMeasure.{LinearMeasure}
 use Rattle.table_tests.specs.LinearByLinear.{linear_test}
@@ -37,3 +37,10 @@ returns-clause-built c =
     let rule : c.rule-rule.result ≡ rule_of (linear_test c.args.self.now) c.args.tail = c.rule-rule.ensures (linear_test c.args.self.now) made.frame in
     let given = rw (c.as_slice-rows.ensures ∙ made.margins.rows, c.as_slice-columns.ensures ∙ made.margins.columns, c.as_slice-row_scores.ensures ∙ made.row_scores, c.as_slice-column_scores.ensures ∙ made.column_scores, rule) at c.in_ok-measure.ensures in
     IfOk-weaker c.new-2.result (λ m. m ≡ c.in_ok-measure.measure) _ (λ m e. ap (λ (m : LinearMeasure). label_network (linear_meaning m.scores.items m.rows.items m.later.scores.items m.later.columns.items m.judge.tail m.judge.rule)) e ∙ ap label_network given) c.new-2.ensures
+
+pub returns-clause-shape : goal.returns-clause-shape
+returns-clause-shape c =
+    let made = c.made-made.ensures in
+    let rule : c.rule-rule.result ≡ rule_of (linear_test c.args.self.now) c.args.tail = c.rule-rule.ensures (linear_test c.args.self.now) made.frame in
+    let given = rw (c.as_slice-rows.ensures ∙ made.margins.rows, c.as_slice-columns.ensures ∙ made.margins.columns, c.as_slice-row_scores.ensures ∙ made.row_scores, c.as_slice-column_scores.ensures ∙ made.column_scores, rule) at c.in_ok-measure.ensures in
+    IfOk-weaker c.new-2.result (λ m. m ≡ c.in_ok-measure.measure) _ (λ m e. ap (λ (m : LinearMeasure). label_shape (linear_meaning m.scores.items m.rows.items m.later.scores.items m.later.columns.items m.judge.tail m.judge.rule)) e ∙ ap label_shape given) c.new-2.ensures
