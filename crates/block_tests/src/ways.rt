@@ -35,6 +35,14 @@ impl Plain for BlockTest {
     fn value(&self, labels: &[u8]) -> i128 {
         self.statistic_of(labels)
     }
+
+    fn frame(&self) -> Frame {
+        self.frame_made()
+    }
+
+    fn measure(&self, labels: &[u8], _tail: Tail) -> i128 {
+        self.value(labels)
+    }
 }
 
 // The network of a test whose treatments' sums are squared.
@@ -85,16 +93,8 @@ impl Prepared for BlockTest {
 
     ghost shape = { λ _ _. additive_shape };
 
-    fn frame(&self) -> Frame {
-        self.frame_made()
-    }
-
     fn has_tail(&self, tail: Tail) -> bool {
         self.kind() == BlockKind::Page || tail == Tail::Greater
-    }
-
-    fn measure(&self, labels: &[u8], _tail: Tail) -> i128 {
-        self.value(labels)
     }
 
     fn is_shared(&self) -> bool {

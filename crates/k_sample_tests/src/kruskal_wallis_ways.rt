@@ -48,6 +48,14 @@ impl Plain for KruskalWallis {
             made.bound,
         )
     }
+
+    fn frame(&self) -> Frame {
+        self.made().frame
+    }
+
+    fn measure(&self, labels: &[u8], _tail: Tail) -> i128 {
+        self.value(labels)
+    }
 }
 
 impl Prepared for KruskalWallis {
@@ -60,16 +68,8 @@ impl Prepared for KruskalWallis {
 
     ghost shape = { λ s tail. label_shape (kruskal_wallis_meaning s tail) };
 
-    fn frame(&self) -> Frame {
-        self.made().frame
-    }
-
     fn has_tail(&self, tail: Tail) -> bool {
         tail == Tail::Greater
-    }
-
-    fn measure(&self, labels: &[u8], _tail: Tail) -> i128 {
-        self.value(labels)
     }
 
     fn stages_of(&self, alloc: Global, tail: Tail) -> Result<Self::Built, NoMemory> {

@@ -34,6 +34,14 @@ impl Plain for Umbrella {
             labels,
         )
     }
+
+    fn frame(&self) -> Frame {
+        self.made().frame
+    }
+
+    fn measure(&self, labels: &[u8], _tail: Tail) -> i128 {
+        self.value(labels)
+    }
 }
 
 impl Prepared for Umbrella {
@@ -46,16 +54,8 @@ impl Prepared for Umbrella {
 
     ghost shape = { λ s tail. label_shape (umbrella_meaning s tail) };
 
-    fn frame(&self) -> Frame {
-        self.made().frame
-    }
-
     fn has_tail(&self, _tail: Tail) -> bool {
         true
-    }
-
-    fn measure(&self, labels: &[u8], _tail: Tail) -> i128 {
-        self.value(labels)
     }
 
     fn is_shared(&self) -> bool {

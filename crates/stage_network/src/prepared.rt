@@ -1,8 +1,7 @@
 // The answer of a prepared test, by its network or by the plain walk.
-ghost use Rattle.std.specs.Prelude.{◌≡◌, ◌≤◌, true, false, None, Contains, IfOk};
-ghost use Rattle.weights.specs.Conditional.{distribution, is_extreme, total};
-ghost use Rattle.weights.specs.Rules.{measured};
-ghost use Rattle.weights.specs.Frames.{IsFrameOf, IsShown, RulesFit, first_tail};
+ghost use Rattle.std.specs.Prelude.{◌≡◌, ◌≤◌, true, false, None, IfOk};
+ghost use Rattle.weights.specs.Conditional.{distribution};
+ghost use Rattle.weights.specs.Frames.{IsShown, first_tail};
 ghost use Rattle.weights.specs.declared.tails.Tail.{Tail};
 ghost use Rattle.stage_network.specs.Network.{Network};
 ghost use Rattle.stage_network.specs.Alike.{IsBuilt, Shape, shape_by};
@@ -16,10 +15,10 @@ use crate::spreads::spread_by_rooms;
 use crate::stages::Roomed;
 use crate::sums::{tail_sum_by_rooms, tail_sums_together};
 use crate::tail_sums::{TailSum, TailSums};
-use crate::walks::{plain_spread, plain_tail};
-use enumerate::Plain;
+use crate::walks::plain_spread;
+use enumerate::{Plain, plain_tail};
 use std::alloc::Global;
-use weights::{Frame, NoMemory, Tail, Tails};
+use weights::{NoMemory, Tail, Tails};
 
 /// A test whose data are checked: all that is needed to answer it by both ways.
 pub trait Prepared: Plain {
@@ -32,32 +31,10 @@ pub trait Prepared: Plain {
     /// What it is asked once for each room.
     ghost shape: { Self → Tail → Shape };
 
-    /// What is said of the test beside its tails. The rules of the tails compute no number of a
-    /// rearrangement that passes a limit, and the total is at least 1.
-    fn frame(&self) -> Frame
-        ensures frame { IsFrameOf (Self.test self.now) result }
-        ensures fits { RulesFit (Self.test self.now) }
-        ensures some { 1 ≤ total (Self.test self.now) };
-
     /// Whether the test has a tail.
     fn has_tail(&self, tail: Tail) -> bool
         ensures has { result ≡ (Self.test self.now).has_tail tail }
         ensures shown { IsShown (Self.test self.now) };
-
-    /// What a tail measures of a member: its statistic, or its weight on both sides of a test by
-    /// rarity.
-    fn measure(&self, labels: &[u8], tail: Tail) -> i128
-        requires { Contains (Self.test self.now).reference labels.now }
-        ensures { result ≡ measured (Self.test self.now) tail labels.now };
-
-    /// Whether a member is at least as extreme as the observed one: whether what the tail measures
-    /// of it passes the tail's rule.
-    fn is_extreme(&self, labels: &[u8], tail: Tail) -> bool
-        requires { Contains (Self.test self.now).reference labels.now }
-        ensures { result ≡ is_extreme (Self.test self.now) tail labels.now }
-    {
-        self.frame().rule(tail).passes(self.measure(labels, tail))
-    }
 
     /// Whether the networks of its tails are the same but for their verdicts, so that one sweep
     /// serves them all.

@@ -127,6 +127,19 @@ impl Plain for SignedRanks {
     fn value(&self, labels: &[u8]) -> i128 {
         rank_sum(labels)
     }
+
+    fn frame(&self) -> Frame {
+        Frame {
+            statistic: 8,
+            scale: 2,
+            total: 8,
+            two: Rule::Far(2, 12, 4),
+        }
+    }
+
+    fn measure(&self, labels: &[u8], _tail: Tail) -> i128 {
+        self.value(labels)
+    }
 }
 
 impl Prepared for SignedRanks {
@@ -139,21 +152,8 @@ impl Prepared for SignedRanks {
 
     ghost shape = { λ _ _. additive_shape };
 
-    fn frame(&self) -> Frame {
-        Frame {
-            statistic: 8,
-            scale: 2,
-            total: 8,
-            two: Rule::Far(2, 12, 4),
-        }
-    }
-
     fn has_tail(&self, _tail: Tail) -> bool {
         true
-    }
-
-    fn measure(&self, labels: &[u8], _tail: Tail) -> i128 {
-        self.value(labels)
     }
 
     fn is_shared(&self) -> bool {

@@ -28,6 +28,14 @@ impl Plain for StrataTest {
     fn value(&self, labels: &[u8]) -> i128 {
         first_cells(self.made().strata.as_slice(), labels) as i128
     }
+
+    fn frame(&self) -> Frame {
+        self.made().frame
+    }
+
+    fn measure(&self, labels: &[u8], _tail: Tail) -> i128 {
+        self.value(labels)
+    }
 }
 
 impl Prepared for StrataTest {
@@ -40,16 +48,8 @@ impl Prepared for StrataTest {
 
     ghost shape = { λ _ _. additive_shape };
 
-    fn frame(&self) -> Frame {
-        self.made().frame
-    }
-
     fn has_tail(&self, _tail: Tail) -> bool {
         true
-    }
-
-    fn measure(&self, labels: &[u8], _tail: Tail) -> i128 {
-        self.value(labels)
     }
 
     fn is_shared(&self) -> bool {

@@ -104,6 +104,17 @@ impl Plain for FisherTable {
             self.rarity(labels)
         }
     }
+
+    fn frame(&self) -> Frame {
+        self.made().frame
+    }
+
+    fn measure(&self, labels: &[u8], tail: Tail) -> i128 {
+        match tail {
+            Tail::Two => self.rarity(labels),
+            Tail::Less | Tail::Greater => self.value(labels),
+        }
+    }
 }
 
 impl Prepared for FisherTable {
@@ -115,21 +126,10 @@ impl Prepared for FisherTable {
 
     ghost shape = { fisher_shape };
 
-    fn frame(&self) -> Frame {
-        self.made().frame
-    }
-
     fn has_tail(&self, tail: Tail) -> bool {
         match tail {
             Tail::Two => true,
             Tail::Less | Tail::Greater => self.made().two_by_two,
-        }
-    }
-
-    fn measure(&self, labels: &[u8], tail: Tail) -> i128 {
-        match tail {
-            Tail::Two => self.rarity(labels),
-            Tail::Less | Tail::Greater => self.value(labels),
         }
     }
 

@@ -33,6 +33,14 @@ impl Plain for LinearTable {
             labels,
         )
     }
+
+    fn frame(&self) -> Frame {
+        self.made().frame
+    }
+
+    fn measure(&self, labels: &[u8], _tail: Tail) -> i128 {
+        self.value(labels)
+    }
 }
 
 impl Prepared for LinearTable {
@@ -44,16 +52,8 @@ impl Prepared for LinearTable {
 
     ghost shape = { linear_shape };
 
-    fn frame(&self) -> Frame {
-        self.made().frame
-    }
-
     fn has_tail(&self, _tail: Tail) -> bool {
         true
-    }
-
-    fn measure(&self, labels: &[u8], _tail: Tail) -> i128 {
-        self.value(labels)
     }
 
     fn is_shared(&self) -> bool {

@@ -89,6 +89,20 @@ impl Plain for TableTest {
             TableTest::Linear(table) => table.value(labels),
         }
     }
+
+    fn frame(&self) -> Frame {
+        match self {
+            TableTest::Fisher(table) => table.frame(),
+            TableTest::Linear(table) => table.frame(),
+        }
+    }
+
+    fn measure(&self, labels: &[u8], tail: Tail) -> i128 {
+        match self {
+            TableTest::Fisher(table) => table.measure(labels, tail),
+            TableTest::Linear(table) => table.measure(labels, tail),
+        }
+    }
 }
 
 impl Prepared for TableTest {
@@ -100,24 +114,10 @@ impl Prepared for TableTest {
 
     ghost shape = { table_shape };
 
-    fn frame(&self) -> Frame {
-        match self {
-            TableTest::Fisher(table) => table.frame(),
-            TableTest::Linear(table) => table.frame(),
-        }
-    }
-
     fn has_tail(&self, tail: Tail) -> bool {
         match self {
             TableTest::Fisher(table) => table.has_tail(tail),
             TableTest::Linear(table) => table.has_tail(tail),
-        }
-    }
-
-    fn measure(&self, labels: &[u8], tail: Tail) -> i128 {
-        match self {
-            TableTest::Fisher(table) => table.measure(labels, tail),
-            TableTest::Linear(table) => table.measure(labels, tail),
         }
     }
 

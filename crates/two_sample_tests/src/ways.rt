@@ -27,6 +27,14 @@ impl Plain for TwoSample {
     fn value(&self, labels: &[u8]) -> i128 {
         labelled_sum(self.made().scores.as_slice(), labels, 1)
     }
+
+    fn frame(&self) -> Frame {
+        self.made().frame
+    }
+
+    fn measure(&self, labels: &[u8], _tail: Tail) -> i128 {
+        self.value(labels)
+    }
 }
 
 impl Prepared for TwoSample {
@@ -39,16 +47,8 @@ impl Prepared for TwoSample {
 
     ghost shape = { λ s tail. label_shape (two_sample_meaning s tail) };
 
-    fn frame(&self) -> Frame {
-        self.made().frame
-    }
-
     fn has_tail(&self, _tail: Tail) -> bool {
         true
-    }
-
-    fn measure(&self, labels: &[u8], _tail: Tail) -> i128 {
-        self.value(labels)
     }
 
     fn is_shared(&self) -> bool {

@@ -1,8 +1,0 @@
-use Rattle.k_sample_tests.proofs.FittingUmbrella.{rules_fit, some_labelling}
-use Rattle.k_sample_tests.proofs.umbrella_ways.UmbrellaPrepared.frame.Goals as goal
-
-pub returns-clause-fits : goal.returns-clause-fits
-returns-clause-fits c = rules_fit c.args.self.now c.made.result.now c.made.ensures
-
-pub returns-clause-some : goal.returns-clause-some
-returns-clause-some c = some_labelling c.args.self.now c.made.result.now c.made.ensures

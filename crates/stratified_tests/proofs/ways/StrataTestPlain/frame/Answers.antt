@@ -1,0 +1,9 @@
+use Rattle.stratified_tests.specs.Strata.{strata_of}
+use Rattle.stratified_tests.proofs.FittingStrata.{rules_fit, some-labelling}
+use Rattle.stratified_tests.proofs.ways.StrataTestPlain.frame.Goals as goal
+
+pub returns-clause-fits : goal.returns-clause-fits
+returns-clause-fits c = rules_fit (strata_of c.args.self.now) c.made.ensures.fitting
+
+pub returns-clause-some : goal.returns-clause-some
+returns-clause-some c = some-labelling (strata_of c.args.self.now)
