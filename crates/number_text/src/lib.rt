@@ -32,5 +32,3 @@ pub enum NumberFault {
     OutOfRange,
 }
 
-#[cfg(test)]
-mod tests;

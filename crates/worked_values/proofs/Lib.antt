@@ -1,0 +1,2 @@
+mod SixTails
+mod SixLemmas
