@@ -31,4 +31,3 @@ pub enum NumberFault {
     #[error("out of range")]
     OutOfRange,
 }
-

@@ -135,7 +135,10 @@ fn texts_of_numbers(rt: HostRuntime) {
     assert_eq!(rt; read_count(b"1000000", 1_000_000), Some(1_000_000));
     assert_eq!(rt; read_count(b"1000001", 1_000_000), None);
     let mut out = [7; 3];
-    assert_eq!(rt; read_list(b" 05 ,\t-006\t", -9, 9, out.as_mut_slice()), Some(2));
+    assert_eq!(rt;
+        read_list(b" 05 ,\t-006\t", -9, 9, out.as_mut_slice()),
+        Some(2)
+    );
     assert_eq!(rt; out, [5, -6, 7]);
     assert_eq!(rt; read_list(b"1,2,3,4", -9, 9, out.as_mut_slice()), None);
 }
@@ -211,7 +214,11 @@ fn scores_of_values(rt: HostRuntime) -> Result<(), Fail> {
         (Median, 4),
         (Raw, 16),
     ] {
-        assert_eq!(rt; score_sum(&rt, rt.alloc(), kind, &tied), Some(sum), "{kind:?}");
+        assert_eq!(rt;
+            score_sum(&rt, rt.alloc(), kind, &tied),
+            Some(sum),
+            "{kind:?}"
+        );
     }
     for (kind, number, fits) in [
         (Wilcoxon, 10_000, true),
