@@ -10,10 +10,12 @@ use Rattle.weights.specs.Labellings.{counts_of, has_counts, labellings, labels, 
 use Rattle.weights.proofs.Counted.{all_from_SameCounts, count_of, labelling_from_SameCounts}
 use Rattle.weights.proofs.Filters.{map-same}
 use Rattle.weights.proofs.Members.{IsLabelling, labelling_from}
+use Rattle.weights.specs.InOrder.{in_order, put_in}
+use Rattle.weights.proofs.OneOrder.{all-put_in, length-in_order, sum_by-in_order}
 use Rattle.weights.proofs.Sized.{length-counts_of, sum-counts_of}
 use Rattle.weights.proofs.Sums.{sum_by-filter, sum_by-fronts, sum_by-one, sum_by-same, sum_by-swap}
-use Rattle.enumerate.specs.Monotone.{NeverFalls}
 use Rattle.enumerate.specs.Walk.{BeginsWith}
+use Rattle.enumerate.proofs.Extremes.{NeverFalls}
 use Rattle.enumerate.proofs.FirstLabelling.{ascending, ascending_begins}
 use Rattle.enumerate.proofs.Steps.{labellings_begin}
 use Rattle.enumerate.proofs.Walking.{Contains-first}
@@ -42,62 +44,35 @@ length-first counts = (first-labelling counts).over.long
 
 -- ---- cells in order
 
-abbrev pub put : ℕ → List ℕ → List ℕ
-put x [] = x ∷ []
-put x (y ∷ ys) = cond (nat_le x y) (x ∷ y ∷ ys) (y ∷ put x ys)
-
-abbrev pub in_order : List ℕ → List ℕ
-in_order [] = []
-in_order (x ∷ xs) = put x (in_order xs)
-
-pub sum_by-put : (f : ℕ → ℕ) (x : ℕ) (ys : List ℕ) → sum_by f (put x ys) ≡ f x + sum_by f ys
-sum_by-put f x [] = sum_by-cons f x []
-sum_by-put f x (y ∷ ys) = by (nat_le x y) (sum_by-put f x ys)
-  where
-    by : (b : Bool) → sum_by f (put x ys) ≡ f x + sum_by f ys → sum_by f (cond b (x ∷ y ∷ ys) (y ∷ put x ys)) ≡ f x + sum_by f (y ∷ ys)
-    by true e = sum_by-cons f x (y ∷ ys)
-    by false e = omega (arith, e, sum_by-cons f y (put x ys), sum_by-cons f y ys)
-
-pub sum_by-order : (f : ℕ → ℕ) (xs : List ℕ) → sum_by f (in_order xs) ≡ sum_by f xs
-sum_by-order f [] = refl
-sum_by-order f (x ∷ xs) = omega (arith, sum_by-put f x (in_order xs), sum_by-cons f x xs, sum_by-order f xs)
-
-pub length-order : (xs : List ℕ) → length (in_order xs) ≡ length xs
-length-order xs = sym (sum_by-one (in_order xs)) ∙ sum_by-order (λ x. 1) xs ∙ sum_by-one xs
-
-all_put : (P : ℕ → Type 0) (x : ℕ) (ys : List ℕ) → P x → AllByRecursion P ys → AllByRecursion P (put x ys)
-all_put P x [] p a = (p, tt)
-all_put P x (y ∷ ys) p a = by (nat_le x y) (all_put P x ys p a.1)
-  where
-    by : (b : Bool) → AllByRecursion P (put x ys) → AllByRecursion P (cond b (x ∷ y ∷ ys) (y ∷ put x ys))
-    by true rest = (p, a)
-    by false rest = (a.0, rest)
+-- by their size
+abbrev pub sorted : List ℕ → List ℕ
+sorted xs = in_order nat_le xs
 
 weaker : (x y : ℕ) (ys : List ℕ) → x ≤ y → AllByRecursion (λ z. y ≤ z) ys → AllByRecursion (λ z. x ≤ z) ys
 weaker x y [] h a = tt
 weaker x y (z ∷ ys) h a = (omega (arith, a.0), weaker x y ys h a.1)
 
-falls_put : (x : ℕ) (ys : List ℕ) → NeverFalls ys → NeverFalls (put x ys)
+falls_put : (x : ℕ) (ys : List ℕ) → NeverFalls ys → NeverFalls (put_in nat_le x ys)
 falls_put x [] f = (tt, tt)
 falls_put x (y ∷ ys) f = elim (leb_tells x y) [
   | inl l ↦ rw l.0 ((l.1, weaker x y ys l.1 f.0), f)
-  | inr l ↦ rw l.0 (all_put (λ z. y ≤ z) x ys (omega (arith, l.1)) f.0, falls_put x ys f.1)
+  | inr l ↦ rw l.0 (all-put_in nat_le (λ z. y ≤ z) x ys (omega (arith, l.1)) f.0, falls_put x ys f.1)
 ]
 
-pub falls_order : (xs : List ℕ) → NeverFalls (in_order xs)
+pub falls_order : (xs : List ℕ) → NeverFalls (sorted xs)
 falls_order [] = tt
-falls_order (x ∷ xs) = falls_put x (in_order xs) (falls_order xs)
+falls_order (x ∷ xs) = falls_put x (sorted xs) (falls_order xs)
 
 -- every arrangement of a block in order is the first one
-pub order-first : (counts x : List ℕ) → IsLabelling counts x → in_order x ≡ first_arrangement counts
+pub order-first : (counts x : List ℕ) → IsLabelling counts x → sorted x ≡ first_arrangement counts
 order-first counts x l =
-    first_of counts (in_order x) (labellings_begin counts (in_order x)
-    (labelling_from_SameCounts counts x (in_order x) (sym (length-order x)) (λ i. sym (sum_by-order (λ v. cond (nat_eq v i) 1 0) x)) l)
+    first_of counts (sorted x) (labellings_begin counts (sorted x)
+    (labelling_from_SameCounts counts x (sorted x) (sym (length-in_order nat_le x)) (λ i. sym (sum_by-in_order nat_le (λ v. cond (nat_eq v i) 1 0) x)) l)
     (falls_order x))
 
 -- so all have the same sums
 pub sum_by-first : (f : ℕ → ℕ) (counts x : List ℕ) → IsLabelling counts x → sum_by f x ≡ sum_by f (first_arrangement counts)
-sum_by-first f counts x l = sym (sum_by-order f x) ∙ ap (sum_by f) (order-first counts x l)
+sum_by-first f counts x l = sym (sum_by-in_order nat_le f x) ∙ ap (sum_by f) (order-first counts x l)
 
 -- and cells between its ends
 

@@ -1,14 +1,16 @@
 -- Of the arrangements of a block the ascending one has the greatest of Page's sums, and the descending one the least.
-use Rattle.std.proofs.Common.{◌≡◌, ℕ, ◌+◌, ◌*◌, ◌≤◌, List, [], ◌∷◌, ◌++◌, length, reverse, cond, nat_eq, refl, sym, ◌∙◌, ap, subst, arith, inl, inr}
+use Rattle.std.proofs.Common.{◌≡◌, ℕ, ◌+◌, ◌*◌, ◌≤◌, List, [], ◌∷◌, ◌++◌, length, reverse, cond, nat_eq, nat_le, refl, sym, ◌∙◌, ap, subst, arith, inl, inr}
 use Rattle.std.specs.List.{sum, sum_by}
 use Rattle.std.proofs.lemmas.Bool.Decides.{leb_tells}
 use Rattle.std.proofs.lemmas.List.{length-reverse, reverse-append}
 use Rattle.std.proofs.lemmas.List.Sums.{sum_by-append, sum_by-cons}
 use Rattle.weights.proofs.Counted.{labelling_from_SameCounts}
 use Rattle.weights.proofs.Members.{IsLabelling}
+use Rattle.weights.specs.InOrder.{put_in}
+use Rattle.weights.proofs.OneOrder.{sum_by-in_order, sum_by-put_in}
 use Rattle.block_tests.specs.BlockTests.{page_sum}
 use Rattle.block_tests.specs.BlockNetworks.{first_arrangement}
-use Rattle.block_tests.proofs.Arranged.{in_order, length-first, order-first, put, sum_by-put, sum_by-first}
+use Rattle.block_tests.proofs.Arranged.{length-first, order-first, sorted, sum_by-first}
 
 -- counted from one place on, each cell counts once more
 page-on : (j : ℕ) (xs : List ℕ) → page_sum (j + 1) xs ≡ sum xs + page_sum j xs
@@ -19,21 +21,17 @@ page-cons : (x : ℕ) (xs : List ℕ) → page_sum 1 (x ∷ xs) ≡ x + sum xs +
 page-cons x xs = omega (arith, page-on 1 xs)
 
 -- a cell that moves past lesser ones adds more
-page-put : (x : ℕ) (ys : List ℕ) → page_sum 1 (x ∷ ys) ≤ page_sum 1 (put x ys)
+page-put : (x : ℕ) (ys : List ℕ) → page_sum 1 (x ∷ ys) ≤ page_sum 1 (put_in nat_le x ys)
 page-put x [] = omega arith
 page-put x (y ∷ ys) = elim (leb_tells x y) [
   | inl l ↦ rw l.0 (omega arith)
-  | inr l ↦ rw l.0 (omega (arith, l.1, page-cons x (y ∷ ys), page-cons y ys, page-cons y (put x ys), page-cons x ys, page-put x ys, sum_by-put (λ v. v) x ys, sum_by-cons (λ v. v) y ys))
+  | inr l ↦ rw l.0 (omega (arith, l.1, page-cons x (y ∷ ys), page-cons y ys, page-cons y (put_in nat_le x ys), page-cons x ys, page-put x ys, sum_by-put_in nat_le (λ v. v) x ys, sum_by-cons (λ v. v) y ys))
 ]
 
 -- the ends of a list's sums
-page-order : (xs : List ℕ) → page_sum 1 xs ≤ page_sum 1 (in_order xs)
+page-order : (xs : List ℕ) → page_sum 1 xs ≤ page_sum 1 (sorted xs)
 page-order [] = omega arith
-page-order (x ∷ xs) = omega (arith, page-put x (in_order xs), page-cons x xs, page-cons x (in_order xs), page-order xs, same xs)
-  where
-    same : (ys : List ℕ) → sum (in_order ys) ≡ sum ys
-    same [] = refl
-    same (y ∷ ys) = omega (arith, sum_by-put (λ v. v) y (in_order ys), sum_by-cons (λ v. v) y ys, same ys)
+page-order (x ∷ xs) = omega (arith, page-put x (sorted xs), page-cons x xs, page-cons x (sorted xs), page-order xs, sum_by-in_order nat_le (λ v. v) xs)
 
 pub page-most : (counts x : List ℕ) → IsLabelling counts x → page_sum 1 x ≤ page_sum 1 (first_arrangement counts)
 page-most counts x l = subst (λ zs. page_sum 1 x ≤ page_sum 1 zs) (order-first counts x l) (page-order x)

@@ -1,17 +1,15 @@
 -- Fillings of a column of a table over its rows, and what they say of the weights of tables.
-use Rattle.std.specs.Prelude.{ℕ, ◌+◌, ◌-◌, ◌*◌, ◌/◌, ◌%◌, ◌≤◌, min, nat_le, length, List, [], ◌∷◌, ◌++◌, replicate, All, if◌then◌else◌}
+use Rattle.std.specs.Prelude.{ℕ, ◌+◌, ◌-◌, ◌*◌, ◌/◌, ◌%◌, ◌≤◌, min, Bool, nat_le, length, List, [], ◌∷◌, ◌++◌, replicate, All}
+use Rattle.weights.specs.InOrder.{in_order}
 use Rattle.weights.specs.Grouped.{tables, table_weight}
 use Rattle.weights.specs.Labellings.{number_of_labellings}
 
 -- sizes with the greatest first
-abbrev pub insert_falling : ℕ → List ℕ → List ℕ
-insert_falling size [] = size ∷ []
-insert_falling size (other ∷ sizes) =
-    if nat_le other size then size ∷ other ∷ sizes else other ∷ insert_falling size sizes
+abbrev pub is_at_least : ℕ → ℕ → Bool
+is_at_least size other = nat_le other size
 
 abbrev pub falling : List ℕ → List ℕ
-falling [] = []
-falling (size ∷ sizes) = insert_falling size (falling sizes)
+falling sizes = in_order is_at_least sizes
 
 -- units put into the first row until it is full, then into the next, and so on
 abbrev pub filled_in_turn : ℕ → List ℕ → List ℕ

@@ -5,8 +5,6 @@
 mod boxes;
 mod fillings;
 mod pairings;
-#[cfg(test)]
-mod tests;
 
 pub use boxes::{box_bounds, narrow_squares};
 pub use fillings::{fall, times_evenly_divided, weight_bounds};

@@ -1,6 +1,6 @@
 -- What is asked of blocks: the tests of treatments.
 use Rattle.std.specs.Prelude.{ℕ, List, Result}
-use Rattle.record_reader.specs.Layouts.{with_fault, with_value}
+use Rattle.weights.specs.Results.{with_fault, with_value}
 use Rattle.record_reader.specs.declared.faults.LayoutFault.{LayoutFault}
 use Rattle.record_reader.specs.declared.picks.Picks.{Picks}
 use Rattle.sample_reader.specs.CellLayouts.{BlockData, binary_blocks_in, blocks_in}

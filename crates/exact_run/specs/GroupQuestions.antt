@@ -1,7 +1,7 @@
 -- What is asked of groups: the tests of two samples, and of several ones.
 use Rattle.std.specs.Prelude.{ℕ, Bool, List, [], length, bytes_eq, nat_eq, nat_le, Result, Ok, Err, ◌&&◌, if◌then◌else◌}
 use Rattle.std.specs.List.{list_all, list_any}
-use Rattle.record_reader.specs.Layouts.{and_then, with_fault, with_value}
+use Rattle.weights.specs.Results.{and_then, with_fault, with_value}
 use Rattle.sample_reader.specs.GroupLayout.{groups_in}
 use Rattle.sample_reader.specs.Groups.{GroupData, group_sizes}
 use Rattle.sample_reader.specs.Orders.{reordered}

@@ -13,7 +13,7 @@ use Rattle.weights.specs.declared.wide.WideOf.{WideOf}
 use Rattle.stage_network.specs.Follows.{answer_of}
 use Rattle.stage_network.specs.declared.answers.Way.{Way}
 use Rattle.stage_network.specs.declared.answers.Way.TheVariants as way
-use Rattle.record_reader.specs.Layouts.{and_then}
+use Rattle.weights.specs.Results.{and_then}
 use Rattle.record_reader.specs.Records.{records_of}
 use Rattle.settings.specs.Help.{help}
 use Rattle.settings.specs.Meaning.{meaning_of}

@@ -1,6 +1,6 @@
 -- What is asked of pairs: the tests of one sample, of the pairs' differences.
 use Rattle.std.specs.Prelude.{ℕ, List, ℤ, length, Result}
-use Rattle.record_reader.specs.Layouts.{with_fault, with_value}
+use Rattle.weights.specs.Results.{with_fault, with_value}
 use Rattle.sample_reader.specs.CellLayouts.{differences_in}
 use Rattle.settings.specs.declared.settings.Settings.{Settings}
 use Rattle.report.specs.declared.headings.Extra.TheVariants as extra

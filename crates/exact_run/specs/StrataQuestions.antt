@@ -1,7 +1,7 @@
 -- What is asked of strata of tables of two rows and two columns.
 use Rattle.std.specs.Prelude.{ℕ, ◌/◌, List, length, Result}
 use Rattle.std.specs.List.{sum}
-use Rattle.record_reader.specs.Layouts.{with_fault, with_value}
+use Rattle.weights.specs.Results.{with_fault, with_value}
 use Rattle.table_reader.specs.StrataLayout.{strata_in}
 use Rattle.settings.specs.declared.settings.Settings.{Settings}
 use Rattle.report.specs.declared.headings.Extra.TheVariants as extra

@@ -1,7 +1,7 @@
 -- What is asked of tables of counts.
 use Rattle.std.specs.Prelude.{ℕ, ◌==◌, Bool, true, false, List, [], length, ℤ, pos, map, Result, Ok, Err, if◌then◌else◌}
 use Rattle.std.specs.List.{range_with_len, sum}
-use Rattle.record_reader.specs.Layouts.{and_then, with_fault, with_value}
+use Rattle.weights.specs.Results.{and_then, with_fault, with_value}
 use Rattle.table_reader.specs.TableLayout.{TableData, table_in}
 use Rattle.settings.specs.declared.names.OptionName.{OptionName}
 use Rattle.settings.specs.declared.names.OptionName.TheVariants as option

@@ -1,6 +1,7 @@
 // The reports of the tests of treatments in blocks.
 ghost use Rattle.std.specs.Prelude.{◌≡◌, Ok, IfErr, IfOk};
-ghost use Rattle.record_reader.specs.Layouts.{MayPick, and_then, with_fault};
+ghost use Rattle.record_reader.specs.Layouts.{MayPick};
+ghost use Rattle.weights.specs.Results.{and_then, with_fault};
 ghost use Rattle.sample_reader.specs.Data.{block_data_of};
 ghost use Rattle.block_tests.specs.BlockTests.{TakesCells, has_tail};
 ghost use Rattle.exact_run.specs.BlockQuestions.{block_sizes, blocks_of, blocks_read};

@@ -1,6 +1,7 @@
 // The reports of the tests of groups: of two samples, and of several.
 ghost use Rattle.std.specs.Prelude.{◌≡◌, ◌≤◌, Ok, IfErr, IfOk, length};
-ghost use Rattle.record_reader.specs.Layouts.{MayPick, and_then, with_fault};
+ghost use Rattle.record_reader.specs.Layouts.{MayPick};
+ghost use Rattle.weights.specs.Results.{and_then, with_fault};
 ghost use Rattle.sample_reader.specs.Data.{data_of};
 ghost use Rattle.sample_reader.specs.GroupLayout.{groups_in};
 ghost use Rattle.exact_run.specs.CauseSteps.{IsCauseOf, Meets};

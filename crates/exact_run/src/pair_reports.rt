@@ -1,6 +1,7 @@
 // The reports of the tests of one sample, of the differences of pairs.
 ghost use Rattle.std.specs.Prelude.{◌≡◌, Ok, IfErr, IfOk};
-ghost use Rattle.record_reader.specs.Layouts.{MayPick, and_then, with_fault};
+ghost use Rattle.record_reader.specs.Layouts.{MayPick};
+ghost use Rattle.weights.specs.Results.{and_then, with_fault};
 ghost use Rattle.sample_reader.specs.CellLayouts.{differences_in};
 ghost use Rattle.exact_run.specs.CauseSteps.{IsCauseOf, Meets};
 ghost use Rattle.exact_run.specs.Outcome.{asking_of, outcome_of_question};

@@ -1,7 +1,8 @@
 // The reports of the tests of tables of counts.
 ghost use Rattle.std.specs.Prelude.{◌≡◌, ◌≤◌, pos, length, map, Ok, IfErr, IfOk};
 ghost use Rattle.std.specs.List.{range_with_len};
-ghost use Rattle.record_reader.specs.Layouts.{MayPick, and_then};
+ghost use Rattle.record_reader.specs.Layouts.{MayPick};
+ghost use Rattle.weights.specs.Results.{and_then};
 ghost use Rattle.table_reader.specs.Data.{table_data_of};
 ghost use Rattle.table_reader.specs.Kept.{HasShape};
 ghost use Rattle.table_reader.specs.TableLayout.{table_shape};

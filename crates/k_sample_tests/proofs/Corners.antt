@@ -2,7 +2,7 @@
 use Rattle.std.proofs.Common.{◌≡◌, ℕ, zero, suc, ◌+◌, ◌*◌, ◌≤◌, ◌⊎◌, List, [], ◌∷◌, length, max, get_or, inl, inr, ap, arith}
 use Rattle.std.specs.Prelude.{ℤ, pos, unsigned_abs}
 use Rattle.completion_bounds.specs.Boxes.{factored_squares, greatest_size, greatest_squares}
-use Rattle.label_network.specs.LaterSums.{absolute_sum}
+use Rattle.weights.specs.Numbers.{absolute_sum}
 use Rattle.label_network.proofs.Absolute.{size-plus}
 use Rattle.k_sample_tests.specs.RankSums.{plus_each}
 

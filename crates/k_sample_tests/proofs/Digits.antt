@@ -7,7 +7,7 @@ use Rattle.std.proofs.lemmas.Int.{ints, unsigned_abs-mul}
 use Rattle.std.proofs.lemmas.List.{drop_more, length-drop, length-map, get_or-drop}
 use Rattle.std.proofs.lemmas.Nat.{div-mul-add, mod-mul-add}
 use Rattle.completion_bounds.proofs.Products.{distribute}
-use Rattle.label_network.specs.LaterSums.{absolute_sum}
+use Rattle.weights.specs.Numbers.{absolute_sum}
 use Rattle.label_network.proofs.Absolute.{size-plus}
 use Rattle.k_sample_tests.specs.PackedSums.{digits, numeral, pack, unpack}
 use Rattle.k_sample_tests.specs.RankSums.{plus_each}

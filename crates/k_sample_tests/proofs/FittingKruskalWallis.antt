@@ -25,7 +25,8 @@ use Rattle.midranks.specs.Ties.{tie_groups}
 use Rattle.midranks.specs.declared.ties.Tie.{Tie}
 use Rattle.completion_bounds.specs.Boxes.{factored_squares}
 use Rattle.scores.specs.PlaceScores.{common_multiple}
-use Rattle.scores.specs.Scores.{AreScores, absolute_sum, scale_of, score_of, score_sum}
+use Rattle.scores.specs.Scores.{AreScores, scale_of, score_of, score_sum}
+use Rattle.weights.specs.Numbers.{absolute_sum}
 use Rattle.scores.specs.declared.kinds.ScoreKind.{ScoreKind}
 use Rattle.scores.specs.declared.kinds.Scored.{Scored}
 use Rattle.scores.proofs.MultipleLemmas.{common_multiple-all}
@@ -37,11 +38,10 @@ use Rattle.sample_reader.specs.declared.samples.Groups.{Groups}
 use Rattle.stage_network.specs.Follows.{Follows}
 use Rattle.label_network.specs.Endings.{labelling_value}
 use Rattle.label_network.specs.LabelNetwork.{label_network}
-use Rattle.label_network.specs.LaterSums.{absolute_sum as sizes_of, subjects}
+use Rattle.label_network.specs.LaterSums.{subjects}
 use Rattle.label_network.specs.Meanings.{IsMeasure}
 use Rattle.label_network.proofs.LabelFollows.{label_follows}
 use Rattle.pooled_columns.specs.PooledColumns.{column_scores, column_sizes, pooled_values}
-use Rattle.pooled_columns.proofs.AbsoluteSums.{sizes-are}
 use Rattle.pooled_columns.proofs.PooledValues.{pooled-rises}
 use Rattle.pooled_columns.proofs.TieColumns.{grouped}
 use Rattle.k_sample_tests.specs.KruskalWallis.{ScoredGroups, group_sums, kruskal_wallis_test, pooled_scores, size_factors, squares_statistic, squares_test}
@@ -88,9 +88,9 @@ factors-most l [] = tt
 factors-most l (n ∷ sizes) = (quotient-most l n, factors-most l sizes)
 
 -- sums that are no greater than all scores
-pub squares-bounded : (sizes : List ℕ) (scores : List ℤ) (scale : ℕ) (p : List ℤ) → sizes_of p ≤ absolute_sum scores → factored_squares p (size_factors sizes) ≤ common_multiple sizes * (max (absolute_sum scores) scale * max (absolute_sum scores) scale)
+pub squares-bounded : (sizes : List ℕ) (scores : List ℤ) (scale : ℕ) (p : List ℤ) → absolute_sum p ≤ absolute_sum scores → factored_squares p (size_factors sizes) ≤ common_multiple sizes * (max (absolute_sum scores) scale * max (absolute_sum scores) scale)
 squares-bounded sizes scores scale p h =
-    let part : sizes_of p ≤ max (absolute_sum scores) scale = omega (arith, h) in
+    let part : absolute_sum p ≤ max (absolute_sum scores) scale = omega (arith, h) in
     omega (arith, squares-most p (size_factors sizes) (common_multiple sizes) (factors-most (common_multiple sizes) sizes), mul-le-mul (same (common_multiple sizes)) (mul-le-mul part part))
   where
     same : (n : ℕ) → n ≤ n
@@ -117,7 +117,7 @@ scores-long samples = length-map (pooled_values samples.groups) (score_of sample
 
 -- no statistic of a labelling passes the bound
 pub statistic-within : (samples : ScoredGroups) (xs : List ℕ) → factored_squares (group_sums (length (group_sizes samples.groups)) (pooled_scores samples) xs) (size_factors (group_sizes samples.groups)) ≤ (kruskal_wallis_test samples).bound
-statistic-within samples xs = squares-bounded (group_sizes samples.groups) (pooled_scores samples) (scale_of samples.kind (pooled_values samples.groups)) (group_sums (length (group_sizes samples.groups)) (pooled_scores samples) xs) (omega (arith, sums-within (length (group_sizes samples.groups)) (pooled_scores samples) xs, sizes-are (pooled_scores samples)))
+statistic-within samples xs = squares-bounded (group_sizes samples.groups) (pooled_scores samples) (scale_of samples.kind (pooled_values samples.groups)) (group_sums (length (group_sizes samples.groups)) (pooled_scores samples) xs) (omega (arith, sums-within (length (group_sizes samples.groups)) (pooled_scores samples) xs))
 
 -- the sum of the scores is no more than a bound that has its square
 square-most : (l s t : ℕ) → 1 ≤ l → s ≤ l * (max s t * max s t)
@@ -140,8 +140,8 @@ module _ (samples : ScoredGroups) (f : AreFitting samples) where
   pub sum-fits : absolute_sum (pooled_scores samples) ≤ MAX
   sum-fits = omega (arith, square-most (common_multiple (group_sizes samples.groups)) (absolute_sum (pooled_scores samples)) (scale_of samples.kind (pooled_values samples.groups)) multiple_some, f.bound_fits)
 
-  pub sizes-fit : sizes_of (pooled_scores samples) ≤ MAX
-  sizes-fit = omega (arith, sum-fits, sizes-are (pooled_scores samples))
+  pub sizes-fit : absolute_sum (pooled_scores samples) ≤ MAX
+  sizes-fit = omega (arith, sum-fits)
 
   pub bounded : total (kruskal_wallis_test samples) ≤ MAX
   bounded = omega (arith, total-of samples, f.total_fits)
@@ -154,8 +154,8 @@ module _ (samples : ScoredGroups) (f : AreFitting samples) where
   column-subjects : subjects (column_scores samples.kind (pooled_values samples.groups)) (column_sizes (pooled_values samples.groups)) ≡ pooled_scores samples
   column-subjects = grouped (score_of samples.kind (pooled_values samples.groups)) (pooled_values samples.groups) (pooled-rises samples.groups)
 
-  pub column-total : sizes_of (subjects (column_scores samples.kind (pooled_values samples.groups)) (column_sizes (pooled_values samples.groups))) ≡ absolute_sum (pooled_scores samples)
-  column-total = ap sizes_of column-subjects ∙ sizes-are (pooled_scores samples)
+  pub column-total : absolute_sum (subjects (column_scores samples.kind (pooled_values samples.groups)) (column_sizes (pooled_values samples.groups))) ≡ absolute_sum (pooled_scores samples)
+  column-total = ap absolute_sum column-subjects
 
   pub is-squaring : (tail : Tail) (rule : Rule) → rule ≡ rule_of (kruskal_wallis_test samples) tail → IsSquaring (size_factors (group_sizes samples.groups)) (kruskal_wallis_test samples).bound (column_scores samples.kind (pooled_values samples.groups)) (column_sizes (pooled_values samples.groups)) (group_sizes samples.groups) rule
   is-squaring tail rule e = record {
@@ -179,7 +179,7 @@ module _ (samples : ScoredGroups) (f : AreFitting samples) where
       ∙ sym (value-is (size_factors (group_sizes samples.groups)) (kruskal_wallis_test samples).bound (column_scores samples.kind (pooled_values samples.groups)) (column_sizes (pooled_values samples.groups)) (group_sizes samples.groups) tail (rule_of (kruskal_wallis_test samples) tail) columns-level xs)
 
   -- all scores together are less than half of the base
-  pub small-sums : fits_one samples ≡ true → sizes_of (subjects (column_scores samples.kind (pooled_values samples.groups)) (column_sizes (pooled_values samples.groups))) < half_for (length (group_sizes samples.groups))
+  pub small-sums : fits_one samples ≡ true → absolute_sum (subjects (column_scores samples.kind (pooled_values samples.groups)) (column_sizes (pooled_values samples.groups))) < half_for (length (group_sizes samples.groups))
   small-sums e = omega (arith, column-total, ltb-true (absolute_sum (pooled_scores samples)) (half_for (length (group_sizes samples.groups))) e)
 
   follows-unpacked : (tail : Tail) → Follows (kruskal_wallis_test samples) tail (label_network (unpacked_meaning samples tail))

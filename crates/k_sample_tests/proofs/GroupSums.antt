@@ -6,7 +6,7 @@ use Rattle.std.proofs.Math.Nat.{mul-le-mul, mul-le-mul_left}
 use Rattle.std.proofs.lemmas.Bool.{eqb-true}
 use Rattle.weights.specs.Labellings.{labels}
 use Rattle.completion_bounds.specs.Boxes.{factored_squares}
-use Rattle.label_network.specs.LaterSums.{absolute_sum}
+use Rattle.weights.specs.Numbers.{absolute_sum}
 use Rattle.label_network.proofs.Absolute.{size-plus}
 use Rattle.scores.specs.Scores.{labelled_sum}
 use Rattle.k_sample_tests.specs.KruskalWallis.{group_sums}

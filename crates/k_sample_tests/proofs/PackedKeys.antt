@@ -9,7 +9,8 @@ use Rattle.std.proofs.Math.Nat.{mul-le-mul_right}
 use Rattle.completion_bounds.specs.Boxes.{greatest_squares}
 use Rattle.label_network.specs.declared.ends.End.{End}
 use Rattle.label_network.specs.declared.ends.End.TheVariants.{Least, Greatest}
-use Rattle.label_network.specs.LaterSums.{absolute_sum, later_scores, subjects}
+use Rattle.label_network.specs.LaterSums.{later_scores, subjects}
+use Rattle.weights.specs.Numbers.{absolute_sum}
 use Rattle.label_network.specs.Linear.{score_of}
 use Rattle.label_network.specs.Meanings.{Meaning, AreReached, IsEnd, IsMeasure, IsMove, IsPlace, IsRoom, IsStep, sizes_in}
 use Rattle.k_sample_tests.specs.PackedSums.{numeral, pack, packed_meaning, unpack, unpacked}

@@ -14,7 +14,8 @@ use Rattle.label_network.specs.declared.ends.End.{End}
 use Rattle.label_network.specs.declared.ends.End.TheVariants.{Least, Greatest}
 use Rattle.label_network.specs.LaterSteps.{better_of}
 use Rattle.label_network.specs.LabelSteps.{AreSizes}
-use Rattle.label_network.specs.LaterSums.{absolute_sum, later_scores, part_sum, subjects}
+use Rattle.label_network.specs.LaterSums.{later_scores, part_sum, subjects}
+use Rattle.weights.specs.Numbers.{absolute_sum}
 use Rattle.label_network.specs.LaterTables.{IsTabled}
 use Rattle.label_network.specs.Linear.{score_of}
 use Rattle.label_network.specs.Meanings.{IsPlace, allowed, sizes_in}

@@ -14,7 +14,8 @@ use Rattle.weights.proofs.ChoiceLists.{IsChoice}
 use Rattle.weights.proofs.Sized.{first_and, sum-minus}
 use Rattle.completion_bounds.specs.Boxes.{factored_squares}
 use Rattle.completion_bounds.proofs.Narrowing.{IsNarrower, greatest_squares-falls, greatest_squares-point, least_squares-point, least_squares-rises}
-use Rattle.label_network.specs.LaterSums.{absolute_sum, greatest_sum, later_scores, least_sum, part_sum, subjects}
+use Rattle.label_network.specs.LaterSums.{greatest_sum, later_scores, least_sum, part_sum, subjects}
+use Rattle.weights.specs.Numbers.{absolute_sum}
 use Rattle.label_network.specs.Linear.{score_of}
 use Rattle.label_network.specs.Meanings.{AreReached, IsMeasure}
 use Rattle.label_network.specs.declared.ends.End.TheVariants.{Least, Greatest}

@@ -9,7 +9,8 @@ use Rattle.weights.specs.Labellings.{labellings, labels}
 use Rattle.weights.specs.declared.tails.Tail.TheVariants.{Greater}
 use Rattle.completion_bounds.specs.Boxes.{factored_squares}
 use Rattle.scores.specs.PlaceScores.{common_multiple}
-use Rattle.scores.specs.Scores.{absolute_sum, scale_of, score_list, labelled_sum}
+use Rattle.scores.specs.Scores.{scale_of, score_list, labelled_sum}
+use Rattle.weights.specs.Numbers.{absolute_sum}
 use Rattle.scores.specs.declared.kinds.ScoreKind.{ScoreKind}
 use Rattle.sample_reader.specs.Groups.{GroupData, group_sizes}
 use Rattle.sample_reader.specs.PooledSample.{labels_of, pooled}

@@ -1,7 +1,8 @@
 -- Words for the bodies of sums in one number.
 use Rattle.std.specs.Prelude.{◌≡◌, ℕ, ◌+◌, ◌*◌, ◌^◌, ◌<◌, ◌≤◌, ℤ, pos, unsigned_abs, Bool, true, List, length, get_or}
 use Rattle.weights.specs.declared.TheConstants.{MAX}
-use Rattle.label_network.specs.LaterSums.{absolute_sum, subjects}
+use Rattle.label_network.specs.LaterSums.{subjects}
+use Rattle.weights.specs.Numbers.{absolute_sum}
 use Rattle.label_network.specs.Meanings.{Meaning}
 use Rattle.k_sample_tests.specs.RankSums.{squares_meaning}
 use Rattle.k_sample_tests.specs.declared.rank_sums.RankSums.{RankSums}

@@ -11,11 +11,12 @@ use Rattle.weights.specs.declared.wide.PrepareFault.{PrepareFault}
 use Rattle.weights.specs.declared.wide.PrepareFault.TheVariants.{TooWide, NoMemory}
 use Rattle.completion_bounds.specs.Boxes.{factored_squares}
 use Rattle.record_reader.specs.declared.TheConstants.{MOST_ROWS}
-use Rattle.scores.specs.Scores.{AreScores, absolute_sum as absolute_sum_of, score_sum}
+use Rattle.scores.specs.Scores.{AreScores, score_sum}
+use Rattle.weights.specs.Numbers.{absolute_sum}
 use Rattle.scores.specs.declared.kinds.ScoreKind.{ScoreKind}
 use Rattle.scores.specs.declared.kinds.Scored.{Scored}
 use Rattle.sample_reader.specs.Groups.{group_sizes}
-use Rattle.label_network.specs.LaterSums.{absolute_sum, part_sum, subjects}
+use Rattle.label_network.specs.LaterSums.{part_sum, subjects}
 use Rattle.label_network.specs.LaterSteps.{better_of}
 use Rattle.label_network.specs.declared.ends.End.{End}
 use Rattle.label_network.specs.LaterTables.{IsTabled}
@@ -77,7 +78,7 @@ pub record AreScored (samples : ScoredGroups) (made : GroupScores) : Type 0 wher
   pub factors : made.factors.items ≡ size_factors (group_sizes samples.groups)
   pub bound : made.bound ≡ (kruskal_wallis_test samples).bound
   pub scores : made.scores ≡ pooled_scores samples
-  pub sum : made.sum ≡ absolute_sum_of (pooled_scores samples)
+  pub sum : made.sum ≡ absolute_sum (pooled_scores samples)
   pub column_sizes : made.columns.sizes ≡ column_sizes (pooled_values samples.groups)
   pub column_scores : made.columns.scores
       ≡ column_scores samples.kind (pooled_values samples.groups)

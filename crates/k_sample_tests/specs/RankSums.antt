@@ -6,7 +6,7 @@ use Rattle.weights.specs.declared.tails.Tail.{Tail}
 use Rattle.weights.specs.declared.rules.Rule.{Rule}
 use Rattle.weights.specs.Rules.{rule_of}
 use Rattle.completion_bounds.specs.Boxes.{factored_squares, greatest_squares, least_squares}
-use Rattle.scores.specs.Scores.{absolute_sum}
+use Rattle.weights.specs.Numbers.{absolute_sum}
 use Rattle.sample_reader.specs.Groups.{group_sizes}
 use Rattle.stage_network.specs.Network.{Network}
 use Rattle.label_network.specs.LabelNetwork.{label_network}

@@ -3,7 +3,7 @@ ghost use Rattle.std.specs.Prelude.{◌≡◌, ◌+◌, ◌*◌, ◌/◌, ◌<�
 ghost use Rattle.std.specs.List.{All};
 ghost use Rattle.weights.specs.declared.TheConstants.{MAX};
 ghost use Rattle.completion_bounds.specs.Boxes.{factored_squares};
-ghost use Rattle.label_network.specs.LaterSums.{absolute_sum};
+ghost use Rattle.weights.specs.Numbers.{absolute_sum};
 ghost use Rattle.scores.specs.PlaceScores.{common_multiple};
 ghost use Rattle.k_sample_tests.specs.KruskalWallis.{group_sums, size_factors, squares_statistic};
 

@@ -1,7 +1,8 @@
 // The measure of the test of Kruskal and Wallis with the sums of all groups in one number.
 ghost use Rattle.std.specs.Prelude.{◌≡◌, ◌+◌, ◌*◌, ◌/◌, ◌%◌, ◌^◌, ◌<◌, ◌≤◌, ◌&&◌, length, nat_lt, pos, unsigned_abs, ◌+ℤ◌, ◌-ℤ◌, ◌*ℤ◌};
 ghost use Rattle.weights.specs.declared.TheConstants.{MAX};
-ghost use Rattle.label_network.specs.LaterSums.{absolute_sum, subjects};
+ghost use Rattle.label_network.specs.LaterSums.{subjects};
+ghost use Rattle.weights.specs.Numbers.{absolute_sum};
 ghost use Rattle.label_network.specs.Meanings.{IsPlace, sizes_in};
 ghost use Rattle.stage_network.specs.Judged.{judged};
 ghost use Rattle.k_sample_tests.specs.PackedSums.{numeral, packed_meaning, unpack, unpacked};
@@ -9,9 +10,9 @@ ghost use Rattle.k_sample_tests.specs.PackedSumSteps.{AreDigits, AreNarrow, AreP
 ghost use Rattle.k_sample_tests.specs.RankSums.{half_for, plus_each};
 
 use crate::rank_sums::RankSums;
-use label_network::{Measure, only};
+use label_network::Measure;
 use stage_network::Verdict;
-use weights::Tail;
+use weights::{Tail, only};
 
 /// The measure of [`RankSums`] with the sums of all groups in one number, each raised by half of
 /// the base, so that none is negative, and a digit each.

@@ -11,10 +11,10 @@ ghost use Rattle.k_sample_tests.specs.UmbrellaSteps.{IsCounting};
 
 use crate::pair_points::{column_points, signed, subject_pairs};
 use crate::used_pairs::UsedPair;
-use label_network::{Measure, only, plus, read_sizes};
+use label_network::{Measure, read_sizes};
 use stage_network::{Interval, Judge, Verdict};
 use std::alloc::Global;
-use weights::{NoMemory, Tail};
+use weights::{NoMemory, Tail, only, plus};
 
 /// The points of labellings over the used pairs of groups. A partial is one number, the points of
 /// the subjects that are placed. Its interval adds what the remaining subjects are sure to add, and

@@ -12,10 +12,10 @@ ghost use Rattle.k_sample_tests.specs.RankSumSteps.{AreAddable, AreEnough, AreRa
 
 use crate::group_sums::squares_of;
 use completion_bounds::{box_bounds, narrow_squares};
-use label_network::{End, LaterScores, Measure, count_times, plus, read_sizes};
+use label_network::{End, LaterScores, Measure, read_sizes};
 use stage_network::{Interval, Judge, Verdict};
 use std::alloc::Global;
-use weights::{NoMemory, Tail};
+use weights::{NoMemory, Tail, count_times, plus};
 
 /// The factored sum of the groups' squared sums of scores. A partial has the sum of each group so
 /// far. Its interval is that of the box of the sums that the groups can come to, each with the

@@ -2,7 +2,8 @@
 use Rattle.std.proofs.Common.{◌≡◌, ℕ, zero, suc, ◌+◌, ◌*◌, ◌≤◌, List, ◌++◌, [], ◌∷◌, length, Bool, true, false, cond, arith}
 use Rattle.std.specs.Prelude.{ℤ, ◌+ℤ◌, unsigned_abs, nat_lt, replicate}
 use Rattle.std.proofs.lemmas.Int.{ints, clamps}
-use Rattle.label_network.specs.LaterSums.{total_score, part_sum, least_sum, greatest_sum, absolute_sum}
+use Rattle.label_network.specs.LaterSums.{total_score, part_sum, least_sum, greatest_sum}
+use Rattle.weights.specs.Numbers.{absolute_sum}
 use Rattle.label_network.specs.LaterSteps.{better_of}
 use Rattle.label_network.specs.declared.ends.End.{End}
 use Rattle.label_network.specs.declared.ends.End.TheVariants.{Least, Greatest}

@@ -5,7 +5,8 @@ use Rattle.std.specs.List.{sum}
 use Rattle.std.proofs.Math.Nat.{mul-le-mul_left}
 use Rattle.std.proofs.lemmas.Int.{ints, unsigned_abs-mul}
 use Rattle.std.proofs.lemmas.List.Sums.{sum_by-drop_more, sum_by-take-drop}
-use Rattle.label_network.specs.LaterSums.{total_score, absolute_sum, least_sum, greatest_sum}
+use Rattle.label_network.specs.LaterSums.{total_score, least_sum, greatest_sum}
+use Rattle.weights.specs.Numbers.{absolute_sum}
 use Rattle.label_network.specs.Linear.{steps_by, added_by}
 use Rattle.label_network.specs.LinearSteps.{reach, whole_reach, HasTails, IsAdding, AreAdding}
 use Rattle.label_network.proofs.Absolute.{least-size, greatest-size, total-size, size-plus}

@@ -8,7 +8,8 @@ use Rattle.std.proofs.Math.Nat.{mul-le-mul}
 use Rattle.weights.specs.declared.TheConstants.{MAX}
 use Rattle.label_network.specs.declared.ends.End.{End}
 use Rattle.label_network.specs.declared.ends.End.TheVariants.{Least, Greatest}
-use Rattle.label_network.specs.LaterSums.{total_score, absolute_sum, part_sum}
+use Rattle.label_network.specs.LaterSums.{total_score, part_sum}
+use Rattle.weights.specs.Numbers.{absolute_sum}
 use Rattle.label_network.specs.LaterSteps.{IsRow, better_of}
 use Rattle.label_network.proofs.Absolute.{total-size, sizes-block}
 use Rattle.label_network.proofs.LinearArcs.{total-block}

@@ -12,7 +12,8 @@ use Rattle.weights.specs.Rules.{RuleFits}
 use Rattle.weights.proofs.ChoiceLists.{IsChoice}
 use Rattle.completion_bounds.specs.Pairings.{greatest_score}
 use Rattle.label_network.specs.Meanings.{Meaning, AreReached, IsPlace, IsEnd, allowed, sizes_in}
-use Rattle.label_network.specs.LaterSums.{absolute_sum, later_scores}
+use Rattle.label_network.specs.LaterSums.{later_scores}
+use Rattle.weights.specs.Numbers.{absolute_sum}
 use Rattle.label_network.specs.Linear.{row_sum, least_added, greatest_added, score_of, picked, order_of, ordered, ordered_scores, so_far, linear_low, linear_high, linear_outlook, column_sum, linear_meaning, greatest_sizes}
 use Rattle.label_network.specs.LinearSteps.{whole_reach, HasTails, ArePlaces, IsLinearMeasure}
 use Rattle.label_network.proofs.Sizes.{sizes-of_pos}

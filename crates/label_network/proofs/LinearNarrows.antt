@@ -12,7 +12,8 @@ use Rattle.weights.specs.Grouped.{minus}
 use Rattle.weights.proofs.ChoiceLists.{IsChoice}
 use Rattle.completion_bounds.specs.Pairings.{greatest_score}
 use Rattle.label_network.specs.Meanings.{AreReached, IsMeasure}
-use Rattle.label_network.specs.LaterSums.{absolute_sum, later_scores}
+use Rattle.label_network.specs.LaterSums.{later_scores}
+use Rattle.weights.specs.Numbers.{absolute_sum}
 use Rattle.label_network.specs.Linear.{row_sum, least_added, greatest_added, score_of, order_of, ordered, ordered_scores, so_far, linear_low, linear_high, column_sum, linear_meaning, greatest_sizes, IsLinear}
 use Rattle.label_network.proofs.Absolute.{size-plus, sizes-block}
 use Rattle.label_network.proofs.Ascending.{ascending, each-once}

@@ -7,24 +7,12 @@ use Rattle.std.proofs.lemmas.Int.{ints}
 use Rattle.std.proofs.lemmas.List.Sorted.{IsPermutation-refl, IsPermutation-sym, IsPermutation-cons, IsPermutation-trans, IsPermutation-swap}
 use Rattle.completion_bounds.specs.Pairings.{IsLeastPairing, IsGreatestPairing}
 use Rattle.completion_bounds.proofs.Rearranged.{Ascends, all_imp, is_least, is_greatest}
+use Rattle.weights.proofs.OneOrder.{in_order-permutes}
 use Rattle.label_network.specs.LaterSums.{subjects}
 use Rattle.label_network.specs.Linear.{Climbs, RowsClimb, least_added, greatest_added}
 use Rattle.label_network.proofs.Later.{length-subjects}
-use Rattle.label_network.proofs.Sorting.{place_up, sort_up, sort-climbs, length-sort}
+use Rattle.label_network.proofs.Sorting.{sort_up, sort-climbs, length-sort}
 use Rattle.label_network.proofs.LeastPairing.{least_pairing_is, greatest_pairing_is}
-
--- sorting is a rearrangement
-place-permutes : (x : ℤ) (ys : List ℤ) → IsPermutation (x ∷ ys) (place_up x ys)
-place-permutes x [] = IsPermutation-refl (x ∷ [])
-place-permutes x (y ∷ ys) = by (int_le x y) (place-permutes x ys)
-  where
-    by : (b : Bool) → IsPermutation (x ∷ ys) (place_up x ys) → IsPermutation (x ∷ y ∷ ys) (cond b (x ∷ y ∷ ys) (y ∷ place_up x ys))
-    by true p = IsPermutation-refl (x ∷ y ∷ ys)
-    by false p = IsPermutation-trans _ _ _ (IsPermutation-swap (x ∷ y ∷ ys) (y ∷ x ∷ ys) 0 1 (omega arith) (omega arith) refl) (IsPermutation-cons y (x ∷ ys) (place_up x ys) p)
-
-pub sort-permutes : (xs : List ℤ) → IsPermutation xs (sort_up xs)
-sort-permutes [] = IsPermutation-refl []
-sort-permutes (x ∷ xs) = IsPermutation-trans _ _ _ (IsPermutation-cons x xs (sort_up xs) (sort-permutes xs)) (place-permutes x (sort_up xs))
 
 -- lists that climb ascend
 climbs-all : (u : ℤ) (xs : List ℤ) → Climbs u xs → AllByRecursion (λ x. u ≤ℤ x) xs
@@ -68,14 +56,14 @@ module _ (us : List ℤ) (ms : List ℕ) (later : List ℤ) (climb : RowsClimb u
   least_added_is =
       let it = is_least (subjects us ms) (sort_up later) (units-ascend us ms climb) (climbs-ascend (sort_up later) (sort-climbs later)) long in
       subst (IsLeastPairing (subjects us ms) later) (sym (least_pairing_is us ms later level whole)) (record {
-        attained = (it.attained.0, IsPermutation-trans _ _ _ (sort-permutes later) it.attained.1, it.attained.2);
-        lower = λ zs p. it.lower zs (IsPermutation-trans _ _ _ (IsPermutation-sym later (sort_up later) (sort-permutes later)) p);
+        attained = (it.attained.0, IsPermutation-trans _ _ _ (in_order-permutes int_le later) it.attained.1, it.attained.2);
+        lower = λ zs p. it.lower zs (IsPermutation-trans _ _ _ (IsPermutation-sym later (sort_up later) (in_order-permutes int_le later)) p);
       })
 
   pub greatest_added_is : IsGreatestPairing (subjects us ms) later (greatest_added us ms later)
   greatest_added_is =
       let it = is_greatest (subjects us ms) (sort_up later) (units-ascend us ms climb) (climbs-ascend (sort_up later) (sort-climbs later)) long in
       subst (IsGreatestPairing (subjects us ms) later) (sym (greatest_pairing_is us ms later level whole)) (record {
-        attained = (it.attained.0, IsPermutation-trans _ _ _ (sort-permutes later) it.attained.1, it.attained.2);
-        upper = λ zs p. it.upper zs (IsPermutation-trans _ _ _ (IsPermutation-sym later (sort_up later) (sort-permutes later)) p);
+        attained = (it.attained.0, IsPermutation-trans _ _ _ (in_order-permutes int_le later) it.attained.1, it.attained.2);
+        upper = λ zs p. it.upper zs (IsPermutation-trans _ _ _ (IsPermutation-sym later (sort_up later) (in_order-permutes int_le later)) p);
       })

@@ -1,17 +1,20 @@
 -- Sums of products are no greater than the greatest row score times the summed column scores.
-use Rattle.std.proofs.Common.{◌≡◌, ℕ, zero, suc, ◌+◌, ◌*◌, ◌≤◌, List, [], ◌∷◌, ◌++◌, length, Bool, true, false, cond, refl, ◌∙◌, ap, arith}
-use Rattle.std.specs.Prelude.{ℤ, pos, ◌+ℤ◌, ◌*ℤ◌, ◌≤ℤ◌, int_le, unsigned_abs, replicate, reverse}
+use Rattle.std.proofs.Common.{◌≡◌, ℕ, zero, suc, ◌+◌, ◌*◌, ◌≤◌, List, [], ◌∷◌, ◌++◌, length, Bool, true, false, cond, refl, sym, ◌∙◌, ap, arith}
+use Rattle.std.specs.Prelude.{ℤ, pos, ◌+ℤ◌, ◌*ℤ◌, ◌≤ℤ◌, int_le, nat_abs, unsigned_abs, replicate, reverse}
 use Rattle.std.specs.List.{sum}
 use Rattle.std.proofs.Math.Nat.{mul-le-mul, mul-le-mul_left}
 use Rattle.std.proofs.lemmas.Int.{ints, unsigned_abs-mul}
 use Rattle.std.proofs.lemmas.List.{reverse-append}
 use Rattle.std.proofs.lemmas.List.Sums.{sum_by-cons}
 use Rattle.completion_bounds.specs.Pairings.{paired, greatest_score}
-use Rattle.label_network.specs.LaterSums.{absolute_sum, subjects}
+use Rattle.weights.proofs.OneOrder.{sum_by-in_order}
+use Rattle.weights.proofs.Sums.{absolute_sum-by}
+use Rattle.label_network.specs.LaterSums.{subjects}
+use Rattle.weights.specs.Numbers.{absolute_sum}
 use Rattle.label_network.specs.Linear.{row_sum, Climbs, RowsClimb, score_of, picked_scores, least_added, greatest_added}
 use Rattle.label_network.specs.LinearSteps.{reach, whole_reach}
 use Rattle.label_network.proofs.Absolute.{size-plus}
-use Rattle.label_network.proofs.Sorting.{place_up, sort_up}
+use Rattle.label_network.proofs.Sorting.{sort_up}
 use Rattle.label_network.proofs.LeastPairing.{least_pairing_is, greatest_pairing_is}
 
 same : (n : ℕ) → n ≤ n
@@ -87,17 +90,8 @@ absolute-turned : (xs : List ℤ) → absolute_sum (reverse xs) ≡ absolute_sum
 absolute-turned [] = refl
 absolute-turned (x ∷ xs) = ap absolute_sum (reverse-append (x ∷ []) xs) ∙ absolute-append (reverse xs) (x ∷ []) ∙ omega (arith, absolute-turned xs)
 
-absolute-place : (x : ℤ) (ys : List ℤ) → absolute_sum (place_up x ys) ≡ unsigned_abs x + absolute_sum ys
-absolute-place x [] = refl
-absolute-place x (y ∷ ys) = by (int_le x y) (absolute-place x ys)
-  where
-    by : (b : Bool) → absolute_sum (place_up x ys) ≡ unsigned_abs x + absolute_sum ys → absolute_sum (cond b (x ∷ y ∷ ys) (y ∷ place_up x ys)) ≡ unsigned_abs x + (unsigned_abs y + absolute_sum ys)
-    by true e = refl
-    by false e = omega (arith, e)
-
 absolute-sorted : (xs : List ℤ) → absolute_sum (sort_up xs) ≡ absolute_sum xs
-absolute-sorted [] = refl
-absolute-sorted (x ∷ xs) = absolute-place x (sort_up xs) ∙ ap (λ n. unsigned_abs x + n) (absolute-sorted xs)
+absolute-sorted xs = absolute_sum-by (sort_up xs) ∙ sum_by-in_order int_le nat_abs xs ∙ sym (absolute_sum-by xs)
 
 module _ (us : List ℤ) (ms : List ℕ) (later : List ℤ) (m : ℕ) (level : length us ≡ length ms) (whole : sum ms ≡ length later) (h : greatest_score us ≤ m) where
   pub least-added-size : unsigned_abs (least_added us ms later) ≤ m * absolute_sum later

@@ -3,7 +3,8 @@ use Rattle.std.proofs.Common.{◌≡◌, ℕ, zero, suc, ◌+◌, ◌<◌, ◌�
 use Rattle.std.specs.Prelude.{ℤ, pos, replicate, slice_index, slice_index_or}
 use Rattle.std.specs.List.{sum}
 use Rattle.std.proofs.lemmas.List.Sums.{sum_by-take-drop, sum_by-drop_more}
-use Rattle.label_network.specs.LaterSums.{subjects, absolute_sum, later_scores}
+use Rattle.label_network.specs.LaterSums.{subjects, later_scores}
+use Rattle.weights.specs.Numbers.{absolute_sum}
 use Rattle.label_network.proofs.Absolute.{sizes-block}
 use Rattle.label_network.proofs.Later.{later-next, later-length}
 

@@ -6,7 +6,8 @@ use Rattle.std.proofs.lemmas.List.{length-set, get_or-set_same, get_or-set_other
 use Rattle.std.proofs.lemmas.Int.{ints, fits_signed_from_abs}
 use Rattle.std.specs.Int.RustNames.{FitsSigned}
 use mir.Syntax.{w128}
-use Rattle.label_network.specs.LaterSums.{absolute_sum, part_sum}
+use Rattle.label_network.specs.LaterSums.{part_sum}
+use Rattle.weights.specs.Numbers.{absolute_sum}
 use Rattle.label_network.proofs.Absolute.{part-size, size-plus}
 use Rattle.label_network.specs.LaterSteps.{IsRow, IsHalf, better_of}
 use Rattle.label_network.specs.declared.ends.End.{End}

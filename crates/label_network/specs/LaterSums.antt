@@ -1,15 +1,10 @@
 -- The scores of the subjects that are still to come, and the least and the greatest sum of some.
-use Rattle.std.specs.Prelude.{ℕ, zero, suc, ◌+◌, ℤ, pos, ◌+ℤ◌, List, [], ◌∷◌, ◌++◌, length, drop, replicate, unsigned_abs, nat_lt, if◌then◌else◌}
+use Rattle.std.specs.Prelude.{ℕ, zero, suc, ◌+◌, ℤ, pos, ◌+ℤ◌, List, [], ◌∷◌, ◌++◌, length, drop, replicate, nat_lt, if◌then◌else◌}
 use Rattle.std.specs.Int.{int_min, int_max}
 
 abbrev pub total_score : List ℤ → ℤ
 total_score [] = pos 0
 total_score (x ∷ xs) = x +ℤ total_score xs
-
--- the summed absolute scores
-abbrev pub absolute_sum : List ℤ → ℕ
-absolute_sum [] = 0
-absolute_sum (x ∷ xs) = unsigned_abs x + absolute_sum xs
 
 -- each score as often as it has units
 abbrev pub subjects : List ℤ → List ℕ → List ℤ

@@ -2,7 +2,8 @@
 use Rattle.std.specs.Prelude.{◌≡◌, ℕ, suc, ◌+◌, ◌-◌, ◌*◌, ◌<◌, ◌≤◌, ◌^◌, ◌⊎◌, ℤ, pos, List, length, get_or}
 use Rattle.std.specs.List.{sum}
 use Rattle.std.specs.Int.{int_min, int_max}
-use Rattle.label_network.specs.LaterSums.{total_score, absolute_sum, later_scores, part_sum}
+use Rattle.label_network.specs.LaterSums.{total_score, later_scores, part_sum}
+use Rattle.weights.specs.Numbers.{absolute_sum}
 
 -- the rows of the stages from g on
 pub record IsTable (f : ℕ → ℕ → ℤ) (stages width g : ℕ) (table : List ℤ) : Type 0 where

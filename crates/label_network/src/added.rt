@@ -2,7 +2,8 @@
 ghost use Rattle.std.specs.Prelude.{◌≡◌, ◌+◌, ◌*◌, ◌^◌, ◌<◌, ◌≤◌, length, get_or, unsigned_abs, ◌+ℤ◌, ◌-ℤ◌, ◌*ℤ◌};
 ghost use Rattle.std.specs.List.{sum};
 ghost use Rattle.label_network.specs.Meanings.{sizes_in};
-ghost use Rattle.label_network.specs.LaterSums.{absolute_sum, later_scores};
+ghost use Rattle.label_network.specs.LaterSums.{later_scores};
+ghost use Rattle.weights.specs.Numbers.{absolute_sum};
 ghost use Rattle.label_network.specs.Linear.{picked, least_added, greatest_added};
 ghost use Rattle.label_network.specs.LinearSteps.{whole_reach, HasTails, ArePlaces};
 

@@ -7,8 +7,9 @@ ghost use Rattle.weights.specs.declared.TheConstants.{MAX};
 ghost use Rattle.label_network.specs.LabelSteps.{AreSizes, IsHeld, IsSize};
 ghost use Rattle.label_network.specs.Meanings.{sizes_in};
 
-use crate::choice_order::{size_in, total_of};
+use crate::choice_order::size_in;
 use crate::ways::Ways;
+use weights::total_of;
 
 /// Writes the sizes that the numbers of a key stand for.
 pub fn read_sizes(front: &[i128], sizes: &mut [u64])

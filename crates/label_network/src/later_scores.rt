@@ -2,15 +2,15 @@
 ghost use Rattle.std.specs.Prelude.{◌≡◌, ◌+◌, ◌-◌, ◌*◌, ◌^◌, ◌<◌, ◌≤◌, ◌⊎◌, ℤ, pos, List, ◌∷◌, ◌++◌, length, replicate, slice_index_or, IfOk, if◌then◌else◌};
 ghost use Rattle.std.specs.List.{sum};
 ghost use Rattle.std.specs.Int.{int_min, int_max};
-ghost use Rattle.label_network.specs.LaterSums.{total_score, absolute_sum, later_scores, part_sum, least_sum, greatest_sum};
+ghost use Rattle.label_network.specs.LaterSums.{total_score, later_scores, part_sum, least_sum, greatest_sum};
+ghost use Rattle.weights.specs.Numbers.{absolute_sum};
 ghost use Rattle.label_network.specs.LaterTables.{IsLater, IsPartTable, IsTabled};
 ghost use Rattle.label_network.specs.LaterSteps.{IsRow, better_of, other_end};
 
 use crate::ends::{End, chosen, other};
-use crate::numbers::with_units;
 use stage_network::Interval;
 use std::alloc::Global;
-use weights::NoMemory;
+use weights::{NoMemory, with_units};
 
 /// Turns the sums of some later scores into those with one score more.
 fn add_to_row(end: End, row: &mut [i128], before: u64, score: i128)

@@ -10,17 +10,14 @@ mod label_stages;
 mod later_scores;
 mod linear;
 mod measure;
-mod numbers;
 #[cfg(test)]
 mod tests;
 mod ways;
 
-pub use choice_order::total_of;
 pub use ends::End;
 pub use keys::read_sizes;
 pub use label_stages::LabelStages;
 pub use later_scores::LaterScores;
 pub use linear::{LinearMeasure, score_choice};
 pub use measure::Measure;
-pub use numbers::{count_times, only, plus, times};
 pub use ways::Ways;

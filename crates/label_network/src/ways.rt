@@ -6,9 +6,8 @@ ghost use Rattle.weights.specs.Labellings.{number_of_labellings};
 ghost use Rattle.weights.specs.declared.TheConstants.{MAX};
 ghost use Rattle.label_network.specs.LabelSteps.{IsHeld, IsWays, capped};
 
-use crate::choice_order::total_of;
 use std::alloc::Global;
-use weights::{MAX, NoMemory, multinomial};
+use weights::{MAX, NoMemory, multinomial, total_of};
 
 // How many entries a table has at most. Two rows whose total fits need fewer.
 const TABLE_ROOM: usize = 1 << 17;

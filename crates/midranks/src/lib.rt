@@ -3,8 +3,6 @@
 #![tactic(auto)]
 
 mod ranks;
-#[cfg(test)]
-mod tests;
 mod ties;
 
 pub use ranks::doubled;

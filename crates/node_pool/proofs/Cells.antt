@@ -6,7 +6,11 @@ use Rattle.std.proofs.Math.Nat.{mul-le-mul_left}
 use Rattle.std.proofs.lemmas.List.{append-nil, drop-append-le, drop-drop, drop_all, get_or-set_other, get_or-set_same, get_or_append_left, get_or_push, length-append, length-drop, length-set, length-take-le, length_push, take-append-le, take_all}
 use Rattle.weights.proofs.Filters.{all_append}
 use Rattle.node_pool.specs.TableSteps.{key_at}
-use Rattle.node_pool.specs.PoolSteps.{AreCells, cell_key, keys_of, weight_of, weight_place, weights_of}
+use Rattle.node_pool.specs.PoolSteps.{AreCells, cell_key, keys_of, weight_of, weights_of}
+
+-- where a cell has its weight
+abbrev pub weight_place : ℕ → ℕ → ℕ
+weight_place width i = i * (width + 1) + width
 
 -- ---- parts of lists
 

@@ -46,10 +46,6 @@ cell_nodes width n cells = nodes_of width (keys_of width n cells) (weights_of wi
 abbrev pub cell_key : ℕ → List ℤ → ℕ → List ℤ
 cell_key width cells i = take width (drop (i * (width + 1)) cells)
 
--- where a cell has its weight
-abbrev pub weight_place : ℕ → ℕ → ℕ
-weight_place width i = i * (width + 1) + width
-
 -- n cells with room for more, each weight within a limit
 pub record AreCells (width limit n : ℕ) (cells : List ℤ) (spare cell_room : ℕ) : Type 0 where
   pub long : length cells ≡ n * (width + 1)

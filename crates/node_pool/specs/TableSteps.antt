@@ -1,8 +1,7 @@
 -- Keys of one width in a row, and buckets that say where each stands: 0 in an empty slot, else the
 -- place of a key, and 1.
-use Rattle.std.specs.Prelude.{◌≡◌, ◌≢◌, ℕ, ℤ, ◌+◌, ◌-◌, ◌*◌, ◌<◌, ◌≤◌, List, length, take, drop, Bool, cond, nat_lt}
+use Rattle.std.specs.Prelude.{◌≡◌, ◌≢◌, ℕ, ℤ, ◌+◌, ◌-◌, ◌*◌, ◌<◌, ◌≤◌, List, length, take, drop, get_or, Bool, cond, nat_lt}
 use Rattle.std.specs.List.{count_by}
-use Rattle.std.proofs.Common.{get_or}
 use Rattle.node_pool.specs.HashSteps.{home_of}
 use Rattle.node_pool.specs.declared.table.Found.{Found}
 use Rattle.node_pool.specs.declared.table.Found.TheVariants.{At, Free}

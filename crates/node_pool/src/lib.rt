@@ -6,8 +6,6 @@ mod list;
 mod pool;
 mod room;
 mod table;
-#[cfg(test)]
-mod tests;
 
 pub use list::NodeList;
 pub use pool::NodePool;

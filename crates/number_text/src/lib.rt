@@ -31,6 +31,3 @@ pub enum NumberFault {
     #[error("out of range")]
     OutOfRange,
 }
-
-#[cfg(test)]
-mod tests;

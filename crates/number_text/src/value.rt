@@ -11,9 +11,13 @@ use crate::numeral::NumeralText;
 ///
 /// A number text is an optional `+` or `-`, then digits with at most one point before, among or
 /// behind them and at least one digit, and then perhaps `e` or `E`, an optional sign and at least
-/// one digit. The first fault that holds is given: a text that is empty or exactly `NA` is missing,
-/// another text that is no number text is not a number, and a value that is no whole number of
-/// units, or has 10^36 units or more, is out of range. Zero is in range whatever its exponent.
+/// one digit. Zero is in range whatever its exponent.
+///
+/// # Errors
+///
+/// The first that holds: [`NumberFault::Missing`] for a text that is empty or exactly `NA`,
+/// [`NumberFault::NotNumber`] for another that is no number text, and [`NumberFault::OutOfRange`]
+/// for a value that is no whole number of units, or has 10^36 units or more.
 #[tactic(auto, unfolding(crate::specs::NumberTexts::value_of))]
 pub fn read_value(text: &[u8]) -> Result<i128, NumberFault>
     ensures value { result ≡ value_of text.now }

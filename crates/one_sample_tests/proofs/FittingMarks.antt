@@ -15,11 +15,12 @@ use Rattle.weights.specs.Conditional.{distance, total, unit_weight}
 use Rattle.weights.specs.Frames.{IsShown, RulesFit}
 use Rattle.weights.specs.Labellings.{sign_lists}
 use Rattle.weights.specs.Rules.{RuleFits, measured, rule_of}
-use Rattle.weights.proofs.Sums.{sum_by-filter, sum_by-one, sum_by-same}
+use Rattle.weights.proofs.Sums.{absolute_sum-by, sum_by-filter, sum_by-one, sum_by-same}
 use Rattle.midranks.specs.Ties.{tie_groups, values_in, with_one_more}
 use Rattle.midranks.specs.declared.ties.Tie.{Tie}
 use Rattle.midranks.proofs.TieLemmas.{sum_by-groups, summed}
-use Rattle.scores.specs.Scores.{absolute_sum, labelled_sum}
+use Rattle.scores.specs.Scores.{labelled_sum}
+use Rattle.weights.specs.Numbers.{absolute_sum}
 use Rattle.scores.proofs.LabelledSums.{labelled-least, labelled-most}
 use Rattle.stage_network.specs.Addends.{additive_network}
 use Rattle.stage_network.specs.Follows.{Follows}
@@ -102,7 +103,7 @@ groups-count : (scores : List ℤ) → values_in (tie_groups scores) ≡ length 
 groups-count scores = sum_by-same (λ (t : Tie). t.count) (summed (λ v. 1)) (λ t. omega arith) (tie_groups scores) ∙ sum_by-groups (λ v. 1) scores ∙ sum_by-one scores
 
 groups-size : (scores : List ℤ) → sizes_in (tie_groups scores) ≡ absolute_sum scores
-groups-size scores = sum_by-groups nat_abs scores
+groups-size scores = sum_by-groups nat_abs scores ∙ sym (absolute_sum-by scores)
 
 module _ (scores : List ℤ) (observed : List ℕ) (scale : ℕ) (some : AllByRecursion (λ s. pos 0 ≤ℤ s) scores) (total : 2 ^ length scores ≤ MAX) (bound : 2 * absolute_sum scores ≤ MAX) where
   pub are-stages : (tail : Tail) → AreStages (tie_groups scores) (rule_of (marks_test scores observed scale) tail)

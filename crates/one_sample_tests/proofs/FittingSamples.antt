@@ -8,7 +8,7 @@ use Rattle.std.proofs.lemmas.Bool.{cases_lt, le-ltb, lt-ltb}
 use Rattle.std.proofs.lemmas.Int.{ints}
 use Rattle.std.proofs.lemmas.List.{length-map, length-replicate}
 use Rattle.std.proofs.lemmas.List.Elements.{All-from_recursion, recursion_from_All}
-use Rattle.std.proofs.lemmas.List.Sums.{count_by-le-length, length-filter, sum_by-cons}
+use Rattle.std.proofs.lemmas.List.Sums.{count_by-le-length, length-filter}
 use Rattle.weights.specs.declared.rules.Rule.TheVariants.{Far}
 use Rattle.weights.specs.declared.tails.Tail.{Tail}
 use Rattle.weights.specs.declared.TheConstants.{MAX}
@@ -23,7 +23,8 @@ use Rattle.weights.proofs.Filters.{all_append}
 use Rattle.midranks.specs.Midranks.{doubled_midrank}
 use Rattle.midranks.specs.Ties.{tie_groups}
 use Rattle.scores.specs.RawScores.{decimals, raw_score}
-use Rattle.scores.specs.Scores.{absolute_sum, labelled_sum}
+use Rattle.scores.specs.Scores.{labelled_sum}
+use Rattle.weights.specs.Numbers.{absolute_sum}
 use Rattle.scores.specs.declared.kinds.Scored.{Scored}
 use Rattle.stage_network.specs.Follows.{Follows}
 use Rattle.table_reader.specs.TableLayout.{TableData}
@@ -139,7 +140,7 @@ ones-are (x ∷ sizes) = ap (λ ones. pos 1 ∷ ones) (ones-are sizes)
 
 pub ones-sum : (sizes : List ℤ) → length sizes ≡ absolute_sum (map (λ size. pos 1) sizes)
 ones-sum [] = refl
-ones-sum (x ∷ sizes) = omega (arith, ones-sum sizes, sum_by-cons nat_abs (pos 1) (map (λ size. pos 1) sizes))
+ones-sum (x ∷ sizes) = omega (arith, ones-sum sizes)
 
 -- ---- discordant pairs
 

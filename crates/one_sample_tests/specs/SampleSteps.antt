@@ -10,7 +10,7 @@ use Rattle.weights.specs.declared.wide.PrepareFault.{PrepareFault}
 use Rattle.weights.specs.declared.wide.PrepareFault.TheVariants.{TooWide, NoMemory}
 use Rattle.midranks.specs.Ties.{tie_groups, values_in}
 use Rattle.midranks.specs.declared.ties.Tie.{Tie}
-use Rattle.scores.specs.Scores.{absolute_sum}
+use Rattle.weights.specs.Numbers.{absolute_sum}
 use Rattle.scores.specs.declared.kinds.ScoreFault.{ScoreFault}
 use Rattle.scores.specs.declared.kinds.ScoreFault.TheVariants as fault
 use Rattle.scores.specs.declared.kinds.Scored.{Scored}

@@ -8,7 +8,8 @@ use Rattle.std.specs.List.{filter}
 use Rattle.std.specs.Ordering.{int_eq}
 use Rattle.weights.specs.Conditional.{ConditionalTest, by_distance, every_tail, unit_weight}
 use Rattle.weights.specs.Labellings.{sign_lists}
-use Rattle.scores.specs.Scores.{absolute_sum, labelled_sum, scale_of, score_list}
+use Rattle.scores.specs.Scores.{labelled_sum, scale_of, score_list}
+use Rattle.weights.specs.Numbers.{absolute_sum}
 use Rattle.scores.specs.declared.kinds.ScoreKind.TheVariants as score
 use Rattle.table_reader.specs.TableLayout.{TableData}
 use Rattle.one_sample_tests.specs.declared.kinds.SignKind.{SignKind}

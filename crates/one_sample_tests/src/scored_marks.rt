@@ -3,7 +3,8 @@ ghost use Rattle.std.specs.Prelude.{◌≡◌, ◌≤◌, ◌*◌, ◌^◌, leng
 ghost use Rattle.weights.specs.Conditional.{distance};
 ghost use Rattle.weights.specs.declared.TheConstants.{MAX};
 ghost use Rattle.midranks.specs.declared.TheConstants.{MOST_VALUES};
-ghost use Rattle.scores.specs.Scores.{absolute_sum, labelled_sum};
+ghost use Rattle.scores.specs.Scores.{labelled_sum};
+ghost use Rattle.weights.specs.Numbers.{absolute_sum};
 ghost use Rattle.one_sample_tests.specs.SignedSamples.{nonzero, sample_of};
 ghost use Rattle.one_sample_tests.specs.SampleSteps.{AreDifferences, AreNotNegative, IsMadeOf, IsSignScored};
 

@@ -1,4 +1,3 @@
-pub mod AbsoluteSums
 pub mod PooledValues
 pub mod PooledLabels
 pub mod TieColumns

@@ -5,22 +5,11 @@ use Rattle.std.specs.List.{sum_by, AllByRecursion}
 use Rattle.std.specs.Ordering.{is_le}
 use Rattle.std.proofs.lemmas.List.Sums.{sum_by-cons}
 use Rattle.weights.proofs.Counted.{SameCounts, all_from_SameCounts, count_of}
+use Rattle.weights.proofs.OneOrder.{sum_by-in_order}
 use Rattle.weights.proofs.Sums.{sum_by-map}
 use Rattle.sample_reader.specs.Groups.{GroupData}
-use Rattle.sample_reader.specs.PooledSample.{ascending_by, insert_by, labels_of, paired_subjects, pooled, subject_cmp}
+use Rattle.sample_reader.specs.PooledSample.{labels_of, paired_subjects, may_precede, pooled}
 use Rattle.sample_reader.specs.declared.subjects.Subject.{Subject}
-
-insert-sum : (f : Subject → ℕ) (x : Subject) (xs : List Subject) → sum_by f (insert_by subject_cmp x xs) ≡ f x + sum_by f xs
-insert-sum f x [] = sum_by-cons f x []
-insert-sum f x (y ∷ ys) = by (is_le (subject_cmp x y)) (insert-sum f x ys)
-  where
-    by : (b : Bool) → sum_by f (insert_by subject_cmp x ys) ≡ f x + sum_by f ys → sum_by f (cond b (x ∷ y ∷ ys) (y ∷ insert_by subject_cmp x ys)) ≡ f x + sum_by f (y ∷ ys)
-    by true rest = sum_by-cons f x (y ∷ ys)
-    by false rest = omega (arith, rest, sum_by-cons f y (insert_by subject_cmp x ys), sum_by-cons f y ys)
-
-ascending-sum : (f : Subject → ℕ) (xs : List Subject) → sum_by f (ascending_by subject_cmp xs) ≡ sum_by f xs
-ascending-sum f [] = refl
-ascending-sum f (x ∷ xs) = omega (arith, insert-sum f x (ascending_by subject_cmp xs), ascending-sum f xs, sum_by-cons f x xs)
 
 -- one for each subject with a label
 abbrev marked : ℕ → Subject → ℕ
@@ -38,7 +27,7 @@ paired-count i (v ∷ values) (m ∷ members) same =
 pub pooled-counts : (groups : GroupData) → length groups.members ≡ length groups.values → SameCounts groups.members (labels_of (pooled groups))
 pooled-counts groups same i =
     sym (sum_by-map (λ l. cond (nat_eq l i) 1 0) (λ (s : Subject). s.label) (pooled groups)
-    ∙ ascending-sum (marked i) (paired_subjects groups.values groups.members) ∙ paired-count i groups.values groups.members same)
+    ∙ sum_by-in_order may_precede (marked i) (paired_subjects groups.values groups.members) ∙ paired-count i groups.values groups.members same)
 
 pub pooled-labels : (P : ℕ → Type 0) (groups : GroupData) → length groups.members ≡ length groups.values → AllByRecursion P groups.members → AllByRecursion P (labels_of (pooled groups))
 pooled-labels P groups same all = all_from_SameCounts P groups.members (labels_of (pooled groups)) (pooled-counts groups same) all

@@ -8,9 +8,11 @@ use Rattle.std.specs.declared.cmp.Ordering.TheVariants.{Less, Equal, Greater}
 use Rattle.std.proofs.lemmas.Cmp.{int_ranked}
 use Rattle.std.proofs.lemmas.Int.{ints}
 use Rattle.std.proofs.lemmas.List.{length-map}
+use Rattle.weights.specs.InOrder.{in_order, put_in}
+use Rattle.weights.proofs.OneOrder.{length-in_order}
 use Rattle.midranks.proofs.TieLemmas.{all-weaker}
 use Rattle.sample_reader.specs.Groups.{GroupData}
-use Rattle.sample_reader.specs.PooledSample.{ascending_by, insert_by, paired_subjects, pooled, subject_cmp, values_of}
+use Rattle.sample_reader.specs.PooledSample.{may_precede, paired_subjects, pooled, subject_cmp, values_of}
 use Rattle.sample_reader.specs.declared.subjects.Subject.{Subject}
 use Rattle.pooled_columns.specs.PooledColumns.{pooled_values}
 
@@ -48,40 +50,28 @@ not-before a b e = by (int_cmp a.value b.value) refl e
     by Equal p e = turned a.value b.value (int_ranked a.value b.value Equal p)
     by Greater p e = weaker b.value a.value (int_ranked a.value b.value Greater p)
 
-insert-all : (P : ℤ → Type 0) (x : Subject) (xs : List Subject) → P x.value → AllByRecursion P (values_of xs) → AllByRecursion P (values_of (insert_by subject_cmp x xs))
+insert-all : (P : ℤ → Type 0) (x : Subject) (xs : List Subject) → P x.value → AllByRecursion P (values_of xs) → AllByRecursion P (values_of (put_in may_precede x xs))
 insert-all P x [] one all = (one, tt)
 insert-all P x (y ∷ ys) one all = by (is_le (subject_cmp x y)) (insert-all P x ys one all.1)
   where
-    by : (b : Bool) → AllByRecursion P (values_of (insert_by subject_cmp x ys)) → AllByRecursion P (values_of (cond b (x ∷ y ∷ ys) (y ∷ insert_by subject_cmp x ys)))
+    by : (b : Bool) → AllByRecursion P (values_of (put_in may_precede x ys)) → AllByRecursion P (values_of (cond b (x ∷ y ∷ ys) (y ∷ put_in may_precede x ys)))
     by true rest = (one, all)
     by false rest = (all.0, rest)
 
-insert-rises : (x : Subject) (xs : List Subject) → Rises (values_of xs) → Rises (values_of (insert_by subject_cmp x xs))
+insert-rises : (x : Subject) (xs : List Subject) → Rises (values_of xs) → Rises (values_of (put_in may_precede x xs))
 insert-rises x [] up = (tt, tt)
 insert-rises x (y ∷ ys) up = by (is_le (subject_cmp x y)) refl (insert-rises x ys up.1)
   where
-    by : (b : Bool) → is_le (subject_cmp x y) ≡ b → Rises (values_of (insert_by subject_cmp x ys)) → Rises (values_of (cond b (x ∷ y ∷ ys) (y ∷ insert_by subject_cmp x ys)))
+    by : (b : Bool) → is_le (subject_cmp x y) ≡ b → Rises (values_of (put_in may_precede x ys)) → Rises (values_of (cond b (x ∷ y ∷ ys) (y ∷ put_in may_precede x ys)))
     by true e rest = ((not-after x y e, all-weaker (λ w. y.value ≤ℤ w) (λ w. x.value ≤ℤ w) (λ w h. chain x.value y.value w (not-after x y e) h) (values_of ys) up.0), up)
     by false e rest = (insert-all (λ w. y.value ≤ℤ w) x ys (not-before x y e) up.0, rest)
 
-ascending-rises : (xs : List Subject) → Rises (values_of (ascending_by subject_cmp xs))
+ascending-rises : (xs : List Subject) → Rises (values_of (in_order may_precede xs))
 ascending-rises [] = tt
-ascending-rises (x ∷ xs) = insert-rises x (ascending_by subject_cmp xs) (ascending-rises xs)
+ascending-rises (x ∷ xs) = insert-rises x (in_order may_precede xs) (ascending-rises xs)
 
 pub pooled-rises : (groups : GroupData) → Rises (pooled_values groups)
 pooled-rises groups = ascending-rises (paired_subjects groups.values groups.members)
-
-length-insert : (x : Subject) (xs : List Subject) → length (insert_by subject_cmp x xs) ≡ suc (length xs)
-length-insert x [] = refl
-length-insert x (y ∷ ys) = by (is_le (subject_cmp x y)) (length-insert x ys)
-  where
-    by : (b : Bool) → length (insert_by subject_cmp x ys) ≡ suc (length ys) → length (cond b (x ∷ y ∷ ys) (y ∷ insert_by subject_cmp x ys)) ≡ suc (suc (length ys))
-    by true rest = refl
-    by false rest = ap suc rest
-
-length-ascending : (xs : List Subject) → length (ascending_by subject_cmp xs) ≡ length xs
-length-ascending [] = refl
-length-ascending (x ∷ xs) = length-insert x (ascending_by subject_cmp xs) ∙ ap suc (length-ascending xs)
 
 length-paired : (values : List ℤ) (labels : List ℕ) → length labels ≡ length values → length (paired_subjects values labels) ≡ length values
 unfolding paired_subjects
@@ -92,4 +82,4 @@ length-paired (v ∷ values) (l ∷ labels) same = ap suc (length-paired values 
 pub length-pooled : (groups : GroupData) → length groups.members ≡ length groups.values → length (pooled_values groups) ≡ length groups.values
 length-pooled groups same =
     length-map (pooled groups) (λ (s : Subject). s.value)
-    ∙ length-ascending (paired_subjects groups.values groups.members) ∙ length-paired groups.values groups.members same
+    ∙ length-in_order may_precede (paired_subjects groups.values groups.members) ∙ length-paired groups.values groups.members same

@@ -7,7 +7,8 @@ use Rattle.std.proofs.lemmas.List.FromFn.{get_or-range_with_len, length-range_wi
 use Rattle.record_reader.specs.declared.picks.Picks.{Picks}
 use Rattle.record_reader.specs.declared.picks.Picks.TheVariants.{Natural, Listed}
 use Rattle.record_reader.specs.declared.layouts.Shape.{Shape}
-use Rattle.record_reader.specs.Layouts.{AreFields, Layout, MayPick, and_then, if_enough, picked, read_in, with_fault, with_fields, with_row, with_rows, with_value}
+use Rattle.record_reader.specs.Layouts.{AreFields, Layout, MayPick, if_enough, picked, read_in, with_fields, with_row, with_rows}
+use Rattle.weights.specs.Results.{and_then, with_fault, with_value}
 
 -- ---- numbers of fields
 

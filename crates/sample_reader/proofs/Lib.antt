@@ -5,7 +5,6 @@ mod OrderLemmas
 mod PooledLemmas
 pub mod Rearranged
 mod Sizes
-pub mod SortedOnce
 mod SubjectLemmas
 mod WholeBlocks
 mod WholeGroups

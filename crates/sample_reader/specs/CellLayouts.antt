@@ -7,7 +7,8 @@ use Rattle.record_reader.specs.declared.picks.Picks.{Picks}
 use Rattle.record_reader.specs.declared.picks.Picks.TheVariants.{Natural, Listed}
 use Rattle.record_reader.specs.declared.TheConstants.{MOST_ROWS}
 use Rattle.record_reader.specs.declared.layouts.Shape.{Shape}
-use Rattle.record_reader.specs.Layouts.{Layout, read_in, with_value}
+use Rattle.record_reader.specs.Layouts.{Layout, read_in}
+use Rattle.weights.specs.Results.{with_value}
 use Rattle.sample_reader.specs.Values.{binary_in, value_in}
 
 -- ---- pairs

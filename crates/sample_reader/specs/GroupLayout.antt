@@ -7,7 +7,8 @@ use Rattle.record_reader.specs.declared.picks.Picks.{Picks}
 use Rattle.record_reader.specs.declared.TheConstants.{MOST_ROWS}
 use Rattle.record_reader.specs.declared.layouts.Shape.{Shape}
 use Rattle.sample_reader.specs.Groups.{GroupData, first_appearances, number_among}
-use Rattle.record_reader.specs.Layouts.{Layout, and_then, read_in, with_value}
+use Rattle.record_reader.specs.Layouts.{Layout, read_in}
+use Rattle.weights.specs.Results.{and_then, with_value}
 use Rattle.sample_reader.specs.Values.{label_in, value_in}
 
 -- Each subject's label, and each subject's value in units of 10^-18.

@@ -6,7 +6,7 @@ use Rattle.number_text.specs.NumberTexts.{is_missing, value_of}
 use Rattle.number_text.specs.Trimmed.{trimmed}
 use Rattle.record_reader.specs.declared.faults.Kind.{Kind}
 use Rattle.record_reader.specs.declared.faults.Kind.TheVariants.{Missing, NotNumber, OutOfRange, NotBinary}
-use Rattle.record_reader.specs.Layouts.{with_fault}
+use Rattle.weights.specs.Results.{with_fault}
 
 -- the kind of a number text's fault
 abbrev pub kind_of : NumberFault → Kind

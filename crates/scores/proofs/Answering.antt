@@ -2,7 +2,8 @@
 use Rattle.std.proofs.Common.{◌≡◌, ◌<◌, ◌≤◌, ℕ, ℤ, true, false, List, Result, Ok, Err, refl}
 use Rattle.std.specs.Prelude.{IfOk, IsErr, OnOk}
 use Rattle.weights.specs.declared.TheConstants.{MAX}
-use Rattle.scores.specs.Scores.{AreScores, absolute_sum, score_list, score_sum, scale_of}
+use Rattle.scores.specs.Scores.{AreScores, score_list, score_sum, scale_of}
+use Rattle.weights.specs.Numbers.{absolute_sum}
 use Rattle.scores.specs.ScoreSteps.{IsScoredAs}
 use Rattle.scores.specs.declared.kinds.ScoreKind.{ScoreKind}
 use Rattle.scores.specs.declared.kinds.ScoreFault.{ScoreFault}

@@ -7,14 +7,14 @@ use Rattle.std.proofs.lemmas.Bool.{cases_lt}
 use Rattle.std.proofs.lemmas.Nat.{mul-le}
 use Rattle.std.proofs.lemmas.List.{drop-drop, drop-take, take-append-drop, take-take, take_all}
 use Rattle.std.proofs.lemmas.List.Sums.{sum_by-append, sum_by-cons}
-use Rattle.weights.proofs.Sums.{sum_by-map, sum_by-same, sum_by-same_where}
+use Rattle.weights.proofs.Sums.{absolute_sum-by, sum_by-map, sum_by-same, sum_by-same_where}
 use Rattle.midranks.specs.Ties.{IsAscending, tie_groups, values_in}
 use Rattle.midranks.specs.declared.ties.Tie.{Tie}
 use Rattle.midranks.proofs.Places.{below-first, below-later, below_in, equal-first, equal-later, equal_in, map-same_where, number_below-groups, number_equal-groups, values_in-groups}
 use Rattle.midranks.proofs.TieLemmas.{groups-ascend, groups-counts, sum_by-groups, summed}
-use Rattle.weights.specs.Numbers.{lcm}
+use Rattle.weights.specs.Numbers.{lcm, absolute_sum}
 use Rattle.scores.specs.PlaceScores.{common_multiple}
-use Rattle.scores.specs.Scores.{absolute_sum, averaged, common_size}
+use Rattle.scores.specs.Scores.{averaged, common_size}
 use Rattle.scores.specs.ScoreSteps.{averaged_scores, group_scores}
 use Rattle.scores.proofs.MultipleLemmas.{common_multiple-all}
 
@@ -103,7 +103,7 @@ unfolding common_size
 sizes-divide values = counts-divide _ (tie_groups values) (common_multiple-all (map (λ t. t.count) (tie_groups values)) (sizes-positive values)).all
 
 absolute_sum-naturals : {X : Type 0} (f : X → ℕ) (xs : List X) → absolute_sum (map (λ x. pos (f x)) xs) ≡ sum_by f xs
-absolute_sum-naturals f xs = sum_by-map nat_abs (λ x. pos (f x)) xs
+absolute_sum-naturals f xs = absolute_sum-by (map (λ x. pos (f x)) xs) ∙ sum_by-map nat_abs (λ x. pos (f x)) xs
 
 -- averaging changes no sum: all places count, times the least common multiple of the tie sizes
 pub averaged-sum : (places : List ℕ) (values : List ℤ) → length places ≡ length values → absolute_sum (averaged_scores places values) ≡ common_size values * sum places

@@ -3,8 +3,8 @@ use Rattle.std.proofs.Common.{◌≡◌, ℕ, zero, suc, ◌+◌, ◌<◌, ◌�
 use Rattle.std.specs.Prelude.{ℤ, pos, ◌+ℤ◌, ◌≤ℤ◌, nat_abs, unsigned_abs}
 use Rattle.std.specs.List.{AllByRecursion}
 use Rattle.std.proofs.lemmas.Int.{ints}
-use Rattle.std.proofs.lemmas.List.Sums.{sum_by-cons}
-use Rattle.scores.specs.Scores.{absolute_sum, labelled_sum}
+use Rattle.scores.specs.Scores.{labelled_sum}
+use Rattle.weights.specs.Numbers.{absolute_sum}
 
 -- ---- how great they are
 
@@ -14,7 +14,7 @@ size-plus a b = grind (arith, ints)
 pub labelled-within : (label : ℕ) (scores : List ℤ) (labels : List ℕ) → unsigned_abs (labelled_sum label scores labels) ≤ absolute_sum scores
 labelled-within label [] labels = omega arith
 labelled-within label (s ∷ scores) [] = omega arith
-labelled-within label (s ∷ scores) (l ∷ labels) = by (nat_eq l label) (labelled-within label scores labels) (sum_by-cons nat_abs s scores)
+labelled-within label (s ∷ scores) (l ∷ labels) = by (nat_eq l label) (labelled-within label scores labels) refl
   where
     by : (b : Bool) → unsigned_abs (labelled_sum label scores labels) ≤ absolute_sum scores → absolute_sum (s ∷ scores) ≡ nat_abs s + absolute_sum scores → unsigned_abs (cond b s (pos 0) +ℤ labelled_sum label scores labels) ≤ absolute_sum (s ∷ scores)
     by true h e = omega (arith, size-plus s (labelled_sum label scores labels), h, e)
@@ -52,7 +52,7 @@ pub ended : (s t all : ℤ) → s +ℤ t ≡ all → t ≡ pos 0 → s ≡ all
 ended s t all a b = omega (arith, ints, a, b)
 
 pub size-more : (scores : List ℤ) (i : ℕ) → i < length scores → absolute_sum (drop i scores) ≡ unsigned_abs (get_or scores i (pos 0)) + absolute_sum (drop (i + 1) scores)
-size-more scores i h = rw (add-one, drop-cons scores i (pos 0) h) (sum_by-cons nat_abs (get_or scores i (pos 0)) (drop (suc i) scores))
+size-more scores i h = rw (add-one, drop-cons scores i (pos 0) h) refl
 
 -- what the scores before place i sum to, of those with the label
 pub record IsLabelledSum (label : ℕ) (scores : List ℤ) (labels : List ℕ) (i : ℕ) (sum : ℤ) : Type 0 where

@@ -2,7 +2,8 @@
 use Rattle.std.specs.Prelude.{◌≡◌, ⊤, ℕ, ℤ, pos, ◌*◌, ◌/◌, ◌%◌, ◌<◌, ◌≤◌, nat_abs, nat_eq, Bool, List, [], ◌∷◌, map, take, drop, Result, Ok, Err}
 use Rattle.std.specs.List.{sum}
 use Rattle.midranks.specs.declared.ties.Tie.{Tie}
-use Rattle.scores.specs.Scores.{absolute_sum, averaged}
+use Rattle.scores.specs.Scores.{averaged}
+use Rattle.weights.specs.Numbers.{absolute_sum}
 use Rattle.scores.specs.declared.kinds.ScoreFault.{ScoreFault}
 use Rattle.scores.specs.declared.kinds.ScoreFault.TheVariants.{TooWide, NoMemory}
 use Rattle.scores.specs.declared.kinds.Scored.{Scored}

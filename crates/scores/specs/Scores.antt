@@ -1,6 +1,7 @@
 -- Scores of values, as whole numbers over one scale.
-use Rattle.std.specs.Prelude.{◌≡◌, ℕ, ℤ, pos, ◌*◌, ◌/◌, ◌^◌, ◌+ℤ◌, nat_abs, nat_eq, List, [], ◌∷◌, length, map, take, drop, if◌then◌else◌}
-use Rattle.std.specs.List.{sum, sum_by}
+use Rattle.std.specs.Prelude.{◌≡◌, ℕ, ℤ, pos, ◌*◌, ◌/◌, ◌^◌, ◌+ℤ◌, nat_eq, List, [], ◌∷◌, length, map, take, drop, if◌then◌else◌}
+use Rattle.std.specs.List.{sum}
+use Rattle.weights.specs.Numbers.{absolute_sum}
 use Rattle.midranks.specs.Midranks.{doubled_midrank, number_below, number_equal}
 use Rattle.midranks.specs.Ties.{tie_groups}
 use Rattle.midranks.specs.declared.ties.Tie.{Tie}
@@ -53,10 +54,6 @@ scale_of Mood values = 4 * common_size values
 scale_of Savage values = common_size values * multiple_to (length values)
 scale_of Median values = common_size values
 scale_of Raw values = 10 ^ decimals values
-
--- the sum of the absolute scores
-abbrev pub absolute_sum : List ℤ → ℕ
-absolute_sum scores = sum_by nat_abs scores
 
 -- the sum of the scores of the subjects with a label
 abbrev pub labelled_sum : ℕ → List ℤ → List ℕ → ℤ

@@ -8,10 +8,10 @@ ghost use Rattle.weights.specs.declared.TheConstants.{MAX};
 
 use crate::kinds::{ScoreFault, Scored};
 use crate::multiples::multiple_of_sizes;
-use crate::sums::{bounded_product, total};
+use crate::sums::total;
 use midranks::{Tie, group_of, tie_groups};
 use std::alloc::Global;
-use weights::{Ints, NoMemory};
+use weights::{Ints, NoMemory, bounded_product};
 
 // The sum of numbers that do not sum past the greatest statistic.
 fn sum_of(numbers: &[u128]) -> u128

@@ -1,7 +1,8 @@
 // Sums of the scores of the subjects with a label.
 ghost use Rattle.std.specs.Prelude.{◌≡◌, ◌≤◌, ◌+◌, ◌+ℤ◌, pos, nat_eq, unsigned_abs, if◌then◌else◌};
 ghost use Rattle.weights.specs.declared.TheConstants.{MAX};
-ghost use Rattle.scores.specs.Scores.{absolute_sum, labelled_sum};
+ghost use Rattle.scores.specs.Scores.{labelled_sum};
+ghost use Rattle.weights.specs.Numbers.{absolute_sum};
 
 // A sum with the score of one more subject, where its own label is this one.
 fn plus_labelled(sum: i128, score: i128, own: u8, label: u64) -> i128

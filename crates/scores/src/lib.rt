@@ -11,8 +11,6 @@ mod ranks;
 mod raw;
 mod scores;
 mod sums;
-#[cfg(test)]
-mod tests;
 
 pub use kinds::{ScoreFault, ScoreKind, Scored};
 pub use labelled_sums::labelled_sum;

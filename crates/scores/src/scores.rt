@@ -58,8 +58,12 @@ fn of_kind(alloc: Global, kind: ScoreKind, values: &[i128]) -> Result<Scored, Sc
 }
 
 /// The scores of a kind, as whole numbers over one scale, of at most `midranks::MOST_VALUES` values
-/// in units of 10^-18. They are too wide exactly where the sum of their absolute values passes
-/// `weights::MAX`.
+/// in units of 10^-18.
+///
+/// # Errors
+///
+/// [`ScoreFault::TooWide`] only where the sum of their absolute values passes `weights::MAX`, and
+/// then there are no scores; [`ScoreFault::NoMemory`] where memory ran out.
 pub fn scored(alloc: Global, kind: ScoreKind, values: &[i128]) -> Result<Scored, ScoreFault>
     requires { length values.now ≤ MOST_VALUES }
     ensures scores { IfOk result (AreScores kind values.now) }

@@ -1,7 +1,8 @@
-// Sums and products up to the greatest statistic.
-ghost use Rattle.std.specs.Prelude.{◌≡◌, ◌+◌, ◌*◌, ◌≤◌, nat_abs, SomeIff};
+// Sums up to the greatest statistic.
+ghost use Rattle.std.specs.Prelude.{◌≡◌, ◌+◌, ◌≤◌, nat_abs, SomeIff};
 ghost use Rattle.std.specs.List.{sum, sum_by};
 ghost use Rattle.scores.specs.ScoreSteps.{IsScoredAs};
+ghost use Rattle.weights.specs.Numbers.{absolute_sum};
 ghost use Rattle.weights.specs.declared.TheConstants.{MAX};
 
 use crate::kinds::{ScoreFault, Scored};
@@ -17,16 +18,6 @@ pub(crate) fn bounded_sum(a: u128, b: u128) -> Option<u128>
     }
 }
 
-/// The product, or None exactly where it passes [`MAX`].
-pub(crate) fn bounded_product(a: u128, b: u128) -> Option<u128>
-    ensures { SomeIff result (a * b ≤ MAX) (a * b) }
-{
-    match a.checked_mul(b) {
-        Some(product) if product <= MAX => Some(product),
-        _ => None,
-    }
-}
-
 /// The sum of numbers, or None exactly where it passes [`MAX`].
 pub(crate) fn total(numbers: &[u128]) -> Option<u128>
     ensures { SomeIff result (sum numbers.now ≤ MAX) (sum numbers.now) }
@@ -38,8 +29,8 @@ pub(crate) fn total(numbers: &[u128]) -> Option<u128>
     Some(sum)
 }
 
-// The sum of the absolute values, or None exactly where it passes MAX.
-fn absolute_sum(scores: &[i128]) -> Option<u128>
+// The sum of the absolute values, in the words that a loop is proved by.
+fn sum_of_sizes(scores: &[i128]) -> Option<u128>
     ensures { SomeIff result (sum_by nat_abs scores.now ≤ MAX) (sum_by nat_abs scores.now) }
 {
     let mut sum = 0;
@@ -47,6 +38,13 @@ fn absolute_sum(scores: &[i128]) -> Option<u128>
         sum = bounded_sum(sum, score.unsigned_abs())?;
     }
     Some(sum)
+}
+
+// The sum of the absolute values, or None exactly where it passes MAX.
+fn absolute_sum(scores: &[i128]) -> Option<u128>
+    ensures { SomeIff result (absolute_sum scores.now ≤ MAX) (absolute_sum scores.now) }
+{
+    sum_of_sizes(scores)
 }
 
 /// The scores with the sum of their absolute values.

@@ -9,7 +9,7 @@ use Rattle.std.proofs.lemmas.List.Folds.{find-append}
 use Rattle.clap.specs.Words.{Row, Text, first_of, found_of, matches_of, rows_of, takes}
 use Rattle.clap.specs.declared.parser.matches.ArgMatches.{ArgMatches}
 use Rattle.clap.proofs.WalkLemmas.{first_value-rows}
-use Rattle.record_reader.specs.Layouts.{and_then}
+use Rattle.weights.specs.Results.{and_then}
 use Rattle.settings.specs.declared.names.OptionName.{OptionName}
 use Rattle.settings.specs.declared.names.OptionName.TheVariants.{Tail, Scores, Order, Peak, RowScores, ColumnScores, Columns, Separator, Number, Distribution, Plain, Nodes}
 use Rattle.settings.specs.declared.names.UsageFault.{UsageFault}

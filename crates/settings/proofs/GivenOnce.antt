@@ -4,7 +4,7 @@ use Rattle.std.proofs.lemmas.Bool.{and_from, and_parts}
 use Rattle.std.specs.List.{after_first, before_first, find, list_any}
 use Rattle.std.specs.Option.{ok_or}
 use Rattle.std.proofs.lemmas.Slice.Eq.{bytes_eq-Decides}
-use Rattle.record_reader.specs.Layouts.{and_then}
+use Rattle.weights.specs.Results.{and_then}
 use Rattle.settings.specs.Faults.{MeetsAs}
 use Rattle.settings.specs.Names.{is_flag, option_word}
 use Rattle.settings.specs.Options.{listed_names}

@@ -12,7 +12,8 @@ use Rattle.std.specs.Option.{ok_or}
 use Rattle.std.specs.Ordering.{int_eq}
 use Rattle.number_text.specs.ListTexts.{IsWithin, fitting, is_comma, items_of, list_of}
 use Rattle.number_text.proofs.ListItems.{items_of-within}
-use Rattle.record_reader.specs.Layouts.{MayList, and_then, with_value}
+use Rattle.record_reader.specs.Layouts.{MayList}
+use Rattle.weights.specs.Results.{and_then, with_value}
 use Rattle.record_reader.specs.Records.{IsSeparator, comma, semicolon, tab}
 use Rattle.record_reader.specs.declared.layouts.Shape.{Shape}
 use Rattle.record_reader.specs.declared.picks.Picks.TheVariants.{Listed}

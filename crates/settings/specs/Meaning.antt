@@ -3,7 +3,7 @@ use Rattle.std.specs.Prelude.{ℕ, Bool, true, false, not, ◌&&◌, List, [], �
 use Rattle.std.specs.List.{list_all}
 use Rattle.std.specs.Option.{ok_or}
 use Rattle.std.specs.Str.{bytes_eq}
-use Rattle.record_reader.specs.Layouts.{and_then, with_value}
+use Rattle.weights.specs.Results.{and_then, with_value}
 use Rattle.settings.specs.Options.{listed_names, settings_without_options, with_options}
 use Rattle.settings.specs.Tests.{needs, reads_file, test_named}
 use Rattle.settings.specs.Words.{Given, none_given, value_in, with_words}

@@ -1,7 +1,7 @@
 -- The options, and what they make of the settings of a test.
 use Rattle.std.specs.Prelude.{ℕ, Bool, true, false, List, [], ◌∷◌, Option, Some, None, Result, Ok, Err, if◌then◌else◌, option_map}
 use Rattle.std.specs.Option.{ok_or}
-use Rattle.record_reader.specs.Layouts.{and_then}
+use Rattle.weights.specs.Results.{and_then}
 use Rattle.record_reader.specs.Records.{comma}
 use Rattle.record_reader.specs.declared.picks.Picks.TheVariants.{Natural, Listed}
 use Rattle.scores.specs.declared.kinds.ScoreKind.TheVariants.{Wilcoxon}

@@ -8,7 +8,7 @@ use Rattle.std.specs.Prelude.{◌==◌, ℕ, Bool, false, not, ◌||◌, List, [
 use Rattle.std.specs.List.{after_first, before_first, find, list_any}
 use Rattle.std.specs.Option.{ok_or}
 use Rattle.std.specs.Str.{bytes_eq}
-use Rattle.record_reader.specs.Layouts.{and_then}
+use Rattle.weights.specs.Results.{and_then}
 use Rattle.settings.specs.Names.{is_flag, option_word}
 use Rattle.settings.specs.Options.{listed_names}
 use Rattle.settings.specs.declared.names.OptionName.{OptionName}

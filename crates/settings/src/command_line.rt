@@ -1,7 +1,7 @@
 // What the words of the command line mean.
 ghost use Rattle.std.specs.Prelude.{◌≡◌, true, IfOk, Ok, [], map, string_bytes, unwrap_or};
 ghost use Rattle.settings.specs.Faults.{Meets};
-ghost use Rattle.record_reader.specs.Layouts.{and_then};
+ghost use Rattle.weights.specs.Results.{and_then};
 ghost use Rattle.settings.specs.Help.{help};
 ghost use Rattle.std.specs.List.{list_all};
 ghost use Rattle.settings.specs.Meaning.{command_of, has_needed, is_complete, is_help, meaning_of, meaning_of_given, settings_of};

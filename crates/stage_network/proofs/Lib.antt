@@ -22,7 +22,6 @@ pub mod ToCome
 pub mod Sweeps
 pub mod NodeLines
 pub mod Swaps
-pub mod SortedOnce
 pub mod Parts
 pub mod Bridge
 pub mod Flat

@@ -3,7 +3,9 @@ use Rattle.std.proofs.Common.{◌≡◌, ℕ, zero, suc, List, [], ◌∷◌, le
 use Rattle.std.specs.Prelude.{ℤ, ◌+ℤ◌, int_le}
 use Rattle.std.specs.List.{sum_by, AllByRecursion}
 use Rattle.std.proofs.lemmas.List.Sums.{sum_by-cons}
-use Rattle.stage_network.specs.PartialSums.{plus, put_in, ascending, kept}
+use Rattle.weights.specs.InOrder.{put_in}
+use Rattle.weights.proofs.OneOrder.{all-in_order, length-in_order}
+use Rattle.stage_network.specs.PartialSums.{plus, ascending, kept}
 
 -- two neighbours change places
 abbrev pub swap_at : {X : Type 0} → ℕ → List X → List X
@@ -23,17 +25,8 @@ length-plus [] v = refl
 length-plus (x ∷ xs) [] = refl
 length-plus (x ∷ xs) (v ∷ vs) = ap suc (length-plus xs vs)
 
-pub length-put_in : (x : ℤ) (ys : List ℤ) → length (put_in x ys) ≡ suc (length ys)
-length-put_in x [] = refl
-length-put_in x (y ∷ ys) = by (int_le x y) (length-put_in x ys)
-  where
-    by : (b : Bool) → length (put_in x ys) ≡ suc (length ys) → length (cond b (x ∷ y ∷ ys) (y ∷ put_in x ys)) ≡ suc (suc (length ys))
-    by true e = refl
-    by false e = ap suc e
-
 pub length-ascending : (k : List ℤ) → length (ascending k) ≡ length k
-length-ascending [] = refl
-length-ascending (x ∷ xs) = length-put_in x (ascending xs) ∙ ap suc (length-ascending xs)
+length-ascending = length-in_order int_le
 
 pub length-kept : (b : Bool) (k : List ℤ) → length (kept b k) ≡ length k
 length-kept true k = length-ascending k
@@ -59,11 +52,11 @@ map-swap f (suc i) (x ∷ xs) = ap (λ zs. f x ∷ zs) (map-swap f i xs)
 abbrev pub IsEvenAt : {Y : Type 0} → ℕ → (List ℤ → Y) → Type 0
 IsEvenAt n v = (i : ℕ) (k : List ℤ) → length k ≡ n → v (swap_at i k) ≡ v k
 
-even-put_in : {Y : Type 0} (n : ℕ) (v : List ℤ → Y) → IsEvenAt n v → (x : ℤ) (ys : List ℤ) → suc (length ys) ≡ n → v (put_in x ys) ≡ v (x ∷ ys)
+even-put_in : {Y : Type 0} (n : ℕ) (v : List ℤ → Y) → IsEvenAt n v → (x : ℤ) (ys : List ℤ) → suc (length ys) ≡ n → v (put_in int_le x ys) ≡ v (x ∷ ys)
 even-put_in n v e x [] l = refl
 even-put_in {Y} n v e x (y ∷ ys) l = by (int_le x y) (even-put_in (suc (length ys)) (λ zs. v (y ∷ zs)) (λ i k h. e (suc i) (y ∷ k) (omega arith)) x ys refl ∙ e zero (x ∷ y ∷ ys) l)
   where
-    by : (b : Bool) → v (y ∷ put_in x ys) ≡ v (x ∷ y ∷ ys) → v (cond b (x ∷ y ∷ ys) (y ∷ put_in x ys)) ≡ v (x ∷ y ∷ ys)
+    by : (b : Bool) → v (y ∷ put_in int_le x ys) ≡ v (x ∷ y ∷ ys) → v (cond b (x ∷ y ∷ ys) (y ∷ put_in int_le x ys)) ≡ v (x ∷ y ∷ ys)
     by true h = refl
     by false h = h
 
@@ -90,15 +83,6 @@ sum_by-kept f b k = even-kept b (length k) (sum_by f) (λ s i xs l. sum_by-swap_
 
 -- what holds of each number holds of each in order
 
-pub all_put_in : (P : ℤ → Type 0) (x : ℤ) (ys : List ℤ) → P x → AllByRecursion P ys → AllByRecursion P (put_in x ys)
-all_put_in P x [] p a = (p, tt)
-all_put_in P x (y ∷ ys) p a = by (int_le x y) (all_put_in P x ys p a.1)
-  where
-    by : (b : Bool) → AllByRecursion P (put_in x ys) → AllByRecursion P (cond b (x ∷ y ∷ ys) (y ∷ put_in x ys))
-    by true r = (p, a)
-    by false r = (a.0, r)
-
 pub all_kept : (P : ℤ → Type 0) (b : Bool) (k : List ℤ) → AllByRecursion P k → AllByRecursion P (kept b k)
 all_kept P false k a = a
-all_kept P true [] a = tt
-all_kept P true (x ∷ xs) a = all_put_in P x (ascending xs) a.0 (all_kept P true xs a.1)
+all_kept P true k a = all-in_order int_le P k a

@@ -4,7 +4,8 @@ use Rattle.std.proofs.lemmas.Bool.{cond-false}
 use Rattle.std.proofs.lemmas.Bool.Decides.{nat_tests}
 use Rattle.std.proofs.lemmas.List.{length_push}
 use Rattle.record_reader.specs.declared.picks.Picks.{Picks}
-use Rattle.record_reader.specs.Layouts.{MayPick, field_fault, read_in, text_of, with_fields, with_value}
+use Rattle.record_reader.specs.Layouts.{MayPick, field_fault, read_in, text_of, with_fields}
+use Rattle.weights.specs.Results.{with_value}
 use Rattle.record_reader.proofs.LayoutLemmas.{and_then-ok, picked-many, read_in-ok, with_fault-ok, with_rows-keep, with_value-ok}
 use Rattle.table_reader.proofs.Places.{behind_first}
 use Rattle.table_reader.specs.Counts.{count_in}

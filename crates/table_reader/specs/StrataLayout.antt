@@ -7,7 +7,8 @@ use Rattle.record_reader.specs.declared.faults.LayoutFault.{LayoutFault}
 use Rattle.record_reader.specs.declared.layouts.Shape.{Shape}
 use Rattle.record_reader.specs.declared.picks.Picks.{Picks}
 use Rattle.record_reader.specs.declared.TheConstants.{MOST_ROWS}
-use Rattle.record_reader.specs.Layouts.{Layout, read_in, with_value}
+use Rattle.record_reader.specs.Layouts.{Layout, read_in}
+use Rattle.weights.specs.Results.{with_value}
 use Rattle.table_reader.specs.Counts.{count_in}
 
 -- the counts of strata after a field: the first one of a row is a name, and each other one a count

@@ -4,7 +4,8 @@ use Rattle.record_reader.specs.declared.faults.Kind.TheVariants.{TooManyColumns}
 use Rattle.record_reader.specs.declared.faults.LayoutFault.{LayoutFault}
 use Rattle.record_reader.specs.declared.layouts.Shape.{Shape}
 use Rattle.record_reader.specs.declared.picks.Picks.{Picks}
-use Rattle.record_reader.specs.Layouts.{Layout, read_in, with_value}
+use Rattle.record_reader.specs.Layouts.{Layout, read_in}
+use Rattle.weights.specs.Results.{with_value}
 use Rattle.table_reader.specs.Counts.{count_in}
 use Rattle.table_reader.specs.declared.TheConstants.{MOST_TABLE_COLUMNS, MOST_TABLE_ROWS}
 

@@ -23,7 +23,8 @@ use Rattle.weights.proofs.Members.{labelling_from}
 use Rattle.weights.proofs.Sums.{sum_by-one}
 use Rattle.completion_bounds.specs.Pairings.{greatest_score}
 use Rattle.stage_network.specs.Follows.{Follows}
-use Rattle.label_network.specs.LaterSums.{absolute_sum, subjects}
+use Rattle.label_network.specs.LaterSums.{subjects}
+use Rattle.weights.specs.Numbers.{absolute_sum}
 use Rattle.label_network.specs.Linear.{IsLinear, row_sum}
 use Rattle.label_network.proofs.LabelFollows.{label_follows}
 use Rattle.label_network.proofs.LinearNarrows.{linear_measure}

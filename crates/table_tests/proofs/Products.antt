@@ -14,7 +14,8 @@ use Rattle.weights.specs.Labellings.{counts_of}
 use Rattle.completion_bounds.specs.Pairings.{greatest_score}
 use Rattle.completion_bounds.proofs.Products.{distribute}
 use Rattle.label_network.specs.Endings.{labelling_value, partial_after}
-use Rattle.label_network.specs.LaterSums.{absolute_sum, subjects}
+use Rattle.label_network.specs.LaterSums.{subjects}
+use Rattle.weights.specs.Numbers.{absolute_sum}
 use Rattle.label_network.specs.Linear.{column_sum, linear_meaning, row_sum, score_of, so_far}
 use Rattle.label_network.proofs.Absolute.{size-plus, sizes-block}
 use Rattle.label_network.proofs.LinearSizes.{score-within}

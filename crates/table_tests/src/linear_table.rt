@@ -9,11 +9,13 @@ ghost use Rattle.table_tests.specs.TableSteps.{AreFitting, AreMargins, AreScores
 
 use crate::margins::{Margins, margins_of};
 use crate::sums::observed_sum;
-use label_network::{score_choice, times, total_of};
+use label_network::score_choice;
 use std::alloc::Global;
 use std::marker::Model;
 use table_reader::Table;
-use weights::{Frame, Ints, NoMemory, Nums, PrepareFault, Rule, WideOf, multinomial};
+use weights::{
+    Frame, Ints, NoMemory, Nums, PrepareFault, Rule, WideOf, multinomial, times, total_of,
+};
 
 /// What is made of a table with scores.
 #[derive(Drop)]

@@ -13,10 +13,10 @@ ghost use Rattle.table_tests.specs.WeightSteps.{AreRoomy, IsWeighing, IsWeightMe
 
 use crate::fillings::{later_highs, least_over};
 use completion_bounds::fall;
-use label_network::{Measure, Ways, only, read_sizes, times, total_of};
+use label_network::{Measure, Ways, read_sizes};
 use stage_network::{Interval, Judge, Verdict};
 use std::alloc::Global;
-use weights::{NoMemory, Tail};
+use weights::{NoMemory, Tail, only, times, total_of};
 
 /// The weight of the table that a labelling gives: the product over the columns of the numbers of
 /// labellings of their cells, which is how many labellings give the table (Freeman and Halton,

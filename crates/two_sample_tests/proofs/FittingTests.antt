@@ -26,7 +26,8 @@ use Rattle.weights.proofs.FirstLabel.{number_of_labellings-positive}
 use Rattle.weights.proofs.Sums.{sum_by-one}
 use Rattle.midranks.specs.Ties.{tie_groups}
 use Rattle.midranks.specs.declared.ties.Tie.{Tie}
-use Rattle.scores.specs.Scores.{absolute_sum, labelled_sum, scale_of, score_of}
+use Rattle.scores.specs.Scores.{labelled_sum, scale_of, score_of}
+use Rattle.weights.specs.Numbers.{absolute_sum}
 use Rattle.scores.proofs.LabelledSums.{labelled-within}
 use Rattle.scores.specs.declared.kinds.ScoreKind.{ScoreKind}
 use Rattle.sample_reader.specs.Groups.{group_sizes}
@@ -35,7 +36,7 @@ use Rattle.sample_reader.specs.Data.{data_of}
 use Rattle.sample_reader.specs.declared.samples.Groups.{Groups}
 use Rattle.sample_reader.specs.declared.subjects.Subject.{Subject}
 use Rattle.stage_network.specs.Follows.{Follows}
-use Rattle.label_network.specs.LaterSums.{total_score, subjects, absolute_sum as sizes_of}
+use Rattle.label_network.specs.LaterSums.{total_score, subjects}
 use Rattle.label_network.specs.Linear.{IsLinear}
 use Rattle.label_network.proofs.LabelFollows.{label_follows}
 use Rattle.label_network.proofs.Later.{length-subjects}
@@ -46,7 +47,6 @@ use Rattle.two_sample_tests.specs.SampleSteps.{AreFitting, IsMadeOf}
 use Rattle.two_sample_tests.specs.SubjectSteps.{AreBounded, AreSubjects, IsScoredBy}
 use Rattle.two_sample_tests.specs.declared.scored_samples.ScoredSubjects.{ScoredSubjects}
 use Rattle.two_sample_tests.specs.TwoSamples.{TwoSamples, pooled_scores, score_test, two_sample_test}
-use Rattle.pooled_columns.proofs.AbsoluteSums.{sizes-are}
 use Rattle.pooled_columns.proofs.PooledValues.{length-pooled, pooled-rises}
 use Rattle.pooled_columns.proofs.TieColumns.{grouped}
 use Rattle.two_sample_tests.proofs.ScoreSums.{by-marks, total-within}
@@ -162,8 +162,8 @@ module _ (samples : TwoSamples) (f : AreFitting samples) where
   column-subjects : subjects (column_scores samples.kind (pooled_values samples.groups)) (column_sizes (pooled_values samples.groups)) ≡ pooled_scores samples
   column-subjects = grouped (score_of samples.kind (pooled_values samples.groups)) (pooled_values samples.groups) (pooled-rises samples.groups)
 
-  column-total : sizes_of (subjects (column_scores samples.kind (pooled_values samples.groups)) (column_sizes (pooled_values samples.groups))) ≡ absolute_sum (pooled_scores samples)
-  column-total = ap sizes_of column-subjects ∙ sizes-are (pooled_scores samples)
+  column-total : absolute_sum (subjects (column_scores samples.kind (pooled_values samples.groups)) (column_sizes (pooled_values samples.groups))) ≡ absolute_sum (pooled_scores samples)
+  column-total = ap absolute_sum column-subjects
 
   level : sum (column_sizes (pooled_values samples.groups)) ≡ sum (group_sizes samples.groups)
   level =

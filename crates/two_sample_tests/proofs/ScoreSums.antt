@@ -1,17 +1,17 @@
 -- Sums of scores: how large they are, and one subject after another.
 use Rattle.std.proofs.Common.{◌≡◌, ℕ, ◌+◌, ◌<◌, ◌≤◌, Bool, true, false, cond, List, [], ◌∷◌, length, drop, get_or, refl, ap, arith, add-one, drop-cons, drop_of_length-le, nat_eq}
 use Rattle.std.specs.Prelude.{ℤ, pos, ◌+ℤ◌, unsigned_abs}
-use Rattle.scores.specs.Scores.{absolute_sum, labelled_sum}
+use Rattle.scores.specs.Scores.{labelled_sum}
+use Rattle.weights.specs.Numbers.{absolute_sum}
 use Rattle.scores.proofs.LabelledSums.{ended, joined, size-more, zero-plus}
 use Rattle.sample_reader.specs.PooledSample.{labels_of}
 use Rattle.sample_reader.specs.declared.subjects.Subject.{Subject}
 use Rattle.label_network.specs.LaterSums.{total_score}
 use Rattle.label_network.proofs.Absolute.{size-plus, total-size}
-use Rattle.pooled_columns.proofs.AbsoluteSums.{sizes-are}
 use Rattle.two_sample_tests.specs.SubjectSteps.{second_marks}
 
 pub total-within : (scores : List ℤ) → unsigned_abs (total_score scores) ≤ absolute_sum scores
-total-within scores = omega (arith, total-size scores, sizes-are scores)
+total-within = total-size
 
 -- marks do as labels
 pub by-marks : (scores : List ℤ) (subjects : List Subject) → labelled_sum 1 scores (second_marks subjects) ≡ labelled_sum 1 scores (labels_of subjects)

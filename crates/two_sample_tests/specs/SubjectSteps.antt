@@ -5,7 +5,8 @@ use Rattle.weights.specs.declared.wide.WideOf.TheVariants.{Total, Statistic}
 use Rattle.weights.specs.declared.wide.PrepareFault.{PrepareFault}
 use Rattle.weights.specs.declared.wide.PrepareFault.TheVariants.{TooWide, NoMemory}
 use Rattle.midranks.specs.declared.TheConstants.{MOST_VALUES}
-use Rattle.scores.specs.Scores.{AreScores, absolute_sum, score_sum}
+use Rattle.scores.specs.Scores.{AreScores, score_sum}
+use Rattle.weights.specs.Numbers.{absolute_sum}
 use Rattle.scores.specs.declared.kinds.ScoreKind.{ScoreKind}
 use Rattle.sample_reader.specs.PooledSample.{values_of}
 use Rattle.sample_reader.specs.declared.subjects.Subject.{Subject}

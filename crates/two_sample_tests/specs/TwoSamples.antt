@@ -6,7 +6,8 @@
 use Rattle.std.specs.Prelude.{ℕ, ℤ, pos, ◌*◌, ◌*ℤ◌, List, length, slice_index}
 use Rattle.weights.specs.Conditional.{ConditionalTest, by_distance, every_tail, unit_weight}
 use Rattle.weights.specs.Labellings.{labellings}
-use Rattle.scores.specs.Scores.{absolute_sum, labelled_sum, scale_of, score_list}
+use Rattle.scores.specs.Scores.{labelled_sum, scale_of, score_list}
+use Rattle.weights.specs.Numbers.{absolute_sum}
 use Rattle.label_network.specs.LaterSums.{total_score}
 use Rattle.scores.specs.declared.kinds.ScoreKind.{ScoreKind}
 use Rattle.sample_reader.specs.Groups.{GroupData, group_sizes}

@@ -11,12 +11,13 @@ ghost use Rattle.two_sample_tests.specs.SubjectSteps.{AreBounded, IsScoredBy, se
 ghost use Rattle.two_sample_tests.specs.SampleSteps.{IsMadeOf};
 
 use crate::sums::total_score;
-use label_network::count_times;
 use pooled_columns::{Columns, columns_of};
 use sample_reader::{Groups, Subject, pooled_subjects, values};
 use scores::{ScoreFault, ScoreKind, Scored, labelled_sum, scored};
 use std::alloc::Global;
-use weights::{Bytes, Frame, Ints, NoMemory, Nums, PrepareFault, Rule, WideOf, bounded_product};
+use weights::{
+    Bytes, Frame, Ints, NoMemory, Nums, PrepareFault, Rule, WideOf, bounded_product, count_times,
+};
 
 /// Two samples, scored.
 #[derive(Drop)]

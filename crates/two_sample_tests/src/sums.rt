@@ -1,7 +1,7 @@
 // The sum of all scores.
 ghost use Rattle.std.specs.Prelude.{◌≡◌, ◌≤◌};
 ghost use Rattle.weights.specs.declared.TheConstants.{MAX};
-ghost use Rattle.scores.specs.Scores.{absolute_sum};
+ghost use Rattle.weights.specs.Numbers.{absolute_sum};
 ghost use Rattle.label_network.specs.LaterSums.{total_score};
 
 use label_network::plus;

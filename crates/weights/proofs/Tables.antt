@@ -11,7 +11,7 @@ use Rattle.weights.proofs.Filters.{all_weaker}
 use Rattle.weights.proofs.GroupingLaw.{grouping, one-times}
 use Rattle.weights.proofs.Members.{IsOver, all_fronts}
 use Rattle.weights.proofs.Sized.{same-plus, counts_of-append, length-counts_of, sum-counts_of, length-minus, sum-minus, first_and}
-use Rattle.weights.proofs.Sums.{sum_by-same, sum_by-times, sum_by-cond, sum_by-filter, sum_by-fronts}
+use Rattle.weights.proofs.Sums.{sum_by-same, sum_by-times, sum_by-cond, sum_by-fronts}
 
 -- a choice for each column, within what the earlier ones leave
 abbrev pub IsTable : List ℕ → List ℕ → List (List ℕ) → Type 0

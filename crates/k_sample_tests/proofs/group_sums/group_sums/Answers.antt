@@ -1,4 +1,3 @@
-use Rattle.pooled_columns.proofs.AbsoluteSums.{sizes-are}
 use Rattle.std.proofs.Common.{◌∙◌, arith, length, rules, sym, FitsSigned}
 use Rattle.std.specs.Prelude.{pos}
 use mir.Syntax.{w128}
@@ -11,7 +10,7 @@ use Rattle.k_sample_tests.proofs.RankWriting.{sum-at}
 use Rattle.k_sample_tests.proofs.group_sums.group_sums.Goals as goal
 
 pub labelled_sum-requires : goal.labelled_sum-requires
-labelled_sum-requires c = omega (arith, c.requires, sizes-are c.args.scores.now)
+labelled_sum-requires c = c.requires
 
 pub loop-i-preserved : goal.loop-i-preserved
 loop-i-preserved c =

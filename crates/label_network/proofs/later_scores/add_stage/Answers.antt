@@ -2,7 +2,7 @@ use Rattle.std.proofs.Common.{rules, ◌<◌, ◌^◌, ◌++◌, ap, ◌∙◌, 
 use Rattle.std.specs.Prelude.{slice_index}
 use mir.Syntax.{w128}
 use Rattle.std.proofs.lemmas.Int.{to_z-of_z}
-use Rattle.label_network.specs.LaterSums.{absolute_sum}
+use Rattle.weights.specs.Numbers.{absolute_sum}
 use Rattle.label_network.proofs.Stages.{count-fits, next-small}
 use Rattle.label_network.proofs.later_scores.add_stage.Goals as goal
 

@@ -2,7 +2,7 @@ use Rattle.std.proofs.Common.{rules, ◌<◌, ◌≤◌, ◌-◌, ◌+◌, ◌^�
 use Rattle.std.specs.Prelude.{unsigned_abs}
 use mir.Syntax.{w128}
 use Rattle.std.proofs.lemmas.Int.{to_z-of_z}
-use Rattle.label_network.specs.LaterSums.{absolute_sum}
+use Rattle.weights.specs.Numbers.{absolute_sum}
 use Rattle.label_network.specs.LaterSteps.{better_of}
 use Rattle.label_network.proofs.TakenScores.{row-loop, half-held, fits-size, fits-plus}
 use Rattle.label_network.proofs.later_scores.add_to_row.Goals as goal

@@ -4,7 +4,8 @@ use Rattle.std.proofs.lemmas.Int.{ints, to_z-of_z}
 use Rattle.std.proofs.lemmas.List.Elements.{recursion_from_All}
 use mir.Syntax.{w128}
 use mir.Val.{to_z, of_z}
-use Rattle.scores.specs.Scores.{absolute_sum, labelled_sum}
+use Rattle.scores.specs.Scores.{labelled_sum}
+use Rattle.weights.specs.Numbers.{absolute_sum}
 use Rattle.scores.proofs.LabelledSums.{labelled-least, labelled-most}
 use Rattle.one_sample_tests.proofs.FittingMarks.{far-fits}
 use Rattle.one_sample_tests.proofs.scored_marks.frame_of.Goals as goal

@@ -1,6 +1,6 @@
 use Rattle.std.proofs.Common.{◌≡◌, length, Ok, ap, arith}
 use Rattle.sample_reader.specs.GroupLayout.{grouped, groups_in}
-use Rattle.record_reader.specs.Layouts.{with_value}
+use Rattle.weights.specs.Results.{with_value}
 use Rattle.sample_reader.proofs.WholeGroups.{groups_in-few, read_in-whole}
 use Rattle.sample_reader.proofs.group_rows.groups.Goals as goal
 

@@ -1,7 +1,7 @@
 use Rattle.std.proofs.Common.{◌≡◌, ◌∙◌, ℕ, List, ap, false, length, refl, sym, true}
 use Rattle.std.proofs.lemmas.Bool.{ltb-true}
 use Rattle.weights.specs.Rules.{rule_of}
-use Rattle.scores.specs.Scores.{absolute_sum}
+use Rattle.weights.specs.Numbers.{absolute_sum}
 use Rattle.sample_reader.specs.Groups.{group_sizes}
 use Rattle.label_network.specs.LabelNetwork.{label_network, label_shape}
 use Rattle.k_sample_tests.specs.KruskalWallis.{ScoredGroups, kruskal_wallis_test, pooled_scores}

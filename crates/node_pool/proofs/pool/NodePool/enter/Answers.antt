@@ -3,9 +3,9 @@ use Rattle.std.specs.Prelude.{pos}
 use mir.Syntax.{w128}
 use Rattle.std.proofs.lemmas.Int.{to_z-of_z}
 use Rattle.std.proofs.lemmas.List.{length_push}
-use Rattle.node_pool.specs.PoolSteps.{keys_of, weight_of, weight_place, weights_of}
+use Rattle.node_pool.specs.PoolSteps.{keys_of, weight_of, weights_of}
 use Rattle.node_pool.specs.TableSteps.{IsHeldAt, IsFreeAt}
-use Rattle.node_pool.proofs.Cells.{cell-fits, cells-room, pushed-cells, pushed-keys, pushed-weights, raised-cells, raised-keys, raised-weights, weight-at}
+use Rattle.node_pool.proofs.Cells.{cell-fits, cells-room, pushed-cells, pushed-keys, pushed-weights, raised-cells, raised-keys, raised-weights, weight-at, weight_place}
 use Rattle.node_pool.proofs.Pools.{held-true, raised-fits, raised-pool, raised-merge, raised-placed, held-false, slots-room, added-pool, added-merge, added-placed}
 use Rattle.node_pool.proofs.pool.NodePool.enter.Given.{Over}
 use Rattle.node_pool.proofs.pool.NodePool.enter.Goals as goal

@@ -1,13 +1,15 @@
-// Sums and products within the limit, and the one number of a list that has no other.
-ghost use Rattle.std.specs.Prelude.{◌≡◌, ◌+◌, ◌*◌, ◌≤◌, length, unsigned_abs, pos, ◌+ℤ◌, ◌*ℤ◌};
-ghost use Rattle.weights.specs.declared.TheConstants.{MAX};
-ghost use Rattle.label_network.specs.Linear.{so_far};
+// Sums and products of numbers that pass no limit, each a call of its own, so that a loop over them
+// owes one bound at a time.
+ghost use Rattle.std.specs.Prelude.{◌≡◌, ◌+◌, ◌*◌, ◌^◌, ◌<◌, ◌≤◌, length, slice_index_or, unsigned_abs, pos, ◌+ℤ◌, ◌*ℤ◌};
+ghost use Rattle.std.specs.List.{sum};
 
-/// The one number of a partial, or of a step, that has no other.
+use crate::MAX;
+
+/// The one number of a list that has no other.
 #[inline(always)]
 pub fn only(numbers: &[i128]) -> i128
     requires { length numbers.now ≡ 1 }
-    ensures { result ≡ so_far numbers.now }
+    ensures { result ≡ slice_index_or numbers.now 0 (pos 0) }
 {
     numbers[0]
 }
@@ -46,4 +48,12 @@ pub fn with_units(sum: i128, score: i128, count: u64) -> i128
     ensures { result ≡ sum +ℤ (pos count *ℤ score) }
 {
     sum + count as i128 * score
+}
+
+/// The sum of some counts.
+pub fn total_of(counts: &[u64]) -> u64
+    requires { sum counts.now < 2 ^ 64 }
+    ensures { result ≡ sum counts.now }
+{
+    counts.iter().sum()
 }

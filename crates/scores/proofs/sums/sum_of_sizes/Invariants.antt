@@ -1,7 +1,7 @@
 use Rattle.std.proofs.Common.{◌≡◌, ◌≤◌, nat_abs, take}
 use Rattle.std.specs.List.{sum_by}
 use Rattle.weights.specs.declared.TheConstants.{MAX}
-use Rattle.scores.proofs.sums.absolute_sum.Given as goal
+use Rattle.scores.proofs.sums.sum_of_sizes.Given as goal
 
 abbrev pub invariant-loop-score : goal.invariant-loop-score
 invariant-loop-score l = record {

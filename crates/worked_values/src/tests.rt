@@ -1,0 +1,328 @@
+// Worked values from outside, and each call once.
+ghost use Rattle.std.specs.Prelude.{◌≡◌, ◌+◌, ◌≤◌, length, OnOk};
+ghost use Rattle.midranks.specs.declared.TheConstants.{MOST_VALUES};
+ghost use Rattle.node_pool.specs.Nodes.{weighted};
+
+use crate::tail_of_six;
+use completion_bounds::{Later, Part, box_bounds, greatest_linear, least_linear, weight_bounds};
+use enumerate::{first_labelling, next_labelling, next_signs};
+use midranks::{MOST_VALUES, Tie, doubled, group_of, tie_groups};
+use node_pool::{NodeList, NodePool};
+use number_text::NumberFault::{Missing, NotNumber, OutOfRange};
+use number_text::{read_count, read_list, read_value};
+use scores::ScoreKind::{Ansari, Median, Mood, Raw, Savage, Wilcoxon};
+use scores::{ScoreFault, ScoreKind, labelled_sum, scored};
+use std::alloc::Global;
+use std::process::Abort;
+use std::test::Fail;
+use weights::{
+    Bytes, Count, Frame, Ints, MAX, Narrow, NoMemory, Nums, Rule, Tail, Wide, binomial,
+    bounded_product, gcd, lcm, multinomial, power,
+};
+
+#[test]
+fn choices_multiples_and_powers(rt: HostRuntime) {
+    for (n, k, ways) in [
+        (130, 65, Some(95067625827960698145584333020095113100)),
+        (131, 65, None),
+        (3, 5, Some(0)),
+        (1 << 63, 2, Some(42535295865117307928310139910543638528)),
+        (u64::MAX, 1 << 63, None),
+    ] {
+        assert_eq!(rt; binomial(n, k), ways, "{k} of {n}");
+    }
+    assert_eq!(rt; multinomial(&[2, 1, 1]), Some(12));
+    assert_eq!(rt; multinomial(&[5_000, 5_000]), None);
+    assert_eq!(rt; (gcd(0, 0), gcd(12, 18)), (0, 6));
+    assert_eq!(rt; (lcm(4, 6), lcm(MAX, 2)), (Some(12), None));
+    assert_eq!(rt; bounded_product(1 << 64, 1 << 63), None);
+    assert_eq!(rt; power(2, 126), Some(85070591730234615865843651857942052864));
+    assert_eq!(rt; (power(2, 127), power(1, u64::MAX)), (None, Some(1)));
+}
+
+fn sum_and_product<C: Count>(a: u128, b: u128) -> Option<(u128, u128)> {
+    let a = C::of(a)?;
+    let b = C::of(b)?;
+    Some((a.checked_add(b)?.value(), a.checked_mul(b)?.value()))
+}
+
+#[test]
+fn counts_and_lists(rt: HostRuntime) -> Result<(), Fail> {
+    assert_eq!(rt; sum_and_product::<Narrow>(4, 6), Some((10, 24)));
+    assert_eq!(rt; sum_and_product::<Narrow>(1 << 63, 1 << 63), None);
+    assert_eq!(rt;
+        sum_and_product::<Wide>(1 << 64, 5),
+        Some(((1 << 64) + 5, 5 << 64))
+    );
+    assert_eq!(rt; sum_and_product::<Wide>(MAX, 1), None);
+    let mut ints = Ints::empty(rt.alloc());
+    ints.push(7)?;
+    let mut copy = ints.copy()?;
+    for item in copy.as_mut_slice().iter_mut() {
+        *item = -8;
+    }
+    assert_eq!(rt; copy.as_slice(), [-8].as_slice());
+    assert_eq!(rt; ints.as_slice(), [7].as_slice());
+    assert_eq!(rt; Ints::zeros(rt.alloc(), 2)?.as_slice(), [0, 0].as_slice());
+    let mut nums = Nums::empty(rt.alloc());
+    nums.append(&[u64::MAX, 1])?;
+    assert_eq!(rt; nums.as_slice(), [u64::MAX, 1].as_slice());
+    let mut bytes = Bytes::empty(rt.alloc());
+    bytes.push(255)?;
+    assert_eq!(rt; bytes.len(), 1);
+    Ok(())
+}
+
+// The rank sum of six values, 30 by doubled ranks: six times it is 54 above the centre 126.
+#[test]
+fn equality_belongs_to_the_tail(rt: HostRuntime) {
+    let frame = Frame {
+        statistic: 30,
+        scale: 2,
+        total: 20,
+        two: Rule::far(6, 126, 30),
+    };
+    assert_eq!(rt; frame.rule(Tail::Two), Rule::Far(6, 126, 54));
+    for (rule, value, passes) in [
+        (frame.rule(Tail::Less), 30, true),
+        (frame.rule(Tail::Greater), 29, false),
+        (Rule::Far(6, 126, 54), 12, true),
+        (Rule::Far(6, 126, 54), 13, false),
+    ] {
+        assert_eq!(rt; rule.passes(value), passes, "{value}");
+    }
+}
+
+#[test]
+fn walks_in_order(rt: HostRuntime) -> Result<(), Fail> {
+    let mut labels = first_labelling(rt.alloc(), &[2, 1])?;
+    assert_eq!(rt; labels.as_slice(), [0, 0, 1].as_slice());
+    assert!(rt; next_labelling(labels.as_mut_slice()));
+    assert!(rt; next_labelling(labels.as_mut_slice()));
+    assert!(rt; !next_labelling(labels.as_mut_slice()));
+    assert_eq!(rt; labels.as_slice(), [1, 0, 0].as_slice());
+    let mut signs = [0, 1];
+    assert!(rt; next_signs(&mut signs));
+    assert_eq!(rt; signs, [1, 0]);
+    assert_eq!(rt; tail_of_six(rt.alloc(), Tail::Less)?, 20);
+    assert_eq!(rt; tail_of_six(rt.alloc(), Tail::Greater)?, 1);
+    assert_eq!(rt; tail_of_six(rt.alloc(), Tail::Two)?, 2);
+    Ok(())
+}
+
+#[test]
+fn texts_of_numbers(rt: HostRuntime) {
+    for (text, value) in [
+        ("+.5", Ok(500_000_000_000_000_000)),
+        ("-1e-18", Ok(-1)),
+        ("-0.0E+999999999999999999999999999999", Ok(0)),
+        ("0.0000000000000000000000000000000000000001e22", Ok(1)),
+        (
+            "-999999999999999999.999999999999999999",
+            Ok(-999_999_999_999_999_999_999_999_999_999_999_999),
+        ),
+        ("\t \t", Err(Missing)),
+        (" NA ", Err(Missing)),
+        ("1e5.", Err(NotNumber)),
+        ("1\r", Err(NotNumber)),
+        ("é", Err(NotNumber)),
+        ("1e18", Err(OutOfRange)),
+        ("-1.5e-18", Err(OutOfRange)),
+        ("1e999999999999999999999999999999", Err(OutOfRange)),
+    ] {
+        assert_eq!(rt; read_value(text.as_bytes()), value, "at {text}");
+    }
+    assert_eq!(rt; read_count(b"1000000", 1_000_000), Some(1_000_000));
+    assert_eq!(rt; read_count(b"1000001", 1_000_000), None);
+    let mut out = [7; 3];
+    assert_eq!(rt;
+        read_list(b" 05 ,\t-006\t", -9, 9, out.as_mut_slice()),
+        Some(2)
+    );
+    assert_eq!(rt; out, [5, -6, 7]);
+    assert_eq!(rt; read_list(b"1,2,3,4", -9, 9, out.as_mut_slice()), None);
+}
+
+// Ten thousand digits are read without a number of that size.
+#[test]
+fn long_texts_of_numbers(rt: HostRuntime) {
+    let mut text = [b'0'; 10_000];
+    text[9_999] = b'9';
+    assert_eq!(rt; read_value(text.as_slice()), Ok(9_000_000_000_000_000_000));
+    assert_eq!(rt; read_count(text.as_slice(), 9), Some(9));
+    text[0] = b'9';
+    assert_eq!(rt; read_value(text.as_slice()), Err(OutOfRange));
+    assert_eq!(rt; read_count(text.as_slice(), u64::MAX), None);
+    text[1] = b'e';
+    assert_eq!(rt;
+        read_value(text.as_slice()),
+        Ok(9_000_000_000_000_000_000_000_000_000)
+    );
+}
+
+fn tie(value: i128, count: u64) -> Tie
+    ensures { result ≡ record { value = value; count = count } }
+{
+    Tie { value, count }
+}
+
+// So many values, from the greatest down.
+fn many(alloc: Global, number: usize) -> Result<Ints, NoMemory> {
+    let mut values = Ints::empty(alloc);
+    for i in 0..number {
+        values.push((i as i128).wrapping_neg())?;
+    }
+    Ok(values)
+}
+
+#[test]
+fn ranks_and_groups(rt: HostRuntime) -> Result<(), Fail> {
+    let six = doubled(rt.alloc(), &[1, 2, 2, 2, 3, 3])?;
+    assert_eq!(rt; six.as_slice(), [2, 6, 6, 6, 11, 11].as_slice());
+    let groups = tie_groups(rt.alloc(), &[3, 2, 1, 2, 3, 2])?;
+    assert_eq!(rt;
+        groups.as_slice(),
+        [tie(1, 1), tie(2, 3), tie(3, 2)].as_slice()
+    );
+    assert_eq!(rt; group_of(&[tie(-1, 1), tie(5, 4)], 5), 1);
+    let values = many(rt.alloc(), MOST_VALUES)?;
+    assert!(rt; values.len() <= MOST_VALUES);
+    let ranks = doubled(rt.alloc(), values.as_slice())?;
+    assert_eq!(rt; ranks.as_slice().first().copied(), Some(20_000));
+    assert_eq!(rt; ranks.as_slice().last().copied(), Some(2));
+    Ok(())
+}
+
+// The sum of the scores of so many distinct values; none where it is too wide.
+fn score_sum(rt: &impl Abort, alloc: Global, kind: ScoreKind, values: &[i128]) -> Option<u128> {
+    assert!(rt; values.len() <= MOST_VALUES);
+    match scored(alloc, kind, values) {
+        Ok(scored) => Some(scored.sum),
+        Err(ScoreFault::TooWide) => None,
+        Err(ScoreFault::NoMemory) => panic!(rt; "no memory"),
+    }
+}
+
+#[test]
+fn scores_of_values(rt: HostRuntime) -> Result<(), Fail> {
+    let tied = [5, -3, 5, -3, 0];
+    for (kind, sum) in [
+        (Wilcoxon, 30),
+        (Ansari, 18),
+        (Mood, 80),
+        (Savage, 600),
+        (Median, 4),
+        (Raw, 16),
+    ] {
+        assert_eq!(rt;
+            score_sum(&rt, rt.alloc(), kind, &tied),
+            Some(sum),
+            "{kind:?}"
+        );
+    }
+    for (kind, number, fits) in [
+        (Wilcoxon, 10_000, true),
+        (Mood, 10_000, true),
+        (Savage, 82, true),
+        (Savage, 83, false),
+    ] {
+        let values = many(rt.alloc(), number)?;
+        let sum = score_sum(&rt, rt.alloc(), kind, values.as_slice());
+        assert_eq!(rt; sum.is_some(), fits, "{kind:?} of {number}");
+    }
+    assert_eq!(rt; labelled_sum(&[2, -5, 11], &[1, 0, 1], 1), 13);
+    Ok(())
+}
+
+// Adds a weight, with room for it.
+fn put<C: Count>(pool: &mut NodePool<C>, key: &[i128], weight: u128) -> Result<(), NoMemory>
+    requires wide { length key.now ≡ pool.old.width }
+    requires limit { weighted (λ k. 1) pool.old.nodes + weight ≤ C.LIMIT }
+    ensures width { OnOk result (pool.new.width ≡ pool.old.width) }
+    ensures total { OnOk result
+        (weighted (λ k. 1) pool.new.nodes ≡ weighted (λ k. 1) pool.old.nodes + weight) }
+{
+    pool.reserve(1)?;
+    match C::of(weight) {
+        Some(weight) => pool.add(key, weight),
+        None => unreachable!(),
+    }
+    Ok(())
+}
+
+// The weight at a key's place, or 0 where it has none.
+fn weight_of<C: Count>(pool: &NodePool<C>, key: &[i128]) -> u128 {
+    for i in 0..pool.len() {
+        if pool.key(i) == key {
+            return pool.weight(i).value();
+        }
+    }
+    0
+}
+
+// A pool that is refused memory stays as it was, and equal keys are one, at no number too.
+#[test]
+fn pools_and_lists_of_nodes(rt: HostRuntime) -> Result<(), Fail> {
+    let mut pool = NodePool::<Wide>::new(rt.alloc(), 2)?;
+    put(&mut pool, &[1, 5], 3)?;
+    put(&mut pool, &[1, 6], 1 << 100)?;
+    put(&mut pool, &[1, 5], 4)?;
+    assert_eq!(rt; pool.len(), 2);
+    let spare = pool.spare();
+    assert!(rt; pool.reserve(1 << 40).is_err());
+    assert_eq!(rt; pool.spare(), spare);
+    assert_eq!(rt; weight_of(&pool, &[1, 5]), 7);
+    assert_eq!(rt; weight_of(&pool, &[1, 6]), 1 << 100);
+    pool.clear();
+    assert_eq!(rt; pool.len(), 0);
+    let mut empty = NodePool::<Narrow>::new(rt.alloc(), 0)?;
+    put(&mut empty, &[], 3)?;
+    put(&mut empty, &[], 4)?;
+    assert_eq!(rt; (empty.len(), weight_of(&empty, &[])), (1, 7));
+    let mut list = NodeList::<Narrow>::new(rt.alloc(), 0);
+    let one = Narrow::of(1).ok_or("within the limit")?;
+    list.push(&[], one)?;
+    assert_eq!(rt; (list.len(), list.weight(0).value()), (1, 1));
+    list.clear();
+    assert_eq!(rt; list.len(), 0);
+    Ok(())
+}
+
+fn later(score: i128, count: u64, stage: u64) -> Later
+    ensures { result ≡ record { score = score; count = count; stage = stage } }
+{
+    Later {
+        score,
+        count,
+        stage,
+    }
+}
+
+// A column of a stage that is past, tied units, scores below 0, and a row without units. Of the
+// twelve orders of -4, 3, 3 and 9 beside -3, -3, 2 and 5 the sums lie from -50 to 54.
+#[test]
+fn bounds_of_completions(rt: HostRuntime) {
+    let rows = [
+        Part {
+            score: -3,
+            count: 2,
+        },
+        Part {
+            score: -1,
+            count: 0,
+        },
+        Part { score: 2, count: 1 },
+        Part { score: 5, count: 1 },
+    ];
+    let columns = [
+        later(-7, 1, 1),
+        later(-4, 1, 2),
+        later(3, 2, 3),
+        later(9, 1, 4),
+    ];
+    assert_eq!(rt; least_linear(&rows, &columns, 2), -50);
+    assert_eq!(rt; greatest_linear(&rows, &columns, 2), 54);
+    assert_eq!(rt; box_bounds(&[-2, 1], &[3, 4], &[5, 2], MAX), (2, 77));
+    assert_eq!(rt; box_bounds(&[4, 4], &[12, 12], &[1, 1], 200), (32, 200));
+    assert_eq!(rt; weight_bounds(3, 21, &[0, 5, 2], &[6, 1]), (18, 63));
+}
