@@ -3,7 +3,7 @@ use Rattle.std.proofs.Common.{◌≢◌, List, [], ◌∷◌, All, AllPairs, ari
 use Rattle.std.proofs.lemmas.List.Elements.{All-cons, All-nil}
 use Rattle.std.proofs.lemmas.List.Kept.{AllPairs-cons}
 
-pub none_apart : {X : Type 0} → AllPairs {X} ◌≢◌ []
+pub none_apart : {X : Type 0} → AllPairs {X = X} ◌≢◌ []
 none_apart i j d below within = absurd (omega arith)
 
 pub one_apart : {X : Type 0} (x : X) → AllPairs ◌≢◌ (x ∷ [])

@@ -236,13 +236,13 @@ module _ (m n : ℕ) (t : ℤ) where
       not_both false e = (let no : zero ≡ 1 = cc in omega arith)
 
   -- the two choices differ
-  apart : (x y : Bool) → AllPairs ◌≢◌ (cond x ((0 ∷ []) ∷ cond y ((1 ∷ []) ∷ []) []) (cond y ((1 ∷ []) ∷ []) []))
-  apart true true = two_apart (0 ∷ []) (1 ∷ []) cc
+  apart : (x y : Bool) → AllPairs {X = List ℕ} ◌≢◌ (cond x ((0 ∷ []) ∷ cond y ((1 ∷ []) ∷ []) []) (cond y ((1 ∷ []) ∷ []) []))
+  apart true true = two_apart (0 ∷ []) (1 ∷ []) (λ e. (let sign : 0 ≡ 1 = ap (λ c. slice_index c 0) e in omega (arith, sign)))
   apart true false = one_apart (0 ∷ [])
   apart false true = one_apart (1 ∷ [])
   apart false false = none_apart
 
-  different : (x : Bool) (k : List ℤ) → AllPairs ◌≢◌ (cond x (both_choices k) [])
+  different : (x : Bool) (k : List ℤ) → AllPairs {X = List ℕ} ◌≢◌ (cond x (both_choices k) [])
   different true k = apart (int_lt (pos 0) (at k 0)) (int_lt (pos 0) (at k 1))
   different false k = none_apart
 

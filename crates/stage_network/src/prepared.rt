@@ -1,6 +1,6 @@
 // The answer of a prepared test, by its network or by the plain walk.
 ghost use Rattle.std.specs.Prelude.{◌≡◌, ◌≤◌, true, false, None, IfOk};
-ghost use Rattle.weights.specs.Conditional.{distribution};
+ghost use Rattle.weights.specs.Conditional.{distribution, total};
 ghost use Rattle.weights.specs.Frames.{IsShown, first_tail};
 ghost use Rattle.weights.specs.declared.tails.Tail.{Tail};
 ghost use Rattle.stage_network.specs.Network.{Network};
@@ -30,7 +30,7 @@ pub trait Prepared: Plain {
     ghost network: { Self → Tail → Network };
 
     /// The network of each tail that runs: it may write the same keys in fewer numbers.
-    ghost runs: { Self → Tail → Network } = { network };
+    ghost runs: { Self → Tail → Network };
 
     /// What it is asked once for each room.
     ghost shape: { Self → Tail → Shape };
@@ -66,11 +66,7 @@ pub trait Prepared: Plain {
 /// The network that runs for a tail that a test has: its completions end at what the tail's rule
 /// measures of the rearrangements, and all together weigh as much as these; and it has as many open
 /// keys as the network that is written down.
-pub fn network_of<P: Prepared>(
-    alloc: Global,
-    problem: &P,
-    tail: Tail,
-) -> Result<P::Built, NoMemory>
+pub fn network_of<P: Prepared>(alloc: Global, problem: &P, tail: Tail) -> Result<P::Built, NoMemory>
     requires { (P.test problem.now).has_tail tail ≡ true }
     ensures built { let n = P.runs problem.now tail in
         IfOk result (λ built. P.Built.Stages.network built ≡ n) }
