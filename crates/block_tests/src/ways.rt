@@ -91,6 +91,8 @@ impl Prepared for BlockTest {
 
     ghost network = { block_network };
 
+    ghost runs = { block_network };
+
     ghost shape = { λ _ _. additive_shape };
 
     fn has_tail(&self, tail: Tail) -> bool {

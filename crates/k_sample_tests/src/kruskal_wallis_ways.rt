@@ -66,6 +66,8 @@ impl Prepared for KruskalWallis {
 
     ghost network = { kruskal_wallis_network };
 
+    ghost runs = { kruskal_wallis_network };
+
     ghost shape = { λ s tail. label_shape (kruskal_wallis_meaning s tail) };
 
     fn has_tail(&self, tail: Tail) -> bool {

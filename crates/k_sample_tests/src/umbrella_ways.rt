@@ -52,6 +52,8 @@ impl Prepared for Umbrella {
 
     ghost network = { umbrella_network };
 
+    ghost runs = { umbrella_network };
+
     ghost shape = { λ s tail. label_shape (umbrella_meaning s tail) };
 
     fn has_tail(&self, _tail: Tail) -> bool {

@@ -46,6 +46,8 @@ impl Prepared for OneSample {
 
     ghost network = { one_sample_network };
 
+    ghost runs = { one_sample_network };
+
     ghost shape = { λ _ _. additive_shape };
 
     fn has_tail(&self, _tail: Tail) -> bool {

@@ -1,5 +1,5 @@
 -- Why an additive network is lawful: its intervals narrow along arcs to the value, by either measure of the sums.
-use Rattle.std.proofs.Common.{◌≡◌, ◌≢◌, ℕ, zero, suc, ◌+◌, ◌-◌, ◌<◌, ◌≤◌, List, [], ◌∷◌, length, Bool, true, false, refl, sym, ◌∙◌, ap, arith, subst, inl, inr}
+use Rattle.std.proofs.Common.{◌≡◌, ◌≢◌, ℕ, zero, suc, ◌+◌, ◌-◌, ◌<◌, ◌≤◌, List, [], ◌∷◌, length, AllPairs, Bool, true, false, refl, sym, ◌∙◌, ap, arith, subst, inl, inr}
 use Rattle.std.specs.Prelude.{ℤ, pos, ◌+ℤ◌, ◌≤ℤ◌, min}
 use Rattle.std.specs.List.{Contains, AllByRecursion, sum_by}
 use Rattle.std.proofs.lemmas.Bool.{cases_lt}
@@ -14,6 +14,7 @@ use Rattle.stage_network.specs.Judged.{HasIntervals}
 use Rattle.stage_network.specs.PartialSums.{plus, kept}
 use Rattle.stage_network.specs.Addends.{Addends, additive_network, first_sum, high, high_end, least_to_come, low, low_end, most_to_come, square, totals, value_of, zeros}
 use Rattle.stage_network.specs.SoundAddends.{AddsBetween, IsAdditive, IsMeasured}
+use Rattle.stage_network.proofs.Apart.{none_apart}
 use Rattle.stage_network.proofs.Swaps.{IsEvenAt, sum_by-swap_at, swap_at}
 use Rattle.stage_network.proofs.Judging.{fits-high, fits-low, intervals-inside, intervals-outside, intervals-decided, judged-else, judged-here}
 use Rattle.stage_network.proofs.Bridge.{choices-before, additive_total}
@@ -98,6 +99,12 @@ module _ (a : Addends) (s : IsAdditive a) where
   some_arc : (g : ℕ) (k : List ℤ) → IsReached (additive_network a) g k → g < a.count → (additive_network a).choices g k ≢ []
   some_arc g k r before e = s.some_choice g before (sym (choices-before a g k before) ∙ e)
 
+  different_arcs : (g : ℕ) (k : List ℤ) → AllPairs ◌≢◌ ((additive_network a).choices g k)
+  different_arcs g k = elim (cases_lt g a.count) [
+    | inl before ↦ subst (AllPairs ◌≢◌) (sym (choices-before a g k before)) (s.different g before)
+    | inr past ↦ subst (AllPairs ◌≢◌) (sym (choices-past a g k past)) none_apart
+  ]
+
   pub additive_lawful : IsLawful (additive_network a)
   additive_lawful = record {
     width_least = s.slots_some;
@@ -105,6 +112,7 @@ module _ (a : Addends) (s : IsAdditive a) where
     long = reached_length a;
     some_choice = some_arc;
     weighty = λ g k c r allowed. weighty_arc g k c allowed;
+    different = λ g k r. different_arcs g k;
     ends = λ k r. choices-past a a.count k (omega arith);
     fits = (let all : totals a (a.count - 0) 0 ≤ MAX = subst (λ m. totals a m 0 ≤ MAX) (let e : a.count ≡ a.count - 0 = omega arith in e) s.fits in omega (arith, all, additive_total a 0 (zeros a) (omega arith)));
     inside = intervals-inside (additive_network a) a.tail a.rule additive_intervals;

@@ -57,6 +57,7 @@ alike-lawful n own a lawful l = record {
   long = l.long;
   some_choice = l.some_choice;
   weighty = l.weighty;
+  different = l.different;
   ends = l.ends;
   fits = rw (alike-total n (λ t. own_verdict (own t) t) 0 n.first) l.fits;
   inside = λ t. sound-own n t Inside true (λ (none : Outside ≡ Inside). cc) (own t) (a t) (on_some IsLawful (λ m. IsSound m Inside true) (λ m l. l.inside) (own t) (lawful t));

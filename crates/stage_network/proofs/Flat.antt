@@ -28,7 +28,7 @@ members_hold P g (part ∷ parts) a =
     all_fronts (AllAt P g) (P g) (λ x. product parts)
     (λ x q. all_weaker (AllAt P (g + 1)) (λ rest. AllAt P g (x ∷ rest)) (λ rest r. (q, r)) (product parts) (members_hold P (g + 1) parts a.1)) part a.0
 
-filter-every : {X : Type 0} (xs : List X) → filter (λ x. true) xs ≡ xs
+pub filter-every : {X : Type 0} (xs : List X) → filter (λ x. true) xs ≡ xs
 filter-every [] = refl
 filter-every (x ∷ xs) = ap (λ ys. x ∷ ys) (filter-every xs)
 

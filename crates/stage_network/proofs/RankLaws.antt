@@ -1,5 +1,5 @@
 -- Why a network of ranks is lawful.
-use Rattle.std.proofs.Common.{◌≡◌, ◌≢◌, ℕ, zero, suc, ◌+◌, ◌-◌, ◌*◌, ◌^◌, ◌<◌, ◌≤◌, List, [], ◌∷◌, length, set, Bool, true, false, cond, eqb, ltb, refl, ◌∙◌, sym, ap, subst, arith, add-one}
+use Rattle.std.proofs.Common.{◌≡◌, ◌≢◌, ℕ, zero, suc, ◌+◌, ◌-◌, ◌*◌, ◌^◌, ◌<◌, ◌≤◌, List, [], ◌∷◌, length, set, AllPairs, Bool, true, false, cond, eqb, ltb, refl, ◌∙◌, sym, ap, subst, arith, add-one}
 use Rattle.std.specs.Prelude.{ℤ, pos, ◌+ℤ◌, ◌-ℤ◌, int_lt, int_le, slice_index}
 use Rattle.std.specs.List.{sum_by, Contains, AllByRecursion}
 use Rattle.std.proofs.lemmas.Bool.{lt-ltb, le-ltb}
@@ -13,10 +13,11 @@ use Rattle.stage_network.specs.Network.{IsReached}
 use Rattle.stage_network.specs.Completions.{total_weight}
 use Rattle.stage_network.specs.Laws.{IsLawful}
 use Rattle.weights.specs.declared.tails.Tail.TheVariants.{Less}
+use Rattle.stage_network.proofs.Apart.{none_apart, one_apart, two_apart}
 use Rattle.stage_network.proofs.Steps.{all_paths, all-step, IsKept, inside_from_arcs, outside_from_arcs}
 use Rattle.weights.specs.Numbers.{binomial}
 use Rattle.weights.proofs.Binomials.{binomial-zero, binomial-pascal, binomial-all}
-use Rattle.stage_network.specs.TestRanks.{both_choices, sum_verdict, rank_network}
+use Rattle.stage_network.specs.TestRanks.{at, both_choices, sum_verdict, rank_network}
 
 pub three_items : {X : Type 0} (xs : List X) (a b c : X) → length xs ≡ 3 → set (set (set xs 0 a) 1 b) 2 c ≡ a ∷ b ∷ c ∷ []
 three_items [] a b c e = absurd (omega arith)
@@ -234,6 +235,17 @@ module _ (m n : ℕ) (t : ℤ) where
       not_both true e = (let no : zero ≡ 1 = cc in omega arith)
       not_both false e = (let no : zero ≡ 1 = cc in omega arith)
 
+  -- the two choices differ
+  apart : (x y : Bool) → AllPairs {X = List ℕ} ◌≢◌ (cond x ((0 ∷ []) ∷ cond y ((1 ∷ []) ∷ []) []) (cond y ((1 ∷ []) ∷ []) []))
+  apart true true = two_apart (0 ∷ []) (1 ∷ []) (λ e. (let sign : 0 ≡ 1 = ap (λ c. slice_index c 0) e in omega (arith, sign)))
+  apart true false = one_apart (0 ∷ [])
+  apart false true = one_apart (1 ∷ [])
+  apart false false = none_apart
+
+  different : (x : Bool) (k : List ℤ) → AllPairs {X = List ℕ} ◌≢◌ (cond x (both_choices k) [])
+  different true k = apart (int_lt (pos 0) (at k 0)) (int_lt (pos 0) (at k 1))
+  different false k = none_apart
+
   pub rank_lawful : m + n ≤ 126 → IsLawful (rank_network m n t)
   rank_lawful few = record {
     width_least = omega arith;
@@ -242,6 +254,7 @@ module _ (m n : ℕ) (t : ℤ) where
         (let here : Ranked g k = ranked g k r in
         some-way here.0 here.1 here.2 (omega (arith, here.4, before)) (ap both_choices (sym here.3) ∙ sym (choices-before g k before) ∙ e));
     weighty = λ g k c r allowed. omega arith;
+    different = λ g k r. different (ltb g (m + n)) k;
     ends = λ k r. choices-past (m + n) k (omega arith);
     fits = omega (arith, rank_total 0 m n 0 (omega arith), ways-fit m n few);
     long = λ g k r. (let h : Ranked g k = ranked g k r in ap length h.3);

@@ -1,10 +1,11 @@
 -- The worked blocks keep the laws.
-use Rattle.std.proofs.Common.{◌≡◌, ℕ, ◌<◌, List, [], ◌∷◌, length, set, refl, arith, lit≤}
+use Rattle.std.proofs.Common.{◌≡◌, ℕ, ◌<◌, List, [], ◌∷◌, length, set, refl, ap, arith, lit≤}
 use Rattle.std.specs.Prelude.{slice_index}
 use Rattle.std.specs.List.{Contains}
 use Rattle.std.proofs.lemmas.Int.{ints}
 use Rattle.std.proofs.lemmas.List.Elements.{All-contains, All-from_recursion}
 use Rattle.stage_network.specs.SoundAddends.{IsAdditive}
+use Rattle.stage_network.proofs.Apart.{two_apart}
 use Rattle.stage_network.specs.WorkedBlocks.{block_choices, worked_blocks}
 
 pub blocks_additive : IsAdditive worked_blocks
@@ -12,6 +13,7 @@ blocks_additive = record {
   slots_some = lit≤ tt;
   slots_few = lit≤ tt;
   some_choice = λ g b e. cc;
+  different = λ g b. two_apart (0 ∷ 1 ∷ []) (1 ∷ 0 ∷ []) (λ e. (let rank : 0 ≡ 1 = ap (λ c. slice_index c 0) e in omega (arith, rank)));
   weighty = λ g c b m. omega arith;
   fits = lit≤ tt;
   between = λ g b. (record { wide = refl; between = ((omega (arith, ints), omega (arith, ints)), ((omega (arith, ints), omega (arith, ints)), tt)) }, (record { wide = refl; between = ((omega (arith, ints), omega (arith, ints)), ((omega (arith, ints), omega (arith, ints)), tt)) }, tt));

@@ -14,6 +14,7 @@ use Rattle.stage_network.specs.Addends.{value_of}
 use Rattle.stage_network.specs.SoundAddends.{IsAdditive}
 use Rattle.stage_network.specs.Follows.{Follows}
 use Rattle.stage_network.specs.WorkedRanks.{rank_sum, worked_addends, worked_network, worked_test}
+use Rattle.stage_network.proofs.Apart.{two_apart}
 use Rattle.stage_network.proofs.Judging.{fits-between}
 use Rattle.stage_network.proofs.Parts.{IsStage, Pieces, product_weight, summed}
 use Rattle.stage_network.proofs.Flat.{AllAt}
@@ -24,6 +25,7 @@ worked_additive tail rule low high = record {
   slots_some = omega arith;
   slots_few = omega arith;
   some_choice = λ g b e. cc;
+  different = λ g b. two_apart (0 ∷ []) (1 ∷ []) (λ e. (let sign : 0 ≡ 1 = ap (λ c. slice_index c 0) e in omega (arith, sign)));
   weighty = λ g c b m. omega arith;
   fits = lit≤ tt;
   between = λ g b. (record { wide = refl; between = ((omega (arith, ints), omega (arith, ints)), tt) }, (record { wide = refl; between = ((omega (arith, ints), omega (arith, ints)), tt) }, tt));

@@ -1,5 +1,5 @@
 -- The laws of a network of stages.
-use Rattle.std.specs.Prelude.{◌≡◌, ◌≢◌, ℕ, ℤ, ◌≤◌, ◌<◌, List, [], length, Bool, true, false}
+use Rattle.std.specs.Prelude.{◌≡◌, ◌≢◌, ℕ, ℤ, ◌≤◌, ◌<◌, List, [], length, AllPairs, Bool, true, false}
 use Rattle.std.specs.List.{Contains, AllByRecursion}
 use Rattle.weights.specs.declared.tails.Tail.{Tail}
 use Rattle.weights.specs.declared.TheConstants.{MAX}
@@ -23,6 +23,8 @@ pub record IsLawful (n : Network) : Type 0 where
   pub some_choice : (g : ℕ) (k : List ℤ) → IsReached n g k → g < n.count → n.choices g k ≢ []
   pub weighty : (g : ℕ) (k : List ℤ) (c : List ℕ) → IsReached n g k
       → Contains (n.choices g k) c → 1 ≤ n.weight g k c
+  -- the choices of a reached key are all different
+  pub different : (g : ℕ) (k : List ℤ) → IsReached n g k → AllPairs ◌≢◌ (n.choices g k)
   -- there is none at the last stage
   pub ends : (k : List ℤ) → IsReached n n.count k → n.choices n.count k ≡ []
   -- the completions of the first key weigh at most MAX

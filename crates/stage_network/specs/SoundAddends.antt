@@ -1,5 +1,5 @@
 -- What makes an additive network lawful.
-use Rattle.std.specs.Prelude.{◌≡◌, ◌≢◌, ℕ, ◌<◌, ◌≤◌, ◌*◌, pos, ◌≤ℤ◌, nat_abs, List, [], length}
+use Rattle.std.specs.Prelude.{◌≡◌, ◌≢◌, ℕ, ◌<◌, ◌≤◌, ◌*◌, pos, ◌≤ℤ◌, nat_abs, List, [], length, AllPairs}
 use Rattle.std.specs.List.{Contains, AllByRecursion, sum_by}
 use Rattle.weights.specs.declared.TheConstants.{MAX}
 use Rattle.weights.specs.Rules.{RuleFits}
@@ -32,8 +32,10 @@ IsMeasured a (Squares bound) = IsSquared a bound
 pub record IsAdditive (a : Addends) : Type 0 where
   pub slots_some : 1 ≤ a.slots
   pub slots_few : a.slots ≤ 16
-  -- a stage has a choice, each choice weighs at least 1, and all completions at most MAX
+  -- a stage has a choice, its choices are all different, each weighs at least 1, and all
+  -- completions at most MAX
   pub some_choice : (g : ℕ) → g < a.count → a.choices g ≢ []
+  pub different : (g : ℕ) → g < a.count → AllPairs ◌≢◌ (a.choices g)
   pub weighty : (g : ℕ) (c : List ℕ) → g < a.count → Contains (a.choices g) c → 1 ≤ a.weight g c
   pub fits : totals a a.count 0 ≤ MAX
   pub between : (g : ℕ) → g < a.count → AllByRecursion (AddsBetween a g) (a.choices g)

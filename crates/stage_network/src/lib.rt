@@ -38,7 +38,7 @@ pub use held::Held;
 pub use keys::{behind, front};
 pub use lines::Spread;
 pub use one_of::OneOf;
-pub use prepared::{Prepared, answer, distribution};
+pub use prepared::{Prepared, answer, distribution, network_of};
 pub use spreads::{spread, spread_by_rooms};
 pub use stages::{Roomed, Stages, Verdict};
 pub use sums::{tail_sum, tail_sum_by_rooms, tail_sums_by_rooms};

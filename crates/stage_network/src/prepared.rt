@@ -1,9 +1,10 @@
 // The answer of a prepared test, by its network or by the plain walk.
 ghost use Rattle.std.specs.Prelude.{◌≡◌, ◌≤◌, true, false, None, IfOk};
-ghost use Rattle.weights.specs.Conditional.{distribution};
+ghost use Rattle.weights.specs.Conditional.{distribution, total};
 ghost use Rattle.weights.specs.Frames.{IsShown, first_tail};
 ghost use Rattle.weights.specs.declared.tails.Tail.{Tail};
 ghost use Rattle.stage_network.specs.Network.{Network};
+ghost use Rattle.stage_network.specs.Completions.{total_weight};
 ghost use Rattle.stage_network.specs.Alike.{IsBuilt, Shape, shape_by};
 ghost use Rattle.stage_network.specs.Follows.{AreShared, Follows, HasTails, answer_of, asked_tail};
 ghost use Rattle.stage_network.specs.Follows.{asks, open_keys, tail_of};
@@ -25,8 +26,11 @@ pub trait Prepared: Plain {
     /// Its networks.
     type Built: Roomed + Drop;
 
-    /// The network of each tail.
+    /// The network of each tail, as it is written down: the open keys that are counted are its.
     ghost network: { Self → Tail → Network };
+
+    /// The network of each tail that runs: it may write the same keys in fewer numbers.
+    ghost runs: { Self → Tail → Network };
 
     /// What it is asked once for each room.
     ghost shape: { Self → Tail → Shape };
@@ -40,21 +44,41 @@ pub trait Prepared: Plain {
     /// serves them all.
     fn is_shared(&self) -> bool
         ensures { result ≡ true
-            → AreShared (Self.test self.now) (network self.now) (shape self.now) }
+            → AreShared (Self.test self.now) (runs self.now) (shape self.now) }
     {
         false
     }
 
-    /// The network of a tail that the test has. Its completions end at what the tail's rule
-    /// measures of the rearrangements.
+    /// The network that runs for a tail that the test has. Its completions end at what the tail's
+    /// rule measures of the rearrangements, and it has as many open keys as the network that is
+    /// written down.
     fn stages_of(&self, alloc: Global, tail: Tail) -> Result<Self::Built, NoMemory>
         requires { (Self.test self.now).has_tail tail ≡ true }
-        ensures built { let n = network self.now tail in
+        ensures built { let n = runs self.now tail in
             IfOk result (λ built. Self.Built.Stages.network built ≡ n) }
         ensures shape { let h = shape self.now tail in
             IfOk result (λ built. shape_by Self.Built.Roomed.room_width
             Self.Built.Roomed.outlook_width Self.Built.Roomed.outlook_of built ≡ h) }
-        ensures follows { Follows (Self.test self.now) tail (network self.now tail) };
+        ensures follows { Follows (Self.test self.now) tail (runs self.now tail) }
+        ensures counted { open_keys (runs self.now) tail ≡ open_keys (network self.now) tail };
+}
+
+/// The network that runs for a tail that a test has: its completions end at what the tail's rule
+/// measures of the rearrangements, and all together weigh as much as these; and it has as many open
+/// keys as the network that is written down.
+pub fn network_of<P: Prepared>(alloc: Global, problem: &P, tail: Tail) -> Result<P::Built, NoMemory>
+    requires { (P.test problem.now).has_tail tail ≡ true }
+    ensures built { let n = P.runs problem.now tail in
+        IfOk result (λ built. P.Built.Stages.network built ≡ n) }
+    ensures shape { let h = P.shape problem.now tail in
+        IfOk result (λ built. shape_by P.Built.Roomed.room_width
+        P.Built.Roomed.outlook_width P.Built.Roomed.outlook_of built ≡ h) }
+    ensures follows { Follows (P.test problem.now) tail (P.runs problem.now tail) }
+    ensures whole { let n = P.runs problem.now tail in
+        total_weight n 0 n.first ≡ total (P.test problem.now) }
+    ensures counted { open_keys (P.runs problem.now) tail ≡ open_keys (P.network problem.now) tail }
+{
+    problem.stages_of(alloc, tail)
 }
 
 // The network of a tail, where it is asked.
@@ -68,21 +92,23 @@ fn asked_stages<P: Prepared>(
     ensures none { asked ≡ false → IfOk result (λ found. found ≡ None) }
     ensures some { asked ≡ true → IfOk result (IsBuilt P.Built.Stages.network (shape_by
         P.Built.Roomed.room_width P.Built.Roomed.outlook_width P.Built.Roomed.outlook_of)
-        (P.network problem.now tail) (P.shape problem.now tail)) }
+        (P.runs problem.now tail) (P.shape problem.now tail)) }
     ensures follows { asked ≡ true
-        → Follows (P.test problem.now) tail (P.network problem.now tail) }
+        → Follows (P.test problem.now) tail (P.runs problem.now tail) }
+    ensures counted { asked ≡ true
+        → open_keys (P.runs problem.now) tail ≡ open_keys (P.network problem.now) tail }
 {
     if !asked {
         return Ok(None);
     }
-    let stages = problem.stages_of(alloc, tail)?;
+    let stages = network_of(alloc, problem, tail)?;
     Ok(Some(stages))
 }
 
 // The sums of the asked tails by one sweep.
 fn by_one_sweep<P: Prepared>(alloc: Global, problem: &P, tails: Tails) -> Result<TailSums, NoMemory>
     requires has { HasTails (P.test problem.now) tails }
-    requires shared { AreShared (P.test problem.now) (P.network problem.now) (P.shape problem.now) }
+    requires shared { AreShared (P.test problem.now) (P.runs problem.now) (P.shape problem.now) }
     ensures { let opened = open_keys (P.network problem.now) in
         IfOk result (λ sums. (t : Tail) → asks tails t ≡ true
         → sum_for sums t ≡ tail_of (P.test problem.now) opened t Way.Network) }
@@ -99,7 +125,7 @@ fn by_network<P: Prepared>(alloc: Global, problem: &P, tail: Tail) -> Result<Tai
     ensures { let opened = open_keys (P.network problem.now) in
         IfOk result (λ sum. sum ≡ tail_of (P.test problem.now) opened tail Way.Network) }
 {
-    let stages = problem.stages_of(alloc, tail)?;
+    let stages = network_of(alloc, problem, tail)?;
     let sum = tail_sum_by_rooms(alloc, &stages, tail)?;
     Ok(sum)
 }
@@ -221,7 +247,7 @@ fn first_tail<P: Prepared>(problem: &P) -> Tail
 fn spread_by_network<P: Prepared>(alloc: Global, problem: &P) -> Result<Spread, NoMemory>
     ensures { IfOk result (λ spread. spread ≡ distribution (P.test problem.now)) }
 {
-    let stages = problem.stages_of(alloc, first_tail(problem))?;
+    let stages = network_of(alloc, problem, first_tail(problem))?;
     let found = spread_by_rooms(alloc, &stages)?;
     Ok(found)
 }

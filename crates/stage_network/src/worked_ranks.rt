@@ -150,6 +150,8 @@ impl Prepared for SignedRanks {
 
     ghost network = { λ _. worked_network };
 
+    ghost runs = { λ _. worked_network };
+
     ghost shape = { λ _ _. additive_shape };
 
     fn has_tail(&self, _tail: Tail) -> bool {

@@ -46,6 +46,8 @@ impl Prepared for StrataTest {
 
     ghost network = { strata_network };
 
+    ghost runs = { strata_network };
+
     ghost shape = { λ _ _. additive_shape };
 
     fn has_tail(&self, _tail: Tail) -> bool {

@@ -124,6 +124,8 @@ impl Prepared for FisherTable {
 
     ghost network = { fisher_network };
 
+    ghost runs = { fisher_network };
+
     ghost shape = { fisher_shape };
 
     fn has_tail(&self, tail: Tail) -> bool {

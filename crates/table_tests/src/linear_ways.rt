@@ -50,6 +50,8 @@ impl Prepared for LinearTable {
 
     ghost network = { linear_network };
 
+    ghost runs = { linear_network };
+
     ghost shape = { linear_shape };
 
     fn has_tail(&self, _tail: Tail) -> bool {

@@ -112,6 +112,8 @@ impl Prepared for TableTest {
 
     ghost network = { table_network };
 
+    ghost runs = { table_network };
+
     ghost shape = { table_shape };
 
     fn has_tail(&self, tail: Tail) -> bool {

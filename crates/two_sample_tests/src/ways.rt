@@ -45,6 +45,8 @@ impl Prepared for TwoSample {
 
     ghost network = { two_sample_network };
 
+    ghost runs = { two_sample_network };
+
     ghost shape = { λ s tail. label_shape (two_sample_meaning s tail) };
 
     fn has_tail(&self, _tail: Tail) -> bool {
