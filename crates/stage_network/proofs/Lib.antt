@@ -42,3 +42,4 @@ pub mod Alike
 pub mod Steady
 pub mod Joined
 pub mod Shared
+pub mod Images
