@@ -3,7 +3,7 @@ ghost use Rattle.std.specs.Prelude.{◌≡◌, ◌≤◌, ◌⊎◌, false, true
 ghost use Rattle.std.specs.Io.KnownBytes.{Appends};
 ghost use Rattle.outside.specs.Faults.{AppendsPrefix, Rose};
 ghost use Rattle.outside.specs.declared.source.TheConstants.{LONGEST_FILE};
-ghost use Rattle.record_reader.specs.Layouts.{with_value};
+ghost use Rattle.weights.specs.Results.{with_value};
 ghost use Rattle.settings.specs.Meaning.{is_help, meaning_of};
 ghost use Rattle.settings.specs.Usable.{AreUsable};
 ghost use Rattle.settings.specs.declared.names.UsageFault.{UsageFault};

@@ -1,5 +1,5 @@
 use Rattle.std.proofs.Common.{◌≡◌, ◌∙◌, ap, ℕ, map, string_bytes, Result, Ok, Err, Some, refl, sym}
-use Rattle.record_reader.specs.Layouts.{with_value}
+use Rattle.weights.specs.Results.{with_value}
 use Rattle.settings.specs.Meaning.{meaning_of}
 use Rattle.settings.specs.declared.command_line.CommandLine.{CommandLine}
 use Rattle.settings.specs.declared.command_line.CommandLine.TheVariants.{Drill, Help}
