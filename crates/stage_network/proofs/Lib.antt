@@ -26,6 +26,7 @@ pub mod Swaps
 pub mod Parts
 pub mod Bridge
 pub mod Flat
+pub mod FittingLines
 pub mod AdditiveKeys
 pub mod SquaredEnds
 pub mod AdditiveLaws
