@@ -1,4 +1,4 @@
 pub mod RankLaws
 pub mod RankRooms
-pub mod SignedRanks
-pub mod Blocks
+pub mod SignLaws
+pub mod BlockLaws

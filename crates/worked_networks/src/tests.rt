@@ -87,7 +87,10 @@ fn tails_of_lines(rt: HostRuntime) -> Result<(), Fail> {
 fn lines_are_pushed(rt: HostRuntime) -> Result<(), Fail> {
     let mut spread = Spread::empty(rt.alloc());
     assert_eq!(rt; (below(&spread, 2), above(&spread, 2)), (0, 0));
-    spread.push(line(-4, 1))?;
+    spread.push(Line {
+        value: -4,
+        weight: 1,
+    })?;
     spread.add(2, 2)?;
     spread.add(-4, 0)?;
     spread.add(-4, 3)?;

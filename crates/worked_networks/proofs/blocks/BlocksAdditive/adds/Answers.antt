@@ -1,7 +1,7 @@
 use Rattle.std.proofs.Common.{FitsSigned, rules}
 use Rattle.std.specs.Int.{w128}
 use Rattle.std.proofs.lemmas.Int.{to_z-of_z}
-use Rattle.worked_networks.proofs.Blocks.{pair_of, two_numbers}
+use Rattle.worked_networks.proofs.BlockLaws.{pair_of, two_numbers}
 use Rattle.worked_networks.proofs.blocks.BlocksAdditive.adds.Goals as goal
 
 pub doubled-requires : goal.doubled-requires

@@ -1,5 +1,5 @@
 use Rattle.std.proofs.Common.{refl}
-use Rattle.worked_networks.proofs.Blocks.{two_numbers}
+use Rattle.worked_networks.proofs.BlockLaws.{two_numbers}
 use Rattle.worked_networks.proofs.blocks.BlocksAdditive.first_choice.Goals as goal
 
 pub returns : goal.returns

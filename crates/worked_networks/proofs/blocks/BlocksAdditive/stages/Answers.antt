@@ -1,4 +1,4 @@
-use Rattle.worked_networks.proofs.Blocks.{blocks_additive}
+use Rattle.worked_networks.proofs.BlockLaws.{blocks_additive}
 use Rattle.worked_networks.proofs.blocks.BlocksAdditive.stages.Goals as goal
 
 pub returns-clause-sound : goal.returns-clause-sound

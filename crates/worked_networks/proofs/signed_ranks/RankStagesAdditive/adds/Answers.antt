@@ -1,7 +1,7 @@
 use Rattle.std.proofs.Common.{◌∙◌, ap, set, FitsSigned, rules}
 use Rattle.std.specs.Int.{w128}
 use Rattle.std.proofs.lemmas.Int.{to_z-of_z}
-use Rattle.worked_networks.proofs.SignedRanks.{one_number, sign_small}
+use Rattle.worked_networks.proofs.SignLaws.{one_number, sign_small}
 use Rattle.worked_networks.proofs.signed_ranks.RankStagesAdditive.adds.Goals as goal
 
 pub addend-requires-clause-sign : goal.addend-requires-clause-sign

@@ -1,7 +1,7 @@
 use Rattle.std.proofs.Common.{◌∙◌, sym}
 use mir.Syntax.{w128}
 use Rattle.std.proofs.lemmas.Int.{to_z-of_z}
-use Rattle.worked_networks.proofs.SignedRanks.{measured-is}
+use Rattle.worked_networks.proofs.SignLaws.{measured-is}
 use Rattle.worked_networks.proofs.signed_ranks.SignedRanksPlain.measure.Goals as goal
 
 pub returns : goal.returns

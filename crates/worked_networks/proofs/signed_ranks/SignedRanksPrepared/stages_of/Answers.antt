@@ -1,7 +1,7 @@
 use Rattle.std.proofs.Common.{◌≡◌}
 use Rattle.weights.specs.Rules.{rule_of}
 use Rattle.worked_networks.specs.SignedRanks.{worked_test}
-use Rattle.worked_networks.proofs.SignedRanks.{fits-least, fits-most, worked_follows}
+use Rattle.worked_networks.proofs.SignLaws.{fits-least, fits-most, worked_follows}
 use Rattle.worked_networks.proofs.signed_ranks.SignedRanksPrepared.stages_of.Goals as goal
 
 pub invariant_of-new : goal.invariant_of-new
