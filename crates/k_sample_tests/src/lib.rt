@@ -6,6 +6,7 @@
 ghost use Rattle.std.specs.Prelude.{◌≡◌, ◌≤◌, IfOk};
 ghost use Rattle.weights.specs.Conditional.{distribution};
 ghost use Rattle.stage_network.specs.Follows.{HasTails, answer_of, open_keys};
+ghost use Rattle.stage_network.specs.Lines.{TailsFit, WeightsFit};
 ghost use Rattle.k_sample_tests.specs.KruskalWallis.{kruskal_wallis_test};
 ghost use Rattle.k_sample_tests.specs.RankSums.{kruskal_wallis_network};
 ghost use Rattle.k_sample_tests.specs.Umbrella.{umbrella_test};
@@ -54,7 +55,9 @@ pub fn answer_kw(
 /// The distribution of the statistic of a test of Kruskal and Wallis: each value that it takes,
 /// ascending, with the number of labellings that have it, by either way.
 pub fn distribution_kw(alloc: Global, problem: &KruskalWallis, way: Way) -> Result<Spread, NoMemory>
-    ensures { IfOk result (λ spread. spread ≡ distribution (kruskal_wallis_test problem.now)) }
+    ensures lines { IfOk result (λ spread. spread ≡ distribution (kruskal_wallis_test problem.now)) }
+    ensures weights { IfOk result WeightsFit }
+    ensures rules { IfOk result (TailsFit (kruskal_wallis_test problem.now)) }
 {
     stage_network::distribution(alloc, problem, way)
 }
@@ -83,7 +86,9 @@ pub fn distribution_umbrella(
     problem: &Umbrella,
     way: Way,
 ) -> Result<Spread, NoMemory>
-    ensures { IfOk result (λ spread. spread ≡ distribution (umbrella_test problem.now)) }
+    ensures lines { IfOk result (λ spread. spread ≡ distribution (umbrella_test problem.now)) }
+    ensures weights { IfOk result WeightsFit }
+    ensures rules { IfOk result (TailsFit (umbrella_test problem.now)) }
 {
     stage_network::distribution(alloc, problem, way)
 }
