@@ -1,5 +1,5 @@
 -- Sums of products are no greater than the greatest row score times the summed column scores.
-use Rattle.std.proofs.Common.{◌≡◌, ℕ, zero, suc, ◌+◌, ◌*◌, ◌≤◌, List, [], ◌∷◌, ◌++◌, length, Bool, true, false, cond, refl, sym, ◌∙◌, ap, arith}
+use Rattle.std.proofs.Common.{◌≡◌, ℕ, zero, suc, ◌+◌, ◌*◌, ◌≤◌, List, [], ◌∷◌, ◌++◌, length, refl, sym, ◌∙◌, ap, arith}
 use Rattle.std.specs.Prelude.{ℤ, pos, ◌+ℤ◌, ◌*ℤ◌, ◌≤ℤ◌, int_le, nat_abs, unsigned_abs, replicate, reverse}
 use Rattle.std.specs.List.{sum}
 use Rattle.std.proofs.Math.Nat.{mul-le-mul, mul-le-mul_left}
@@ -7,11 +7,12 @@ use Rattle.std.proofs.lemmas.Int.{ints, unsigned_abs-mul}
 use Rattle.std.proofs.lemmas.List.{reverse-append}
 use Rattle.std.proofs.lemmas.List.Sums.{sum_by-cons}
 use Rattle.completion_bounds.specs.Pairings.{paired, greatest_score}
+use Rattle.weights.specs.Numbers.{absolute_sum}
 use Rattle.weights.proofs.OneOrder.{sum_by-in_order}
 use Rattle.weights.proofs.Sums.{absolute_sum-by}
 use Rattle.label_network.specs.LaterSums.{subjects}
-use Rattle.weights.specs.Numbers.{absolute_sum}
-use Rattle.label_network.specs.Linear.{row_sum, Climbs, RowsClimb, score_of, picked_scores, least_added, greatest_added}
+use Rattle.label_network.specs.Linear.{row_sum, score_of, picked_scores, least_added, greatest_added}
+use Rattle.label_network.proofs.Climbing.{Climbs, RowsClimb}
 use Rattle.label_network.specs.LinearSteps.{reach, whole_reach}
 use Rattle.label_network.proofs.Absolute.{size-plus}
 use Rattle.label_network.proofs.Sorting.{sort_up}
