@@ -20,3 +20,5 @@ mod PackedKeys
 mod PackedValues
 mod FittingKruskalWallis
 mod Vectors
+mod Images
+mod PackedImages

@@ -8,8 +8,9 @@ use Rattle.weights.specs.Rules.{rule_of}
 use Rattle.completion_bounds.specs.Boxes.{factored_squares, greatest_squares, least_squares}
 use Rattle.scores.specs.Scores.{absolute_sum}
 use Rattle.sample_reader.specs.Groups.{group_sizes}
+use Rattle.stage_network.specs.Alike.{Shape}
 use Rattle.stage_network.specs.Network.{Network}
-use Rattle.label_network.specs.LabelNetwork.{label_network}
+use Rattle.label_network.specs.LabelNetwork.{label_network, label_shape}
 use Rattle.label_network.specs.LaterSums.{greatest_sum, later_scores, least_sum}
 use Rattle.label_network.specs.Linear.{score_of}
 use Rattle.label_network.specs.Meanings.{Meaning}
@@ -97,3 +98,6 @@ kruskal_wallis_meaning samples tail =
 
 abbrev pub kruskal_wallis_network : ScoredGroups → Tail → Network
 kruskal_wallis_network samples tail = label_network (kruskal_wallis_meaning samples tail)
+
+abbrev pub kruskal_wallis_shape : ScoredGroups → Tail → Shape
+kruskal_wallis_shape samples tail = label_shape (kruskal_wallis_meaning samples tail)

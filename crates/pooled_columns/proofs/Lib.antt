@@ -2,3 +2,4 @@ pub mod AbsoluteSums
 pub mod PooledValues
 pub mod PooledLabels
 pub mod TieColumns
+mod Vectors
