@@ -35,8 +35,8 @@ pub enum KSample {
 /// `TooWide(Statistic)` where L times the square of the greater of the sum of the absolute scores
 /// and their scale passes it. Or else `NoMemory` where memory runs out.
 pub fn prepare_kw(alloc: Global, kind: ScoreKind, groups: &Groups) -> Result<KSample, PrepareFault>
-    ensures { let samples = record { kind = kind; groups = data_of groups.now } in
-        Prepares k_sample_test (KSample.Differing samples) result }
+    ensures { Prepares k_sample_test (KSample.Differing
+        (record { kind = kind; groups = data_of groups.now })) result }
 {
     Ok(KSample::Differing(KruskalWallis::prepare(alloc, kind, groups)?))
 }
@@ -50,8 +50,8 @@ pub fn prepare_kw(alloc: Global, kind: ScoreKind, groups: &Groups) -> Result<KSa
 /// `TooWide(Total)` where there are more labellings than `weights::MAX`, or else `NoMemory` where
 /// memory runs out. The statistic of at most 10,000 subjects is never too wide.
 pub fn prepare_umbrella(alloc: Global, peak: u64, groups: &Groups) -> Result<KSample, PrepareFault>
-    ensures { let samples = record { peak = peak; groups = data_of groups.now } in
-        Prepares k_sample_test (KSample.Ordered samples) result }
+    ensures { Prepares k_sample_test (KSample.Ordered
+        (record { peak = peak; groups = data_of groups.now })) result }
 {
     Ok(KSample::Ordered(Umbrella::prepare(alloc, peak, groups)?))
 }
