@@ -6,20 +6,26 @@ use Rattle.settings.specs.declared.names.UsageFault.{UsageFault}
 use Rattle.settings.specs.declared.names.UsageFault.TheVariants as usage
 use Rattle.report.specs.declared.refusals.Refusal.{Refusal}
 use Rattle.report.specs.declared.refusals.Refusal.TheVariants as refusal
-use Rattle.exact_run.specs.Outcome.{Outcome, usage_refusal}
-use Rattle.exact_run.specs.Promises.{status_asked, status_of}
+use Rattle.exact_run.specs.Outcome.{usage_refusal}
+use Rattle.exact_run.specs.Promises.{status_of}
+use Rattle.exact_run.specs.declared.status.Status.{Status}
 use Rattle.exact_run.specs.declared.status.Status.TheVariants as status
 
 -- the refusal of a meaning that is a fault
-abbrev refused : Result CommandLine UsageFault → Outcome
+abbrev refused : {X : Type 0} → Result CommandLine UsageFault → Result X Refusal
 refused (Ok line) = Err refusal.NoMemory
 refused (Err fault) = Err (usage_refusal fault)
 
-abbrev failed : Refusal → Outcome
+abbrev failed : {X : Type 0} → Refusal → Result X Refusal
 failed cause = Err cause
 
-pub refused-words : (meaning : Result CommandLine UsageFault) (found : UsageFault) → IsCauseOf meaning found → (fault : UsageFault) → meaning ≡ Err fault
-    → (refused (Err found) ≡ Err (usage_refusal fault)) ⊎ (refused (Err found) ≡ Err refusal.NoMemory)
+-- the status of a refusal, where there is one
+abbrev status_in : {X : Type 0} → Result X Refusal → Status
+status_in (Ok value) = status.Done
+status_in (Err cause) = status_of cause
+
+pub refused-words : {X : Type 0} (meaning : Result CommandLine UsageFault) (found : UsageFault) → IsCauseOf meaning found → (fault : UsageFault) → meaning ≡ Err fault
+    → (refused {X = X} (Err found) ≡ Err (usage_refusal fault)) ⊎ (refused {X = X} (Err found) ≡ Err refusal.NoMemory)
 refused-words meaning usage.NoMemory is fault e = inr refl
 refused-words meaning usage.Form is fault e = inl (ap refused (sym is ∙ e))
 refused-words meaning (usage.Value name) is fault e = inl (ap refused (sym is ∙ e))
@@ -31,11 +37,11 @@ usage-status usage.Form = inl refl
 usage-status (usage.Value name) = inl refl
 usage-status (usage.Pairing name test) = inl refl
 
-pub words-status : (cause : Refusal) (fault : UsageFault) → (failed cause ≡ failed (usage_refusal fault)) ⊎ (failed cause ≡ failed refusal.NoMemory)
+pub words-status : {X : Type 0} (cause : Refusal) (fault : UsageFault) → (failed {X = X} cause ≡ failed (usage_refusal fault)) ⊎ (failed {X = X} cause ≡ failed refusal.NoMemory)
     → (status_of cause ≡ status.Usage) ⊎ (status_of cause ≡ status.NoMemory)
-words-status cause fault (inr e) = inr (ap status_asked e)
+words-status cause fault (inr e) = inr (ap status_in e)
 words-status cause fault (inl e) = by (usage-status fault)
   where
     by : (status_of (usage_refusal fault) ≡ status.Usage) ⊎ (status_of (usage_refusal fault) ≡ status.NoMemory) → (status_of cause ≡ status.Usage) ⊎ (status_of cause ≡ status.NoMemory)
-    by (inl is) = inl (ap status_asked e ∙ is)
-    by (inr is) = inr (ap status_asked e ∙ is)
+    by (inl is) = inl (ap status_in e ∙ is)
+    by (inr is) = inr (ap status_in e ∙ is)

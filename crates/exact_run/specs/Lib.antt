@@ -7,5 +7,6 @@ pub mod StrataQuestions
 pub mod Questions
 pub mod MadeData
 pub mod Outcome
+pub mod Texts
 pub mod Promises
 pub mod CauseSteps

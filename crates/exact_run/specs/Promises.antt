@@ -1,11 +1,13 @@
 -- What a run promises.
-use Rattle.std.specs.Prelude.{◌≡◌, ◌≢◌, ◌⊎◌, ⊤, ℕ, List, Option, Some, IfSome, Ok, Err}
+use Rattle.std.specs.Prelude.{◌≡◌, ◌≢◌, ◌⊎◌, ⊤, ℕ, true, List, Option, Some, IfSome, Result, Ok, Err}
 use Rattle.std.specs.Io.KnownBytes.{Appends}
-use Rattle.outside.specs.Faults.{AppendsPrefix}
+use Rattle.outside.specs.Faults.{AppendsPrefix, Rose}
+use Rattle.settings.specs.declared.command_line.CommandLine.{CommandLine}
+use Rattle.settings.specs.declared.names.UsageFault.{UsageFault}
 use Rattle.report.specs.Refusals.{refusal_line_text}
 use Rattle.report.specs.declared.refusals.Refusal.{Refusal}
 use Rattle.report.specs.declared.refusals.Refusal.TheVariants as refusal
-use Rattle.exact_run.specs.Outcome.{Outcome}
+use Rattle.exact_run.specs.Outcome.{Outcome, names_file}
 use Rattle.exact_run.specs.declared.status.Status.{Status}
 use Rattle.exact_run.specs.declared.status.Status.TheVariants as status
 
@@ -85,6 +87,10 @@ pub record TellsRefusal (answer : Status) (known : Option Outcome) (written : Li
 
 -- ---- a run
 
+-- the words name a file, and the count of faults of the source rose
+abbrev pub ReadRose : Result CommandLine UsageFault → ℕ → ℕ → Type 0
+ReadRose meaning before after = (names_file meaning ≡ true) × Rose before after
+
 -- where the outcome is a report and no count of faults rose, it is written, or memory ran out
 abbrev pub IsCompleted : Status → Type 0 → Type 0 → Outcome → Type 0
 IsCompleted answer source_rose out_rose outcome =
@@ -92,7 +98,7 @@ IsCompleted answer source_rose out_rose outcome =
     → (answer ≡ status.Done) ⊎ (answer ≡ status.NoMemory)
 
 -- The promises of a run: of its answer, of the outcome where it is known, of whether the counts of
--- faults of the source and of `out` rose, of what `out` took, and of what `err` took.
+-- faults of a source that is read and of `out` rose, of what `out` took, and of what `err` took.
 pub record Promises (answer : Status) (known : Option Outcome) (source_rose out_rose : Type 0)
     (took took_prefix told : List ℕ → Type 0) : Type 0 where
   -- the headline: after Done `out` holds what it held before, and then the whole report

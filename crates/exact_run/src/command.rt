@@ -1,16 +1,17 @@
 // The top call: it does all that the program does.
-ghost use Rattle.std.specs.Prelude.{◌≡◌, ◌≤◌, ◌⊎◌, false, Err, Ok, length, map, option_map, string_bytes};
+ghost use Rattle.std.specs.Prelude.{◌≡◌, ◌≤◌, ◌⊎◌, false, true, Err, Ok, length, map, option_map, string_bytes};
 ghost use Rattle.std.specs.Io.KnownBytes.{Appends};
 ghost use Rattle.outside.specs.Faults.{AppendsPrefix, Rose};
 ghost use Rattle.outside.specs.declared.source.TheConstants.{LONGEST_FILE};
-ghost use Rattle.settings.specs.Help.{help};
-ghost use Rattle.settings.specs.Meaning.{meaning_of};
+ghost use Rattle.weights.specs.Results.{with_value};
+ghost use Rattle.settings.specs.Meaning.{is_help, meaning_of};
 ghost use Rattle.settings.specs.Usable.{AreUsable};
 ghost use Rattle.settings.specs.declared.names.UsageFault.{UsageFault};
 ghost use Rattle.report.specs.Refusals.{refusal_line_text};
 ghost use Rattle.exact_run.specs.CauseSteps.{ComesTo, Meets};
 ghost use Rattle.exact_run.specs.Outcome.{names_file, outcome_of, outcome_of_bytes, usage_refusal as refusal_of};
-ghost use Rattle.exact_run.specs.Promises.{IsBeforeWriting, Promises, WritesLine, status_of};
+ghost use Rattle.exact_run.specs.Promises.{IsBeforeWriting, Promises, ReadRose, WritesLine, status_of};
+ghost use Rattle.exact_run.specs.Texts.{text_of};
 
 use crate::made_data::made_report;
 use crate::questions::report_in;
@@ -23,14 +24,23 @@ use settings::{CommandLine, Settings, help_text, read};
 use std::alloc::Global;
 use weights::Bytes;
 
-// The help text.
-fn help(alloc: Global) -> Result<Bytes, Refusal>
-    ensures { Meets (Ok help) result }
-{
-    let mut text = Bytes::empty(alloc);
-    match text.append(help_text().as_bytes()) {
-        Ok(()) => Ok(text),
-        Err(_) => Err(Refusal::NoMemory),
+// The text that is written to `out`.
+#[derive(Drop)]
+enum Text {
+    // The help text, which stands in the program already.
+    Help,
+    // A report, composed whole.
+    Report(Bytes),
+}
+
+impl Text {
+    fn as_slice(&self) -> &[u8]
+        ensures { result.now ≡ text_of self.now }
+    {
+        match self {
+            Text::Help => help_text().as_bytes(),
+            Text::Report(report) => report.as_slice(),
+        }
     }
 }
 
@@ -65,10 +75,20 @@ fn report_from<S: Source>(
     }
 }
 
-// The report that the words and the source ask for, or the refusal.
-fn report_for<S: Source>(alloc: Global, words: &[String], source: &mut S) -> Result<Bytes, Refusal>
+// A report as the text to write.
+fn as_text(report: Result<Bytes, Refusal>) -> Result<Text, Refusal>
+    ensures { with_value text_of result ≡ report }
+{
+    report.map(Text::Report)
+}
+
+// The text that the words and the source ask for, or the refusal.
+fn text_for<S: Source>(alloc: Global, words: &[String], source: &mut S) -> Result<Text, Refusal>
     ensures comes { let known = outcome_of (map string_bytes words.now) (S.held source.old) in
-        ComesTo (Rose (S.faults source.old) (S.faults source.new)) known result }
+        let meaning = meaning_of (map string_bytes words.now) in
+        let source_rose = ReadRose meaning (S.faults source.old) (S.faults source.new) in
+        ComesTo source_rose known (with_value text_of result) }
+    ensures help { is_help (map string_bytes words.now) ≡ true → result ≡ Ok Text.Help }
     ensures words { let meaning = meaning_of (map string_bytes words.now) in
         (fault : UsageFault) → meaning ≡ Err fault
         → (result ≡ Err (refusal_of fault)) ⊎ (result ≡ Err Refusal.NoMemory) }
@@ -76,9 +96,9 @@ fn report_for<S: Source>(alloc: Global, words: &[String], source: &mut S) -> Res
         → source.new ≡ source.old }
 {
     match read(alloc, words) {
-        Ok(CommandLine::Help) => help(alloc),
-        Ok(CommandLine::Test(settings)) => report_from(alloc, &settings, source),
-        Ok(CommandLine::Drill(number)) => made_report(alloc, number),
+        Ok(CommandLine::Help) => Ok(Text::Help),
+        Ok(CommandLine::Test(settings)) => as_text(report_from(alloc, &settings, source)),
+        Ok(CommandLine::Drill(number)) => as_text(made_report(alloc, number)),
         Err(fault) => Err(usage_refusal(fault)),
     }
 }
@@ -96,8 +116,9 @@ fn refuse<E: Sink>(refusal: Refusal, err: &mut E) -> Status
 /// Runs the command that the words name; they are those after the program's own name. `TEST FILE`
 /// with options in any place writes the report of the test for the data of the file; `drill` with a
 /// number writes that of made data, and `--help` alone the help text, both without the source. The
-/// report is composed whole, and then written to `out` by one call of `write_all`. Where there is
-/// none, one line to `err` says why.
+/// report is composed whole, and then written to `out` by one call of `write_all`; the help text
+/// stands in the program, and takes no memory. Where nothing is written so, one line to `err` says
+/// why.
 pub fn run<S: Source, O: Sink, E: Sink>(
     alloc: Global,
     words: &[String],
@@ -107,7 +128,8 @@ pub fn run<S: Source, O: Sink, E: Sink>(
 ) -> Status
     // What the status says of the outcome, of the counts of faults and of the sinks.
     ensures promises { let known = outcome_of (map string_bytes words.now) (S.held source.old) in
-        let source_rose = Rose (S.faults source.old) (S.faults source.new) in
+        let meaning = meaning_of (map string_bytes words.now) in
+        let source_rose = ReadRose meaning (S.faults source.old) (S.faults source.new) in
         let out_rose = Rose (O.faults out.old) (O.faults out.new) in
         let took = Appends (O.taken out.old) (O.taken out.new) in
         let took_prefix = AppendsPrefix (O.taken out.old) (O.taken out.new) in
@@ -119,6 +141,10 @@ pub fn run<S: Source, O: Sink, E: Sink>(
     ensures unchanged { IsBeforeWriting result → out.new ≡ out.old }
     ensures silent { result ≡ Status.Done → err.new ≡ err.old }
 
+    // The help text takes no memory: it is written, or a write of it failed.
+    ensures help { is_help (map string_bytes words.now) ≡ true
+        → (result ≡ Status.Done) ⊎ (result ≡ Status.WriteFault) }
+
     // Words that are refused are refused always, and words that name no file touch no source.
     ensures words { let meaning = meaning_of (map string_bytes words.now) in
         (fault : UsageFault) → meaning ≡ Err fault
@@ -126,8 +152,8 @@ pub fn run<S: Source, O: Sink, E: Sink>(
     ensures untouched { names_file (meaning_of (map string_bytes words.now)) ≡ false
         → source.new ≡ source.old }
 {
-    match report_for(alloc, words, source) {
-        Ok(report) => match write_all(out, report.as_slice()) {
+    match text_for(alloc, words, source) {
+        Ok(text) => match write_all(out, text.as_slice()) {
             Ok(()) => Status::Done,
             Err(_) => refuse(Refusal::WriteFault, err),
         },

@@ -13,8 +13,6 @@ mod status;
 mod strata_reports;
 mod sums;
 mod table_reports;
-#[cfg(test)]
-mod tests;
 
 pub use command::run;
 pub use made_data::made_groups;

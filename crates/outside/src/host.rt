@@ -86,6 +86,3 @@ impl<W: Write> Sink for HostSink<W> {
         }
     }
 }
-
-#[cfg(test)]
-mod tests;

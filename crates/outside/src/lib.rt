@@ -15,6 +15,3 @@ pub use memory_source::MemorySource;
 pub use sink::{Sink, WriteFault, write_all};
 pub use source::{Failed, LONGEST_FILE, ReadFail, Source, read_all};
 pub use steady::{Counter, SteadySink, SteadySource};
-
-#[cfg(test)]
-mod tests;

@@ -30,6 +30,9 @@ pub trait Sink {
 pub struct WriteFault;
 
 /// Writes the whole piece. Each write offers all of it that is not yet taken. It takes no memory.
+///
+/// # Errors
+/// `WriteFault` where a write failed: then a prefix of the piece was taken.
 pub fn write_all<O: Sink>(sink: &mut O, piece: &[u8]) -> Result<(), WriteFault>
     ensures ok { OnOk result (Appends (O.taken sink.old) (O.taken sink.new) piece.now) }
     ensures err { OnErr result (AppendsPrefix (O.taken sink.old) (O.taken sink.new) piece.now) }

@@ -75,6 +75,10 @@ impl From<NoMemory> for ReadFail {
 }
 
 /// Starts the source, and reads all bytes that it holds under the name.
+///
+/// # Errors
+/// `ReadFault` where a call to the source failed, and `TooLong` where there are more than
+/// [`LONGEST_FILE`] bytes. Or else `NoMemory` where memory runs out.
 pub fn read_all<S: Source>(alloc: Global, source: &mut S, name: &str) -> Result<Bytes, ReadFail>
     ensures bytes { IfOk result (λ read.
         IfSome (S.held source.old name.now) (λ bytes. read ≡ bytes)) }

@@ -5,7 +5,7 @@
 -- only the width counts. Rows and fields have numbers from 1, so the first row of data is row 2.
 use Rattle.std.specs.Prelude.{ℕ, ◌+◌, ◌-◌, ◌≤◌, ◌≢◌, ⊤, Bool, nat_lt, ◌==◌, List, [], ◌∷◌, length, All, AllPairs, slice_index_or, Result, Ok, Err, if◌then◌else◌}
 use Rattle.std.specs.List.{list_any, range_with_len}
-use Rattle.std.specs.Result.{result_map_both}
+use Rattle.weights.specs.Results.{and_then, with_fault}
 use Rattle.record_reader.specs.declared.faults.Kind.{Kind}
 use Rattle.record_reader.specs.declared.faults.Kind.TheVariants.{NoHeader, FieldCount, EndsEarly, TooManyRows}
 use Rattle.record_reader.specs.declared.faults.LayoutFault.{LayoutFault}

@@ -185,9 +185,13 @@ fn with_row<S: Drop, L: Layout<S>>(
     with_fields(layout, rows, number, fields, so_far)
 }
 
-/// What is known of a file in a layout, or its first fault: that of the header, then that of the
-/// first faulty row, then that the rows end too early. Within a row a row too many comes first,
-/// then its width, then its picked fields in their order.
+/// What is known of a file in a layout.
+///
+/// # Errors
+/// `Columns` where there is a header and a listed field is not in it. Else `At` with the first
+/// fault of the file: that of the header, then that of the first faulty row, then that the rows end
+/// too early. Within a row a row too many comes first, then its width, then its picked fields in
+/// their order. Or else `NoMemory` where memory runs out.
 pub fn read_in<S: Drop, L: Layout<S>>(
     alloc: Global,
     layout: &L,

@@ -15,6 +15,3 @@ pub use rows::{Rows, records};
 
 /// The greatest number of rows that a file may have below its header.
 pub const MOST_ROWS: u64 = 10_000;
-
-#[cfg(test)]
-mod tests;

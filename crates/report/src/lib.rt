@@ -9,8 +9,6 @@ mod headings;
 mod pieces;
 mod refusals;
 mod short_line;
-#[cfg(test)]
-mod tests;
 
 pub use composing::compose;
 pub use decimals::six_decimals;

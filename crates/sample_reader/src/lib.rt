@@ -18,6 +18,3 @@ pub use order::{OrderFault, reorder};
 pub use pair_rows::pairs;
 pub use samples::{Blocks, Groups, Pairs};
 pub use subjects::{Subject, pooled_subjects, values};
-
-#[cfg(test)]
-mod tests;

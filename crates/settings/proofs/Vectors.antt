@@ -2,6 +2,7 @@
 use Rattle.std.proofs.Common.{◌≡◌, ◌∷◌, [], Ok, Err, codes, negsuc, pos, refl, true}
 use Rattle.number_text.specs.ListTexts.{list_of}
 use Rattle.record_reader.specs.declared.picks.Picks.TheVariants.{Listed}
+use Rattle.scores.specs.declared.kinds.ScoreKind.TheVariants.{Savage}
 use Rattle.settings.specs.Meaning.{meaning_of}
 use Rattle.settings.specs.Options.{settings_without_options}
 use Rattle.settings.specs.declared.command_line.CommandLine.TheVariants.{Help, Test, Drill}
@@ -9,7 +10,7 @@ use Rattle.settings.specs.declared.names.OptionName.TheVariants as option
 use Rattle.settings.specs.declared.names.TestName.TheVariants as test
 use Rattle.settings.specs.declared.names.UsageFault.TheVariants.{Form, Value, Pairing}
 use Rattle.settings.specs.declared.settings.TheConstants.{GREATEST_NUMBER}
-use Rattle.settings.specs.declared.tails.TailChoice.TheVariants.{Less}
+use Rattle.settings.specs.declared.tails.TailChoice.TheVariants.{Less, Greater}
 
 greatest_number : GREATEST_NUMBER ≡ 2147483647
 greatest_number = refl
@@ -35,6 +36,35 @@ order_without_blanks = refl
 words_behind_dashes : meaning_of (codes "raw" ∷ codes "--separator=tab" ∷ codes "--" ∷ codes "--tail" ∷ [])
     ≡ Ok (Test (record (settings_without_options test.Raw (codes "--tail")) { separator = 9 }))
 words_behind_dashes = refl
+
+file_named_by_dashes : meaning_of (codes "ranksum" ∷ codes "--tail=greater" ∷ codes "--" ∷ codes "--" ∷ [])
+    ≡ Ok (Test (record (settings_without_options test.RankSum (codes "--")) { tail = Greater }))
+file_named_by_dashes = refl
+
+file_without_a_name : meaning_of (codes "--" ∷ codes "ranksum" ∷ [] ∷ []) ≡ Ok (Test (settings_without_options test.RankSum []))
+file_without_a_name = refl
+
+order_with_dashes : meaning_of (codes "raw" ∷ codes "f" ∷ codes "--order=-x,--" ∷ [])
+    ≡ Ok (Test (record (settings_without_options test.Raw (codes "f")) { order = codes "-x" ∷ codes "--" ∷ [] }))
+order_with_dashes = refl
+
+order_in_the_next_word : meaning_of (codes "raw" ∷ codes "f" ∷ codes "--order" ∷ codes " old, \tnew one\t" ∷ [])
+    ≡ Ok (Test (record (settings_without_options test.Raw (codes "f")) { order = codes "old" ∷ codes "new one" ∷ [] }))
+order_in_the_next_word = refl
+
+columns_of_strata : meaning_of (codes "strata" ∷ codes "f" ∷ codes "--columns=5,4,3,2,1" ∷ [])
+    ≡ Ok (Test (record (settings_without_options test.Strata (codes "f")) { picks = Listed (5 ∷ 4 ∷ 3 ∷ 2 ∷ 1 ∷ []) }))
+unfolding list_of
+columns_of_strata = refl
+
+scores_by_a_word : meaning_of (codes "--scores" ∷ codes "savage" ∷ codes "kw" ∷ codes "f" ∷ [])
+    ≡ Ok (Test (record (settings_without_options test.Kw (codes "f")) { scores = Savage }))
+scores_by_a_word = refl
+
+peak_between_blanks : meaning_of (codes "umbrella" ∷ codes "f" ∷ codes "--peak= 03 " ∷ [])
+    ≡ Ok (Test (record (settings_without_options test.Umbrella (codes "f")) { peak = 3 }))
+unfolding list_of
+peak_between_blanks = refl
 
 value_that_looks_like_an_option : meaning_of (codes "ranksum" ∷ codes "f" ∷ codes "--tail" ∷ codes "--separator" ∷ codes "tab" ∷ []) ≡ Err Form
 value_that_looks_like_an_option = refl
@@ -78,6 +108,10 @@ lists_of_scores = refl
 made_data : meaning_of (codes "drill" ∷ codes "--number=-0" ∷ []) ≡ Ok (Drill 0)
 unfolding list_of
 made_data = refl
+
+greatest_made_data : meaning_of (codes "--number= +2147483647" ∷ codes "--" ∷ codes "drill" ∷ []) ≡ Ok (Drill 2147483647)
+unfolding list_of
+greatest_made_data = refl
 
 made_data_of_a_file : meaning_of (codes "drill" ∷ codes "f" ∷ codes "--number=1" ∷ []) ≡ Err Form
 made_data_of_a_file = refl

@@ -7,8 +7,6 @@ mod lists;
 mod names;
 mod settings;
 mod tails;
-#[cfg(test)]
-mod tests;
 mod values;
 mod words;
 

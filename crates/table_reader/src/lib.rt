@@ -18,6 +18,3 @@ pub const MOST_TABLE_ROWS: u64 = 8;
 
 /// The greatest number of columns of a table.
 pub const MOST_TABLE_COLUMNS: usize = 64;
-
-#[cfg(test)]
-mod tests;

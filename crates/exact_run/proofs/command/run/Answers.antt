@@ -1,3 +1,4 @@
+use Rattle.exact_run.specs.Texts.{text_of}
 use Rattle.exact_run.proofs.Promised.{promised-done, promised-refused, promised-write_fault}
 use Rattle.exact_run.proofs.Words.{words-status}
 use Rattle.exact_run.proofs.command.run.Goals as goal
@@ -5,12 +6,12 @@ use Rattle.exact_run.proofs.command.run.Goals as goal
 pub returns-in-Ok-write_all-clause-promises : goal.returns-in-Ok-write_all-clause-promises
 returns-in-Ok-write_all-clause-promises g c =
     let whole = rw c.as_slice.ensures at c.in-Ok-write_all.ensures.ok in
-    promised-done _ c.in-Ok.report _ _ _ _ _ c.in-Ok.ensures.comes whole
+    promised-done _ (text_of c.in-Ok.text) _ _ _ _ _ c.in-Ok.ensures.comes whole
 
 pub returns-in-Ok-clause-promises : goal.returns-in-Ok-clause-promises
 returns-in-Ok-clause-promises g c =
     let prefix = rw c.as_slice.ensures at c.in-Err-write_all.ensures.err in
-    rw c.refuse.ensures.status (promised-write_fault _ c.in-Ok.report _ _ _ _ _ c.in-Ok.ensures.comes c.in-Err-write_all.ensures.fault prefix c.refuse.ensures.line)
+    rw c.refuse.ensures.status (promised-write_fault _ (text_of c.in-Ok.text) _ _ _ _ _ c.in-Ok.ensures.comes c.in-Err-write_all.ensures.fault prefix c.refuse.ensures.line)
 
 pub returns-clause-promises : goal.returns-clause-promises
 returns-clause-promises g c =

@@ -1,0 +1,42 @@
+use Rattle.std.proofs.Common.{◌≡◌, ◌∙◌, ap, ℕ, map, string_bytes, Result, Ok, Err, Some, refl, sym}
+use Rattle.weights.specs.Results.{with_value}
+use Rattle.settings.specs.Meaning.{meaning_of}
+use Rattle.settings.specs.declared.command_line.CommandLine.{CommandLine}
+use Rattle.settings.specs.declared.command_line.CommandLine.TheVariants.{Drill, Help}
+use Rattle.settings.specs.declared.names.UsageFault.{UsageFault}
+use Rattle.exact_run.specs.MadeData.{made_question}
+use Rattle.exact_run.specs.Outcome.{Outcome, asking_of_made, outcome_of_question}
+use Rattle.exact_run.specs.CauseSteps.{ComesTo, Meets}
+use Rattle.exact_run.specs.Texts.{text_of}
+use Rattle.exact_run.proofs.Readings.{known-outcome}
+use Rattle.exact_run.proofs.Words.{refused-words}
+use Rattle.exact_run.proofs.command.text_for.Goals as goal
+
+pub returns-in-Err-clause-words : goal.returns-in-Err-clause-words
+returns-in-Err-clause-words g c = rw c.usage_refusal.ensures (refused-words (meaning_of (map string_bytes c.args.words.now)) c.in-Err.fault c.in-Err.ensures.meaning)
+
+no-fault : (line : CommandLine) (fault : UsageFault) → Ok line ≡ Err fault → ⊥
+no-fault line fault same = cc
+
+told : CommandLine → Result CommandLine UsageFault
+told line = Ok line
+
+no-help : (line : CommandLine) (number : ℕ) → line ≡ Drill number → told line ≡ told Help → ⊥
+unfolding told
+no-help line number is same = cc
+
+made-comes : (rose : Type 0) (outcome made text : Outcome) → text ≡ made → Meets outcome made → ComesTo rose (Some outcome) text
+made-comes rose outcome made text is meets = rw is (known-outcome rose outcome (Some outcome) made refl meets)
+
+pub returns-in-Ok-Drill-clause-comes : goal.returns-in-Ok-Drill-clause-comes
+returns-in-Ok-Drill-clause-comes g c =
+    let outcome = outcome_of_question (asking_of_made c.in-Ok-Drill.number) (made_question c.in-Ok-Drill.number) in
+    let meaning : meaning_of (map string_bytes c.args.words.now) ≡ Ok (Drill c.in-Ok-Drill.number) = c.in-Ok-Drill.ensures.meaning ∙ ap Ok c.in-Ok-Drill.field-0-is in
+    rw meaning (made-comes _ outcome c.made_report.result (with_value text_of c.as_text-in-Ok-Drill.result) c.as_text-in-Ok-Drill.ensures c.made_report.ensures)
+
+pub returns-in-Ok-Drill-clause-words : goal.returns-in-Ok-Drill-clause-words
+returns-in-Ok-Drill-clause-words g c = λ fault is.
+    absurd (no-fault (Drill c.in-Ok-Drill.number) fault (sym (c.in-Ok-Drill.ensures.meaning ∙ ap Ok c.in-Ok-Drill.field-0-is) ∙ is))
+
+pub returns-in-Ok-Drill-clause-help : goal.returns-in-Ok-Drill-clause-help
+returns-in-Ok-Drill-clause-help g c = λ asked. absurd (no-help _ c.in-Ok-Drill.number c.in-Ok-Drill.field-0-is (c.in-Ok-Drill.ensures.help asked))
