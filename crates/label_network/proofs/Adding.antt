@@ -8,8 +8,23 @@ use Rattle.std.proofs.lemmas.List.Sums.{sum_by-drop_more, sum_by-take-drop}
 use Rattle.label_network.specs.LaterSums.{total_score, least_sum, greatest_sum}
 use Rattle.weights.specs.Numbers.{absolute_sum}
 use Rattle.label_network.specs.Linear.{steps_by, added_by}
-use Rattle.label_network.specs.LinearSteps.{reach, whole_reach, HasTails, IsAdding, AreAdding}
+use Rattle.label_network.specs.LinearSteps.{reach, whole_reach, HasTails}
 use Rattle.label_network.proofs.Absolute.{least-size, greatest-size, total-size, size-plus}
+
+-- what is added of the rows before row i, and what remains of them from row i - 1 on
+pub record IsAdding (part : ℕ → List ℤ → ℤ) (us : List ℤ) (ms : List ℕ) (later : List ℤ)
+    (i left : ℕ) (added : ℤ) : Type 0 where
+  pub counted : left ≡ sum (drop (i - 1) ms)
+  pub adding : added +ℤ steps_by part (get_or us (i - 1) (pos 0)) (drop i us) (drop i ms) later
+      ≡ added_by part us ms later
+  pub small : unsigned_abs added + reach (get_or us (i - 1) (pos 0)) (drop i us) * absolute_sum later
+      ≤ whole_reach us * absolute_sum later
+
+-- both ends of what is added
+pub record AreAdding (us : List ℤ) (ms : List ℕ) (later : List ℤ) (i left : ℕ) (low high : ℤ)
+    : Type 0 where
+  pub least : IsAdding least_sum us ms later i left low
+  pub most : IsAdding greatest_sum us ms later i left high
 
 same-le : (n : ℕ) → n ≤ n
 same-le n = omega arith

@@ -6,7 +6,8 @@ use Rattle.std.proofs.lemmas.List.Elements.{All-contains, All-from_recursion}
 use Rattle.weights.specs.Grouped.{fits, choices}
 use Rattle.label_network.specs.ChoiceOrder.{later_choices}
 use Rattle.std.specs.Prelude.{ℤ}
-use Rattle.label_network.specs.LabelSteps.{AreSizes, least, after_or, choice_after, choices_from}
+use Rattle.label_network.specs.LabelSteps.{AreSizes, least}
+use Rattle.label_network.proofs.ChoiceSteps.{after_or, choice_after, choices_from}
 use Rattle.label_network.specs.Meanings.{sizes_in}
 use Rattle.weights.proofs.ChoiceLists.{IsChoice, choices-each}
 use Rattle.label_network.proofs.LaterChoices.{next-later}

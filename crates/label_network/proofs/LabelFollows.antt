@@ -3,7 +3,6 @@ use Rattle.std.proofs.Common.{◌≡◌, ℕ, List, Bool, cond, refl, sym, ◌�
 use Rattle.std.specs.Prelude.{ℤ}
 use Rattle.std.specs.List.{sum_by, Contains}
 use Rattle.std.proofs.lemmas.List.Elements.{recursion_from_All, All-contains_itself}
-use Rattle.std.proofs.lemmas.List.Sums.{length-filter}
 use Rattle.weights.specs.declared.tails.Tail.{Tail}
 use Rattle.weights.specs.Conditional.{ConditionalTest}
 use Rattle.weights.specs.Labellings.{labellings}
@@ -33,7 +32,6 @@ module _ (m : Meaning) (s : IsMeasure m) (test : ConditionalTest) (tail : Tail) 
   label_ends : (p : ℤ → Bool) → value_weights (label_network m) p ≡ measured_weight test tail p
   label_ends p =
       label_ending m s.level p
-      ∙ length-filter (λ xs. p (labelling_value m xs)) (labellings m.rows)
       ∙ sym (
       sum_by-filter test.weight (λ xs. p (measured test tail xs)) test.reference
       ∙ ap (sum_by (λ xs. cond (p (measured test tail xs)) (test.weight xs) 0)) o.reference

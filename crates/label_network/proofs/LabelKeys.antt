@@ -3,7 +3,6 @@ use Rattle.std.proofs.Common.{◌≡◌, ℕ, zero, suc, ◌+◌, ◌-◌, ◌*�
 use Rattle.std.specs.Prelude.{ℤ, pos, slice_index}
 use Rattle.std.specs.List.{sum_by, sum, filter, Contains}
 use Rattle.std.proofs.lemmas.Bool.{lt-ltb, le-ltb}
-use Rattle.std.proofs.lemmas.List.Sums.{length-filter}
 use Rattle.std.proofs.Math.Seq.{take-append_seam, drop-append_seam}
 use Rattle.stage_network.specs.Network.{IsReached}
 use Rattle.stage_network.specs.Completions.{paths, completions, path_weight, path_end, total_weight, ending_weight, value_weights}
@@ -14,7 +13,7 @@ use Rattle.weights.proofs.Filters.{flat_map-same, filter-same}
 use Rattle.weights.proofs.GroupingLaw.{grouping, one-times}
 use Rattle.weights.proofs.Sized.{length-minus}
 use Rattle.weights.proofs.Sums.{sum_by-same, sum_by-one, sum_by-filter}
-use Rattle.label_network.specs.Endings.{partial_after, table_value, labelling_value}
+use Rattle.label_network.specs.Endings.{EndsAsLabelled, partial_after, table_value}
 use Rattle.label_network.specs.LabelNetwork.{label_network, partial, remaining}
 use Rattle.label_network.specs.Meanings.{Meaning, AreReached, IsPlace, allowed, sizes_in}
 use Rattle.label_network.proofs.Narrowing.{IsLeft, reached-left}
@@ -126,7 +125,7 @@ module _ (m : Meaning) where
         ∙ sum_by-one (labellings (remaining m k))
 
     -- as much weight ends at values that pass as labellings of single subjects have a value that does
-    pub label_ending : (p : ℤ → Bool) → value_weights (label_network m) p ≡ length (filter (λ xs. p (labelling_value m xs)) (labellings m.rows))
+    pub label_ending : EndsAsLabelled m
     unfolding ending_weight
     label_ending p =
         let n = label_network m in
@@ -138,4 +137,3 @@ module _ (m : Meaning) where
         ∙ sum_by-filter table_weight (λ w. p (table_value m w)) (tables m.columns m.rows)
         ∙ sym (sum_by-same _ _ (λ w. one-times (table_weight w) (p (table_value m w))) (tables m.columns m.rows))
         ∙ grouping m.columns m.rows (λ w. one_if (p (table_value m w))) level
-        ∙ sym (length-filter (λ xs. p (labelling_value m xs)) (labellings m.rows))

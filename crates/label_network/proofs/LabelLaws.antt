@@ -13,9 +13,11 @@ use Rattle.stage_network.specs.Laws.{IsLawful}
 use Rattle.stage_network.specs.Judged.{HasIntervals}
 use Rattle.stage_network.specs.Rooms.{AreRoommates, IsRoomed}
 use Rattle.stage_network.proofs.Judging.{judged-here, judged-else, intervals-inside, intervals-outside, intervals-decided}
+use Rattle.label_network.specs.Endings.{EndsAsLabelled}
 use Rattle.label_network.specs.LabelNetwork.{IsMargin, label_network, partial, remaining}
 use Rattle.label_network.specs.Meanings.{Meaning, IsMeasure, allowed, sizes_in}
-use Rattle.label_network.proofs.LabelKeys.{IsKey, is_key, is_left, is_allowed, choices-before, choices-past, front-next, label_total, length-pos, partial-next, remaining-first, remaining-next}
+use Rattle.label_network.proofs.Differing.{label_different}
+use Rattle.label_network.proofs.LabelKeys.{IsKey, is_key, is_left, is_allowed, choices-before, choices-past, front-next, label_ending, label_total, length-pos, partial-next, remaining-first, remaining-next}
 use Rattle.label_network.proofs.LaterChoices.{least-first}
 use Rattle.label_network.proofs.Narrowing.{IsLeft}
 
@@ -61,6 +63,9 @@ module _ (m : Meaning) (s : IsMeasure m) where
       let wide : length (m.advance g (remaining m j) c (partial m j)) ≡ m.slots = s.wide (suc g) (minus (remaining m j) c) (m.advance g (remaining m j) c (partial m j)) (remaining m j, partial m j, c, h.reached, before, is_allowed m g j c before o, refl, refl) in
       ap length e ∙ omega (arith, length-append (map pos (minus (remaining m j) c)) (m.advance g (remaining m j) c (partial m j)), length-pos (minus (remaining m j) c), length-minus (remaining m j) c, h.long, wide)
 
+  pub label_grouping : EndsAsLabelled m
+  label_grouping = label_ending m s.level
+
   first-total : number_of_labellings m.rows ≤ MAX → number_of_labellings (remaining m (label_network m).first) ≤ MAX
   first-total h = rw (remaining-first m) h
 
@@ -70,6 +75,7 @@ module _ (m : Meaning) (s : IsMeasure m) where
     width_most = omega (arith, i.wide, ap length i.rows_are);
     long = key-long;
     some_choice = some_way;
+    different = label_different m;
     weighty = λ g k c r o. number_of_labellings-positive c;
     ends = λ k r. choices-past m (length m.columns) k (omega arith);
     fits = rw (label_total m s.level 0 (label_network m).first (is_key m 0 (label_network m).first refl)) (first-total (subst (λ rs. number_of_labellings rs ≤ MAX) i.rows_are i.total));

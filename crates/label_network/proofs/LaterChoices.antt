@@ -6,7 +6,8 @@ use Rattle.std.proofs.lemmas.Bool.Decides.{leb_tells}
 use Rattle.std.proofs.lemmas.Grind.{flat_map-append}
 use Rattle.weights.specs.Grouped.{fits, minus, choices}
 use Rattle.label_network.specs.ChoiceOrder.{later_choices}
-use Rattle.label_network.specs.LabelSteps.{least, after_or, choice_after, choices_from}
+use Rattle.label_network.specs.LabelSteps.{least}
+use Rattle.label_network.proofs.ChoiceSteps.{after_or, choice_after, choices_from}
 use Rattle.weights.proofs.ChoiceLists.{IsChoice}
 use Rattle.weights.proofs.Sized.{first_and, sum-minus}
 

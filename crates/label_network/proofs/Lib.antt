@@ -1,4 +1,8 @@
+pub mod BinomialTable
 pub mod ChoiceMoves
+pub mod ChoiceSteps
+pub mod Climbing
+pub mod Differing
 pub mod KeyParts
 pub mod LabelFollows
 pub mod LabelKeys
@@ -29,4 +33,3 @@ pub mod LinearPairings
 pub mod Rows
 pub mod Sizes
 pub mod Vectors
-pub mod WaysTable

@@ -9,7 +9,8 @@ use Rattle.completion_bounds.specs.Pairings.{IsLeastPairing, IsGreatestPairing}
 use Rattle.completion_bounds.proofs.Rearranged.{Ascends, all_imp, is_least, is_greatest}
 use Rattle.weights.proofs.OneOrder.{in_order-permutes}
 use Rattle.label_network.specs.LaterSums.{subjects}
-use Rattle.label_network.specs.Linear.{Climbs, RowsClimb, least_added, greatest_added}
+use Rattle.label_network.specs.Linear.{least_added, greatest_added}
+use Rattle.label_network.proofs.Climbing.{Climbs, RowsClimb}
 use Rattle.label_network.proofs.Later.{length-subjects}
 use Rattle.label_network.proofs.Sorting.{sort_up, sort-climbs, length-sort}
 use Rattle.label_network.proofs.LeastPairing.{least_pairing_is, greatest_pairing_is}

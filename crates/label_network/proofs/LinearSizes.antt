@@ -7,11 +7,12 @@ use Rattle.std.proofs.lemmas.Int.{ints, unsigned_abs-mul}
 use Rattle.std.proofs.lemmas.List.{reverse-append}
 use Rattle.std.proofs.lemmas.List.Sums.{sum_by-cons}
 use Rattle.completion_bounds.specs.Pairings.{paired, greatest_score}
+use Rattle.weights.specs.Numbers.{absolute_sum}
 use Rattle.weights.proofs.OneOrder.{sum_by-in_order}
 use Rattle.weights.proofs.Sums.{absolute_sum-by}
 use Rattle.label_network.specs.LaterSums.{subjects}
-use Rattle.weights.specs.Numbers.{absolute_sum}
-use Rattle.label_network.specs.Linear.{row_sum, Climbs, RowsClimb, score_of, picked_scores, least_added, greatest_added}
+use Rattle.label_network.specs.Linear.{row_sum, score_of, picked_scores, least_added, greatest_added}
+use Rattle.label_network.proofs.Climbing.{Climbs, RowsClimb}
 use Rattle.label_network.specs.LinearSteps.{reach, whole_reach}
 use Rattle.label_network.proofs.Absolute.{size-plus}
 use Rattle.label_network.proofs.Sorting.{sort_up}

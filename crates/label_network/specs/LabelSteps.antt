@@ -1,9 +1,8 @@
 -- Words for the bodies: the next choice, sizes in a key, and tables of binomials.
-use Rattle.std.specs.Prelude.{◌≡◌, ℕ, ◌+◌, ◌-◌, ◌*◌, ◌^◌, ◌<◌, ◌≤◌, ℤ, pos, nat_abs, List, [], ◌∷◌, length, drop, get_or, min, Option, Some, None, nat_lt, if◌then◌else◌}
+use Rattle.std.specs.Prelude.{◌≡◌, ℕ, ◌+◌, ◌-◌, ◌*◌, ◌^◌, ◌<◌, ◌≤◌, ℤ, pos, nat_abs, List, [], ◌∷◌, length, drop, get_or, min}
 use Rattle.std.specs.List.{sum}
 use Rattle.weights.specs.Numbers.{binomial}
 use Rattle.weights.specs.declared.TheConstants.{MAX}
-use Rattle.label_network.specs.ChoiceOrder.{later_choices}
 use Rattle.label_network.specs.LabelNetwork.{IsMargin}
 use Rattle.label_network.specs.Meanings.{Meaning, IsMeasure}
 
@@ -11,22 +10,6 @@ use Rattle.label_network.specs.Meanings.{Meaning, IsMeasure}
 abbrev pub least : ℕ → List ℕ → List ℕ
 least c [] = []
 least c (r ∷ rs) = (c - sum rs) ∷ least (min c (sum rs)) rs
-
--- the choice after a choice, where there is one: by a later row, or by one more of this row
-abbrev pub after_or : Option (List ℕ) → ℕ → ℕ → ℕ → List ℕ → Option (List ℕ)
-after_or (Some y) a c r rs = Some (a ∷ y)
-after_or None a c r rs =
-    if nat_lt a (min c r) then Some ((a + 1) ∷ least (c - (a + 1)) rs) else None
-
-abbrev pub choice_after : ℕ → List ℕ → List ℕ → Option (List ℕ)
-choice_after c [] x = None
-choice_after c (r ∷ rs) [] = None
-choice_after c (r ∷ rs) (a ∷ x) = after_or (choice_after (c - a) rs x) a c r rs
-
--- the choices from one on, or none
-abbrev pub choices_from : ℕ → List ℕ → Option (List ℕ) → List (List ℕ)
-choices_from c r None = []
-choices_from c r (Some y) = y ∷ later_choices c r y
 
 -- a number of a key that is a size
 pub record IsSize (z : ℤ) : Type 0 where
@@ -45,7 +28,7 @@ capped n = min n MAX
 
 -- the first `long` places are filled: row m has the ways to choose fewer than `width` of m, each
 -- cut off at the greatest total
-pub record IsWays (width long : ℕ) (table : List ℕ) : Type 0 where
+pub record AreBinomials (width long : ℕ) (table : List ℕ) : Type 0 where
   pub wide : 1 ≤ width
   pub long_is : length table ≡ long
   pub each : (m j : ℕ) → j < width → m * width + j < long

@@ -5,7 +5,9 @@ ghost use Rattle.label_network.specs.LaterSteps.{better_of, other_end};
 /// Whether sums are to be as little as can be, or as great.
 #[derive(Clone, Copy, Debug, PartialEq, Eq)]
 pub enum End {
+    /// As little.
     Least,
+    /// As great.
     Greatest,
 }
 

@@ -7,8 +7,8 @@ ghost use Rattle.weights.specs.declared.TheConstants.{MAX};
 ghost use Rattle.label_network.specs.LabelSteps.{AreSizes, IsHeld, IsSize};
 ghost use Rattle.label_network.specs.Meanings.{sizes_in};
 
+use crate::binomials::Binomials;
 use crate::choice_order::size_in;
-use crate::ways::Ways;
 use weights::total_of;
 
 /// Writes the sizes that the numbers of a key stand for.
@@ -22,6 +22,7 @@ pub fn read_sizes(front: &[i128], sizes: &mut [u64])
     }
 }
 
+/// Writes sizes as the numbers of a key.
 pub fn write_sizes(sizes: &[u64], front: &mut [i128])
     requires { length front.old ≡ length sizes.now }
     ensures { front.new ≡ map pos sizes.now }
@@ -40,7 +41,7 @@ fn less(size: i128, count: u64) -> i128
     size - count as i128
 }
 
-// Writes the sizes that remain after a choice.
+/// Writes the sizes that remain after a choice.
 pub fn take_away(front: &[i128], choice: &[u64], left: &mut [i128])
     requires sizes { AreSizes front.now }
     requires fitting { fits choice.now (sizes_in front.now) ≡ true }
@@ -52,31 +53,31 @@ pub fn take_away(front: &[i128], choice: &[u64], left: &mut [i128])
     }
 }
 
-// How many labellings there are of the sizes that remain.
-pub fn rest_in(ways: &Ways, front: &[i128]) -> u128
+/// How many labellings there are of the sizes that remain.
+pub fn rest_in(binomials: &Binomials, front: &[i128]) -> u128
     requires few { length front.now ≤ 8 }
     requires sizes { AreSizes front.now }
     requires small { sum (sizes_in front.now) < 2 ^ 64 }
-    requires held { IsHeld ways.now.width (sizes_in front.now) }
+    requires held { IsHeld binomials.now.width (sizes_in front.now) }
     requires fits { number_of_labellings (sizes_in front.now) ≤ MAX }
     ensures { result ≡ number_of_labellings (sizes_in front.now) }
 {
     let mut numbers = [0u64; 8];
     let sizes = &mut numbers[..front.len()];
     read_sizes(front, sizes);
-    ways.labellings(sizes, total_of(sizes))
+    binomials.labellings(sizes, total_of(sizes))
 }
 
-// In how many ways a column's subjects are labelled by a choice: one subject in one way.
-pub fn weight_in(ways: &Ways, column: u64, choice: &[u64]) -> u128
+/// In how many ways a column's subjects are labelled by a choice: one subject in one way.
+pub fn weight_in(binomials: &Binomials, column: u64, choice: &[u64]) -> u128
     requires whole { column ≡ sum choice.now }
-    requires held { IsHeld ways.now.width choice.now }
+    requires held { IsHeld binomials.now.width choice.now }
     requires fits { number_of_labellings choice.now ≤ MAX }
     ensures { result ≡ number_of_labellings choice.now }
 {
     if column == 1 {
         1
     } else {
-        ways.labellings(choice, column)
+        binomials.labellings(choice, column)
     }
 }

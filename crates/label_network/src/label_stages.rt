@@ -1,12 +1,13 @@
 // The network of a measure.
 ghost use Rattle.std.specs.Prelude.{◌≡◌, IfOk, length};
+ghost use Rattle.label_network.specs.Endings.{EndsAsLabelled};
 ghost use Rattle.label_network.specs.LabelNetwork.{IsMargin, label_network};
 ghost use Rattle.label_network.specs.Meanings.{sizes_in};
 
+use crate::binomials::Binomials;
 use crate::choice_order::{first_counts, next_counts};
 use crate::keys::{rest_in, take_away, weight_in, write_sizes};
 use crate::measure::Measure;
-use crate::ways::Ways;
 use stage_network::{Roomed, Stages, Verdict, behind, front};
 use std::alloc::Global;
 use std::marker::Model;
@@ -20,7 +21,7 @@ pub struct LabelStages<M: Measure> {
     columns: Vec<u64>,
     rows: Vec<u64>,
     slots: usize,
-    ways: Ways,
+    binomials: Binomials,
     measure: M,
 }
 
@@ -32,7 +33,7 @@ impl<M: Measure> Model for LabelStages<M> {
     ghost view = { λ s. s.measure };
 
     ghost invariant = { λ s.
-        IsStaged (M.meaning s.measure) s.columns.items s.rows.items s.slots s.ways.width };
+        IsStaged (M.meaning s.measure) s.columns.items s.rows.items s.slots s.binomials.width };
 }
 
 impl<M: Measure> LabelStages<M> {
@@ -51,16 +52,24 @@ impl<M: Measure> LabelStages<M> {
         ensures { IfOk result (λ stages. stages ≡ measure) }
     {
         let slots = measure.slots();
-        let ways = Ways::for_rows(alloc, rows)?;
+        let binomials = Binomials::for_rows(alloc, rows)?;
         let columns = Vec::from_slice(alloc, columns)?;
         let rows = Vec::from_slice(alloc, rows)?;
         Ok(LabelStages {
             columns,
             rows,
             slots,
-            ways,
+            binomials,
             measure,
         })
+    }
+
+    /// The grouping law, of every measure. Tied subjects may be counted by columns: as much weight
+    /// ends at each value of the measure as labellings of single subjects have that value.
+    pub fn grouping_law(&self)
+        ensures { EndsAsLabelled (M.meaning self.now) }
+    {
+        let _slots = self.measure.slots();
     }
 }
 
@@ -106,7 +115,7 @@ impl<M: Measure> Stages for LabelStages<M> {
     }
 
     fn rest(&self, _stage: usize, key: &[i128]) -> u128 {
-        rest_in(&self.ways, front(key, self.rows.len()))
+        rest_in(&self.binomials, front(key, self.rows.len()))
     }
 
     #[inline(always)]
@@ -140,7 +149,7 @@ impl<M: Measure> Roomed for LabelStages<M> {
 
     fn cross(&self, stage: usize, key: &[i128], choice: &[u64], room: &mut [i128]) -> u128 {
         take_away(front(key, self.rows.len()), choice, room);
-        weight_in(&self.ways, self.columns[stage], choice)
+        weight_in(&self.binomials, self.columns[stage], choice)
     }
 
     fn step_width(&self) -> usize {

@@ -3,6 +3,7 @@
 #![tactic(auto)]
 
 mod added;
+mod binomials;
 mod choice_order;
 mod ends;
 mod keys;
@@ -10,14 +11,11 @@ mod label_stages;
 mod later_scores;
 mod linear;
 mod measure;
-#[cfg(test)]
-mod tests;
-mod ways;
 
+pub use binomials::Binomials;
 pub use ends::End;
 pub use keys::read_sizes;
 pub use label_stages::LabelStages;
 pub use later_scores::LaterScores;
 pub use linear::{LinearMeasure, score_choice};
 pub use measure::Measure;
-pub use ways::Ways;

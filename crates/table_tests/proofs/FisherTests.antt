@@ -16,7 +16,7 @@ use Rattle.weights.specs.declared.wide.WideOf.TheVariants.{Total}
 use Rattle.weights.specs.Conditional.{ConditionalTest, by_rarity, observed_statistic, total, unit_weight}
 use Rattle.weights.specs.Frames.{IsFrameOf, IsShown, RulesFit}
 use Rattle.weights.specs.declared.frames.Frame.{Frame}
-use Rattle.weights.specs.Grouped.{columns_of, fits, minus, table_weight}
+use Rattle.weights.specs.Grouped.{columns_of, fits, labellings_giving, minus, table_weight}
 use Rattle.weights.specs.Labellings.{counts_of, labellings, number_of_labellings}
 use Rattle.weights.specs.Rules.{RuleFits, measured, rule_of}
 use Rattle.weights.specs.Wide.{too_wide}
@@ -108,8 +108,24 @@ is-table x is (j ∷ js) = (
   subst (λ r. tables.IsTable (map (λ j. sum_by (λ i. x i j) is) js) r (map (λ j. map (λ i. x i j) is) js)) (sym (mapped-minus (λ i. x i j) (λ i. sum_by (λ j. x i j) (j ∷ js)) (λ i. sum_by (λ j. x i j) js) (λ i. sum_by-cons (λ j. x i j) j js) is)) (is-table x is js),
 )
 
+-- the table that a labelling gives is one of those, and so as many labellings give it as it weighs
+
+pub given-table : (t : TableData) (xs : List ℕ) → Contains (labellings (row_sums t)) xs → tables.IsTable (column_sums t) (row_sums t) (columns_of t.rows (column_sums t) xs)
+given-table t xs m =
+    let l = labelling_from (row_sums t) xs m in
+    subst (λ k. tables.IsTable (column_sums t) (row_sums t) (columns_of k (column_sums t) xs)) (length-rows t)
+    (tables.columns-table (length (row_sums t)) (column_sums t) (row_sums t) xs refl (sym (level t)) l.over (rw l.counted (same_refl (row_sums t))))
+
+pub rarity-is : (t : TableData) (xs : List ℕ) → Contains (labellings (row_sums t)) xs → rarity t xs ≡ table_weight (columns_of t.rows (column_sums t) xs)
+rarity-is t xs m = sym (tables.table_weight_is (column_sums t) (row_sums t) (columns_of t.rows (column_sums t) xs) (sym (level t)) (given-table t xs m))
+
+observed-table : (t : TableData) → tables.IsTable (column_sums t) (row_sums t) (columns_in t)
+observed-table t = is-table (λ i j. cell t i j) (range_with_len 0 t.rows) (range_with_len 0 t.columns)
+
 pub observed-rarity : (t : TableData) → rarity t (observed_labels t) ≡ table_weight (columns_in t)
-observed-rarity t = ap table_weight (observed-columns t)
+observed-rarity t =
+    ap (λ w. labellings_giving w (column_sums t) (row_sums t)) (observed-columns t)
+    ∙ sym (tables.table_weight_is (column_sums t) (row_sums t) (columns_in t) (sym (level t)) (observed-table t))
 
 head-cell : (k : ℕ) (cs xs : List ℕ) → 1 ≤ k → 1 ≤ length cs → get_or (get_or (columns_of k cs xs) 0 []) 0 0 ≡ first_cell cs xs
 head-cell zero cs xs h l = absurd (omega (arith, h))
@@ -204,7 +220,7 @@ module _ (t : TableData) (i : IsTable t) where
   not-wide = rw (le-ltb MAX (total (fisher_test t)) bounded) refl
 
   pub observed-few : table_weight (columns_in t) ≤ MAX
-  observed-few = omega (arith, table-all (row_sums t) (column_sums t) (columns_in t) (is-table (λ i j. cell t i j) (range_with_len 0 t.rows) (range_with_len 0 t.columns)), i.total_fits)
+  observed-few = omega (arith, table-all (row_sums t) (column_sums t) (columns_in t) (observed-table t), i.total_fits)
 
   -- of a labelling
   module _ (xs : List ℕ) (m : Contains (labellings (row_sums t)) xs) where
@@ -215,13 +231,8 @@ module _ (t : TableData) (i : IsTable t) where
       few = column-few t i;
     }
 
-    pub rarity-few : rarity t xs ≤ MAX
-    rarity-few =
-        let l = labelling_from (row_sums t) xs m in
-        let given : tables.IsTable (column_sums t) (row_sums t) (columns_of (length (row_sums t)) (column_sums t) xs) =
-        tables.columns-table (length (row_sums t)) (column_sums t) (row_sums t) xs refl even l.over (rw l.counted (same_refl (row_sums t))) in
-        let most : table_weight (columns_of (length (row_sums t)) (column_sums t) xs) ≤ number_of_labellings (row_sums t) = table-all (row_sums t) (column_sums t) (columns_of (length (row_sums t)) (column_sums t) xs) given in
-        subst (λ k. table_weight (columns_of k (column_sums t) xs) ≤ MAX) (length-rows t) (omega (arith, most, i.total_fits))
+    pub weight-few : table_weight (columns_of t.rows (column_sums t) xs) ≤ MAX
+    weight-few = omega (arith, table-all (row_sums t) (column_sums t) (columns_of t.rows (column_sums t) xs) (given-table t xs m), i.total_fits)
 
     -- the first column's subjects are there
     pub first-within : get_or (column_sums t) 0 0 ≤ length xs
@@ -250,7 +261,7 @@ module _ (t : TableData) (i : IsTable t) where
         rule_is = refl;
         reference = refl;
         alike = λ xs. refl;
-        values = λ xs m. ap (λ k. pos (table_weight (columns_of k (column_sums t) xs))) (sym (length-rows t)) ∙ sym (weight-value (row_sums t) (column_sums t) Two (rule_of (fisher_test t) Two) xs);
+        values = λ xs m. ap pos (rarity-is t xs m) ∙ ap (λ k. pos (table_weight (columns_of k (column_sums t) xs))) (sym (length-rows t)) ∙ sym (weight-value (row_sums t) (column_sums t) Two (rule_of (fisher_test t) Two) xs);
       })
 
   first-value : (tail : Tail) → is_two_by_two t ≡ true → (xs : List ℕ) → pos (first_cell (column_sums t) xs) ≡ labelling_value (first_cell_meaning t tail) xs

@@ -7,14 +7,16 @@ use Rattle.std.specs.List.{count_by}
 use Rattle.weights.specs.declared.tails.Tail.{Tail}
 use Rattle.weights.specs.declared.tails.Tail.TheVariants.{Less, Greater, Two}
 use Rattle.weights.specs.Conditional.{ConditionalTest, by_rarity, unit_weight}
-use Rattle.weights.specs.Grouped.{columns_of, table_weight}
+use Rattle.weights.specs.Grouped.{columns_of, labellings_giving}
 use Rattle.weights.specs.Labellings.{labellings, number_of_labellings}
 use Rattle.table_reader.specs.TableLayout.{TableData}
 use Rattle.table_tests.specs.Tables.{column_sums, is_two_by_two, observed_labels, row_sums}
 
 -- the weight of the table that a labelling gives: how many labellings give it
 abbrev pub rarity : TableData → List ℕ → ℕ
-rarity table labels = table_weight (columns_of table.rows (column_sums table) labels)
+rarity table labels =
+    let columns = column_sums table in
+    labellings_giving (columns_of table.rows columns labels) columns (row_sums table)
 
 -- how many subjects of the first column are in the first row
 abbrev pub first_cell : List ℕ → List ℕ → ℕ

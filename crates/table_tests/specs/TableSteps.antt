@@ -6,6 +6,7 @@ use Rattle.weights.specs.Frames.{IsFrameOf}
 use Rattle.weights.specs.Labellings.{number_of_labellings}
 use Rattle.completion_bounds.specs.Pairings.{greatest_score}
 use Rattle.label_network.specs.Linear.{row_sum}
+use Rattle.table_reader.specs.declared.TheConstants.{MOST_COUNT, MOST_TABLE_COLUMNS, MOST_TABLE_ROWS}
 use Rattle.table_reader.specs.Counts.{AreCounts}
 use Rattle.table_reader.specs.TableLayout.{TableData}
 use Rattle.table_tests.specs.declared.TheConstants.{MOST_SCORE}
@@ -28,7 +29,7 @@ AreScores us = greatest_score us ≤ MOST_SCORE
 
 -- the most subjects that a column has
 abbrev pub most_subjects : ℕ
-most_subjects = 8 * 1000000
+most_subjects = MOST_TABLE_ROWS * MOST_COUNT
 
 -- a bound of what a column adds to a sum of products
 abbrev pub most_added : ℕ
@@ -42,9 +43,9 @@ pub record AreMargins (table : TableData) (margins : Margins) : Type 0 where
 -- a table of a shape that its tests take
 pub record IsTable (table : TableData) : Type 0 where
   pub two_rows : 2 ≤ table.rows
-  pub few_rows : table.rows ≤ 8
+  pub few_rows : table.rows ≤ MOST_TABLE_ROWS
   pub two_columns : 2 ≤ table.columns
-  pub few_columns : table.columns ≤ 64
+  pub few_columns : table.columns ≤ MOST_TABLE_COLUMNS
   pub one_each : length table.cells ≡ table.rows * table.columns
   pub total_fits : number_of_labellings (row_sums table) ≤ MAX
   pub counts : AreCounts table.cells
@@ -52,7 +53,7 @@ pub record IsTable (table : TableData) : Type 0 where
 -- columns of subjects, and their labels
 pub record AreColumns (columns labels : List ℕ) : Type 0 where
   pub level : sum columns ≡ length labels
-  pub few_columns : length columns ≤ 64
+  pub few_columns : length columns ≤ MOST_TABLE_COLUMNS
   pub few : (j : ℕ) → j < length columns → slice_index columns j ≤ most_subjects
 
 abbrev pub table_of : ℕ → ℕ → List ℕ → TableData

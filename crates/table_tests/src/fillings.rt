@@ -8,7 +8,7 @@ ghost use Rattle.label_network.specs.LabelSteps.{IsHeld};
 ghost use Rattle.table_tests.specs.WeightSteps.{AreHighs, AreRoomy};
 
 use completion_bounds::{fall, times_evenly_divided};
-use label_network::Ways;
+use label_network::Binomials;
 use std::alloc::Global;
 use weights::{MAX, NoMemory};
 
@@ -26,8 +26,8 @@ fn fill_in_turn(units: u64, rows: &[u64], cells: &mut [u64])
 }
 
 // The weight of a column that fills rows in turn. One that fits the first row has the weight 1.
-fn weight_in_turn(ways: &Ways, units: u64, rows: &[u64]) -> u128
-    requires rows { AreRoomy ways.now.width rows.now }
+fn weight_in_turn(binomials: &Binomials, units: u64, rows: &[u64]) -> u128
+    requires rows { AreRoomy binomials.now.width rows.now }
     requires room { units ≤ sum rows.now }
     ensures { result ≡ number_of_labellings (filled_in_turn units rows.now) }
 {
@@ -37,34 +37,34 @@ fn weight_in_turn(ways: &Ways, units: u64, rows: &[u64]) -> u128
     let mut room = [0u64; 8];
     let cells = &mut room[..rows.len()];
     fill_in_turn(units, rows, cells);
-    ways.labellings(cells, units)
+    binomials.labellings(cells, units)
 }
 
 // The product of the least weights of columns that fill rows, the greatest row first.
-fn least_product(ways: &Ways, columns: &[u64], rows: &[u64]) -> u128
-    requires rows { AreRoomy ways.now.width rows.now }
+fn least_product(binomials: &Binomials, columns: &[u64], rows: &[u64]) -> u128
+    requires rows { AreRoomy binomials.now.width rows.now }
     requires falls { falling rows.now ≡ rows.now }
     requires level { sum rows.now ≡ sum columns.now }
     ensures { result ≡ product_by (least_weight rows.now) columns.now }
 {
     let mut product: u128 = 1;
     for column in columns {
-        product *= weight_in_turn(ways, *column, rows);
+        product *= weight_in_turn(binomials, *column, rows);
     }
     product
 }
 
 /// The product of the least weights of columns over rows of these sizes.
-pub(crate) fn least_over(ways: &Ways, columns: &[u64], sizes: &[u64]) -> u128
+pub(crate) fn least_over(binomials: &Binomials, columns: &[u64], sizes: &[u64]) -> u128
     requires few { length sizes.now ≤ 8 }
-    requires rows { AreRoomy ways.now.width (falling sizes.now) }
+    requires rows { AreRoomy binomials.now.width (falling sizes.now) }
     requires level { sum sizes.now ≡ sum columns.now }
     ensures { result ≡ product_by (least_weight sizes.now) columns.now }
 {
     let mut room = [0u64; 8];
     let rows = &mut room[..sizes.len()];
     fall(sizes, rows);
-    least_product(ways, columns, rows)
+    least_product(binomials, columns, rows)
 }
 
 /// The products of the greatest weights of the later columns, cut off at the greatest weight, from

@@ -16,8 +16,6 @@ mod linear_ways;
 mod margins;
 mod sums;
 mod table_test;
-#[cfg(test)]
-mod tests;
 mod weight_measure;
 
 pub use fisher_table::{FisherTable, fisher_tails};

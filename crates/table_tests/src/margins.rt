@@ -1,6 +1,7 @@
 // The sums of a table's rows and of its columns, and its columns.
 ghost use Rattle.std.specs.Prelude.{◌≡◌, ℕ, ◌+◌, ◌*◌, ◌<◌, ◌≤◌, length, slice_index, IfOk};
 ghost use Rattle.std.specs.List.{range_with_len, sum_by};
+ghost use Rattle.table_reader.specs.declared.TheConstants.{MOST_TABLE_COLUMNS};
 ghost use Rattle.table_reader.specs.Counts.{AreCounts};
 ghost use Rattle.table_reader.specs.Data.{table_data_of};
 ghost use Rattle.table_tests.specs.Tables.{column_of, column_sums, row_sums};
@@ -21,7 +22,7 @@ pub(crate) struct Margins {
 fn line_sum(cells: &[u64], from: usize, step: usize, count: usize) -> u64
     requires inside { (k : ℕ) → k < count → from + k * step < length cells.now }
     requires counts { AreCounts cells.now }
-    requires few { count ≤ 64 }
+    requires few { count ≤ MOST_TABLE_COLUMNS }
     ensures { let term = λ (k : ℕ). slice_index cells.now (from + k * step) in
         result ≡ sum_by term (range_with_len 0 count) }
 {

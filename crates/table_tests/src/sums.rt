@@ -13,9 +13,9 @@ ghost use Rattle.table_tests.specs.Tables.{columns_in};
 ghost use Rattle.table_tests.specs.TableSteps.{AreColumns, AreScores, most_added, most_subjects, table_sum};
 
 use crate::margins::read_column;
-use label_network::{plus, score_choice, times};
+use label_network::score_choice;
 use table_reader::Table;
-use weights::multinomial;
+use weights::{multinomial, plus, times};
 
 /// How often a label occurs.
 pub(crate) fn count_label(labels: &[u8], label: u64) -> u64

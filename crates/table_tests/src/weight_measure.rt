@@ -13,7 +13,7 @@ ghost use Rattle.table_tests.specs.WeightSteps.{AreRoomy, IsWeighing, IsWeightMe
 
 use crate::fillings::{later_highs, least_over};
 use completion_bounds::fall;
-use label_network::{Measure, Ways, read_sizes};
+use label_network::{Binomials, Measure, read_sizes};
 use stage_network::{Interval, Judge, Verdict};
 use std::alloc::Global;
 use weights::{NoMemory, Tail, only, times, total_of};
@@ -29,13 +29,13 @@ use weights::{NoMemory, Tail, only, times, total_of};
 pub struct WeightMeasure {
     rows: Vec<u64>,
     columns: Vec<u64>,
-    ways: Ways,
+    binomials: Binomials,
     // Those of the rows with the greatest first.
-    falling_ways: Ways,
+    falling_binomials: Binomials,
     // The products of the greatest weights of the later columns, the last stage first.
     highs: Vec<u128>,
     judge: Judge,
-    ghost right: { IsWeightMeasure rows.items columns.items ways.width falling_ways.width
+    ghost right: { IsWeightMeasure rows.items columns.items binomials.width falling_binomials.width
         highs.items judge.rule },
 }
 
@@ -73,8 +73,8 @@ fn later_columns(columns: &[u64], stage: usize) -> &[u64]
 // By what the sizes that remain can still multiply a product: at least by the least weights of the
 // later columns, and at most by `high` or by all labellings.
 fn factors_of(
-    ways: &Ways,
-    falling_ways: &Ways,
+    binomials: &Binomials,
+    falling_binomials: &Binomials,
     later: &[u64],
     high: u128,
     remaining: &[i128],
@@ -82,9 +82,9 @@ fn factors_of(
     requires few { length remaining.now ≤ 8 }
     requires sizes { AreSizes remaining.now }
     requires small { sum (sizes_in remaining.now) < 2 ^ 64 }
-    requires held { IsHeld ways.now.width (sizes_in remaining.now) }
+    requires held { IsHeld binomials.now.width (sizes_in remaining.now) }
     requires fits { number_of_labellings (sizes_in remaining.now) ≤ MAX }
-    requires rows { AreRoomy falling_ways.now.width (falling (sizes_in remaining.now)) }
+    requires rows { AreRoomy falling_binomials.now.width (falling (sizes_in remaining.now)) }
     requires level { sum (sizes_in remaining.now) ≡ sum later.now }
     requires least { product_by (least_weight (sizes_in remaining.now)) later.now ≤ MAX }
     ensures low { result.low
@@ -94,9 +94,9 @@ fn factors_of(
     let mut numbers = [0u64; 8];
     let sizes = &mut numbers[..remaining.len()];
     read_sizes(remaining, sizes);
-    let rest = ways.labellings(sizes, total_of(sizes));
+    let rest = binomials.labellings(sizes, total_of(sizes));
     Interval {
-        low: held(least_over(falling_ways, later, sizes)),
+        low: held(least_over(falling_binomials, later, sizes)),
         high: held(rest.min(high)),
     }
 }
@@ -115,19 +115,19 @@ impl WeightMeasure {
             weight_meaning m.rows.items m.columns.items m.judge.tail m.judge.rule
             ≡ weight_meaning rows.now columns.now judge.tail judge.rule) }
     {
-        let ways = Ways::for_rows(alloc, rows)?;
+        let binomials = Binomials::for_rows(alloc, rows)?;
         let mut room = [0u64; 8];
         let falling = &mut room[..rows.len()];
         fall(rows, falling);
-        let falling_ways = Ways::for_rows(alloc, falling)?;
+        let falling_binomials = Binomials::for_rows(alloc, falling)?;
         let highs = later_highs(alloc, columns, rows.len() as u64)?;
         let own_rows = Vec::from_slice(alloc, rows)?;
         let own_columns = Vec::from_slice(alloc, columns)?;
         Ok(WeightMeasure {
             rows: own_rows,
             columns: own_columns,
-            ways,
-            falling_ways,
+            binomials,
+            falling_binomials,
             highs,
             judge,
         })
@@ -142,7 +142,7 @@ impl WeightMeasure {
         ensures { result ≡ pos (number_of_labellings choice.now) }
     {
         let _rows = remaining.len();
-        held(self.ways.labellings(choice, self.columns[stage]))
+        held(self.binomials.labellings(choice, self.columns[stage]))
     }
 
     // By what the sizes that remain can still multiply a product.
@@ -157,7 +157,13 @@ impl WeightMeasure {
     {
         let later = later_columns(self.columns.as_slice(), stage);
         let high = self.highs[later.len()];
-        factors_of(&self.ways, &self.falling_ways, later, high, remaining)
+        factors_of(
+            &self.binomials,
+            &self.falling_binomials,
+            later,
+            high,
+            remaining,
+        )
     }
 
     // Between which weights a key ends, whose partial can be multiplied by these.

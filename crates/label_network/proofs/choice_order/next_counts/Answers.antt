@@ -6,7 +6,8 @@ use Rattle.std.specs.List.{sum, Contains}
 use Rattle.std.proofs.Math.Seq.{drop-length}
 use Rattle.std.proofs.lemmas.List.Sums.{sum_by-drop_more}
 use Rattle.weights.specs.Grouped.{choices}
-use Rattle.label_network.specs.LabelSteps.{choice_after, least}
+use Rattle.label_network.specs.LabelSteps.{least}
+use Rattle.label_network.proofs.ChoiceSteps.{choice_after}
 use Rattle.label_network.specs.Meanings.{sizes_in}
 use Rattle.weights.proofs.ChoiceLists.{IsChoice}
 use Rattle.label_network.proofs.ChoiceMoves.{is_choice, last_choice, changed, not_here, fits-drop, drop-whole, rest-sizes, sizes-drop, take_rest, written}

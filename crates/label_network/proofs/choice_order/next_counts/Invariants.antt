@@ -1,6 +1,6 @@
 use Rattle.std.proofs.Common.{◌≡◌, ℕ, ◌≤◌, List, length, drop, None}
 use Rattle.std.specs.List.{sum}
-use Rattle.label_network.specs.LabelSteps.{choice_after}
+use Rattle.label_network.proofs.ChoiceSteps.{choice_after}
 use Rattle.label_network.specs.Meanings.{sizes_in}
 use Rattle.label_network.proofs.choice_order.next_counts.Given as goal
 

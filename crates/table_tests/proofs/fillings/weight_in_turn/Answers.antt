@@ -5,7 +5,7 @@ pub labellings-requires-clause-whole : goal.labellings-requires-clause-whole
 labellings-requires-clause-whole c = rw c.fill_in_turn.ensures (filled-whole c.args.units c.args.rows.now c.requires.room)
 
 pub labellings-requires-clause-held : goal.labellings-requires-clause-held
-labellings-requires-clause-held c = rw c.fill_in_turn.ensures (filled-held c.args.units c.args.rows.now c.requires.room c.args.ways.now.width c.requires.rows.held)
+labellings-requires-clause-held c = rw c.fill_in_turn.ensures (filled-held c.args.units c.args.rows.now c.requires.room c.args.binomials.now.width c.requires.rows.held)
 
 pub labellings-requires-clause-fits : goal.labellings-requires-clause-fits
 labellings-requires-clause-fits c = rw c.fill_in_turn.ensures (filled-few c.args.units c.args.rows.now c.requires.room c.requires.rows.total_fits)

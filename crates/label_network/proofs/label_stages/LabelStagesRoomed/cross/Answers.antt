@@ -10,13 +10,13 @@ use Rattle.label_network.proofs.label_stages.LabelStagesRoomed.cross.Goals.{Afte
 abbrev meaning : (g : Over) → After-len g → Meaning
 meaning g c = g.M.Measure.meaning c.args.self.now
 
-staged : (g : Over) (c : After-len g) → IsStaged (meaning g c) c.self.inside.columns.items c.self.inside.rows.items c.self.inside.slots c.self.inside.ways.width
+staged : (g : Over) (c : After-len g) → IsStaged (meaning g c) c.self.inside.columns.items c.self.inside.rows.items c.self.inside.slots c.self.inside.binomials.width
 staged g c = rw c.self.view_is at c.self.invariant
 
-parts : (g : Over) (c : After-len g) → KeyParts (meaning g c) c.self.inside.ways.width c.args.stage c.len.result c.args.key.now
+parts : (g : Over) (c : After-len g) → KeyParts (meaning g c) c.self.inside.binomials.width c.args.stage c.len.result c.args.key.now
 parts g c = let n : c.len.result ≡ length c.self.inside.rows.items = search rules in key_parts (meaning g c) _ _ _ _ (staged g c) c.args.stage c.args.key.now c.requires.reached c.len.result n
 
-choice : (g : Over) (c : After-len g) → ChoiceParts (meaning g c) c.self.inside.columns.items c.self.inside.rows.items c.self.inside.slots c.self.inside.ways.width (staged g c) c.args.stage c.len.result c.args.key.now c.args.choice.now
+choice : (g : Over) (c : After-len g) → ChoiceParts (meaning g c) c.self.inside.columns.items c.self.inside.rows.items c.self.inside.slots c.self.inside.binomials.width (staged g c) c.args.stage c.len.result c.args.key.now c.args.choice.now
 choice g c = let n : c.len.result ≡ length c.self.inside.rows.items = search rules in choice_parts (meaning g c) _ _ _ _ (staged g c) c.args.stage c.args.key.now c.args.choice.now c.requires.reached c.requires.before c.requires.allowed c.len.result n
 
 pub front-requires : goal.front-requires

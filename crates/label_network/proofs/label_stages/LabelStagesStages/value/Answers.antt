@@ -9,10 +9,10 @@ use Rattle.label_network.proofs.label_stages.LabelStagesStages.value.Goals.{Afte
 abbrev meaning : (g : Over) → After-len g → Meaning
 meaning g c = g.M.Measure.meaning c.args.self.now
 
-staged : (g : Over) (c : After-len g) → IsStaged (meaning g c) c.self.inside.columns.items c.self.inside.rows.items c.self.inside.slots c.self.inside.ways.width
+staged : (g : Over) (c : After-len g) → IsStaged (meaning g c) c.self.inside.columns.items c.self.inside.rows.items c.self.inside.slots c.self.inside.binomials.width
 staged g c = rw c.self.view_is at c.self.invariant
 
-parts : (g : Over) (c : After-len g) → KeyParts (meaning g c) c.self.inside.ways.width (length (meaning g c).columns) c.len.result c.args.key.now
+parts : (g : Over) (c : After-len g) → KeyParts (meaning g c) c.self.inside.binomials.width (length (meaning g c).columns) c.len.result c.args.key.now
 parts g c = let n : c.len.result ≡ length c.self.inside.rows.items = search rules in key_parts (meaning g c) _ _ _ _ (staged g c) (length (meaning g c).columns) c.args.key.now c.requires c.len.result n
 
 pub behind-requires : goal.behind-requires

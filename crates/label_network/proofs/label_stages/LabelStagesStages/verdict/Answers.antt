@@ -9,10 +9,10 @@ use Rattle.label_network.proofs.label_stages.LabelStagesStages.verdict.Goals.{Af
 abbrev meaning : (g : Over) → After-len-rows g → Meaning
 meaning g c = g.M.Measure.meaning c.args.self.now
 
-staged : (g : Over) (c : After-len-rows g) → IsStaged (meaning g c) c.self.inside.columns.items c.self.inside.rows.items c.self.inside.slots c.self.inside.ways.width
+staged : (g : Over) (c : After-len-rows g) → IsStaged (meaning g c) c.self.inside.columns.items c.self.inside.rows.items c.self.inside.slots c.self.inside.binomials.width
 staged g c = rw c.self.view_is at c.self.invariant
 
-parts : (g : Over) (c : After-len-rows g) → KeyParts (meaning g c) c.self.inside.ways.width c.args.stage c.len-rows.result c.args.key.now
+parts : (g : Over) (c : After-len-rows g) → KeyParts (meaning g c) c.self.inside.binomials.width c.args.stage c.len-rows.result c.args.key.now
 parts g c = let n : c.len-rows.result ≡ length c.self.inside.rows.items = search rules in key_parts (meaning g c) _ _ _ _ (staged g c) c.args.stage c.args.key.now c.requires c.len-rows.result n
 
 pub front-requires : goal.front-requires

@@ -1,7 +1,7 @@
 use Rattle.label_network.specs.Meanings.{sizes_in}
 use Rattle.label_network.specs.Linear.{picked}
 use Rattle.label_network.specs.LaterSums.{later_scores}
-use Rattle.label_network.specs.LinearSteps.{AreAdding}
+use Rattle.label_network.proofs.Adding.{AreAdding}
 use Rattle.label_network.proofs.later_scores.LaterScores.added.Given as goal
 
 abbrev pub invariant-loop-i : goal.invariant-loop-i

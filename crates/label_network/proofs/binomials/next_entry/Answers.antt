@@ -1,6 +1,6 @@
 use Rattle.std.proofs.Common.{◌∙◌}
-use Rattle.label_network.proofs.WaysTable.{first-entry, first-row, left-most, above-most, entry-sum}
-use Rattle.label_network.proofs.ways.next_entry.Goals as goal
+use Rattle.label_network.proofs.BinomialTable.{first-entry, first-row, left-most, above-most, entry-sum}
+use Rattle.label_network.proofs.binomials.next_entry.Goals as goal
 
 pub capped_sum-requires-clause-a : goal.capped_sum-requires-clause-a
 capped_sum-requires-clause-a c = left-most c.args.width c.args.row c.args.place c.args.table.now c.requires.table c.requires.place c.if-place-eq0.false c.if-row-eq0.false

@@ -1,9 +1,9 @@
 use Rattle.std.proofs.Common.{◌≡◌, ◌*◌, ◌+◌, get_or, drop, arith, drop_of_length-le}
 use Rattle.weights.specs.Labellings.{number_of_labellings}
 use Rattle.weights.proofs.Binomials.{next_factor_at}
-use Rattle.label_network.proofs.WaysTable.{rest-le, last-factor}
-use Rattle.label_network.proofs.ways.Ways.by_table.Goals.{then-count-left, else-count-left}
-use Rattle.label_network.proofs.ways.Ways.by_table.Goals as goal
+use Rattle.label_network.proofs.BinomialTable.{rest-le, last-factor}
+use Rattle.label_network.proofs.binomials.Binomials.by_table.Goals.{then-count-left, else-count-left}
+use Rattle.label_network.proofs.binomials.Binomials.by_table.Goals as goal
 
 pub loop-count-init : goal.loop-count-init
 loop-count-init c = record { rest = c.requires.whole; product = omega arith }

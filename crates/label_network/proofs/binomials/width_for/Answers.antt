@@ -1,6 +1,6 @@
 use Rattle.std.proofs.Common.{arith, refl}
 use Rattle.label_network.proofs.Rows.{width-first, width-next, width-room}
-use Rattle.label_network.proofs.ways.width_for.Goals as goal
+use Rattle.label_network.proofs.binomials.width_for.Goals as goal
 
 pub loop-i-init : goal.loop-i-init
 loop-i-init c = width-first c.args.rows.now

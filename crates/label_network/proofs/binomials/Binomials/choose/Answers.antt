@@ -1,7 +1,7 @@
 use Rattle.std.proofs.Common.{◌<◌, ◌≤◌, arith}
-use Rattle.label_network.proofs.WaysTable.{read, read-left_out}
-use Rattle.label_network.proofs.ways.Ways.choose.Goals.{then-k-self, else-k-self}
-use Rattle.label_network.proofs.ways.Ways.choose.Goals as goal
+use Rattle.label_network.proofs.BinomialTable.{read, read-left_out}
+use Rattle.label_network.proofs.binomials.Binomials.choose.Goals.{then-k-self, else-k-self}
+use Rattle.label_network.proofs.binomials.Binomials.choose.Goals as goal
 
 pub returns : goal.returns
 returns c = elim c.if-k-self.branch [

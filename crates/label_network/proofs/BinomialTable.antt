@@ -7,7 +7,7 @@ use Rattle.std.proofs.lemmas.Bool.{cases_lt}
 use Rattle.weights.specs.Numbers.{binomial}
 use Rattle.weights.specs.declared.TheConstants.{MAX}
 use Rattle.weights.proofs.Binomials.{binomial-zero, binomial-pascal, binomial-over, binomial-left_out, binomial-all}
-use Rattle.label_network.specs.LabelSteps.{IsWays, capped}
+use Rattle.label_network.specs.LabelSteps.{AreBinomials, capped}
 
 pub capped-small : (n : ℕ) → n ≤ MAX → capped n ≡ n
 capped-small n h = omega arith
@@ -36,11 +36,11 @@ get-last [] y (suc i) h = absurd (omega (arith, h))
 get-last (x ∷ xs) y zero h = absurd (omega (arith, h))
 get-last (x ∷ xs) y (suc i) h = get-last xs y i (omega (arith, h))
 
-pub ways-none : (width : ℕ) → 1 ≤ width → (table : List ℕ) → table ≡ [] → IsWays width (0 * width) table
-ways-none width some table e = rw e (record { wide = some; long_is = omega arith; each = λ m j h l. absurd (omega arith) })
+pub binomials-none : (width : ℕ) → 1 ≤ width → (table : List ℕ) → table ≡ [] → AreBinomials width (0 * width) table
+binomials-none width some table e = rw e (record { wide = some; long_is = omega arith; each = λ m j h l. absurd (omega arith) })
 
-pub ways-more : (width row place : ℕ) (table : List ℕ) (entry : ℕ) → place < width → IsWays width (row * width + place) table → entry ≡ capped (binomial row place) → IsWays width (row * width + (place + 1)) (table ++ entry ∷ [])
-ways-more width row place table entry within w e = record {
+pub binomials-more : (width row place : ℕ) (table : List ℕ) (entry : ℕ) → place < width → AreBinomials width (row * width + place) table → entry ≡ capped (binomial row place) → AreBinomials width (row * width + (place + 1)) (table ++ entry ∷ [])
+binomials-more width row place table entry within w e = record {
   wide = w.wide;
   long_is = omega (arith, length-append table (entry ∷ []), w.long_is);
   each = λ m j h l. by m j h l (cases_lt (m * width + j) (row * width + place));
@@ -52,11 +52,11 @@ ways-more width row place table entry within w e = record {
         let both = one_place width m j row place h within (omega (arith, l, after)) in
         get-last table entry (m * width + j) (omega (arith, l, after, w.long_is)) ∙ e ∙ ap (λ k. capped (binomial k place)) (sym both.0) ∙ ap (λ k. capped (binomial m k)) (sym both.1)
 
-pub ways-row : (width row place : ℕ) (table : List ℕ) → place ≡ width → IsWays width (row * width + place) table → IsWays width ((row + 1) * width) table
-ways-row width row place table e w = let same : row * width + place ≡ (row + 1) * width = omega (arith, e) in subst (λ n. IsWays width n table) same w
+pub binomials-row : (width row place : ℕ) (table : List ℕ) → place ≡ width → AreBinomials width (row * width + place) table → AreBinomials width ((row + 1) * width) table
+binomials-row width row place table e w = let same : row * width + place ≡ (row + 1) * width = omega (arith, e) in subst (λ n. AreBinomials width n table) same w
 
-pub ways-start : (width row : ℕ) (table : List ℕ) → IsWays width (row * width) table → IsWays width (row * width + 0) table
-ways-start width row table w = let same : row * width ≡ row * width + 0 = omega arith in subst (λ n. IsWays width n table) same w
+pub binomials-start : (width row : ℕ) (table : List ℕ) → AreBinomials width (row * width) table → AreBinomials width (row * width + 0) table
+binomials-start width row table w = let same : row * width ≡ row * width + 0 = omega arith in subst (λ n. AreBinomials width n table) same w
 
 -- the first place of a row
 pub first-entry : (row place : ℕ) → place ≡ 0 → 1 ≡ capped (binomial row place)
@@ -68,11 +68,11 @@ first-row row zero some e = absurd (some refl)
 first-row row (suc p) some e = rw (e, binomial-over 0 (suc p) (omega arith)) (omega arith)
 
 -- the two entries above a place
-module _ (width row place : ℕ) (table : List ℕ) (w : IsWays width (row * width + place) table) (within : place < width) (later : place ≡ 0 → ⊥) (below : row ≡ 0 → ⊥) where
+module _ (width row place : ℕ) (table : List ℕ) (w : AreBinomials width (row * width + place) table) (within : place < width) (later : place ≡ 0 → ⊥) (below : row ≡ 0 → ⊥) where
   above_left : get_or table (length table - width - 1) 0 ≡ capped (binomial (row - 1) (place - 1))
   above_left = by row place w within later below
     where
-      by : (row place : ℕ) → IsWays width (row * width + place) table → place < width → (place ≡ 0 → ⊥) → (row ≡ 0 → ⊥) → get_or table (length table - width - 1) 0 ≡ capped (binomial (row - 1) (place - 1))
+      by : (row place : ℕ) → AreBinomials width (row * width + place) table → place < width → (place ≡ 0 → ⊥) → (row ≡ 0 → ⊥) → get_or table (length table - width - 1) 0 ≡ capped (binomial (row - 1) (place - 1))
       by zero place w within later below = absurd (below refl)
       by (suc r) zero w within later below = absurd (later refl)
       by (suc r) (suc p) w within later below =
@@ -84,7 +84,7 @@ module _ (width row place : ℕ) (table : List ℕ) (w : IsWays width (row * wid
   above : get_or table (length table - width) 0 ≡ capped (binomial (row - 1) place)
   above = by row w below
     where
-      by : (row : ℕ) → IsWays width (row * width + place) table → (row ≡ 0 → ⊥) → get_or table (length table - width) 0 ≡ capped (binomial (row - 1) place)
+      by : (row : ℕ) → AreBinomials width (row * width + place) table → (row ≡ 0 → ⊥) → get_or table (length table - width) 0 ≡ capped (binomial (row - 1) place)
       by zero w below = absurd (below refl)
       by (suc r) w below =
           let at : length table - width ≡ r * width + place = omega (arith, w.long_is) in
@@ -119,12 +119,12 @@ row_within n zero width h = absurd (omega (arith, h))
 row_within zero (suc most) width h = omega arith
 row_within (suc n) (suc most) width h = omega (arith, row_within n most width (omega (arith, h)))
 
-pub read : (width most : ℕ) (table : List ℕ) → IsWays width (most * width) table → (n j x : ℕ) → n < most → j < width → binomial n j ≤ MAX → x ≡ get_or table (n * width + j) x → x ≡ binomial n j
+pub read : (width most : ℕ) (table : List ℕ) → AreBinomials width (most * width) table → (n j x : ℕ) → n < most → j < width → binomial n j ≤ MAX → x ≡ get_or table (n * width + j) x → x ≡ binomial n j
 read width most table w n j x h i fits e =
     let low : n * width + j < most * width = omega (arith, row_within n most width h, i) in
     e ∙ any_default table (n * width + j) x 0 (omega (arith, low, w.long_is)) ∙ w.each n j i low ∙ capped-small (binomial n j) fits
 
-pub read-left_out : (width most : ℕ) (table : List ℕ) → IsWays width (most * width) table → (n k j x : ℕ) → n < most → k ≤ n → j ≡ n - k → j < width → binomial n k ≤ MAX → x ≡ get_or table (n * width + j) x → x ≡ binomial n k
+pub read-left_out : (width most : ℕ) (table : List ℕ) → AreBinomials width (most * width) table → (n k j x : ℕ) → n < most → k ≤ n → j ≡ n - k → j < width → binomial n k ≤ MAX → x ≡ get_or table (n * width + j) x → x ≡ binomial n k
 read-left_out width most table w n k j x h few e i fits at =
     let turned : binomial n j ≡ binomial n k = ap (binomial n) e ∙ binomial-left_out n k few in
     read width most table w n j x h i (omega (arith, turned, fits)) at ∙ turned

@@ -4,7 +4,7 @@ ghost use Rattle.std.specs.List.{sum};
 ghost use Rattle.weights.specs.Numbers.{binomial};
 ghost use Rattle.weights.specs.Labellings.{number_of_labellings};
 ghost use Rattle.weights.specs.declared.TheConstants.{MAX};
-ghost use Rattle.label_network.specs.LabelSteps.{IsHeld, IsWays, capped};
+ghost use Rattle.label_network.specs.LabelSteps.{IsHeld, AreBinomials, capped};
 
 use std::alloc::Global;
 use weights::{MAX, NoMemory, multinomial, total_of};
@@ -12,14 +12,14 @@ use weights::{MAX, NoMemory, multinomial, total_of};
 // How many entries a table has at most. Two rows whose total fits need fewer.
 const TABLE_ROOM: usize = 1 << 17;
 
-/// The numbers of labellings of subjects of some rows, and of any fewer: by a table of the ways to
-/// choose fewer than `width` of fewer than `most`, row by row, and by division beyond it.
+/// The numbers of labellings of subjects of some rows, and of any fewer: by a table of binomials,
+/// of fewer than `width` out of fewer than `most`, row by row, and by division beyond it.
 #[derive(Drop)]
-pub struct Ways {
+pub struct Binomials {
     width: usize,
     most: usize,
     table: Vec<u128>,
-    ghost right: { IsWays width (most * width) table.items },
+    ghost right: { AreBinomials width (most * width) table.items },
 }
 
 fn capped_sum(a: u128, b: u128) -> u128
@@ -33,7 +33,7 @@ fn capped_sum(a: u128, b: u128) -> u128
 
 // The next entry, by the two above it.
 fn next_entry(table: &[u128], width: usize, row: usize, place: usize) -> u128
-    requires table { IsWays width (row * width + place) table.now }
+    requires table { AreBinomials width (row * width + place) table.now }
     requires place { place < width }
     ensures { result ≡ capped (binomial row place) }
 {
@@ -98,12 +98,12 @@ fn by_division(counts: &[u64]) -> u128
     }
 }
 
-impl Ways {
-    fn new(alloc: Global, most: usize, width: usize) -> Result<Ways, NoMemory>
+impl Binomials {
+    fn new(alloc: Global, most: usize, width: usize) -> Result<Binomials, NoMemory>
         requires some { 1 ≤ width }
         requires small { most * width < 2 ^ 64 }
-        ensures most { IfOk result (λ ways. ways.most ≡ most) }
-        ensures width { IfOk result (λ ways. ways.width ≡ width) }
+        ensures most { IfOk result (λ binomials. binomials.most ≡ most) }
+        ensures width { IfOk result (λ binomials. binomials.width ≡ width) }
     {
         let mut table = Vec::new(alloc);
         for row in 0..most {
@@ -112,16 +112,16 @@ impl Ways {
                 table.push(entry)?;
             }
         }
-        Ok(Ways { width, most, table })
+        Ok(Binomials { width, most, table })
     }
 
     /// The ways to label subjects of these rows, and of any smaller ones.
-    pub fn for_rows(alloc: Global, rows: &[u64]) -> Result<Ways, NoMemory>
+    pub fn for_rows(alloc: Global, rows: &[u64]) -> Result<Binomials, NoMemory>
         requires { sum rows.now < 2 ^ 64 }
-        ensures { IfOk result (λ ways. IsHeld ways.width rows.now) }
+        ensures { IfOk result (λ binomials. IsHeld binomials.width rows.now) }
     {
         let width = width_for(rows);
-        Ways::new(alloc, rows_for(total_of(rows), width), width)
+        Binomials::new(alloc, rows_for(total_of(rows), width), width)
     }
 
     // In how many ways k of n can be chosen, where k or what is left is few.

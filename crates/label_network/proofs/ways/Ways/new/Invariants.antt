@@ -1,9 +1,0 @@
-use Rattle.std.proofs.Common.{◌+◌, ◌*◌}
-use Rattle.label_network.specs.LabelSteps.{IsWays}
-use Rattle.label_network.proofs.ways.Ways.new.Given as goal
-
-abbrev pub invariant-loop-place : goal.invariant-loop-place
-invariant-loop-place l = IsWays l.width (l.row * l.width + l.place) l.table.items
-
-abbrev pub invariant-loop-row : goal.invariant-loop-row
-invariant-loop-row l = IsWays l.width (l.row * l.width) l.table.items
