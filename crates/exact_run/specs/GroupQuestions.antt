@@ -8,6 +8,7 @@ use Rattle.sample_reader.specs.Orders.{reordered}
 use Rattle.scores.specs.declared.kinds.ScoreKind.{ScoreKind}
 use Rattle.settings.specs.declared.names.OptionName.TheVariants as option
 use Rattle.settings.specs.declared.settings.Settings.{Settings}
+use Rattle.report.specs.declared.headings.Extra.{Extra}
 use Rattle.report.specs.declared.headings.Extra.TheVariants as extra
 use Rattle.report.specs.declared.headings.Sizes.{Sizes}
 use Rattle.report.specs.declared.headings.Sizes.TheVariants as sizes
@@ -15,10 +16,9 @@ use Rattle.report.specs.declared.refusals.Refusal.{Refusal}
 use Rattle.report.specs.declared.refusals.Refusal.TheVariants as refusal
 use Rattle.two_sample_tests.specs.Columns.{two_sample_network}
 use Rattle.two_sample_tests.specs.TwoSamples.{two_sample_test}
-use Rattle.k_sample_tests.specs.KruskalWallis.{kruskal_wallis_test}
-use Rattle.k_sample_tests.specs.PairCounts.{umbrella_network}
-use Rattle.k_sample_tests.specs.RankSums.{kruskal_wallis_network}
-use Rattle.k_sample_tests.specs.Umbrella.{umbrella_test}
+use Rattle.k_sample_tests.specs.KSamples.{k_sample_network, k_sample_test}
+use Rattle.k_sample_tests.specs.declared.k_sample.KSample.{KSample}
+use Rattle.k_sample_tests.specs.declared.k_sample.KSample.TheVariants.{Differing, Ordered}
 use Rattle.exact_run.specs.Question.{Question, layout_refusal, question_about}
 
 -- ---- groups
@@ -60,11 +60,15 @@ two_samples_of kind settings rows =
 
 -- ---- several samples
 
--- their test by the scores of a kind
+abbrev pub k_sample_question : KSample → GroupData → Extra → Question
+k_sample_question samples groups extra =
+    question_about k_sample_test k_sample_network samples (group_rows groups) extra
+
+-- whether they differ, by the scores of a kind
 abbrev pub kruskal_wallis_question : ScoreKind → GroupData → Question
 kruskal_wallis_question kind groups =
-    question_about kruskal_wallis_test kruskal_wallis_network
-    (record { kind = kind; groups = groups }) (group_rows groups) (extra.Scores kind)
+    k_sample_question (Differing (record { kind = kind; groups = groups })) groups
+    (extra.Scores kind)
 
 abbrev pub kruskal_wallis_of : Settings → List (List (List ℕ)) → Result Question Refusal
 kruskal_wallis_of settings rows =
@@ -73,8 +77,8 @@ kruskal_wallis_of settings rows =
 -- groups that are ordered have their peak at the last one
 abbrev pub ordered_question : GroupData → Question
 ordered_question groups =
-    question_about umbrella_test umbrella_network
-    (record { peak = length groups.labels; groups = groups }) (group_rows groups) extra.None
+    k_sample_question (Ordered (record { peak = length groups.labels; groups = groups })) groups
+    extra.None
 
 abbrev pub ordered_of : Settings → List (List (List ℕ)) → Result Question Refusal
 ordered_of settings rows = with_value ordered_question (groups_of 8 settings rows)
@@ -85,8 +89,7 @@ has_peak peak groups = nat_le 1 peak && nat_le peak (length groups.labels)
 
 abbrev pub peaked_question : ℕ → GroupData → Question
 peaked_question peak groups =
-    question_about umbrella_test umbrella_network (record { peak = peak; groups = groups })
-    (group_rows groups) (extra.Peak peak)
+    k_sample_question (Ordered (record { peak = peak; groups = groups })) groups (extra.Peak peak)
 
 -- the groups rise up to the peak and fall behind it
 abbrev pub umbrella_question : ℕ → GroupData → Result Question Refusal

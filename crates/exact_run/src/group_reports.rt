@@ -21,6 +21,11 @@ use std::alloc::Global;
 use two_sample_tests::prepare;
 use weights::Bytes;
 
+// The most groups of a file that a test takes.
+const TWO_SAMPLES: u64 = 2;
+
+const MOST_SAMPLES: u64 = 8;
+
 // The groups of the rows, at most so many, or the refusal of their fault.
 fn groups_read(
     alloc: Global,
@@ -91,7 +96,7 @@ pub(crate) fn two_sample_report(
     ensures { let question = two_samples_of kind settings.now rows.now in
         Meets (and_then (outcome_of_question (asking_of settings.now)) question) result }
 {
-    let groups = groups_of(alloc, 2, settings, rows)?;
+    let groups = groups_of(alloc, TWO_SAMPLES, settings, rows)?;
     let problem = prepare(alloc, kind, &groups);
     let heading = Heading {
         sizes: sizes_of(groups),
@@ -111,7 +116,7 @@ pub(crate) fn kruskal_wallis_report(
         Meets (and_then (outcome_of_question (asking_of settings.now)) question) result }
 {
     let kind = settings.scores;
-    let groups = groups_of(alloc, 8, settings, rows)?;
+    let groups = groups_of(alloc, MOST_SAMPLES, settings, rows)?;
     let problem = prepare_kw(alloc, kind, &groups);
     let heading = Heading {
         sizes: sizes_of(groups),
@@ -130,7 +135,7 @@ pub(crate) fn ordered_report(
     ensures { let question = ordered_of settings.now rows.now in
         Meets (and_then (outcome_of_question (asking_of settings.now)) question) result }
 {
-    let groups = groups_of(alloc, 8, settings, rows)?;
+    let groups = groups_of(alloc, MOST_SAMPLES, settings, rows)?;
     let problem = prepare_umbrella(alloc, groups.labels.len() as u64, &groups);
     let heading = Heading {
         sizes: sizes_of(groups),
@@ -157,7 +162,7 @@ pub(crate) fn umbrella_report(
         Meets (and_then (outcome_of_question (asking_of settings.now)) question) result }
 {
     let peak = settings.peak;
-    let groups = groups_of(alloc, 8, settings, rows)?;
+    let groups = groups_of(alloc, MOST_SAMPLES, settings, rows)?;
     if !has_peak(peak, &groups) {
         return Err(Refusal::Unfit(OptionName::Peak));
     }

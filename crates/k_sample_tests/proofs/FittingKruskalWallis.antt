@@ -35,7 +35,9 @@ use Rattle.sample_reader.specs.Data.{data_of}
 use Rattle.sample_reader.specs.Groups.{group_sizes}
 use Rattle.sample_reader.specs.PooledSample.{labels_of, pooled}
 use Rattle.sample_reader.specs.declared.samples.Groups.{Groups}
-use Rattle.stage_network.specs.Follows.{Follows}
+use Rattle.stage_network.specs.Follows.{Follows, open_keys}
+use Rattle.stage_network.specs.Network.{Network}
+use Rattle.stage_network.specs.Opened.{opened_below}
 use Rattle.label_network.specs.Endings.{labelling_value}
 use Rattle.label_network.specs.LabelNetwork.{label_network}
 use Rattle.label_network.specs.LaterSums.{subjects}
@@ -46,12 +48,14 @@ use Rattle.pooled_columns.proofs.PooledValues.{pooled-rises}
 use Rattle.pooled_columns.proofs.TieColumns.{grouped}
 use Rattle.k_sample_tests.specs.KruskalWallis.{ScoredGroups, group_sums, kruskal_wallis_test, pooled_scores, size_factors, squares_statistic, squares_test}
 use Rattle.k_sample_tests.specs.PackedSums.{packed_meaning}
-use Rattle.k_sample_tests.specs.RankSums.{fits_one, half_for, kruskal_wallis_meaning, kruskal_wallis_network, unpacked_meaning}
+use Rattle.k_sample_tests.specs.RankSums.{fits_one, half_for, kruskal_wallis_meaning, kruskal_wallis_network, kruskal_wallis_runs, unpacked_meaning}
 use Rattle.k_sample_tests.specs.RankSumSteps.{AreFitting, IsMadeOf, IsScoredBy, IsSquaring}
 use Rattle.k_sample_tests.proofs.FittingUmbrella.{columns-sum, no-distance, no-times, past-limit}
 use Rattle.k_sample_tests.proofs.GroupFacts.{few_rows, few_subjects, none-empty, sizes-whole, some_rows}
 use Rattle.k_sample_tests.proofs.GroupSums.{squares-most, sums-within}
-use Rattle.k_sample_tests.proofs.PackedKeys.{packed_squares}
+use Rattle.stage_network.proofs.Images.{OpensImages, opened-images}
+use Rattle.k_sample_tests.proofs.PackedImages.{packed-images}
+use Rattle.k_sample_tests.proofs.PackedKeys.{back, packed_squares}
 use Rattle.k_sample_tests.proofs.PackedValues.{packed-value}
 use Rattle.k_sample_tests.proofs.RankNarrows.{squares_measure}
 use Rattle.k_sample_tests.proofs.RankValues.{value-is}
@@ -206,7 +210,26 @@ module _ (samples : ScoredGroups) (f : AreFitting samples) where
           ∙ sym (packed-value (size_factors (group_sizes samples.groups)) (kruskal_wallis_test samples).bound (column_scores samples.kind (pooled_values samples.groups)) (column_sizes (pooled_values samples.groups)) (group_sizes samples.groups) tail (rule_of (kruskal_wallis_test samples) tail) half columns-level (small-sums e) xs);
     })
 
-  pub follows : (tail : Tail) → Follows (kruskal_wallis_test samples) tail (kruskal_wallis_network samples tail)
+    opened-packed : opened_below (label_network (packed_meaning half (unpacked_meaning samples tail))) tail (length (column_sizes (pooled_values samples.groups))) ≡ opened_below (label_network (unpacked_meaning samples tail)) tail (length (column_sizes (pooled_values samples.groups)))
+    opened-packed =
+        let rule : Rule = rule_of (kruskal_wallis_test samples) tail in
+        let images : OpensImages (label_network (packed_meaning half (unpacked_meaning samples tail))) (label_network (unpacked_meaning samples tail)) tail =
+        packed-images half (unpacked_meaning samples tail)
+        (back (size_factors (group_sizes samples.groups)) (kruskal_wallis_test samples).bound (column_scores samples.kind (pooled_values samples.groups)) (column_sizes (pooled_values samples.groups)) (group_sizes samples.groups) tail rule (is-squaring tail rule refl) half (small-sums e)) tail in
+        opened-images (label_network (packed_meaning half (unpacked_meaning samples tail))) (label_network (unpacked_meaning samples tail)) tail images (length (column_sizes (pooled_values samples.groups))) (omega arith)
+
+  abbrev running : Tail → Bool → Network
+  running tail b = label_network (cond b (packed_meaning (half_for (length (group_sizes samples.groups))) (unpacked_meaning samples tail)) (unpacked_meaning samples tail))
+
+  -- what runs opens as many keys as the network that is written, with a number for each group
+  pub counted : (tail : Tail) → open_keys (kruskal_wallis_runs samples) tail ≡ open_keys (kruskal_wallis_network samples) tail
+  counted tail = by (fits_one samples) refl
+    where
+      by : (b : Bool) → fits_one samples ≡ b → open_keys (λ t. running t b) tail ≡ open_keys (kruskal_wallis_network samples) tail
+      by true e = opened-packed tail e
+      by false e = refl
+
+  pub follows : (tail : Tail) → Follows (kruskal_wallis_test samples) tail (kruskal_wallis_runs samples tail)
   follows tail = by (fits_one samples) refl
     where
       by : (b : Bool) → fits_one samples ≡ b → Follows (kruskal_wallis_test samples) tail (label_network (cond b (packed_meaning (half_for (length (group_sizes samples.groups))) (unpacked_meaning samples tail)) (unpacked_meaning samples tail)))

@@ -20,3 +20,4 @@ mod PackedKeys
 mod PackedValues
 mod FittingKruskalWallis
 mod Vectors
+mod PackedImages

@@ -3,6 +3,7 @@ pub mod KruskalWallis
 pub mod PairCounts
 pub mod PackedSums
 pub mod RankSums
+pub mod KSamples
 pub mod UmbrellaSteps
 pub mod RankSumSteps
 pub mod PackedSumSteps

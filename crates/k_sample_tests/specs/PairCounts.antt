@@ -7,8 +7,9 @@ use Rattle.weights.specs.declared.tails.Tail.{Tail}
 use Rattle.weights.specs.declared.rules.Rule.{Rule}
 use Rattle.weights.specs.Rules.{rule_of}
 use Rattle.sample_reader.specs.Groups.{group_sizes}
+use Rattle.stage_network.specs.Alike.{Shape}
 use Rattle.stage_network.specs.Network.{Network}
-use Rattle.label_network.specs.LabelNetwork.{label_network}
+use Rattle.label_network.specs.LabelNetwork.{label_network, label_shape}
 use Rattle.label_network.specs.Linear.{so_far}
 use Rattle.label_network.specs.Meanings.{Meaning}
 use Rattle.pooled_columns.specs.PooledColumns.{column_sizes, pooled_values}
@@ -65,3 +66,6 @@ umbrella_meaning samples tail =
 
 abbrev pub umbrella_network : PeakedGroups → Tail → Network
 umbrella_network samples tail = label_network (umbrella_meaning samples tail)
+
+abbrev pub umbrella_shape : PeakedGroups → Tail → Shape
+umbrella_shape samples tail = label_shape (umbrella_meaning samples tail)

@@ -1,6 +1,7 @@
 -- The network of the test of Kruskal and Wallis: a stage is a distinct value, ascending, with the
 -- subjects that have it, and its choice says how many of them are of each group. A key's partial is
--- the sum of scores that each group has so far, in one number for all groups where they fit it.
+-- the sum of scores that each group has so far. What runs keeps the sums of all groups in one
+-- number where they fit it.
 use Rattle.std.specs.Prelude.{ℕ, ◌-◌, ◌*◌, ◌/◌, ◌^◌, ℤ, pos, ◌+ℤ◌, ◌*ℤ◌, Bool, List, [], ◌∷◌, ◌++◌, length, map, min, nat_lt, replicate, if◌then◌else◌}
 use Rattle.weights.specs.declared.tails.Tail.{Tail}
 use Rattle.weights.specs.declared.rules.Rule.{Rule}
@@ -8,8 +9,9 @@ use Rattle.weights.specs.Rules.{rule_of}
 use Rattle.completion_bounds.specs.Boxes.{factored_squares, greatest_squares, least_squares}
 use Rattle.weights.specs.Numbers.{absolute_sum}
 use Rattle.sample_reader.specs.Groups.{group_sizes}
+use Rattle.stage_network.specs.Alike.{Shape}
 use Rattle.stage_network.specs.Network.{Network}
-use Rattle.label_network.specs.LabelNetwork.{label_network}
+use Rattle.label_network.specs.LabelNetwork.{label_network, label_shape}
 use Rattle.label_network.specs.LaterSums.{greatest_sum, later_scores, least_sum}
 use Rattle.label_network.specs.Linear.{score_of}
 use Rattle.label_network.specs.Meanings.{Meaning}
@@ -70,7 +72,7 @@ squares_meaning factors bound scores columns rows tail rule = record {
   rule = rule;
 }
 
--- a number for each group
+-- the network as it is written, with a number for each group
 abbrev pub unpacked_meaning : ScoredGroups → Tail → Meaning
 unpacked_meaning samples tail =
     let test = kruskal_wallis_test samples in
@@ -78,6 +80,9 @@ unpacked_meaning samples tail =
     let values = pooled_values samples.groups in
     squares_meaning (size_factors sizes) test.bound (column_scores samples.kind values)
     (column_sizes values) sizes tail (rule_of test tail)
+
+abbrev pub kruskal_wallis_network : ScoredGroups → Tail → Network
+kruskal_wallis_network samples tail = label_network (unpacked_meaning samples tail)
 
 -- half of the base in which 127 bits hold a digit of each of k groups
 abbrev pub half_for : ℕ → ℕ
@@ -95,5 +100,9 @@ kruskal_wallis_meaning samples tail =
     if fits_one samples then packed_meaning half (unpacked_meaning samples tail)
     else unpacked_meaning samples tail
 
-abbrev pub kruskal_wallis_network : ScoredGroups → Tail → Network
-kruskal_wallis_network samples tail = label_network (kruskal_wallis_meaning samples tail)
+-- the network that runs
+abbrev pub kruskal_wallis_runs : ScoredGroups → Tail → Network
+kruskal_wallis_runs samples tail = label_network (kruskal_wallis_meaning samples tail)
+
+abbrev pub kruskal_wallis_shape : ScoredGroups → Tail → Shape
+kruskal_wallis_shape samples tail = label_shape (kruskal_wallis_meaning samples tail)

@@ -36,37 +36,29 @@ impl Model for KruskalWallis {
         AreScored (scored_groups_of t.kind t.labels t.members t.values) t.made };
 }
 
-/// Prepares the test of Kruskal and Wallis by the scores of a kind, over all labellings of the
-/// pooled sample with the groups' sizes. The statistic is the least common multiple L of the sizes,
-/// times the sum over the groups of the squared sum of scores over the group's size; its scale is L
-/// times the square of the scores' scale.
-///
-/// # Errors
-/// `TooWide(Total)` where there are more labellings than `weights::MAX`. Or else
-/// `TooWide(Statistic)` where L times the square of the greater of the sum of the absolute scores
-/// and their scale passes it. Or else `NoMemory` where memory runs out.
-pub fn prepare_kw(
-    alloc: Global,
-    kind: ScoreKind,
-    groups: &Groups,
-) -> Result<KruskalWallis, PrepareFault>
-    ensures { Prepares kruskal_wallis_test
-        (record { kind = kind; groups = data_of groups.now }) result }
-{
-    let Some(total) = multinomial(groups.sizes.as_slice()) else {
-        return Err(PrepareFault::TooWide(WideOf::Total));
-    };
-    let made = made_of(alloc, kind, groups, total)?;
-    Ok(KruskalWallis {
-        kind,
-        labels: groups.labels.copy()?,
-        members: groups.members.copy()?,
-        values: groups.values.copy()?,
-        made,
-    })
-}
-
 impl KruskalWallis {
+    /// Prepares groups by the scores of a kind.
+    pub(crate) fn prepare(
+        alloc: Global,
+        kind: ScoreKind,
+        groups: &Groups,
+    ) -> Result<KruskalWallis, PrepareFault>
+        ensures { Prepares kruskal_wallis_test
+            (record { kind = kind; groups = data_of groups.now }) result }
+    {
+        let Some(total) = multinomial(groups.sizes.as_slice()) else {
+            return Err(PrepareFault::TooWide(WideOf::Total));
+        };
+        let made = made_of(alloc, kind, groups, total)?;
+        Ok(KruskalWallis {
+            kind,
+            labels: groups.labels.copy()?,
+            members: groups.members.copy()?,
+            values: groups.values.copy()?,
+            made,
+        })
+    }
+
     /// What was made of the groups.
     pub(crate) fn made(&self) -> &GroupScores
         ensures { AreScored self.now result.now }

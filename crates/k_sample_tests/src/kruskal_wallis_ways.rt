@@ -59,16 +59,16 @@ impl Plain for KruskalWallis {
 }
 
 impl Prepared for KruskalWallis {
-    ghost use Rattle.label_network.specs.LabelNetwork.{label_shape};
-    ghost use Rattle.k_sample_tests.specs.RankSums.{kruskal_wallis_meaning, kruskal_wallis_network};
+    ghost use Rattle.k_sample_tests.specs.RankSums.{kruskal_wallis_network, kruskal_wallis_runs};
+    ghost use Rattle.k_sample_tests.specs.RankSums.{kruskal_wallis_shape};
 
     type Built = OneOf<LabelStages<PackedSums>, LabelStages<RankSums>>;
 
     ghost network = { kruskal_wallis_network };
 
-    ghost runs = { kruskal_wallis_network };
+    ghost runs = { kruskal_wallis_runs };
 
-    ghost shape = { λ s tail. label_shape (kruskal_wallis_meaning s tail) };
+    ghost shape = { kruskal_wallis_shape };
 
     fn has_tail(&self, tail: Tail) -> bool {
         tail == Tail::Greater

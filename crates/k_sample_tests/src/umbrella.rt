@@ -35,32 +35,29 @@ impl Model for Umbrella {
         AreCounted (peaked_groups_of t.peak t.labels t.members t.values) t.made };
 }
 
-/// Prepares the test of groups that rise, in the order of their labels, up to the group of the
-/// peak, and fall from there on, over all labellings of the pooled sample with the groups' sizes.
-/// Groups are counted from 1. Where the peak is the last group, or past it, the groups rise to the
-/// last, as in the test of Terpstra and Jonckheere; a peak 0 is that of the first group.
-///
-/// # Errors
-/// `TooWide(Total)` where there are more labellings than `weights::MAX`, or else `NoMemory` where
-/// memory runs out. The statistic of at most 10,000 subjects is never too wide.
-pub fn prepare_umbrella(alloc: Global, peak: u64, groups: &Groups) -> Result<Umbrella, PrepareFault>
-    ensures { Prepares umbrella_test
-        (record { peak = peak; groups = data_of groups.now }) result }
-{
-    let Some(total) = multinomial(groups.sizes.as_slice()) else {
-        return Err(PrepareFault::TooWide(WideOf::Total));
-    };
-    let made = made_of(alloc, peak, groups, total)?;
-    Ok(Umbrella {
-        peak,
-        labels: groups.labels.copy()?,
-        members: groups.members.copy()?,
-        values: groups.values.copy()?,
-        made,
-    })
-}
-
 impl Umbrella {
+    /// Prepares groups with this peak.
+    pub(crate) fn prepare(
+        alloc: Global,
+        peak: u64,
+        groups: &Groups,
+    ) -> Result<Umbrella, PrepareFault>
+        ensures { Prepares umbrella_test
+            (record { peak = peak; groups = data_of groups.now }) result }
+    {
+        let Some(total) = multinomial(groups.sizes.as_slice()) else {
+            return Err(PrepareFault::TooWide(WideOf::Total));
+        };
+        let made = made_of(alloc, peak, groups, total)?;
+        Ok(Umbrella {
+            peak,
+            labels: groups.labels.copy()?,
+            members: groups.members.copy()?,
+            values: groups.values.copy()?,
+            made,
+        })
+    }
+
     /// What was made of the groups.
     pub(crate) fn made(&self) -> &CountedSamples
         ensures { AreCounted self.now result.now }

@@ -45,8 +45,7 @@ impl Plain for Umbrella {
 }
 
 impl Prepared for Umbrella {
-    ghost use Rattle.label_network.specs.LabelNetwork.{label_shape};
-    ghost use Rattle.k_sample_tests.specs.PairCounts.{umbrella_meaning, umbrella_network};
+    ghost use Rattle.k_sample_tests.specs.PairCounts.{umbrella_network, umbrella_shape};
 
     type Built = LabelStages<PairCounts>;
 
@@ -54,7 +53,7 @@ impl Prepared for Umbrella {
 
     ghost runs = { umbrella_network };
 
-    ghost shape = { λ s tail. label_shape (umbrella_meaning s tail) };
+    ghost shape = { umbrella_shape };
 
     fn has_tail(&self, _tail: Tail) -> bool {
         true

@@ -1,3 +1,4 @@
 pub mod PooledValues
 pub mod PooledLabels
 pub mod TieColumns
+mod Vectors

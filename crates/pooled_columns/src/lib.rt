@@ -3,7 +3,5 @@
 #![tactic(auto)]
 
 mod columns;
-#[cfg(test)]
-mod tests;
 
 pub use columns::{Columns, column_sizes, columns_of};

@@ -11,8 +11,6 @@ ghost use Rattle.two_sample_tests.specs.Columns.{two_sample_network};
 
 mod scored_samples;
 mod sums;
-#[cfg(test)]
-mod tests;
 mod two_sample;
 mod ways;
 

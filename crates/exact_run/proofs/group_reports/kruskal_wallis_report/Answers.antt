@@ -1,7 +1,7 @@
 use Rattle.sample_reader.specs.Data.{data_of}
 use Rattle.report.specs.declared.headings.Extra.TheVariants as extra
-use Rattle.k_sample_tests.specs.KruskalWallis.{kruskal_wallis_test}
-use Rattle.k_sample_tests.specs.RankSums.{kruskal_wallis_network}
+use Rattle.k_sample_tests.specs.KSamples.{k_sample_network, k_sample_test}
+use Rattle.k_sample_tests.specs.declared.k_sample.KSample.TheVariants.{Differing}
 use Rattle.exact_run.specs.GroupQuestions.{group_rows}
 use Rattle.exact_run.specs.Outcome.{asking_of}
 use Rattle.exact_run.proofs.Asking.{asked_outcome}
@@ -11,5 +11,5 @@ pub returns : goal.returns
 returns c =
     let groups = data_of c.in_ok-groups.groups in
     rw c.in_ok-groups.ensures.ok
-    (asked_outcome kruskal_wallis_test kruskal_wallis_network (asking_of c.args.settings.now) (group_rows groups) (extra.Scores c.args.settings.now.scores)
-    (record { kind = c.args.settings.now.scores; groups = groups }) _ _ c.prepare_kw-problem.ensures (rw (c.of.ensures, c.sizes_of.ensures) at c.report_on.ensures))
+    (asked_outcome k_sample_test k_sample_network (asking_of c.args.settings.now) (group_rows groups) (extra.Scores c.args.settings.now.scores)
+    (Differing (record { kind = c.args.settings.now.scores; groups = groups })) _ _ c.prepare_kw-problem.ensures (rw (c.of.ensures, c.sizes_of.ensures) at c.report_on.ensures))

@@ -1,8 +1,8 @@
 use Rattle.std.proofs.Common.{length}
 use Rattle.sample_reader.specs.Data.{data_of}
 use Rattle.report.specs.declared.headings.Extra.TheVariants as extra
-use Rattle.k_sample_tests.specs.PairCounts.{umbrella_network}
-use Rattle.k_sample_tests.specs.Umbrella.{umbrella_test}
+use Rattle.k_sample_tests.specs.KSamples.{k_sample_network, k_sample_test}
+use Rattle.k_sample_tests.specs.declared.k_sample.KSample.TheVariants.{Ordered}
 use Rattle.exact_run.specs.GroupQuestions.{group_rows}
 use Rattle.exact_run.specs.Outcome.{asking_of}
 use Rattle.exact_run.proofs.Asking.{asked_outcome}
@@ -12,5 +12,5 @@ pub returns : goal.returns
 returns c =
     let groups = data_of c.in_ok-groups.groups in
     rw c.in_ok-groups.ensures.ok
-    (asked_outcome umbrella_test umbrella_network (asking_of c.args.settings.now) (group_rows groups) extra.None
-    (record { peak = length groups.labels; groups = groups }) _ _ (rw c.len.ensures at c.prepare_umbrella-problem.ensures) (rw (c.of.ensures, c.sizes_of.ensures) at c.report_on.ensures))
+    (asked_outcome k_sample_test k_sample_network (asking_of c.args.settings.now) (group_rows groups) extra.None
+    (Ordered (record { peak = length groups.labels; groups = groups })) _ _ (rw c.len.ensures at c.prepare_umbrella-problem.ensures) (rw (c.of.ensures, c.sizes_of.ensures) at c.report_on.ensures))

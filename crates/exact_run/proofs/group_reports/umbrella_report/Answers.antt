@@ -1,8 +1,8 @@
 use Rattle.std.proofs.Common.{◌≡◌, true}
 use Rattle.sample_reader.specs.Data.{data_of}
 use Rattle.report.specs.declared.headings.Extra.TheVariants as extra
-use Rattle.k_sample_tests.specs.PairCounts.{umbrella_network}
-use Rattle.k_sample_tests.specs.Umbrella.{umbrella_test}
+use Rattle.k_sample_tests.specs.KSamples.{k_sample_network, k_sample_test}
+use Rattle.k_sample_tests.specs.declared.k_sample.KSample.TheVariants.{Ordered}
 use Rattle.exact_run.specs.GroupQuestions.{group_rows, has_peak}
 use Rattle.exact_run.specs.Outcome.{asking_of}
 use Rattle.exact_run.proofs.Asking.{asked_outcome}
@@ -14,5 +14,5 @@ returns c =
     let peak = c.args.settings.now.peak in
     let here : has_peak peak groups ≡ true = cc in
     rw (c.in_ok-groups.ensures.ok, here)
-    (asked_outcome umbrella_test umbrella_network (asking_of c.args.settings.now) (group_rows groups) (extra.Peak peak)
-    (record { peak = peak; groups = groups }) _ _ c.prepare_umbrella-problem.ensures (rw (c.of.ensures, c.sizes_of.ensures) at c.report_on.ensures))
+    (asked_outcome k_sample_test k_sample_network (asking_of c.args.settings.now) (group_rows groups) (extra.Peak peak)
+    (Ordered (record { peak = peak; groups = groups })) _ _ c.prepare_umbrella-problem.ensures (rw (c.of.ensures, c.sizes_of.ensures) at c.report_on.ensures))

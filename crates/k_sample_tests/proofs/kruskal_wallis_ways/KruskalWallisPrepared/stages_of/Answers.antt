@@ -9,7 +9,7 @@ use Rattle.k_sample_tests.specs.PackedSums.{packed_meaning}
 use Rattle.k_sample_tests.specs.PackedSumSteps.{sums_meaning}
 use Rattle.k_sample_tests.specs.RankSums.{fits_one, half_for, unpacked_meaning}
 use Rattle.k_sample_tests.specs.declared.packed_sums.PackedSums.{PackedSums}
-use Rattle.k_sample_tests.proofs.FittingKruskalWallis.{column-total, follows, is-squaring, meaning-packed, meaning-unpacked, scores-long}
+use Rattle.k_sample_tests.proofs.FittingKruskalWallis.{column-total, counted, follows, is-squaring, meaning-packed, meaning-unpacked, scores-long}
 use Rattle.k_sample_tests.proofs.kruskal_wallis_ways.KruskalWallisPrepared.stages_of.Goals as goal
 
 pub new-requires-clause-subjects : goal.new-requires-clause-subjects
@@ -103,3 +103,18 @@ returns-in_ok-new-2-clause-shape c =
     let rule : c.rule-rule.result ≡ rule_of (kruskal_wallis_test samples) c.args.tail = c.rule-rule.ensures (kruskal_wallis_test samples) made.frame in
     let wide : sums_meaning c.in_ok-measure.measure ≡ unpacked_meaning samples c.args.tail = c.in_ok-measure.ensures.meaning ∙ rw (c.as_slice.ensures.value ∙ made.factors, made.bound, c.as_slice-2.ensures ∙ made.column_scores, c.as_slice-columns.ensures ∙ made.column_sizes, c.as_slice-rows.ensures ∙ made.sizes, rule) refl in
     ap label_shape (ap sums_meaning c.in_ok-new-2.ensures ∙ wide ∙ meaning-unpacked samples made.fitting c.args.tail e)
+
+pub returns-in_err-measure-clause-counted : goal.returns-in_err-measure-clause-counted
+returns-in_err-measure-clause-counted c = counted c.args.self.now c.made-made.ensures.fitting c.args.tail
+
+pub returns-in_err-new-clause-counted : goal.returns-in_err-new-clause-counted
+returns-in_err-new-clause-counted c = counted c.args.self.now c.made-made.ensures.fitting c.args.tail
+
+pub returns-in_err-new-2-clause-counted : goal.returns-in_err-new-2-clause-counted
+returns-in_err-new-2-clause-counted c = counted c.args.self.now c.made-made.ensures.fitting c.args.tail
+
+pub returns-in_ok-new-clause-counted : goal.returns-in_ok-new-clause-counted
+returns-in_ok-new-clause-counted c = counted c.args.self.now c.made-made.ensures.fitting c.args.tail
+
+pub returns-in_ok-new-2-clause-counted : goal.returns-in_ok-new-2-clause-counted
+returns-in_ok-new-2-clause-counted c = counted c.args.self.now c.made-made.ensures.fitting c.args.tail

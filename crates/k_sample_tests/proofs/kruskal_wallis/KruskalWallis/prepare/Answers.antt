@@ -4,7 +4,7 @@ use Rattle.sample_reader.specs.Data.{data_of}
 use Rattle.k_sample_tests.specs.KruskalWallis.{ScoredGroups}
 use Rattle.k_sample_tests.proofs.FittingKruskalWallis.{not-wide, refused, total-wide}
 use Rattle.k_sample_tests.proofs.GroupFacts.{few_subjects, sizes-whole}
-use Rattle.k_sample_tests.proofs.kruskal_wallis.prepare_kw.Goals as goal
+use Rattle.k_sample_tests.proofs.kruskal_wallis.KruskalWallis.prepare.Goals as goal
 
 pub multinomial-requires : goal.multinomial-requires
 multinomial-requires c = rw (c.as_slice.ensures ∙ c.args.groups.now.counted) (omega (arith, sizes-whole c.args.groups.now, few_subjects c.args.groups.now))

@@ -3,7 +3,7 @@ use Rattle.sample_reader.specs.Data.{data_of}
 use Rattle.k_sample_tests.specs.Umbrella.{PeakedGroups}
 use Rattle.k_sample_tests.proofs.FittingUmbrella.{not-wide, total-wide}
 use Rattle.k_sample_tests.proofs.GroupFacts.{few_subjects, sizes-whole}
-use Rattle.k_sample_tests.proofs.umbrella.prepare_umbrella.Goals as goal
+use Rattle.k_sample_tests.proofs.umbrella.Umbrella.prepare.Goals as goal
 
 pub multinomial-requires : goal.multinomial-requires
 multinomial-requires c = rw (c.as_slice.ensures ∙ c.args.groups.now.counted) (omega (arith, sizes-whole c.args.groups.now, few_subjects c.args.groups.now))
