@@ -1,0 +1,46 @@
+# bash completion of exact; made by completions/make
+_exact() {
+    local word=${COMP_WORDS[COMP_CWORD]} before=${COMP_WORDS[COMP_CWORD - 1]} test=${COMP_WORDS[1]} words=""
+    if [ "$COMP_CWORD" -eq 1 ]; then
+        mapfile -t COMPREPLY < <(compgen -W "--help signedrank sign rawsigned mcnemar ranksum ansari mood savage median raw kw jt umbrella friedman page cochran fisher linear strata drill" -- "$word")
+        return
+    fi
+    case $before in
+    --tail) mapfile -t COMPREPLY < <(compgen -W "all less greater two" -- "$word"); return ;;
+    --scores) mapfile -t COMPREPLY < <(compgen -W "wilcoxon ansari mood savage median raw" -- "$word"); return ;;
+    --order) return ;;
+    --peak) return ;;
+    --row-scores) return ;;
+    --column-scores) return ;;
+    --columns) return ;;
+    --separator) mapfile -t COMPREPLY < <(compgen -W "comma semicolon tab" -- "$word"); return ;;
+    --number) return ;;
+    esac
+    case $test in
+    signedrank) words="--tail --columns --separator --distribution --plain --nodes" ;;
+    sign) words="--tail --columns --separator --distribution --plain --nodes" ;;
+    rawsigned) words="--tail --columns --separator --distribution --plain --nodes" ;;
+    mcnemar) words="--tail --columns --separator --distribution --plain --nodes" ;;
+    ranksum) words="--tail --order --columns --separator --distribution --plain --nodes" ;;
+    ansari) words="--tail --order --columns --separator --distribution --plain --nodes" ;;
+    mood) words="--tail --order --columns --separator --distribution --plain --nodes" ;;
+    savage) words="--tail --order --columns --separator --distribution --plain --nodes" ;;
+    median) words="--tail --order --columns --separator --distribution --plain --nodes" ;;
+    raw) words="--tail --order --columns --separator --distribution --plain --nodes" ;;
+    kw) words="--tail --scores --columns --separator --distribution --plain --nodes" ;;
+    jt) words="--tail --order --columns --separator --distribution --plain --nodes" ;;
+    umbrella) words="--tail --order --peak --columns --separator --distribution --plain --nodes" ;;
+    friedman) words="--tail --columns --separator --distribution --plain --nodes" ;;
+    page) words="--tail --columns --separator --distribution --plain --nodes" ;;
+    cochran) words="--tail --columns --separator --distribution --plain --nodes" ;;
+    fisher) words="--tail --columns --separator --distribution --plain --nodes" ;;
+    linear) words="--tail --row-scores --column-scores --columns --separator --distribution --plain --nodes" ;;
+    strata) words="--tail --columns --separator --distribution --plain --nodes" ;;
+    drill) words="--number" ;;
+    esac
+    case $word in
+    -*) mapfile -t COMPREPLY < <(compgen -W "$words" -- "$word") ;;
+    *) mapfile -t COMPREPLY < <(compgen -f -- "$word") ;;
+    esac
+}
+complete -o filenames -F _exact exact
