@@ -32,7 +32,7 @@ use Rattle.stage_network.specs.Addends.{Addends, additive_network}
 use Rattle.stage_network.specs.Network.{Network}
 use Rattle.stage_network.specs.Follows.{Follows}
 use Rattle.stage_network.proofs.AdditiveFollows.{additive_follows}
-use Rattle.block_tests.specs.BlockNetworks.{addends_of, block_network, first_arrangement, page_addends, square_addends}
+use Rattle.block_tests.specs.BlockNetworks.{first_arrangement, line_addends, running_addends, running_network, square_addends}
 use Rattle.block_tests.specs.BlockSteps.{AreStages, IsSmall, IsWhole, cells_sum, ways_of}
 use Rattle.block_tests.specs.BlockTests.{BlockTests, TakesCells, block_counts, block_statistic, block_test, blocks_for, bound_of, cells_in, counts_in, cut, measure, observed_cells, page_sum, rearrangements, rows, scale_of, sides_of, square_sum, squared, treatment_sums}
 use Rattle.block_tests.specs.PreparedSteps.{AreBlocks, AreFitting, far_of}
@@ -124,10 +124,10 @@ statistic-small kind n k r few narrow small =
 
 -- ---- the rules
 
-no-distance : (v : ℤ) → distance 0 (pos 0) v ≤ MAX
+pub no-distance : (v : ℤ) → distance 0 (pos 0) v ≤ MAX
 no-distance v = subst (λ z. nat_abs (z -ℤ pos 0) ≤ MAX) (sym (zero-*ℤ v)) (omega arith)
 
-no-times : (v : ℤ) → nat_abs (pos 0 *ℤ v) ≤ MAX
+pub no-times : (v : ℤ) → nat_abs (pos 0 *ℤ v) ≤ MAX
 no-times v = subst (λ z. nat_abs z ≤ MAX) (sym (zero-*ℤ v)) (omega arith)
 
 page-times : (v : ℤ) → IsSmall v → nat_abs (pos 2 *ℤ v) ≤ MAX
@@ -367,12 +367,12 @@ module _ (tests : BlockTests) (f : AreFitting tests) where
       squared-is (inl e) r = rw e refl
       squared-is (inr e) r = rw e refl
 
-  page-follows : (tail : Tail) → tests.kind ≡ Page → Follows (block_test tests) tail (additive_network (page_addends (block_counts tests) tail (rule_of (block_test tests) tail)))
+  page-follows : (tail : Tail) → tests.kind ≡ Page → Follows (block_test tests) tail (additive_network (line_addends (block_counts tests) tail (rule_of (block_test tests) tail)))
   page-follows tail e =
       let k : ℕ = tests.blocks.treatments in
       let blocks : List (List ℕ) = block_counts tests in
       let rule : Rule = rule_of (block_test tests) tail in
-      let a : Addends = page_addends blocks tail rule in
+      let a : Addends = line_addends blocks tail rule in
       additive_follows (block_test tests) tail a page_pieces (IsArranged (length blocks) k) (map labellings blocks)
       (page_additive k blocks tail rule (are-stages tail))
       (record {
@@ -392,13 +392,13 @@ module _ (tests : BlockTests) (f : AreFitting tests) where
       paged e r = rw e refl
 
   of_kind : Tail → BlockKind → Network
-  of_kind tail kind = additive_network (addends_of kind (block_test tests).bound tests.blocks.treatments (block_counts tests) tail (rule_of (block_test tests) tail))
+  of_kind tail kind = additive_network (running_addends kind (block_test tests).bound tests.blocks.treatments (block_counts tests) tail (rule_of (block_test tests) tail))
 
-  pub follows : (tail : Tail) → Follows (block_test tests) tail (block_network tests tail)
+  pub follows : (tail : Tail) → Follows (block_test tests) tail (running_network tests tail)
   unfolding of_kind
   follows tail = by tests.kind refl
     where
-      by : (kind : BlockKind) → tests.kind ≡ kind → Follows (block_test tests) tail (block_network tests tail)
+      by : (kind : BlockKind) → tests.kind ≡ kind → Follows (block_test tests) tail (running_network tests tail)
       by Friedman e = subst (λ kind. Follows (block_test tests) tail (of_kind tail kind)) (sym e) (squares-follow tail (inl e))
       by Page e = subst (λ kind. Follows (block_test tests) tail (of_kind tail kind)) (sym e) (page-follows tail e)
       by Cochran e = subst (λ kind. Follows (block_test tests) tail (of_kind tail kind)) (sym e) (squares-follow tail (inr e))

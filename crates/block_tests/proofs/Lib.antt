@@ -3,10 +3,13 @@ pub mod PageOrder
 pub mod TreatmentSums
 pub mod Lines
 pub mod Staged
+pub mod Different
 pub mod SquareLaws
 pub mod PageLaws
+pub mod PageImages
 pub mod Rows
 pub mod Fitting
+pub mod OneBlock
 pub mod Steps
 pub mod Walking
 pub mod CutSteps

@@ -23,10 +23,11 @@ use Rattle.stage_network.specs.SoundAddends.{AddsBetween, IsAdditive}
 use Rattle.stage_network.proofs.DistributionLines.{distribution-is}
 use Rattle.stage_network.proofs.Flat.{AllAt}
 use Rattle.stage_network.proofs.Parts.{AreStages as AreParts, Pieces, summed}
-use Rattle.block_tests.specs.BlockNetworks.{arrangement_test, block_at, first_arrangement, line_of, no_line, page_addends, page_lines, places_from}
+use Rattle.block_tests.specs.BlockNetworks.{arrangement_test, block_at, first_arrangement, line_of, no_line, line_addends, page_lines, places_from}
 use Rattle.block_tests.specs.BlockSteps.{AreStages, IsSmall, IsWhole}
 use Rattle.block_tests.specs.BlockTests.{cut, page_sum, treatment_sums}
 use Rattle.block_tests.proofs.Arranged.{each-labelling, first-labelling, length-first}
+use Rattle.block_tests.proofs.Different.{places-different}
 use Rattle.block_tests.proofs.Lines.{over-lines}
 use Rattle.block_tests.proofs.PageOrder.{page-least, page-most}
 use Rattle.block_tests.proofs.SquareLaws.{first-small, over-pos, over-stages-within}
@@ -68,7 +69,7 @@ insert-all P v (u ∷ vs) h a = by (int_lt v u) (int_eq v u) (insert-all P v vs 
     by false true rest = a
     by false false rest = (a.0, rest)
 
-ascending-all : (P : ℤ → Type 0) (vs : List ℤ) → AllByRecursion P vs → AllByRecursion P (ascending_values vs)
+pub ascending-all : (P : ℤ → Type 0) (vs : List ℤ) → AllByRecursion P vs → AllByRecursion P (ascending_values vs)
 ascending-all P [] a = tt
 ascending-all P (v ∷ vs) a = insert-all P v (ascending_values vs) a.0 (ascending-all P vs a.1)
 
@@ -102,7 +103,7 @@ each-place n = all_map (λ c. slice_index c 0 < n) (λ i. i ∷ []) (range_with_
 pub place-within : (n : ℕ) (c : List ℕ) → Contains (places_from 0 n) c → slice_index c 0 < n
 place-within n c m = All-contains (λ c. slice_index c 0 < n) (places_from 0 n) c (All-from_recursion (λ c. slice_index c 0 < n) (places_from 0 n) (each-place n)) m
 
-line-has : (P : Line → Type 0) (counts c : List ℕ) → AllByRecursion P (page_lines counts) → slice_index c 0 < length (page_lines counts) → P (line_of counts c)
+pub line-has : (P : Line → Type 0) (counts c : List ℕ) → AllByRecursion P (page_lines counts) → slice_index c 0 < length (page_lines counts) → P (line_of counts c)
 line-has P counts c all h = All-from_recursion P (page_lines counts) all (slice_index c 0) no_line h
 
 pub line-weight : (counts c : List ℕ) → Contains (places_from 0 (length (page_lines counts))) c → 1 ≤ (line_of counts c).weight
@@ -110,13 +111,13 @@ line-weight counts c m = line-has (λ l. 1 ≤ l.weight) counts c (lines-are cou
 
 -- ---- the network
 
-pub page-total : (blocks : List (List ℕ)) (tail : Tail) (rule : Rule) (g : ℕ) → stage_total (page_addends blocks tail rule) g ≡ number_of_labellings (block_at blocks g)
+pub page-total : (blocks : List (List ℕ)) (tail : Tail) (rule : Rule) (g : ℕ) → stage_total (line_addends blocks tail rule) g ≡ number_of_labellings (block_at blocks g)
 page-total blocks tail rule g = over-places (λ (l : Line). l.weight) (page_lines (block_at blocks g)) ∙ lines-total (block_at blocks g)
 
-page-adds : (blocks : List (List ℕ)) (tail : Tail) (rule : Rule) (g : ℕ) → AllByRecursion (AddsBetween (page_addends blocks tail rule) g) (places_from 0 (length (page_lines (block_at blocks g))))
+page-adds : (blocks : List (List ℕ)) (tail : Tail) (rule : Rule) (g : ℕ) → AllByRecursion (AddsBetween (line_addends blocks tail rule) g) (places_from 0 (length (page_lines (block_at blocks g))))
 page-adds blocks tail rule g =
     let counts : List ℕ = block_at blocks g in
-    all_weaker (λ c. slice_index c 0 < length (page_lines counts)) (AddsBetween (page_addends blocks tail rule) g)
+    all_weaker (λ c. slice_index c 0 < length (page_lines counts)) (AddsBetween (line_addends blocks tail rule) g)
     (λ c h. (let ends = line-has (λ l. HasEnds counts l.value) counts c (lines-between counts) h in record { wide = refl; between = (ends, tt) }))
     (places_from 0 (length (page_lines counts))) (each-place (length (page_lines counts)))
 
@@ -143,9 +144,9 @@ module _ (k : ℕ) (blocks : List (List ℕ)) (tail : Tail) (rule : Rule) (s : A
   least-small : (g : ℕ) → g < length blocks → page_sum 1 (reverse (first_arrangement (block_at blocks g))) ≤ 1152
   least-small g h = omega (arith, most-small g h, page-least (block_at blocks g) (first_arrangement (block_at blocks g)) (first-labelling (block_at blocks g)))
 
-  reach-small : reach (page_addends blocks tail rule) ≤ 11520000
+  reach-small : reach (line_addends blocks tail rule) ≤ 11520000
   reach-small =
-      let all : reach (page_addends blocks tail rule) ≤ length blocks * 1152 = over-within (stride (page_addends blocks tail rule)) (length blocks) 1152 (λ g h. (let low = least-small g h in let high = most-small g h in omega (arith, low, high))) in
+      let all : reach (line_addends blocks tail rule) ≤ length blocks * 1152 = over-within (stride (line_addends blocks tail rule)) (length blocks) 1152 (λ g h. (let low = least-small g h in let high = most-small g h in omega (arith, low, high))) in
       omega (arith, all, s.few)
 
   end-fits : (f : ℕ → ℕ) → ((g : ℕ) → g < length blocks → f g ≤ 1152) → IsSmall (pos 0 +ℤ over_stages (λ g. pos (f g)) (length blocks - 0) 0)
@@ -155,13 +156,14 @@ module _ (k : ℕ) (blocks : List (List ℕ)) (tail : Tail) (rule : Rule) (s : A
       let few : (length blocks - 0) * 1152 ≤ 11520000 = omega (arith, s.few) in
       (omega (arith, ints, some.1), omega (arith, ints, most, few))
 
-  pub page_additive : IsAdditive (page_addends blocks tail rule)
+  pub page_additive : IsAdditive (line_addends blocks tail rule)
   page_additive = record {
     slots_some = omega arith;
     slots_few = omega arith;
     some_choice = λ g h. some-place (length (page_lines (block_at blocks g))) (some-line (block_at blocks g));
+    different = λ g h. places-different 0 (length (page_lines (block_at blocks g)));
     weighty = λ g c h m. line-weight (block_at blocks g) c m;
-    fits = total-fits (page_addends blocks tail rule) blocks (λ g h. page-total blocks tail rule g) s.ways_fit;
+    fits = total-fits (line_addends blocks tail rule) blocks (λ g h. page-total blocks tail rule g) s.ways_fit;
     between = λ g h. page-adds blocks tail rule g;
     sums_fit = omega (arith, reach-small);
     measured = refl;
@@ -178,7 +180,7 @@ one-each : (rs : List (List ℕ)) → AllByRecursion (λ r. length (pos (page_su
 one-each [] = tt
 one-each (r ∷ rs) = (refl, one-each rs)
 
-page-parts : (blocks : List (List ℕ)) (tail : Tail) (rule : Rule) (rest : List (List ℕ)) (g : ℕ) → drop g blocks ≡ rest → AreParts (page_addends blocks tail rule) page_pieces g (map labellings rest)
+page-parts : (blocks : List (List ℕ)) (tail : Tail) (rule : Rule) (rest : List (List ℕ)) (g : ℕ) → drop g blocks ≡ rest → AreParts (line_addends blocks tail rule) page_pieces g (map labellings rest)
 page-parts blocks tail rule [] g e = tt
 page-parts blocks tail rule (b ∷ rest) g e =
     let here = at-head blocks g b rest [] e in (
@@ -194,7 +196,7 @@ page-parts blocks tail rule (b ∷ rest) g e =
       page-parts blocks tail rule rest (g + 1) here.1,
     )
 
-pub page-stages : (blocks : List (List ℕ)) (tail : Tail) (rule : Rule) → AreParts (page_addends blocks tail rule) page_pieces 0 (map labellings blocks)
+pub page-stages : (blocks : List (List ℕ)) (tail : Tail) (rule : Rule) → AreParts (line_addends blocks tail rule) page_pieces 0 (map labellings blocks)
 page-stages blocks tail rule = page-parts blocks tail rule blocks 0 refl
 
 summed-page : (n k m g s : ℕ) (xs : List (List ℕ)) → AllAt (IsArranged n k) g xs → g + m ≡ n → summed (λ i x. pos (page_sum 1 x) ∷ []) g (pos s ∷ []) xs ≡ pos (s + page_sum 1 (treatment_sums k (cut k m (concat xs)))) ∷ []

@@ -24,6 +24,7 @@ use Rattle.block_tests.specs.BlockNetworks.{block_at, first_arrangement, greates
 use Rattle.block_tests.specs.BlockSteps.{AreStages, IsSmall, IsWhole, cells_sum}
 use Rattle.block_tests.specs.BlockTests.{added, cut, square_sum, squared, treatment_sums}
 use Rattle.block_tests.proofs.Arranged.{between-ends, cells-swapped, each-labelling, first-labelling, sum_by-first}
+use Rattle.block_tests.proofs.Different.{arrangements-different}
 use Rattle.block_tests.proofs.Staged.{IsArranged, all_weaker, at-head, over-blocks, over-within, some-arrangement, total-fits, whole-at}
 use Rattle.block_tests.proofs.TreatmentSums.{added-assoc, added-zeros, length-added, length-sums, sums-front, sums-none, zeros-added}
 
@@ -120,6 +121,7 @@ module _ (bound k : ℕ) (blocks : List (List ℕ)) (tail : Tail) (rule : Rule) 
         slots_some = s.some;
         slots_few = omega (arith, s.narrow);
         some_choice = λ g h. some-arrangement (block_at blocks g);
+        different = λ g h. arrangements-different (block_at blocks g);
         weighty = λ g c h m. omega arith;
         fits = total-fits (square_addends bound k blocks tail rule) blocks (λ g h. sum_by-one (labellings (block_at blocks g))) s.ways_fit;
         between = λ g h. wide_between bound k blocks tail rule g s.whole h;

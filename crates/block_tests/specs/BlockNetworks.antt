@@ -1,7 +1,7 @@
 -- The networks of the tests of blocks: a stage is a block, in the order of the file, and a choice
 -- is an arrangement of its cells. For Friedman's and Cochran's tests a key has the treatments' sums
 -- so far, ascending, since the order of the treatments changes no square. For Page's test a key is
--- what the earlier blocks add, and arrangements of a block that add the same are one choice.
+-- what the earlier blocks add.
 use Rattle.std.specs.Prelude.{ℕ, ◌+◌, ◌-◌, pos, List, [], ◌∷◌, length, map, reverse, true, false, slice_index, slice_index_or}
 use Rattle.std.specs.List.{range_with_len}
 use Rattle.weights.specs.Conditional.{ConditionalTest, by_distance, distribution, unit_weight}
@@ -56,6 +56,26 @@ square_addends bound k blocks tail rule = record {
 
 -- ---- Page's sum
 
+-- a block adds least where its cells descend, and most where they ascend
+abbrev pub page_addends : ℕ → List (List ℕ) → Tail → Rule → Addends
+page_addends k blocks tail rule = record {
+  count = length blocks;
+  slots = 1;
+  choice_width = k;
+  choices = λ g. labellings (block_at blocks g);
+  later = λ g c. members_after c (labellings (block_at blocks g));
+  weight = λ g c. 1;
+  adds = λ g c. pos (page_sum 1 c) ∷ [];
+  least = λ g. pos (page_sum 1 (reverse (first_arrangement (block_at blocks g))));
+  most = λ g. pos (page_sum 1 (first_arrangement (block_at blocks g)));
+  sorted = false;
+  value = First;
+  tail = tail;
+  rule = rule;
+}
+
+-- ---- what runs for Page's test: arrangements of a block that add the same are one choice
+
 -- what the arrangements of one block add: its distribution is asked alone
 abbrev pub arrangement_test : List ℕ → ConditionalTest
 arrangement_test counts = record {
@@ -84,9 +104,8 @@ line_of counts choice = slice_index_or (page_lines counts) (slice_index choice 0
 abbrev pub places_from : ℕ → ℕ → List (List ℕ)
 places_from i n = map (λ place. place ∷ []) (range_with_len i n)
 
--- a block adds least where its cells descend, and most where they ascend
-abbrev pub page_addends : List (List ℕ) → Tail → Rule → Addends
-page_addends blocks tail rule = record {
+abbrev pub line_addends : List (List ℕ) → Tail → Rule → Addends
+line_addends blocks tail rule = record {
   count = length blocks;
   slots = 1;
   choice_width = 1;
@@ -107,11 +126,24 @@ page_addends blocks tail rule = record {
 
 abbrev pub addends_of : BlockKind → ℕ → ℕ → List (List ℕ) → Tail → Rule → Addends
 addends_of Friedman bound k = square_addends bound k
-addends_of Page bound k = page_addends
+addends_of Page bound k = page_addends k
 addends_of Cochran bound k = square_addends bound k
 
+-- the network as it is written, whose open keys are counted
 abbrev pub block_network : BlockTests → Tail → Network
 block_network tests tail =
     let test = block_test tests in
     additive_network (addends_of tests.kind test.bound tests.blocks.treatments
+    (block_counts tests) tail (rule_of test tail))
+
+abbrev pub running_addends : BlockKind → ℕ → ℕ → List (List ℕ) → Tail → Rule → Addends
+running_addends Friedman bound k = square_addends bound k
+running_addends Page bound k = line_addends
+running_addends Cochran bound k = square_addends bound k
+
+-- the network that runs, which has as many
+abbrev pub running_network : BlockTests → Tail → Network
+running_network tests tail =
+    let test = block_test tests in
+    additive_network (running_addends tests.kind test.bound tests.blocks.treatments
     (block_counts tests) tail (rule_of test tail))

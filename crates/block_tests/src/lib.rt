@@ -15,8 +15,6 @@ mod page;
 mod ranked;
 mod squares;
 mod sums;
-#[cfg(test)]
-mod tests;
 mod walk;
 mod ways;
 

@@ -10,7 +10,7 @@ use enumerate::{Plain, next_labelling};
 use stage_network::{Additive, Interval, Judge, SumValue, plain_spread};
 use std::alloc::Global;
 use std::marker::Model;
-use weights::{Bytes, Line, NoMemory, Tail};
+use weights::{Bytes, Frame, Line, NoMemory, Rule, Tail};
 
 /// A block with the sums that its arrangements add, ascending, each with how many add it.
 #[derive(Drop)]
@@ -53,6 +53,21 @@ impl Plain for Block {
     fn value(&self, labels: &[u8]) -> i128 {
         let _few = Block::first(self);
         page_sum(labels) as i128
+    }
+
+    fn frame(&self) -> Frame {
+        let cells = Block::first(self);
+        let statistic = page_sum(cells) as i128;
+        Frame {
+            statistic,
+            scale: 1,
+            total: self.number(),
+            two: Rule::far(0, 0, statistic),
+        }
+    }
+
+    fn measure(&self, labels: &[u8], _tail: Tail) -> i128 {
+        self.value(labels)
     }
 }
 
@@ -154,9 +169,9 @@ fn line_at(lines: &[Line], place: u64) -> Line
 }
 
 impl Additive for PageBlocks {
-    ghost use Rattle.block_tests.specs.BlockNetworks.{page_addends};
+    ghost use Rattle.block_tests.specs.BlockNetworks.{line_addends};
 
-    ghost addends = { λ s. page_addends s.blocks.items s.judge.tail s.judge.rule };
+    ghost addends = { λ s. line_addends s.blocks.items s.judge.tail s.judge.rule };
 
     fn stages(&self) -> usize {
         self.blocks.len()

@@ -6,10 +6,16 @@ ghost use Rattle.block_tests.specs.BlockSteps.{IsSmall};
 
 use crate::kinds::BlockKind;
 
+// The greatest sum of a treatment's cells, each a byte, over as many blocks as a file has rows.
+const MOST_SUM: u64 = 255 * 10_000;
+
+// The greatest of Page's sums of a block, of eight bytes by eight places.
+const MOST_PAGE_SUM: u64 = 255 * 64;
+
 // Adds cells to the sums, place by place.
 fn add_cells(cells: &[u8], sums: &mut [u64])
     requires long { length sums.old ≡ length cells.now }
-    requires small { All (λ sum. sum ≤ 2550000) sums.old }
+    requires small { All (λ sum. sum ≤ MOST_SUM) sums.old }
     ensures { sums.new ≡ added sums.old cells.now }
 {
     for (place, cell) in cells.iter().enumerate() {
@@ -23,7 +29,7 @@ fn treatment_sums(blocks: usize, cells: &[u8], sums: &mut [u64])
     requires whole { length cells.now ≡ blocks * length sums.old }
     ensures sums { let k = length sums.old in
         sums.new ≡ treatment_sums k (cut k blocks cells.now) }
-    ensures small { All (λ sum. sum ≤ 2550000) sums.new }
+    ensures small { All (λ sum. sum ≤ MOST_SUM) sums.new }
 {
     let treatments = sums.len();
     sums.fill(0);
@@ -38,9 +44,9 @@ fn treatment_sums(blocks: usize, cells: &[u8], sums: &mut [u64])
 // The squares of sums, added.
 fn square_sum(sums: &[u64]) -> u64
     requires few { length sums.now ≤ 8 }
-    requires small { All (λ sum. sum ≤ 2550000) sums.now }
+    requires small { All (λ sum. sum ≤ MOST_SUM) sums.now }
     ensures is { result ≡ square_sum sums.now }
-    ensures small { result ≤ 8 * (2550000 * 2550000) }
+    ensures small { result ≤ 8 * (MOST_SUM * MOST_SUM) }
 {
     let mut all = 0;
     for sum in sums {
@@ -53,7 +59,7 @@ fn square_sum(sums: &[u64]) -> u64
 pub(crate) fn page_sum(cells: &[u8]) -> u64
     requires { length cells.now ≤ 8 }
     ensures is { result ≡ page_sum 1 cells.now }
-    ensures small { result ≤ 16320 }
+    ensures small { result ≤ MOST_PAGE_SUM }
 {
     let mut all = 0;
     for (place, cell) in cells.iter().enumerate() {
@@ -66,7 +72,7 @@ pub(crate) fn page_sum(cells: &[u8]) -> u64
 pub(crate) fn page_sum_back(cells: &[u8]) -> u64
     requires { length cells.now ≤ 8 }
     ensures is { result ≡ page_sum 1 (reverse cells.now) }
-    ensures small { result ≤ 16320 }
+    ensures small { result ≤ MOST_PAGE_SUM }
 {
     let mut numbers = [0u8; 8];
     let back = &mut numbers[..cells.len()];
@@ -81,7 +87,7 @@ fn page_sums(blocks: usize, treatments: usize, cells: &[u8]) -> u64
     requires narrow { treatments ≤ 8 }
     requires whole { length cells.now ≡ blocks * treatments }
     ensures is { result ≡ page_sum 1 (treatment_sums treatments (cut treatments blocks cells.now)) }
-    ensures small { result ≤ 163200000 }
+    ensures small { result ≤ MOST_ROWS * MOST_PAGE_SUM }
 {
     let mut all = 0;
     let mut rest = cells;
@@ -100,7 +106,7 @@ fn square_sums(blocks: usize, treatments: usize, cells: &[u8]) -> u64
     requires whole { length cells.now ≡ blocks * treatments }
     ensures is { let sums = treatment_sums treatments (cut treatments blocks cells.now) in
         result ≡ square_sum sums }
-    ensures small { result ≤ 8 * (2550000 * 2550000) }
+    ensures small { result ≤ 8 * (MOST_SUM * MOST_SUM) }
 {
     let mut numbers = [0u64; 8];
     let sums = &mut numbers[..treatments];

@@ -1,7 +1,7 @@
 // Both ways to the answer of a test of blocks.
 ghost use Rattle.std.specs.Prelude.{◌≡◌, ◌≤◌, IfOk};
 ghost use Rattle.weights.specs.declared.TheConstants.{MAX};
-ghost use Rattle.block_tests.specs.BlockNetworks.{page_addends, square_addends};
+ghost use Rattle.block_tests.specs.BlockNetworks.{line_addends, square_addends};
 ghost use Rattle.block_tests.specs.BlockSteps.{AreStages, cells_sum};
 ghost use Rattle.block_tests.specs.BlockTests.{block_counts, block_test, squared};
 
@@ -75,8 +75,8 @@ fn page_stages(
 ) -> Result<AdditiveStages<PageBlocks>, NoMemory>
     requires { let k = test.now.blocks.treatments in
         AreStages k (block_counts test.now) judge.rule }
-    ensures { let a = page_addends (block_counts test.now) judge.tail judge.rule in
-        IfOk result (λ s. page_addends s.blocks.items s.judge.tail s.judge.rule ≡ a) }
+    ensures { let a = line_addends (block_counts test.now) judge.tail judge.rule in
+        IfOk result (λ s. line_addends s.blocks.items s.judge.tail s.judge.rule ≡ a) }
 {
     let blocks = page_blocks(alloc, test.blocks())?;
     let inside = PageBlocks::new(blocks, test.treatments(), judge);
@@ -85,13 +85,13 @@ fn page_stages(
 
 impl Prepared for BlockTest {
     ghost use Rattle.stage_network.specs.Addends.{additive_shape};
-    ghost use Rattle.block_tests.specs.BlockNetworks.{block_network};
+    ghost use Rattle.block_tests.specs.BlockNetworks.{block_network, running_network};
 
     type Built = OneOf<AdditiveStages<SquareBlocks>, AdditiveStages<PageBlocks>>;
 
     ghost network = { block_network };
 
-    ghost runs = { block_network };
+    ghost runs = { running_network };
 
     ghost shape = { λ _ _. additive_shape };
 

@@ -14,8 +14,6 @@ mod mark_stages;
 mod marks;
 mod one_sample;
 mod scored_marks;
-#[cfg(test)]
-mod tests;
 mod ways;
 
 pub use kinds::SignKind;

@@ -1,5 +1,6 @@
 mod CellSums
 mod Multiples
+mod Different
 mod StrataLaws
 mod FittingStrata
 mod StrataWalk

@@ -32,6 +32,7 @@ use Rattle.stratified_tests.specs.Strata.{first_column, first_row, greatest_cell
 use Rattle.stratified_tests.specs.StrataTests.{first_cell, first_cells, row_labellings, stratified_test}
 use Rattle.stratified_tests.specs.StrataNetwork.{cell_weight, cells_from, strata_addends, stratified_network, stratum_at}
 use Rattle.stratified_tests.specs.StrataSteps.{AreStages, IsSmall, greatest_sum, labelled, labelled_in_all}
+use Rattle.stratified_tests.proofs.Different.{cells-different}
 use Rattle.stratified_tests.proofs.CellSums.{allowed_cells, by_cells, divided}
 
 pub drop-head : (g : ℕ) (strata : List Stratum) (t : Stratum) (ts : List Stratum) → drop g strata ≡ t ∷ ts → (stratum_at strata g ≡ t) × (drop (g + 1) strata ≡ ts)
@@ -199,6 +200,7 @@ module _ (strata : List Stratum) (tail : Tail) (rule : Rule) where
     slots_some = omega arith;
     slots_few = omega arith;
     some_choice = λ g h e. no-choice (stratum_at strata g) e;
+    different = λ g h. cells-different (least_cell (stratum_at strata g)) (greatest_cell (stratum_at strata g) + 1 - least_cell (stratum_at strata g));
     weighty = λ g c h m. (let i = choice-cell g c m in weight-some (stratum_at strata g) (slice_index c 0) i.low i.high);
     fits = omega (arith, total-from strata 0 refl, s.total_fits);
     between = λ g h. all_weaker (IsCell (stratum_at strata g)) (AddsBetween a g) (λ c i. adds-between g c i) (a.choices g) (all-cells (stratum_at strata g));

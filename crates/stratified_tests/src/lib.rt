@@ -12,8 +12,6 @@ mod strata_stages;
 mod strata_test;
 mod stratum;
 mod sums;
-#[cfg(test)]
-mod tests;
 mod walk;
 mod ways;
 

@@ -1,0 +1,14 @@
+-- The choices of a stage are all different.
+use Rattle.std.proofs.Common.{◌≡◌, ◌≢◌, ℕ, ◌+◌, ◌<◌, List, [], ◌∷◌, length, get_or, AllPairs, refl, sym, ◌∙◌, arith}
+use Rattle.std.proofs.lemmas.List.FromFn.{get_or-map-range_with_len, length-map-range_with_len}
+use Rattle.one_sample_tests.specs.SignNetwork.{choices_from}
+
+ones-apart : (x y : ℕ) → x < y → x ∷ [] ≢ y ∷ []
+ones-apart x y l e = let same : x ≡ y = cc in omega arith
+
+pub choices-different : (s n : ℕ) → AllPairs ◌≢◌ (choices_from s n)
+choices-different s n i j d below inside e =
+    let within : j < n = omega (arith, length-map-range_with_len (λ x. x ∷ []) s n) in
+    let first : get_or (choices_from s n) i d ≡ (s + i) ∷ [] = get_or-map-range_with_len (λ x. x ∷ []) s n i (s + i) d (omega arith) refl in
+    let second : get_or (choices_from s n) j d ≡ (s + j) ∷ [] = get_or-map-range_with_len (λ x. x ∷ []) s n j (s + j) d within refl in
+    ones-apart (s + i) (s + j) (omega arith) (sym first ∙ e ∙ second)
