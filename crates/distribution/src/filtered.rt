@@ -25,9 +25,9 @@ fn weight_of(lines: &[Line], rule: Rule) -> u128
 }
 
 /// The weight of the lines with a value of at most this one, where the weights of all lines sum to
-/// at most [`weights::MAX`], as those of a test's distribution do. Of the distribution of a test, at
-/// the observed statistic, it is the numerator of the tail `Less`. It takes no memory, and looks at
-/// each line once.
+/// at most [`weights::MAX`], as those of a test's distribution do. Of the distribution of a test,
+/// at the observed statistic, it is the numerator of the tail `Less`. It takes no memory, and looks
+/// at each line once.
 pub fn below(spread: &Spread, value: i128) -> u128
     requires { WeightsFit spread.now }
     ensures sum { result ≡ line_sum (λ v. int_le v value) spread.now }
@@ -38,9 +38,9 @@ pub fn below(spread: &Spread, value: i128) -> u128
 }
 
 /// The weight of the lines with a value of at least this one, where the weights of all lines sum to
-/// at most [`weights::MAX`], as those of a test's distribution do. Of the distribution of a test, at
-/// the observed statistic, it is the numerator of the tail `Greater`. It takes no memory, and looks
-/// at each line once.
+/// at most [`weights::MAX`], as those of a test's distribution do. Of the distribution of a test,
+/// at the observed statistic, it is the numerator of the tail `Greater`. It takes no memory, and
+/// looks at each line once.
 pub fn above(spread: &Spread, value: i128) -> u128
     requires { WeightsFit spread.now }
     ensures sum { result ≡ line_sum (λ v. int_le value v) spread.now }

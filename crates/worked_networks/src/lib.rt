@@ -1,5 +1,5 @@
-//! Networks and tests that are known by hand, each written on the public surface of the crates below,
-//! as a stranger would write it.
+//! Networks and tests that are known by hand, each written on the public surface of the crates
+//! below, as a stranger would write it.
 #![tactic(auto)]
 
 mod blocks;
