@@ -1,8 +1,7 @@
 -- The arcs of a stage, from room to room, and how they are kept: in the order of their arrival,
 -- those to one room linked from the last to the first.
-use Rattle.std.specs.Prelude.{◌≡◌, ℕ, suc, ℤ, ◌≤◌, ◌<◌, ◌-◌, ◌*◌, List, [], ◌∷◌, ◌++◌, length, take, drop, map, filter, nat_eq, nat_lt}
+use Rattle.std.specs.Prelude.{◌≡◌, ℕ, suc, ℤ, ◌≤◌, ◌<◌, ◌-◌, ◌*◌, List, [], ◌∷◌, ◌++◌, length, take, drop, get_or, map, filter, nat_eq, nat_lt}
 use Rattle.std.specs.List.{Contains, flat_map, AllByRecursion}
-use Rattle.std.proofs.Common.{get_or}
 use Rattle.node_pool.specs.Nodes.{Node, node}
 use Rattle.stage_network.specs.declared.links.Link.{Link}
 use Rattle.stage_network.specs.Network.{Network}

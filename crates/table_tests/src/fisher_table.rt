@@ -70,7 +70,8 @@ fn is_two_by_two(table: &Table) -> bool
     table.rows == 2 && table.columns == 2
 }
 
-// A weight as statistics are held.
+// A weight as statistics and keys hold it.
+#[inline(always)]
 pub(crate) fn held(weight: u128) -> i128
     requires { weight ≤ MAX }
     ensures { result ≡ pos weight }

@@ -12,6 +12,7 @@ ghost use Rattle.table_tests.specs.Weighing.{greatest_factor, least_factor, past
 ghost use Rattle.table_tests.specs.WeightSteps.{AreRoomy, IsWeighing, IsWeightMeasure};
 
 use crate::fillings::{later_highs, least_over};
+use crate::fisher_table::held;
 use completion_bounds::fall;
 use label_network::{Binomials, Measure, read_sizes};
 use stage_network::{Interval, Judge, Verdict};
@@ -51,15 +52,6 @@ fn both_times(product: i128, factors: Interval) -> Interval
         low: times(product, factors.low),
         high: times(product, factors.high),
     }
-}
-
-// A weight as a key holds it.
-#[inline(always)]
-fn held(weight: u128) -> i128
-    requires { weight ≤ MAX }
-    ensures { result ≡ pos weight }
-{
-    weight as i128
 }
 
 // The columns from a stage on.
