@@ -4,6 +4,7 @@
 ghost use Rattle.std.specs.Prelude.{◌≡◌, ◌≤◌, IfOk};
 ghost use Rattle.weights.specs.Conditional.{distribution};
 ghost use Rattle.stage_network.specs.Follows.{HasTails, answer_of, open_keys};
+ghost use Rattle.stage_network.specs.Lines.{TailsFit, WeightsFit};
 ghost use Rattle.block_tests.specs.BlockTests.{block_test};
 ghost use Rattle.block_tests.specs.BlockNetworks.{block_network};
 
@@ -47,7 +48,9 @@ pub fn answer(
 /// The distribution of the statistic: each value that it takes, ascending, with the number of
 /// rearrangements that have it, by either way.
 pub fn distribution(alloc: Global, problem: &BlockTest, way: Way) -> Result<Spread, NoMemory>
-    ensures { IfOk result (λ spread. spread ≡ distribution (block_test problem.now)) }
+    ensures lines { IfOk result (λ spread. spread ≡ distribution (block_test problem.now)) }
+    ensures weights { IfOk result WeightsFit }
+    ensures rules { IfOk result (TailsFit (block_test problem.now)) }
 {
     stage_network::distribution(alloc, problem, way)
 }

@@ -1,20 +1,18 @@
 // The weight of the lines whose values are extreme.
-ghost use Rattle.std.specs.Prelude.{◌≡◌, ◌≤◌, int_le, nat_le};
-ghost use Rattle.std.specs.List.{All};
+ghost use Rattle.std.specs.Prelude.{◌≡◌, int_le, nat_le};
 ghost use Rattle.weights.specs.Conditional.{ConditionalTest, by_distance, distance, distribution};
 ghost use Rattle.weights.specs.Conditional.{numerator, observed_statistic};
-ghost use Rattle.weights.specs.declared.TheConstants.{MAX};
 ghost use Rattle.weights.specs.declared.tails.Tail.TheVariants.{Less, Greater, Two};
-ghost use Rattle.weights.specs.Rules.{RuleFits, passes};
-ghost use Rattle.stage_network.specs.Lines.{every, line_sum};
+ghost use Rattle.weights.specs.Rules.{passes};
+ghost use Rattle.stage_network.specs.Lines.{RuleFitsLines, WeightsFit, line_sum};
 
 use stage_network::Spread;
 use weights::{Line, Rule};
 
 // The weight of the lines whose values pass a rule.
 fn weight_of(lines: &[Line], rule: Rule) -> u128
-    requires total { line_sum every lines.now ≤ MAX }
-    requires fits { All (λ line. RuleFits rule line.value) lines.now }
+    requires total { WeightsFit lines.now }
+    requires fits { RuleFitsLines rule lines.now }
     ensures { result ≡ line_sum (passes rule) lines.now }
 {
     let mut sum = 0;
@@ -27,10 +25,11 @@ fn weight_of(lines: &[Line], rule: Rule) -> u128
 }
 
 /// The weight of the lines with a value of at most this one, where the weights of all lines sum to
-/// at most [`weights::MAX`]. Of the distribution of a test, at the observed statistic, it is the
-/// numerator of the tail `Less`. It takes no memory, and looks at each line once.
+/// at most [`weights::MAX`], as those of a test's distribution do. Of the distribution of a test, at
+/// the observed statistic, it is the numerator of the tail `Less`. It takes no memory, and looks at
+/// each line once.
 pub fn below(spread: &Spread, value: i128) -> u128
-    requires { line_sum every spread.now ≤ MAX }
+    requires { WeightsFit spread.now }
     ensures sum { result ≡ line_sum (λ v. int_le v value) spread.now }
     ensures law { (test : ConditionalTest) → spread.now ≡ distribution test
         → value ≡ observed_statistic test → result ≡ numerator test Less }
@@ -39,10 +38,11 @@ pub fn below(spread: &Spread, value: i128) -> u128
 }
 
 /// The weight of the lines with a value of at least this one, where the weights of all lines sum to
-/// at most [`weights::MAX`]. Of the distribution of a test, at the observed statistic, it is the
-/// numerator of the tail `Greater`. It takes no memory, and looks at each line once.
+/// at most [`weights::MAX`], as those of a test's distribution do. Of the distribution of a test, at
+/// the observed statistic, it is the numerator of the tail `Greater`. It takes no memory, and looks
+/// at each line once.
 pub fn above(spread: &Spread, value: i128) -> u128
-    requires { line_sum every spread.now ≤ MAX }
+    requires { WeightsFit spread.now }
     ensures sum { result ≡ line_sum (λ v. int_le value v) spread.now }
     ensures law { (test : ConditionalTest) → spread.now ≡ distribution test
         → value ≡ observed_statistic test → result ≡ numerator test Greater }
@@ -56,8 +56,8 @@ pub fn above(spread: &Spread, value: i128) -> u128
 /// centre and as far apart as the observed statistic, it is the numerator of the tail `Two`. It
 /// takes no memory, and looks at each line once.
 pub fn far(spread: &Spread, factor: u128, centre: i128, apart: u128) -> u128
-    requires total { line_sum every spread.now ≤ MAX }
-    requires fits { All (λ line. RuleFits (Rule.Far factor centre apart) line.value) spread.now }
+    requires total { WeightsFit spread.now }
+    requires fits { RuleFitsLines (Rule.Far factor centre apart) spread.now }
     ensures sum { result ≡ line_sum (λ v. nat_le apart (distance factor centre v)) spread.now }
     ensures law { (test : ConditionalTest) → spread.now ≡ distribution test
         → test.two_sided ≡ by_distance factor centre

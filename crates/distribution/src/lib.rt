@@ -2,7 +2,5 @@
 #![tactic(auto)]
 
 mod filtered;
-#[cfg(test)]
-mod tests;
 
 pub use filtered::{above, below, far};

@@ -6,6 +6,7 @@
 ghost use Rattle.std.specs.Prelude.{◌≡◌, ◌≤◌, IfOk};
 ghost use Rattle.weights.specs.Conditional.{distribution};
 ghost use Rattle.stage_network.specs.Follows.{HasTails, answer_of, open_keys};
+ghost use Rattle.stage_network.specs.Lines.{TailsFit, WeightsFit};
 ghost use Rattle.k_sample_tests.specs.KSamples.{k_sample_network, k_sample_test};
 
 mod counted_samples;
@@ -46,7 +47,9 @@ pub fn answer(alloc: Global, problem: &KSample, tails: Tails, way: Way) -> Resul
 /// The distribution of the statistic of a test of several samples: each value that it takes,
 /// ascending, with the number of labellings that have it, by either way.
 pub fn distribution(alloc: Global, problem: &KSample, way: Way) -> Result<Spread, NoMemory>
-    ensures { IfOk result (λ spread. spread ≡ distribution (k_sample_test problem.now)) }
+    ensures lines { IfOk result (λ spread. spread ≡ distribution (k_sample_test problem.now)) }
+    ensures weights { IfOk result WeightsFit }
+    ensures rules { IfOk result (TailsFit (k_sample_test problem.now)) }
 {
     stage_network::distribution(alloc, problem, way)
 }

@@ -1,11 +1,11 @@
 -- What every reached key has, and what its completions are.
-use Rattle.std.proofs.Common.{◌≡◌, ℕ, zero, suc, ◌+◌, ◌-◌, ◌*◌, ◌<◌, ◌≤◌, List, [], ◌∷◌, ◌++◌, map, take, drop, length, Bool, refl, sym, ◌∙◌, ap, arith, add-one, drop-cons, drop_of_length-le, mul-one, subst}
+use Rattle.std.proofs.Common.{◌≡◌, ℕ, zero, suc, ◌+◌, ◌-◌, ◌*◌, ◌<◌, ◌≤◌, List, [], ◌∷◌, ◌++◌, map, take, drop, length, refl, sym, ◌∙◌, ap, arith, add-one, drop-cons, drop_of_length-le, mul-one, subst}
 use Rattle.std.specs.Prelude.{ℤ, pos, slice_index}
 use Rattle.std.specs.List.{sum_by, sum, filter, Contains}
 use Rattle.std.proofs.lemmas.Bool.{lt-ltb, le-ltb}
 use Rattle.std.proofs.Math.Seq.{take-append_seam, drop-append_seam}
 use Rattle.stage_network.specs.Network.{IsReached}
-use Rattle.stage_network.specs.Completions.{paths, completions, path_weight, path_end, total_weight, ending_weight, value_weights}
+use Rattle.stage_network.specs.Completions.{paths, completions, path_weight, path_end, total_weight, ending_weight}
 use Rattle.weights.specs.Labellings.{labellings, number_of_labellings}
 use Rattle.weights.specs.Grouped.{minus, tables, table_weight}
 use Rattle.weights.proofs.Chosen.{one_if}

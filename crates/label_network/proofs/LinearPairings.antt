@@ -1,10 +1,9 @@
 -- What can be added is the least and the greatest pairing of the remaining rows' units with the later subjects.
-use Rattle.std.proofs.Common.{◌≡◌, ℕ, zero, suc, List, [], ◌∷◌, ◌++◌, length, Bool, true, false, cond, refl, sym, ◌∙◌, subst, arith}
+use Rattle.std.proofs.Common.{◌≡◌, ℕ, zero, suc, List, [], ◌∷◌, ◌++◌, length, sym, ◌∙◌, subst, arith}
 use Rattle.std.specs.Prelude.{ℤ, ◌≤ℤ◌, int_le, replicate}
 use Rattle.std.specs.List.{sum, AllByRecursion}
-use Rattle.std.specs.List.Sorted.{IsPermutation}
 use Rattle.std.proofs.lemmas.Int.{ints}
-use Rattle.std.proofs.lemmas.List.Sorted.{IsPermutation-refl, IsPermutation-sym, IsPermutation-cons, IsPermutation-trans, IsPermutation-swap}
+use Rattle.std.proofs.lemmas.List.Sorted.{IsPermutation-sym, IsPermutation-trans}
 use Rattle.completion_bounds.specs.Pairings.{IsLeastPairing, IsGreatestPairing}
 use Rattle.completion_bounds.proofs.Rearranged.{Ascends, all_imp, is_least, is_greatest}
 use Rattle.weights.proofs.OneOrder.{in_order-permutes}

@@ -1,5 +1,5 @@
 -- Sums of products are no greater than the greatest row score times the summed column scores.
-use Rattle.std.proofs.Common.{◌≡◌, ℕ, zero, suc, ◌+◌, ◌*◌, ◌≤◌, List, [], ◌∷◌, ◌++◌, length, Bool, true, false, cond, refl, sym, ◌∙◌, ap, arith}
+use Rattle.std.proofs.Common.{◌≡◌, ℕ, zero, suc, ◌+◌, ◌*◌, ◌≤◌, List, [], ◌∷◌, ◌++◌, length, refl, sym, ◌∙◌, ap, arith}
 use Rattle.std.specs.Prelude.{ℤ, pos, ◌+ℤ◌, ◌*ℤ◌, ◌≤ℤ◌, int_le, nat_abs, unsigned_abs, replicate, reverse}
 use Rattle.std.specs.List.{sum}
 use Rattle.std.proofs.Math.Nat.{mul-le-mul, mul-le-mul_left}

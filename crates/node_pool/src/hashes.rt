@@ -48,7 +48,7 @@ fn slot_of(size: usize, hash: u64) -> usize
     (product >> 64) as usize
 }
 
-// The slot where a key is looked for first.
+/// The slot where a key is looked for first.
 #[inline(always)]
 pub fn home_of(size: usize, key: &[i128]) -> usize
     requires { 0 < size }
@@ -58,7 +58,7 @@ pub fn home_of(size: usize, key: &[i128]) -> usize
     slot_of(size, hash_of(key))
 }
 
-// The same for a key of one number.
+/// The same for a key of one number.
 #[inline(always)]
 pub fn home_of_one(size: usize, number: i128) -> usize
     requires { 0 < size }

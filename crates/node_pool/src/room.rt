@@ -15,7 +15,7 @@ pub fn push_within<T: Drop>(items: &mut Vec<T>, item: T)
     }
 }
 
-// Adds a key to a row that has room. Most keys are one number, which needs no copying in bulk.
+/// Adds a key to a row that has room. Most keys are one number, which needs no copying in bulk.
 #[inline(always)]
 pub fn append_within(row: &mut Vec<i128>, key: &[i128])
     requires { vec_len row.old + length key.now ≤ vec_capacity row.old }

@@ -7,7 +7,8 @@ ghost use Rattle.node_pool.specs.TableSteps.{IsTable, IsWalk, IsFound, key_at, i
 
 use crate::hashes::{home_of, home_of_one};
 
-// Whether two keys are equal. They are short, and a loop is quicker on them than a search in bulk.
+/// Whether two keys are equal. They are short, and a loop is quicker on them than a search in
+/// bulk.
 #[inline(always)]
 pub fn same_key(a: &[i128], b: &[i128]) -> bool
     requires { length a.now ≡ length b.now }
@@ -31,7 +32,7 @@ fn next_slot(size: usize, slot: usize) -> usize
     if slot + 1 == size { 0 } else { slot + 1 }
 }
 
-// Where the search for a key ends: at the key's place, or at the empty slot that is free for it.
+/// Where the search for a key ends: at the key's place, or at the empty slot that is free for it.
 pub enum Found {
     At(usize),
     Free(usize),
@@ -62,7 +63,7 @@ fn find_one(cells: &[i128], slots: &[u32], buckets: &[u32], number: i128) -> Fou
     Found::Free(slot)
 }
 
-// Searches for a key.
+/// Searches for a key.
 #[inline(always)]
 pub fn find(width: usize, cells: &[i128], slots: &[u32], buckets: &[u32], key: &[i128]) -> Found
     requires table { let keys = keys_of width (length slots.now) cells.now in
@@ -109,7 +110,7 @@ fn free_slot(buckets: &[u32], home: usize) -> usize
     slot
 }
 
-// Enters every key into empty buckets.
+/// Enters every key into empty buckets.
 pub fn rehash(width: usize, cells: &[i128], slots: &mut [u32], buckets: &mut [u32])
     requires empty { AllEmpty buckets.old }
     requires room { length slots.old < length buckets.old }
@@ -128,7 +129,7 @@ pub fn rehash(width: usize, cells: &[i128], slots: &mut [u32], buckets: &mut [u3
     }
 }
 
-// Empties the buckets.
+/// Empties the buckets.
 pub fn clear_buckets(slots: &[u32], buckets: &mut [u32])
     requires back { (s : ℕ) → s < length buckets.old → 0 < slice_index buckets.old s
         → (slice_index buckets.old s ≤ length slots.now)

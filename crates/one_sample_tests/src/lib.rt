@@ -5,6 +5,7 @@
 ghost use Rattle.std.specs.Prelude.{◌≡◌, ◌≤◌, IfOk};
 ghost use Rattle.weights.specs.Conditional.{distribution};
 ghost use Rattle.stage_network.specs.Follows.{answer_of, open_keys};
+ghost use Rattle.stage_network.specs.Lines.{TailsFit, WeightsFit};
 ghost use Rattle.one_sample_tests.specs.SignedSamples.{one_sample_test};
 ghost use Rattle.one_sample_tests.specs.SignNetwork.{one_sample_network};
 
@@ -43,7 +44,9 @@ pub fn answer(
 /// The distribution of the sum of the scores of the plus marks: each value that it takes,
 /// ascending, with the number of lists of marks that have it, by either way.
 pub fn distribution(alloc: Global, problem: &OneSample, way: Way) -> Result<Spread, NoMemory>
-    ensures { IfOk result (λ spread. spread ≡ distribution (one_sample_test problem.now)) }
+    ensures lines { IfOk result (λ spread. spread ≡ distribution (one_sample_test problem.now)) }
+    ensures weights { IfOk result WeightsFit }
+    ensures rules { IfOk result (TailsFit (one_sample_test problem.now)) }
 {
     stage_network::distribution(alloc, problem, way)
 }

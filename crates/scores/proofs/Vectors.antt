@@ -64,3 +64,16 @@ tied_mood = (refl, refl, refl)
 tied_savage : Has Savage tied (pos 214 ∷ pos 39 ∷ pos 214 ∷ pos 39 ∷ pos 94 ∷ []) 120 600
 unfolding averaged common_size common_multiple lcm tie_groups number_below number_equal place_scores savage_place
 tied_savage = (refl, refl, refl)
+
+-- one value, and none
+one_mood : Has Mood (pos 7 ∷ []) (pos 0 ∷ []) 4 0
+unfolding averaged common_size common_multiple lcm tie_groups number_below number_equal place_scores mood_place
+one_mood = (refl, refl, refl)
+
+one_savage : Has Savage (pos 7 ∷ []) (pos 1 ∷ []) 1 1
+unfolding averaged common_size common_multiple lcm tie_groups number_below number_equal place_scores savage_place
+one_savage = (refl, refl, refl)
+
+no_raw : Has Raw [] [] 1 0
+unfolding decimals is_whole raw_score
+no_raw = (refl, refl, refl)

@@ -146,7 +146,7 @@ insert-each P v (u ∷ vs) h a = by (int_lt v u) (int_eq v u) (insert-each P v v
     by false true rest = a
     by false false rest = (a.0, rest)
 
-values-each : (P : ℤ → Type 0) (vs : List ℤ) → AllByRecursion P vs → AllByRecursion P (ascending_values vs)
+pub values-each : (P : ℤ → Type 0) (vs : List ℤ) → AllByRecursion P vs → AllByRecursion P (ascending_values vs)
 values-each P [] a = tt
 values-each P (v ∷ vs) a = insert-each P v (ascending_values vs) a.0 (values-each P vs a.1)
 

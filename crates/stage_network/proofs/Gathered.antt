@@ -14,7 +14,7 @@ use Rattle.stage_network.specs.Network.{Network, IsReached}
 use Rattle.stage_network.specs.NodeSteps.{successor, closed_weight, AllReached, AllHeavy, AreNodes}
 use Rattle.stage_network.specs.Opened.{is_open_for_some}
 use Rattle.stage_network.proofs.Steps.{sum_by-flat_map, sum_by-same, reached-next}
-use Rattle.stage_network.specs.WaySteps.{Way, segment, way_nodes, spread_out, bucket, firsts, IsFine, AllFine}
+use Rattle.stage_network.specs.ArcSteps.{Arc, segment, arc_nodes, spread_out, bucket, firsts, IsFine, AllFine}
 use Rattle.node_pool.proofs.Puts.{same_key, key_equiv, unlike, alike}
 use Rattle.stage_network.proofs.Conserved.{sum_by-filter, split-extreme, split-total, all_append, all_map}
 use Rattle.stage_network.proofs.OpenKeys.{list_any-append, map-append, distinct_filter, keys-filter, member-holds, all_of_members, all_filter, same-holds}
@@ -38,38 +38,38 @@ is_below a t e = grind arith
 is_same : (a t : ℕ) → nat_eq a t ≡ true → a ≡ t
 is_same a t e = grind arith
 
-firsts-sum : (h : Way → ℕ) (t : ℕ) (ways : List Way) → sum_by h (firsts (t + 1) ways) ≡ sum_by h (firsts t ways) + sum_by h (bucket t ways)
-firsts-sum h t ways =
-    sum_by-filter h (λ a. nat_lt a.target (t + 1)) ways
-    ∙ sum_by-same _ (λ a. cond (nat_lt a.target t) (h a) 0 + cond (nat_eq a.target t) (h a) 0) (λ a. three a.target t (h a)) ways
-    ∙ sum_by-add (λ a. cond (nat_lt a.target t) (h a) 0) (λ a. cond (nat_eq a.target t) (h a) 0) ways
-    ∙ ap (λ m. m + sum_by (λ a. cond (nat_eq a.target t) (h a) 0) ways) (sym (sum_by-filter h (λ a. nat_lt a.target t) ways))
-    ∙ ap (λ m. sum_by h (firsts t ways) + m) (sym (sum_by-filter h (λ a. nat_eq a.target t) ways))
+firsts-sum : (h : Arc → ℕ) (t : ℕ) (arcs : List Arc) → sum_by h (firsts (t + 1) arcs) ≡ sum_by h (firsts t arcs) + sum_by h (bucket t arcs)
+firsts-sum h t arcs =
+    sum_by-filter h (λ a. nat_lt a.target (t + 1)) arcs
+    ∙ sum_by-same _ (λ a. cond (nat_lt a.target t) (h a) 0 + cond (nat_eq a.target t) (h a) 0) (λ a. three a.target t (h a)) arcs
+    ∙ sum_by-add (λ a. cond (nat_lt a.target t) (h a) 0) (λ a. cond (nat_eq a.target t) (h a) 0) arcs
+    ∙ ap (λ m. m + sum_by (λ a. cond (nat_eq a.target t) (h a) 0) arcs) (sym (sum_by-filter h (λ a. nat_lt a.target t) arcs))
+    ∙ ap (λ m. sum_by h (firsts t arcs) + m) (sym (sum_by-filter h (λ a. nat_eq a.target t) arcs))
 
-pub firsts-more : (n : Network) (g : ℕ) (nodes : List Node) (f : List ℤ → ℕ) (t : ℕ) (ways : List Way) → weighted f (spread_out n g nodes (firsts (t + 1) ways)) ≡ weighted f (spread_out n g nodes (firsts t ways)) + weighted f (spread_out n g nodes (bucket t ways))
-firsts-more n g nodes f t ways =
-    let part = λ (ws : List Way). sum_by-flat_map (λ (b : Node). b.weight * f b.key) (way_nodes n g nodes) ws in
-    omega (arith, part (firsts (t + 1) ways), part (firsts t ways), part (bucket t ways), firsts-sum (λ a. weighted f (way_nodes n g nodes a)) t ways)
+pub firsts-more : (n : Network) (g : ℕ) (nodes : List Node) (f : List ℤ → ℕ) (t : ℕ) (arcs : List Arc) → weighted f (spread_out n g nodes (firsts (t + 1) arcs)) ≡ weighted f (spread_out n g nodes (firsts t arcs)) + weighted f (spread_out n g nodes (bucket t arcs))
+firsts-more n g nodes f t arcs =
+    let part = λ (ws : List Arc). sum_by-flat_map (λ (b : Node). b.weight * f b.key) (arc_nodes n g nodes) ws in
+    omega (arith, part (firsts (t + 1) arcs), part (firsts t arcs), part (bucket t arcs), firsts-sum (λ a. weighted f (arc_nodes n g nodes a)) t arcs)
 
-pub firsts-le : (n : Network) (g : ℕ) (nodes : List Node) (f : List ℤ → ℕ) (t : ℕ) (ways : List Way) → weighted f (spread_out n g nodes (firsts t ways)) ≤ weighted f (spread_out n g nodes ways)
-firsts-le n g nodes f t ways =
-    let part = λ (ws : List Way). sum_by-flat_map (λ (b : Node). b.weight * f b.key) (way_nodes n g nodes) ws in
-    omega (arith, part (firsts t ways), part ways, fewer (λ a. weighted f (way_nodes n g nodes a)) t ways)
+pub firsts-le : (n : Network) (g : ℕ) (nodes : List Node) (f : List ℤ → ℕ) (t : ℕ) (arcs : List Arc) → weighted f (spread_out n g nodes (firsts t arcs)) ≤ weighted f (spread_out n g nodes arcs)
+firsts-le n g nodes f t arcs =
+    let part = λ (ws : List Arc). sum_by-flat_map (λ (b : Node). b.weight * f b.key) (arc_nodes n g nodes) ws in
+    omega (arith, part (firsts t arcs), part arcs, fewer (λ a. weighted f (arc_nodes n g nodes a)) t arcs)
   where
-    fewer : (h : Way → ℕ) (t : ℕ) (ways : List Way) → sum_by h (firsts t ways) ≤ sum_by h ways
+    fewer : (h : Arc → ℕ) (t : ℕ) (arcs : List Arc) → sum_by h (firsts t arcs) ≤ sum_by h arcs
     fewer h t [] = omega arith
-    fewer h t (a ∷ ways) = elim (nat_lt a.target t) as (λ b. sum_by h (cond b (a ∷ firsts t ways) (firsts t ways)) ≤ sum_by h (a ∷ ways)) [
-      | true ↦ omega (arith, sum_by-cons h a (firsts t ways), sum_by-cons h a ways, fewer h t ways)
-      | false ↦ omega (arith, sum_by-cons h a ways, fewer h t ways)
+    fewer h t (a ∷ arcs) = elim (nat_lt a.target t) as (λ b. sum_by h (cond b (a ∷ firsts t arcs) (firsts t arcs)) ≤ sum_by h (a ∷ arcs)) [
+      | true ↦ omega (arith, sum_by-cons h a (firsts t arcs), sum_by-cons h a arcs, fewer h t arcs)
+      | false ↦ omega (arith, sum_by-cons h a arcs, fewer h t arcs)
     ]
 
-pub firsts-all : (n : Network) (g width : ℕ) (nodes rooms : List Node) (ways : List Way) → AllFine n g width nodes rooms ways → firsts (length rooms) ways ≡ ways
+pub firsts-all : (n : Network) (g width : ℕ) (nodes rooms : List Node) (arcs : List Arc) → AllFine n g width nodes rooms arcs → firsts (length rooms) arcs ≡ arcs
 firsts-all n g width nodes rooms [] a = refl
-firsts-all n g width nodes rooms (w ∷ ways) a = rw (below_is w.target (length rooms) a.0.target) (ap (λ ws. w ∷ ws) (firsts-all n g width nodes rooms ways a.1))
+firsts-all n g width nodes rooms (w ∷ arcs) a = rw (below_is w.target (length rooms) a.0.target) (ap (λ ws. w ∷ ws) (firsts-all n g width nodes rooms arcs a.1))
 
-pub firsts-none : (ways : List Way) → firsts 0 ways ≡ []
+pub firsts-none : (arcs : List Arc) → firsts 0 arcs ≡ []
 firsts-none [] = refl
-firsts-none (w ∷ ways) = rw (not_below w.target) (firsts-none ways)
+firsts-none (w ∷ arcs) = rw (not_below w.target) (firsts-none arcs)
 
 -- which keys heavy nodes have is told by their sums
 abbrev ind : List ℤ → List ℤ → ℕ
@@ -100,68 +100,68 @@ members-add xs ys zs a b c told q =
 
 -- what holds of each node that fine arcs lead to
 module _ (n : Network) (g width : ℕ) (nodes rooms : List Node) where
-  pub fine_filter : (p : Way → Bool) (ways : List Way) → AllFine n g width nodes rooms ways → AllByRecursion (λ a. IsFine n g width nodes rooms a × (p a ≡ true)) (filter p ways)
+  pub fine_filter : (p : Arc → Bool) (arcs : List Arc) → AllFine n g width nodes rooms arcs → AllByRecursion (λ a. IsFine n g width nodes rooms a × (p a ≡ true)) (filter p arcs)
   fine_filter p [] a = tt
-  fine_filter p (w ∷ ways) a = elim (p w) as (λ b. p w ≡ b → AllByRecursion (λ a. IsFine n g width nodes rooms a × (p a ≡ true)) (cond b (w ∷ filter p ways) (filter p ways))) [
-    | true ↦ λ e. ((a.0, e), fine_filter p ways a.1)
-    | false ↦ λ e. fine_filter p ways a.1
+  fine_filter p (w ∷ arcs) a = elim (p w) as (λ b. p w ≡ b → AllByRecursion (λ a. IsFine n g width nodes rooms a × (p a ≡ true)) (cond b (w ∷ filter p arcs) (filter p arcs))) [
+    | true ↦ λ e. ((a.0, e), fine_filter p arcs a.1)
+    | false ↦ λ e. fine_filter p arcs a.1
   ] refl
 
-  pub spread-all : (P : Node → Type 0) (Q : Way → Type 0) → ((a : Way) → Q a → (i : ℕ) (d : Node) → a.start ≤ i → i < a.end → P (successor n g (get_or nodes i d) a.choice)) → (ways : List Way) → AllByRecursion Q ways → AllByRecursion P (spread_out n g nodes ways)
+  pub spread-all : (P : Node → Type 0) (Q : Arc → Type 0) → ((a : Arc) → Q a → (i : ℕ) (d : Node) → a.start ≤ i → i < a.end → P (successor n g (get_or nodes i d) a.choice)) → (arcs : List Arc) → AllByRecursion Q arcs → AllByRecursion P (spread_out n g nodes arcs)
   spread-all P Q h [] a = tt
-  spread-all P Q h (w ∷ ways) a = all_append P (way_nodes n g nodes w) (spread_out n g nodes ways)
+  spread-all P Q h (w ∷ arcs) a = all_append P (arc_nodes n g nodes w) (spread_out n g nodes arcs)
       (all_map P (λ b. successor n g b w.choice) (segment w.start w.end nodes) (all_segment (λ b. P (successor n g b w.choice)) w.start w.end nodes (h w a.0)))
-      (spread-all P Q h ways a.1)
+      (spread-all P Q h arcs a.1)
 
 module _ (n : Network) (g width : ℕ) (nodes rooms : List Node) (here : AreNodes n g nodes) where
-  pub spread-heavy : (p : Way → Bool) (ways : List Way) → AllFine n g width nodes rooms ways → AllHeavy (spread_out n g nodes (filter p ways))
-  spread-heavy p ways a = spread-all n g width nodes rooms (λ (b : Node). 1 ≤ b.weight) (λ a. IsFine n g width nodes rooms a × (p a ≡ true))
+  pub spread-heavy : (p : Arc → Bool) (arcs : List Arc) → AllFine n g width nodes rooms arcs → AllHeavy (spread_out n g nodes (filter p arcs))
+  spread-heavy p arcs a = spread-all n g width nodes rooms (λ (b : Node). 1 ≤ b.weight) (λ a. IsFine n g width nodes rooms a × (p a ≡ true))
       (λ w f i d h k. heavy-arc _ _ (heavy_at nodes i d here.heavy (omega (arith, k, f.0.chosen.last))) (here.lawful.weighty g (get_or nodes i d).key w.choice (reached_at n g nodes i d here.reached (omega (arith, k, f.0.chosen.last))) (f.0.chosen.allowed i d h k)))
-      (filter p ways) (fine_filter n g width nodes rooms p ways a)
+      (filter p arcs) (fine_filter n g width nodes rooms p arcs a)
 
-  pub spread-reached : (p : Way → Bool) (ways : List Way) → AllFine n g width nodes rooms ways → AllReached n (g + 1) (spread_out n g nodes (filter p ways))
-  spread-reached p ways a = spread-all n g width nodes rooms (λ (b : Node). IsReached n (g + 1) b.key) (λ a. IsFine n g width nodes rooms a × (p a ≡ true))
+  pub spread-reached : (p : Arc → Bool) (arcs : List Arc) → AllFine n g width nodes rooms arcs → AllReached n (g + 1) (spread_out n g nodes (filter p arcs))
+  spread-reached p arcs a = spread-all n g width nodes rooms (λ (b : Node). IsReached n (g + 1) b.key) (λ a. IsFine n g width nodes rooms a × (p a ≡ true))
       (λ w f i d h k. reached-next n g (get_or nodes i d).key w.choice (reached_at n g nodes i d here.reached (omega (arith, k, f.0.chosen.last))) here.before (f.0.chosen.allowed i d h k))
-      (filter p ways) (fine_filter n g width nodes rooms p ways a)
+      (filter p arcs) (fine_filter n g width nodes rooms p arcs a)
 
   -- all arcs together
-  pub every-heavy : (ways : List Way) → AllFine n g width nodes rooms ways → AllHeavy (spread_out n g nodes ways)
-  every-heavy ways fine = subst (λ ws. AllHeavy (spread_out n g nodes ws)) (firsts-all n g width nodes rooms ways fine) (spread-heavy (λ a. nat_lt a.target (length rooms)) ways fine)
+  pub every-heavy : (arcs : List Arc) → AllFine n g width nodes rooms arcs → AllHeavy (spread_out n g nodes arcs)
+  every-heavy arcs fine = subst (λ ws. AllHeavy (spread_out n g nodes ws)) (firsts-all n g width nodes rooms arcs fine) (spread-heavy (λ a. nat_lt a.target (length rooms)) arcs fine)
 
-  pub every-reached : (ways : List Way) → AllFine n g width nodes rooms ways → AllReached n (g + 1) (spread_out n g nodes ways)
-  every-reached ways fine = subst (λ ws. AllReached n (g + 1) (spread_out n g nodes ws)) (firsts-all n g width nodes rooms ways fine) (spread-reached (λ a. nat_lt a.target (length rooms)) ways fine)
+  pub every-reached : (arcs : List Arc) → AllFine n g width nodes rooms arcs → AllReached n (g + 1) (spread_out n g nodes arcs)
+  every-reached arcs fine = subst (λ ws. AllReached n (g + 1) (spread_out n g nodes ws)) (firsts-all n g width nodes rooms arcs fine) (spread-reached (λ a. nat_lt a.target (length rooms)) arcs fine)
 
-  pub spread-here : (e : Node) (t : ℕ) (ways : List Way) → AllFine n g width nodes rooms ways → AllByRecursion (λ (b : Node). take width b.key ≡ (get_or rooms t e).key) (spread_out n g nodes (bucket t ways))
-  spread-here e t ways a = spread-all n g width nodes rooms (λ (b : Node). take width b.key ≡ (get_or rooms t e).key) (λ a. IsFine n g width nodes rooms a × (nat_eq a.target t ≡ true))
+  pub spread-here : (e : Node) (t : ℕ) (arcs : List Arc) → AllFine n g width nodes rooms arcs → AllByRecursion (λ (b : Node). take width b.key ≡ (get_or rooms t e).key) (spread_out n g nodes (bucket t arcs))
+  spread-here e t arcs a = spread-all n g width nodes rooms (λ (b : Node). take width b.key ≡ (get_or rooms t e).key) (λ a. IsFine n g width nodes rooms a × (nat_eq a.target t ≡ true))
       (λ w f i d h k. f.0.room i d e h k ∙ ap (λ t. (get_or rooms t e).key) (is_same w.target t f.1))
-      (bucket t ways) (fine_filter n g width nodes rooms (λ a. nat_eq a.target t) ways a)
+      (bucket t arcs) (fine_filter n g width nodes rooms (λ a. nat_eq a.target t) arcs a)
 
-  pub spread-before : (e : Node) (t : ℕ) (ways : List Way) → AllFine n g width nodes rooms ways → AllByRecursion (λ (b : Node). (j : ℕ) × (j < t) × (take width b.key ≡ (get_or rooms j e).key)) (spread_out n g nodes (firsts t ways))
-  spread-before e t ways a = spread-all n g width nodes rooms (λ (b : Node). (j : ℕ) × (j < t) × (take width b.key ≡ (get_or rooms j e).key)) (λ a. IsFine n g width nodes rooms a × (nat_lt a.target t ≡ true))
+  pub spread-before : (e : Node) (t : ℕ) (arcs : List Arc) → AllFine n g width nodes rooms arcs → AllByRecursion (λ (b : Node). (j : ℕ) × (j < t) × (take width b.key ≡ (get_or rooms j e).key)) (spread_out n g nodes (firsts t arcs))
+  spread-before e t arcs a = spread-all n g width nodes rooms (λ (b : Node). (j : ℕ) × (j < t) × (take width b.key ≡ (get_or rooms j e).key)) (λ a. IsFine n g width nodes rooms a × (nat_lt a.target t ≡ true))
       (λ w f i d h k. (w.target, is_below w.target t f.1, f.0.room i d e h k))
-      (firsts t ways) (fine_filter n g width nodes rooms (λ a. nat_lt a.target t) ways a)
+      (firsts t arcs) (fine_filter n g width nodes rooms (λ a. nat_lt a.target t) arcs a)
 
   -- a room's nodes, told as those of the arcs to it
-  module _ (t : ℕ) (ways : List Way) (fine : AllFine n g width nodes rooms ways) (work : List Node) (heavy : AllHeavy work) (told : (f : List ℤ → ℕ) → weighted f work ≡ weighted f (spread_out n g nodes (bucket t ways))) where
-    filled_same : (q : List ℤ) → is_member key_eq (keys work) q ≡ is_member key_eq (keys (spread_out n g nodes (bucket t ways))) q
-    filled_same = same-members work (spread_out n g nodes (bucket t ways)) heavy (spread-heavy (λ a. nat_eq a.target t) ways fine) told
+  module _ (t : ℕ) (arcs : List Arc) (fine : AllFine n g width nodes rooms arcs) (work : List Node) (heavy : AllHeavy work) (told : (f : List ℤ → ℕ) → weighted f work ≡ weighted f (spread_out n g nodes (bucket t arcs))) where
+    filled_same : (q : List ℤ) → is_member key_eq (keys work) q ≡ is_member key_eq (keys (spread_out n g nodes (bucket t arcs))) q
+    filled_same = same-members work (spread_out n g nodes (bucket t arcs)) heavy (spread-heavy (λ a. nat_eq a.target t) arcs fine) told
 
     pub filled-reached : AllReached n (g + 1) work
-    filled-reached = same-holds (IsReached n (g + 1)) (spread_out n g nodes (bucket t ways)) work (spread-reached (λ a. nat_eq a.target t) ways fine) filled_same
+    filled-reached = same-holds (IsReached n (g + 1)) (spread_out n g nodes (bucket t arcs)) work (spread-reached (λ a. nat_eq a.target t) arcs fine) filled_same
 
     pub filled-here : (e : Node) → AllByRecursion (λ (b : Node). take width b.key ≡ (get_or rooms t e).key) work
-    filled-here e = same-holds (λ k. take width k ≡ (get_or rooms t e).key) (spread_out n g nodes (bucket t ways)) work (spread-here e t ways fine) filled_same
+    filled-here e = same-holds (λ k. take width k ≡ (get_or rooms t e).key) (spread_out n g nodes (bucket t arcs)) work (spread-here e t arcs fine) filled_same
 
   -- the weight of a room's nodes, beside all others'
-  pub bucket-fits : (f : List ℤ → ℕ) (t limit : ℕ) (ways : List Way) → weighted f (spread_out n g nodes ways) ≤ limit → weighted f (spread_out n g nodes (firsts t ways)) + weighted f (spread_out n g nodes (bucket t ways)) ≤ limit
-  bucket-fits f t limit ways h = omega (arith, firsts-more n g nodes f t ways, firsts-le n g nodes f (t + 1) ways, h)
+  pub bucket-fits : (f : List ℤ → ℕ) (t limit : ℕ) (arcs : List Arc) → weighted f (spread_out n g nodes arcs) ≤ limit → weighted f (spread_out n g nodes (firsts t arcs)) + weighted f (spread_out n g nodes (bucket t arcs)) ≤ limit
+  bucket-fits f t limit arcs h = omega (arith, firsts-more n g nodes f t arcs, firsts-le n g nodes f (t + 1) arcs, h)
 
-  pub bucket-light : (t limit : ℕ) (ways : List Way) → AllFine n g width nodes rooms ways → weighted (total_weight n (g + 1)) (spread_out n g nodes ways) ≤ limit → weighted (λ k. 1) (spread_out n g nodes (bucket t ways)) ≤ limit
-  bucket-light t limit ways fine h =
+  pub bucket-light : (t limit : ℕ) (arcs : List Arc) → AllFine n g width nodes rooms arcs → weighted (total_weight n (g + 1)) (spread_out n g nodes arcs) ≤ limit → weighted (λ k. 1) (spread_out n g nodes (bucket t arcs)) ≤ limit
+  bucket-light t limit arcs fine h =
       omega (
         arith,
-        weights-le-weighted n here.lawful (g + 1) (omega (arith, here.before)) (spread_out n g nodes (bucket t ways)) (spread-reached (λ a. nat_eq a.target t) ways fine),
-        bucket-fits (total_weight n (g + 1)) t limit ways h,
+        weights-le-weighted n here.lawful (g + 1) (omega (arith, here.before)) (spread_out n g nodes (bucket t arcs)) (spread-reached (λ a. nat_eq a.target t) arcs fine),
+        bucket-fits (total_weight n (g + 1)) t limit arcs h,
       )
 
 -- rooms apart

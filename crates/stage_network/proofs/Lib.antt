@@ -11,7 +11,7 @@ pub mod NodeSums
 pub mod Conserved
 pub mod OpenKeys
 pub mod Stepping
-pub mod WayLists
+pub mod ArcLists
 pub mod Roomwise
 pub mod Rests
 pub mod OneArc
@@ -26,6 +26,7 @@ pub mod Swaps
 pub mod Parts
 pub mod Bridge
 pub mod Flat
+pub mod FittingLines
 pub mod AdditiveKeys
 pub mod SquaredEnds
 pub mod AdditiveLaws
@@ -34,10 +35,6 @@ pub mod Totals
 pub mod EndTables
 pub mod Adding
 pub mod EndsFitting
-pub mod WorkedBlocks
-pub mod WorkedRanks
-pub mod RankLaws
-pub mod RankRooms
 pub mod Alike
 pub mod Steady
 pub mod Joined

@@ -5,29 +5,29 @@ use Rattle.std.specs.List.{Contains}
 use Rattle.node_pool.specs.Nodes.{Node, node, weighted}
 use Rattle.stage_network.specs.Network.{Network, IsReached}
 use Rattle.stage_network.specs.NodeSteps.{AllReached, AreNodes}
-use Rattle.stage_network.specs.Rooms.{IsWay}
-use Rattle.stage_network.specs.WaySteps.{Way, AllFine, IsChoiceOf, IsFine, IsRun, chosen, segment, way_nodes}
+use Rattle.stage_network.specs.Rooms.{IsArc}
+use Rattle.stage_network.specs.ArcSteps.{Arc, AllFine, IsChoiceOf, IsFine, IsRun, chosen, segment, arc_nodes}
 use Rattle.stage_network.proofs.Roomwise.{all_at, heavy_at, heavy-arc, pour-fits, pour-more, whole-key}
 use Rattle.stage_network.proofs.Stepping.{reached_at}
 
 -- an arc of a list, by what was read of it
-pub way_is : (ways : List Way) (i start end weight : ℕ) (choice : List ℕ) → ((d : Way) → start ≡ (get_or ways i d).start) → ((d : Way) → end ≡ (get_or ways i d).end) → ((d : Way) → weight ≡ (get_or ways i d).weight) → ((d : Way) → choice ≡ (get_or ways i d).choice) → (d : Way) → get_or ways i d ≡ record { start = start; end = end; choice = choice; weight = weight; target = (get_or ways i d).target }
-way_is ways i start end weight choice s e w c d = rw (s d, e d, w d, c d) refl
+pub arc_is : (arcs : List Arc) (i start end weight : ℕ) (choice : List ℕ) → ((d : Arc) → start ≡ (get_or arcs i d).start) → ((d : Arc) → end ≡ (get_or arcs i d).end) → ((d : Arc) → weight ≡ (get_or arcs i d).weight) → ((d : Arc) → choice ≡ (get_or arcs i d).choice) → (d : Arc) → get_or arcs i d ≡ record { start = start; end = end; choice = choice; weight = weight; target = (get_or arcs i d).target }
+arc_is arcs i start end weight choice s e w c d = rw (s d, e d, w d, c d) refl
 
-abbrev pub no_way : Way
-no_way = record { start = 0; end = 0; choice = []; weight = 0; target = 0 }
+abbrev pub no_arc : Arc
+no_arc = record { start = 0; end = 0; choice = []; weight = 0; target = 0 }
 
-pub fine_is : (n : Network) (g width : ℕ) (nodes rooms : List Node) (ways : List Way) → AllFine n g width nodes rooms ways → (i start end weight : ℕ) (choice : List ℕ) → i < length ways → ((d : Way) → start ≡ (get_or ways i d).start) → ((d : Way) → end ≡ (get_or ways i d).end) → ((d : Way) → weight ≡ (get_or ways i d).weight) → ((d : Way) → choice ≡ (get_or ways i d).choice) → IsFine n g width nodes rooms (record { start = start; end = end; choice = choice; weight = weight; target = (get_or ways i no_way).target })
-fine_is n g width nodes rooms ways fine i start end weight choice low s e w c =
-    subst (IsFine n g width nodes rooms) (way_is ways i start end weight choice s e w c no_way) (all_at (IsFine n g width nodes rooms) ways i no_way fine low)
+pub fine_is : (n : Network) (g width : ℕ) (nodes rooms : List Node) (arcs : List Arc) → AllFine n g width nodes rooms arcs → (i start end weight : ℕ) (choice : List ℕ) → i < length arcs → ((d : Arc) → start ≡ (get_or arcs i d).start) → ((d : Arc) → end ≡ (get_or arcs i d).end) → ((d : Arc) → weight ≡ (get_or arcs i d).weight) → ((d : Arc) → choice ≡ (get_or arcs i d).choice) → IsFine n g width nodes rooms (record { start = start; end = end; choice = choice; weight = weight; target = (get_or arcs i no_arc).target })
+fine_is n g width nodes rooms arcs fine i start end weight choice low s e w c =
+    subst (IsFine n g width nodes rooms) (arc_is arcs i start end weight choice s e w c no_arc) (all_at (IsFine n g width nodes rooms) arcs i no_arc fine low)
 
 -- its nodes
-pub nodes_are : (n : Network) (g : ℕ) (nodes : List Node) (ways : List Way) (i start end weight : ℕ) (choice : List ℕ) → ((d : Way) → start ≡ (get_or ways i d).start) → ((d : Way) → end ≡ (get_or ways i d).end) → ((d : Way) → weight ≡ (get_or ways i d).weight) → ((d : Way) → choice ≡ (get_or ways i d).choice) → (f : List ℤ → ℕ) → weighted f (way_nodes n g nodes (get_or ways i no_way)) ≡ weighted f (chosen n g choice (segment start end nodes))
-nodes_are n g nodes ways i start end weight choice s e w c f = ap (λ a. weighted f (way_nodes n g nodes a)) (way_is ways i start end weight choice s e w c no_way)
+pub nodes_are : (n : Network) (g : ℕ) (nodes : List Node) (arcs : List Arc) (i start end weight : ℕ) (choice : List ℕ) → ((d : Arc) → start ≡ (get_or arcs i d).start) → ((d : Arc) → end ≡ (get_or arcs i d).end) → ((d : Arc) → weight ≡ (get_or arcs i d).weight) → ((d : Arc) → choice ≡ (get_or arcs i d).choice) → (f : List ℤ → ℕ) → weighted f (arc_nodes n g nodes (get_or arcs i no_arc)) ≡ weighted f (chosen n g choice (segment start end nodes))
+nodes_are n g nodes arcs i start end weight choice s e w c f = ap (λ a. weighted f (arc_nodes n g nodes a)) (arc_is arcs i start end weight choice s e w c no_arc)
 
 -- the room of its nodes is that of a reached key, where the choice is allowed
-pub way_of_room : (n : Network) (g width start end weight : ℕ) (nodes : List Node) (choice : List ℕ) (room : List ℤ) → AreNodes n g nodes → IsChoiceOf n g nodes start end choice weight → length room ≡ width → ((d : Node) → room ≡ take width (get_or nodes start d).key) → IsWay n width g room choice
-way_of_room n g width start end weight nodes choice room are fine wide here =
+pub arc_of_room : (n : Network) (g width start end weight : ℕ) (nodes : List Node) (choice : List ℕ) (room : List ℤ) → AreNodes n g nodes → IsChoiceOf n g nodes start end choice weight → length room ≡ width → ((d : Node) → room ≡ take width (get_or nodes start d).key) → IsArc n width g room choice
+arc_of_room n g width start end weight nodes choice room are fine wide here =
     let d : Node = node [] 0 in
     let k : List ℤ = (get_or nodes start d).key in
     let key : room ++ drop width k ≡ k = whole-key width room (drop width k) k (here d) refl in

@@ -12,7 +12,7 @@ use Rattle.stage_network.specs.Network.{Network, IsReached}
 use Rattle.stage_network.specs.NodeSteps.{AllReached, AllHeavy, successor, successors}
 use Rattle.stage_network.specs.Rooms.{AreRoommates, IsRoomed}
 use Rattle.stage_network.proofs.Steps.{sum_by-map, sum_by-same}
-use Rattle.stage_network.specs.WaySteps.{IsRun, Way, segment, way_nodes, spread_out, bucket, lift, IsFine, AllFine}
+use Rattle.stage_network.specs.ArcSteps.{IsRun, Arc, segment, arc_nodes, spread_out, bucket, lift, IsFine, AllFine}
 use Rattle.std.proofs.lemmas.Map.Keys.{IsDistinct-head, IsDistinct-tail, IsDistinct-cons}
 use Rattle.std.proofs.lemmas.List.{get_or_default, length-drop, length-take-le, take_all, get_or-take, get_or-drop}
 use Rattle.std.proofs.lemmas.List.Sums.{sum_by-cons, sum_by_more, sum_by-take-le, sum_by-append}
@@ -96,26 +96,26 @@ pub all_segment : (P : Node → Type 0) (s e : ℕ) (nodes : List Node) → ((i 
 all_segment P s e nodes h = all_take P (drop s nodes) (e - s) (λ i d a b. subst P (sym (get_or-drop s nodes i d)) (h (s + i) d (omega arith) (omega (arith, a))))
 
 -- one more arc
-pub spread-push : (n : Network) (g : ℕ) (nodes : List Node) (f : List ℤ → ℕ) (ways : List Way) (w : Way) → weighted f (spread_out n g nodes (ways ++ w ∷ [])) ≡ weighted f (spread_out n g nodes ways) + weighted f (way_nodes n g nodes w)
-spread-push n g nodes f ways w =
-    ap (weighted f) (flat_map-append (way_nodes n g nodes) ways (w ∷ []))
-    ∙ sum_by-append (λ (b : Node). b.weight * f b.key) (spread_out n g nodes ways) (way_nodes n g nodes w ++ [])
-    ∙ ap (λ xs. weighted f (spread_out n g nodes ways) + weighted f xs) (append-nil (way_nodes n g nodes w))
+pub spread-push : (n : Network) (g : ℕ) (nodes : List Node) (f : List ℤ → ℕ) (arcs : List Arc) (w : Arc) → weighted f (spread_out n g nodes (arcs ++ w ∷ [])) ≡ weighted f (spread_out n g nodes arcs) + weighted f (arc_nodes n g nodes w)
+spread-push n g nodes f arcs w =
+    ap (weighted f) (flat_map-append (arc_nodes n g nodes) arcs (w ∷ []))
+    ∙ sum_by-append (λ (b : Node). b.weight * f b.key) (spread_out n g nodes arcs) (arc_nodes n g nodes w ++ [])
+    ∙ ap (λ xs. weighted f (spread_out n g nodes arcs) + weighted f xs) (append-nil (arc_nodes n g nodes w))
 
-pub fine-push : (n : Network) (g width : ℕ) (nodes rooms : List Node) (ways : List Way) (w : Way) → AllFine n g width nodes rooms ways → IsFine n g width nodes rooms w → AllFine n g width nodes rooms (ways ++ w ∷ [])
+pub fine-push : (n : Network) (g width : ℕ) (nodes rooms : List Node) (arcs : List Arc) (w : Arc) → AllFine n g width nodes rooms arcs → IsFine n g width nodes rooms w → AllFine n g width nodes rooms (arcs ++ w ∷ [])
 fine-push n g width nodes rooms [] w a h = (h, tt)
-fine-push n g width nodes rooms (v ∷ ways) w a h = (a.0, fine-push n g width nodes rooms ways w a.1 h)
+fine-push n g width nodes rooms (v ∷ arcs) w a h = (a.0, fine-push n g width nodes rooms arcs w a.1 h)
 
-pub fine-kept : (n : Network) (g width : ℕ) (nodes rooms rooms' : List Node) → ((i : ℕ) (d : Node) → i < length rooms → (get_or rooms' i d).key ≡ (get_or rooms i d).key) → length rooms ≤ length rooms' → (ways : List Way) → AllFine n g width nodes rooms ways → AllFine n g width nodes rooms' ways
+pub fine-kept : (n : Network) (g width : ℕ) (nodes rooms rooms' : List Node) → ((i : ℕ) (d : Node) → i < length rooms → (get_or rooms' i d).key ≡ (get_or rooms i d).key) → length rooms ≤ length rooms' → (arcs : List Arc) → AllFine n g width nodes rooms arcs → AllFine n g width nodes rooms' arcs
 fine-kept n g width nodes rooms rooms' kept more [] a = tt
-fine-kept n g width nodes rooms rooms' kept more (w ∷ ways) a = (
+fine-kept n g width nodes rooms rooms' kept more (w ∷ arcs) a = (
   record {
     chosen = a.0.chosen;
     run = a.0.run;
     target = omega (arith, a.0.target, more);
     room = λ i d e h k. a.0.room i d e h k ∙ sym (kept w.target e a.0.target);
   },
-  fine-kept n g width nodes rooms rooms' kept more ways a.1,
+  fine-kept n g width nodes rooms rooms' kept more arcs a.1,
 )
 
 pub placed-more : (old : List Node) (k : List ℤ) (new : List Node) (i : ℕ) → IsPlaced old k new i → length old ≤ length new
@@ -125,8 +125,8 @@ placed-more old k new i p = by (nat_eq i (length old)) p.count
     by true e = omega arith
     by false e = omega arith
 
-pub fine_way : (n : Network) (g width : ℕ) (nodes rooms : List Node) (s e t w : ℕ) (c : List ℕ) (k next : List ℤ) → IsRoomed n width → AllReached n g nodes → s < e → e ≤ length nodes → IsRun width nodes s e → t < length rooms → IsReached n g k → ((d : Node) → k ≡ (get_or nodes s d).key) → Contains (n.choices g k) c → w ≡ n.weight g k c → next ≡ n.next g k c → ((d : Node) → (get_or rooms t d).key ≡ take width next) → IsFine n g width nodes rooms (record { start = s; end = e; choice = c; weight = w; target = t })
-fine_way n g width nodes rooms s e t w c k next roomed reached order last run target here key allowed weight is place =
+pub fine_arc : (n : Network) (g width : ℕ) (nodes rooms : List Node) (s e t w : ℕ) (c : List ℕ) (k next : List ℤ) → IsRoomed n width → AllReached n g nodes → s < e → e ≤ length nodes → IsRun width nodes s e → t < length rooms → IsReached n g k → ((d : Node) → k ≡ (get_or nodes s d).key) → Contains (n.choices g k) c → w ≡ n.weight g k c → next ≡ n.next g k c → ((d : Node) → (get_or rooms t d).key ≡ take width next) → IsFine n g width nodes rooms (record { start = s; end = e; choice = c; weight = w; target = t })
+fine_arc n g width nodes rooms s e t w c k next roomed reached order last run target here key allowed weight is place =
     let mates : (i : ℕ) (d : Node) → s ≤ i → i < e → AreRoommates n width g (get_or nodes i d).key k = λ i d h j. record {
       first = reached_at n g nodes i d reached (omega (arith, j, last));
       second = here;
@@ -151,14 +151,14 @@ pub heavy-arc : (a b : ℕ) → 1 ≤ a → 1 ≤ b → 1 ≤ a * b
 heavy-arc a b h k = grind arith
 
 -- the arcs to one room, from the last to the first
-bucket-last : (t : ℕ) (ways : List Way) (i : ℕ) (d : Way) → i < length ways → (get_or ways i d).target ≡ t → bucket t (take (i + 1) ways) ≡ bucket t (take i ways) ++ get_or ways i d ∷ []
-bucket-last t ways i d low e =
-    let yes : nat_eq (get_or ways i d).target t ≡ true = rw e (nat_eq-same t) in
-    filter_more (λ a. nat_eq a.target t) ways i d low ∙ ap (λ b. bucket t (take i ways) ++ cond b (get_or ways i d ∷ []) []) yes
+bucket-last : (t : ℕ) (arcs : List Arc) (i : ℕ) (d : Arc) → i < length arcs → (get_or arcs i d).target ≡ t → bucket t (take (i + 1) arcs) ≡ bucket t (take i arcs) ++ get_or arcs i d ∷ []
+bucket-last t arcs i d low e =
+    let yes : nat_eq (get_or arcs i d).target t ≡ true = rw e (nat_eq-same t) in
+    filter_more (λ a. nat_eq a.target t) arcs i d low ∙ ap (λ b. bucket t (take i arcs) ++ cond b (get_or arcs i d ∷ []) []) yes
 
-pub fill-step : (n : Network) (g : ℕ) (nodes : List Node) (f : List ℤ → ℕ) (t : ℕ) (ways : List Way) (i place : ℕ) (d : Way) → i < length ways → (get_or ways i d).target ≡ t → place ≡ i + 1 → weighted f (spread_out n g nodes (bucket t (take place ways))) ≡ weighted f (spread_out n g nodes (bucket t (take i ways))) + weighted f (way_nodes n g nodes (get_or ways i d))
-fill-step n g nodes f t ways i place d low e is =
-    rw is (ap (λ ws. weighted f (spread_out n g nodes ws)) (bucket-last t ways i d low e) ∙ spread-push n g nodes f (bucket t (take i ways)) (get_or ways i d))
+pub fill-step : (n : Network) (g : ℕ) (nodes : List Node) (f : List ℤ → ℕ) (t : ℕ) (arcs : List Arc) (i place : ℕ) (d : Arc) → i < length arcs → (get_or arcs i d).target ≡ t → place ≡ i + 1 → weighted f (spread_out n g nodes (bucket t (take place arcs))) ≡ weighted f (spread_out n g nodes (bucket t (take i arcs))) + weighted f (arc_nodes n g nodes (get_or arcs i d))
+fill-step n g nodes f t arcs i place d low e is =
+    rw is (ap (λ ws. weighted f (spread_out n g nodes ws)) (bucket-last t arcs i d low e) ∙ spread-push n g nodes f (bucket t (take i arcs)) (get_or arcs i d))
 
 pub all_at : {X : Type 0} (P : X → Type 0) (xs : List X) (i : ℕ) (d : X) → AllByRecursion P xs → i < length xs → P (get_or xs i d)
 all_at P [] i d a h = absurd (omega arith)

@@ -12,11 +12,8 @@ pub mod OneOf
 pub mod PartialSums
 pub mod Addends
 pub mod SoundAddends
-pub mod WorkedBlocks
-pub mod WorkedRanks
-pub mod TestRanks
 pub mod NodeSteps
-pub mod WaySteps
+pub mod ArcSteps
 pub mod StageSteps
 pub mod AdditiveSteps
 pub mod SweepSteps

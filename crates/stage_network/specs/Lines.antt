@@ -1,8 +1,13 @@
 -- Lists of lines by strictly ascending value.
-use Rattle.std.specs.Prelude.{◌≡◌, ℕ, suc, ◌+◌, ◌≤◌, ℤ, ◌<ℤ◌, List, [], ◌∷◌, Bool, true, cond, int_lt, nat_eq, if◌then◌else◌, ⊤}
+use Rattle.std.specs.Prelude.{◌≡◌, ℕ, suc, ◌+◌, ◌≤◌, ℤ, ◌<ℤ◌, List, [], ◌∷◌, Bool, true, cond, int_lt, nat_eq, if◌then◌else◌, ⊤, All}
 use Rattle.std.specs.List.{sum_by, AllByRecursion}
 use Rattle.std.specs.Ordering.{int_eq}
 use Rattle.weights.specs.declared.lines.Line.{Line}
+use Rattle.weights.specs.declared.rules.Rule.{Rule}
+use Rattle.weights.specs.declared.tails.Tail.{Tail}
+use Rattle.weights.specs.declared.TheConstants.{MAX}
+use Rattle.weights.specs.Conditional.{ConditionalTest}
+use Rattle.weights.specs.Rules.{RuleFits, rule_of}
 
 -- the values ascend, each above the one before
 abbrev pub IsAscending : List Line → Type 0
@@ -38,6 +43,18 @@ line_sum p lines = sum_by (λ l. cond (p l.value) l.weight 0) lines
 
 abbrev pub every : ℤ → Bool
 every v = true
+
+-- the weights of the lines sum to at most MAX
+abbrev pub WeightsFit : List Line → Type 0
+WeightsFit lines = line_sum every lines ≤ MAX
+
+-- a rule computes no number of a line's value that passes a limit
+abbrev pub RuleFitsLines : Rule → List Line → Type 0
+RuleFitsLines rule lines = All (λ line. RuleFits rule line.value) lines
+
+-- the rule of no tail of a test does
+abbrev pub TailsFit : ConditionalTest → List Line → Type 0
+TailsFit test lines = (tail : Tail) → RuleFitsLines (rule_of test tail) lines
 
 -- the lines have strictly ascending values, weights of at least 1, and these sums: for each test of
 -- values, the weight of the lines that pass

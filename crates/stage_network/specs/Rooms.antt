@@ -26,7 +26,7 @@ pub record IsPlace (n : Network) (width g : ℕ) (room : List ℤ) : Type 0 wher
   pub reached : IsReached n g (room ++ partial)
 
 -- a room of a reached key of stage g, and a choice that is allowed there
-pub record IsWay (n : Network) (width g : ℕ) (room : List ℤ) (c : List ℕ) : Type 0 where
+pub record IsArc (n : Network) (width g : ℕ) (room : List ℤ) (c : List ℕ) : Type 0 where
   pub partial : List ℤ
   pub wide : length room ≡ width
   pub reached : IsReached n g (room ++ partial)

@@ -19,7 +19,7 @@ use Rattle.stage_network.specs.Laws.{IsLawful}
 use Rattle.stage_network.specs.Opened.{is_undecided, is_open_for_some, opened_by_some}
 use Rattle.stage_network.specs.NodeSteps.{AllReached, closes_inside, opened_in}
 use Rattle.stage_network.specs.StageSteps.{Housed}
-use Rattle.stage_network.specs.WaySteps.{lift}
+use Rattle.stage_network.specs.ArcSteps.{lift}
 
 -- the sum of one tail, and the verdict for it
 abbrev pub sum_for : TailSums → Tail → TailSum

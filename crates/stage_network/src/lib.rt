@@ -8,6 +8,7 @@ mod arcs;
 mod held;
 mod keys;
 mod lines;
+mod links;
 mod nodes;
 mod one_of;
 mod prepared;
@@ -18,24 +19,17 @@ mod stages;
 mod sums;
 mod sweep;
 mod tail_sums;
-#[cfg(test)]
-mod tests;
 mod together;
 mod verdicts;
 mod walks;
-mod ways;
 mod whole;
 mod widths;
-#[cfg(test)]
-mod worked_blocks;
-#[cfg(test)]
-mod worked_ranks;
 
 pub use additive::{Additive, SumValue};
 pub use additive_stages::AdditiveStages;
 pub use answers::{Answer, Way};
 pub use held::Held;
-pub use keys::{behind, front};
+pub use keys::{behind, front, write_key};
 pub use lines::Spread;
 pub use one_of::OneOf;
 pub use prepared::{Prepared, answer, distribution, network_of};

@@ -2,7 +2,7 @@
 ghost use Rattle.std.specs.Prelude.{◌≡◌, ℕ, ◌+◌, ◌<◌, ◌≤◌, [], ◌∷◌, ◌++◌, length, take, drop};
 ghost use Rattle.std.specs.Prelude.{OnOk, slice_index, slice_index_or};
 ghost use Rattle.node_pool.specs.Nodes.{Node, node};
-ghost use Rattle.stage_network.specs.WaySteps.{IsRun};
+ghost use Rattle.stage_network.specs.ArcSteps.{IsRun};
 
 use node_pool::{NodeList, key_at, push_within};
 use std::alloc::Global;

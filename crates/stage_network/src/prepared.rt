@@ -8,12 +8,13 @@ ghost use Rattle.stage_network.specs.Completions.{total_weight};
 ghost use Rattle.stage_network.specs.Alike.{IsBuilt, Shape, shape_by};
 ghost use Rattle.stage_network.specs.Follows.{AreShared, Follows, HasTails, answer_of, asked_tail};
 ghost use Rattle.stage_network.specs.Follows.{asks, open_keys, tail_of};
+ghost use Rattle.stage_network.specs.Lines.{TailsFit, WeightsFit};
 ghost use Rattle.stage_network.specs.SweepSteps.{sum_for};
 
 use crate::answers::{Answer, Way};
 use crate::lines::Spread;
 use crate::spreads::spread_by_rooms;
-use crate::stages::Roomed;
+use crate::stages::{Roomed, Stages};
 use crate::sums::{tail_sum_by_rooms, tail_sums_together};
 use crate::tail_sums::{TailSum, TailSums};
 use crate::walks::plain_spread;
@@ -245,25 +246,35 @@ fn first_tail<P: Prepared>(problem: &P) -> Tail
 }
 
 fn spread_by_network<P: Prepared>(alloc: Global, problem: &P) -> Result<Spread, NoMemory>
-    ensures { IfOk result (λ spread. spread ≡ distribution (P.test problem.now)) }
+    ensures lines { IfOk result (λ spread. spread ≡ distribution (P.test problem.now)) }
+    ensures weights { IfOk result WeightsFit }
+    ensures rules { IfOk result (TailsFit (P.test problem.now)) }
 {
+    let _frame = problem.frame();
     let stages = network_of(alloc, problem, first_tail(problem))?;
+    let _lawful = stages.stages();
     let found = spread_by_rooms(alloc, &stages)?;
     Ok(found)
 }
 
 fn spread_by_walk<P: Prepared>(alloc: Global, problem: &P) -> Result<Spread, NoMemory>
-    ensures { IfOk result (λ spread. spread ≡ distribution (P.test problem.now)) }
+    ensures lines { IfOk result (λ spread. spread ≡ distribution (P.test problem.now)) }
+    ensures weights { IfOk result WeightsFit }
+    ensures rules { IfOk result (TailsFit (P.test problem.now)) }
 {
+    let _frame = problem.frame();
     let _tail = first_tail(problem);
     let found = plain_spread(alloc, problem)?;
     Ok(found)
 }
 
 /// The distribution of a test: each value that its statistic takes, by strictly ascending value,
-/// with the summed weight of the rearrangements that have it, by either way.
+/// with the summed weight of the rearrangements that have it, by either way. Its weights sum to at
+/// most [`weights::MAX`], and the rule of no tail computes a number of a value that passes a limit.
 pub fn distribution<P: Prepared>(alloc: Global, problem: &P, way: Way) -> Result<Spread, NoMemory>
-    ensures { IfOk result (λ spread. spread ≡ distribution (P.test problem.now)) }
+    ensures lines { IfOk result (λ spread. spread ≡ distribution (P.test problem.now)) }
+    ensures weights { IfOk result WeightsFit }
+    ensures rules { IfOk result (TailsFit (P.test problem.now)) }
 {
     match way {
         Way::Network => spread_by_network(alloc, problem),

@@ -7,13 +7,13 @@ ghost use Rattle.node_pool.specs.Nodes.{Node, weighted};
 ghost use Rattle.node_pool.specs.Pool.{IsPlaced};
 ghost use Rattle.stage_network.specs.Rooms.{IsRoomed};
 ghost use Rattle.stage_network.specs.NodeSteps.{AreNodes, AllHeavy, all_successors};
-ghost use Rattle.stage_network.specs.WaySteps.{AreWays, IsRun, IsChoiceOf};
-ghost use Rattle.stage_network.specs.WaySteps.{segment, chosen, spread_out, bucket, lift};
+ghost use Rattle.stage_network.specs.ArcSteps.{AreArcs, IsRun, IsChoiceOf};
+ghost use Rattle.stage_network.specs.ArcSteps.{segment, chosen, spread_out, bucket, lift};
 
+use crate::arcs::Arcs;
 use crate::keys::write_key;
 use crate::nodes::StageNodes;
 use crate::stages::Roomed;
-use crate::ways::Ways;
 use node_pool::NodePool;
 use weights::{Count, Narrow, NoMemory};
 
@@ -34,7 +34,7 @@ fn place(rooms: &mut NodePool<Narrow>, room: &[i128]) -> Result<usize, NoMemory>
 }
 
 // Adds the arcs of the nodes of one room.
-fn add_ways<C: Count, S: Roomed>(
+fn add_arcs<C: Count, S: Roomed>(
     stages: &S,
     stage: usize,
     nodes: &StageNodes<C>,
@@ -44,7 +44,7 @@ fn add_ways<C: Count, S: Roomed>(
     choice: &mut [u64],
     target_room: &mut [i128],
     rooms: &mut NodePool<Narrow>,
-    ways: &mut Ways,
+    arcs: &mut Arcs,
 ) -> Result<(), NoMemory>
     requires nodes { AreNodes (S.Stages.network stages.now) stage nodes.now.nodes }
     requires roomed { IsRoomed (S.Stages.network stages.now) (S.room_width stages.now) }
@@ -57,18 +57,18 @@ fn add_ways<C: Count, S: Roomed>(
     requires target { length target_room.old ≡ S.room_width stages.now }
     requires wide { rooms.old.width ≡ S.room_width stages.now }
     requires light { weighted (λ k. 1) rooms.old.nodes ≡ 0 }
-    requires ways { let n = S.Stages.network stages.now in
+    requires arcs { let n = S.Stages.network stages.now in
         let width = S.room_width stages.now in
-        AreWays n stage width nodes.now.nodes rooms.old.nodes ways.old }
+        AreArcs n stage width nodes.now.nodes rooms.old.nodes arcs.old }
     ensures wide { OnOk result (rooms.new.width ≡ S.room_width stages.now) }
     ensures light { OnOk result (weighted (λ k. 1) rooms.new.nodes ≡ 0) }
-    ensures ways { let n = S.Stages.network stages.now in
+    ensures arcs { let n = S.Stages.network stages.now in
         let width = S.room_width stages.now in
-        OnOk result (AreWays n stage width nodes.now.nodes rooms.new.nodes ways.new) }
+        OnOk result (AreArcs n stage width nodes.now.nodes rooms.new.nodes arcs.new) }
     ensures told { let n = S.Stages.network stages.now in
         OnOk result ((f : List ℤ → ℕ)
-        → weighted f (spread_out n stage nodes.now.nodes ways.new.ways)
-        ≡ weighted f (spread_out n stage nodes.now.nodes ways.old.ways)
+        → weighted f (spread_out n stage nodes.now.nodes arcs.new.arcs)
+        ≡ weighted f (spread_out n stage nodes.now.nodes arcs.old.arcs)
         + weighted f (all_successors n stage (segment start end nodes.now.nodes))) }
 {
     write_key(nodes.room(start), nodes.partial(start), key);
@@ -76,14 +76,14 @@ fn add_ways<C: Count, S: Roomed>(
     while more {
         let weight = stages.cross(stage, key, choice, target_room);
         let target = place(rooms, target_room)?;
-        ways.push(start, end, weight, choice, target)?;
+        arcs.push(start, end, weight, choice, target)?;
         more = stages.next_choice(stage, key, choice);
     }
     Ok(())
 }
 
 /// Lists the arcs of a stage, and the rooms that they lead to.
-pub fn list_ways<C: Count, S: Roomed>(
+pub fn list_arcs<C: Count, S: Roomed>(
     stages: &S,
     stage: usize,
     nodes: &StageNodes<C>,
@@ -91,7 +91,7 @@ pub fn list_ways<C: Count, S: Roomed>(
     choice: &mut [u64],
     target_room: &mut [i128],
     rooms: &mut NodePool<Narrow>,
-    ways: &mut Ways,
+    arcs: &mut Arcs,
 ) -> Result<(), NoMemory>
     requires nodes { AreNodes (S.Stages.network stages.now) stage nodes.now.nodes }
     requires roomed { IsRoomed (S.Stages.network stages.now) (S.room_width stages.now) }
@@ -101,22 +101,22 @@ pub fn list_ways<C: Count, S: Roomed>(
     requires target { length target_room.old ≡ S.room_width stages.now }
     requires wide { rooms.old.width ≡ S.room_width stages.now }
     requires no_rooms { rooms.old.nodes ≡ [] }
-    requires deep { ways.old.width ≡ (S.Stages.network stages.now).choice_width }
-    requires no_ways { ways.old.ways ≡ [] }
-    requires none { ways.old.rooms ≡ 0 }
+    requires deep { arcs.old.width ≡ (S.Stages.network stages.now).choice_width }
+    requires no_arcs { arcs.old.arcs ≡ [] }
+    requires none { arcs.old.rooms ≡ 0 }
     ensures wide { OnOk result (rooms.new.width ≡ S.room_width stages.now) }
-    ensures ways { let n = S.Stages.network stages.now in
+    ensures arcs { let n = S.Stages.network stages.now in
         let width = S.room_width stages.now in
-        OnOk result (AreWays n stage width nodes.now.nodes rooms.new.nodes ways.new) }
+        OnOk result (AreArcs n stage width nodes.now.nodes rooms.new.nodes arcs.new) }
     ensures told { let n = S.Stages.network stages.now in
         OnOk result ((f : List ℤ → ℕ)
-        → weighted f (spread_out n stage nodes.now.nodes ways.new.ways)
+        → weighted f (spread_out n stage nodes.now.nodes arcs.new.arcs)
         ≡ weighted f (all_successors n stage nodes.now.nodes)) }
 {
     let mut start = 0usize;
     while start < nodes.len() {
         let end = nodes.run_end(start);
-        add_ways(
+        add_arcs(
             stages,
             stage,
             nodes,
@@ -126,7 +126,7 @@ pub fn list_ways<C: Count, S: Roomed>(
             choice,
             target_room,
             rooms,
-            ways,
+            arcs,
         )?;
         start = end;
     }
@@ -203,7 +203,7 @@ pub fn fill<C: Count, S: Roomed>(
     stage: usize,
     nodes: &StageNodes<C>,
     rooms: &NodePool<Narrow>,
-    ways: &Ways,
+    arcs: &Arcs,
     target: usize,
     step: &mut [i128],
     next: &mut [i128],
@@ -211,19 +211,19 @@ pub fn fill<C: Count, S: Roomed>(
 ) -> Result<(), NoMemory>
     requires nodes { AreNodes (S.Stages.network stages.now) stage nodes.now.nodes }
     requires here { nodes.now.room_width ≡ S.room_width stages.now }
-    requires ways { let n = S.Stages.network stages.now in
+    requires arcs { let n = S.Stages.network stages.now in
         let width = S.room_width stages.now in
-        AreWays n stage width nodes.now.nodes rooms.now.nodes ways.now }
+        AreArcs n stage width nodes.now.nodes rooms.now.nodes arcs.now }
     requires target { target < length rooms.now.nodes }
     requires step { length step.old ≡ S.step_width stages.now }
     requires next { length next.old ≡ into.old.width }
     requires wide { S.room_width stages.now + into.old.width ≡ (S.Stages.network stages.now).width }
     requires empty { into.old.nodes ≡ [] }
     requires limit { let n = S.Stages.network stages.now in
-        weighted (λ k. 1) (spread_out n stage nodes.now.nodes (bucket target ways.now.ways))
+        weighted (λ k. 1) (spread_out n stage nodes.now.nodes (bucket target arcs.now.arcs))
         ≤ C.LIMIT }
     requires fits { let n = S.Stages.network stages.now in
-        weighted (λ k. 1) (spread_out n stage nodes.now.nodes (bucket target ways.now.ways)) ≤ MAX }
+        weighted (λ k. 1) (spread_out n stage nodes.now.nodes (bucket target arcs.now.arcs)) ≤ MAX }
     ensures wide { OnOk result (into.new.width ≡ into.old.width) }
     ensures step { OnOk result (length step.new ≡ length step.old) }
     ensures next { OnOk result (length next.new ≡ length next.old) }
@@ -231,13 +231,13 @@ pub fn fill<C: Count, S: Roomed>(
     ensures told { let n = S.Stages.network stages.now in
         OnOk result ((d : Node) (f : List ℤ → ℕ)
         → weighted f (lift (slice_index_or rooms.now.nodes target d).key into.new.nodes)
-        ≡ weighted f (spread_out n stage nodes.now.nodes (bucket target ways.now.ways))) }
+        ≡ weighted f (spread_out n stage nodes.now.nodes (bucket target arcs.now.arcs))) }
 {
-    let mut place = ways.first(target);
+    let mut place = arcs.first(target);
     while place != 0 {
         let i = place - 1;
-        let arc = ways.arc(i);
-        let choice = ways.choice(i);
+        let arc = arcs.arc(i);
+        let choice = arcs.choice(i);
         let room = nodes.room(arc.start);
         stages.step(stage, room, choice, step);
         pour(

@@ -9,7 +9,7 @@ ghost use Rattle.stage_network.specs.Completions.{is_inside, total_weight};
 ghost use Rattle.stage_network.specs.Laws.{IsLawful};
 ghost use Rattle.stage_network.specs.Opened.{is_undecided};
 ghost use Rattle.stage_network.specs.NodeSteps.{AllReached, closed_weight, open_nodes, opened_in};
-ghost use Rattle.stage_network.specs.WaySteps.{lift};
+ghost use Rattle.stage_network.specs.ArcSteps.{lift};
 ghost use Rattle.stage_network.specs.SweepSteps.{IsRoomful, closed_at, counted, staying};
 ghost use Rattle.stage_network.specs.SweepSteps.{some_undecided, sum_for, verdict_for};
 

@@ -4,7 +4,7 @@ ghost use Rattle.std.specs.List.{Contains};
 ghost use Rattle.stage_network.specs.Network.{Network, IsReached, pending};
 ghost use Rattle.stage_network.specs.Completions.{total_weight};
 ghost use Rattle.stage_network.specs.Laws.{IsLawful};
-ghost use Rattle.stage_network.specs.Rooms.{IsRoomed, IsPlace, IsWay};
+ghost use Rattle.stage_network.specs.Rooms.{IsRoomed, IsPlace, IsArc};
 
 use crate::keys::front;
 use weights::Tail;
@@ -142,8 +142,8 @@ pub trait Roomed: Stages {
     /// Writes what `advance` is to be told of a room and a choice. It is asked once for each two.
     fn step(&self, stage: usize, room: &[i128], choice: &[u64], step: &mut [i128])
         requires before { stage < (Self.Stages.network self.now).count }
-        requires way { let n = Self.Stages.network self.now in
-            IsWay n (room_width self.now) stage room.now choice.now }
+        requires arc { let n = Self.Stages.network self.now in
+            IsArc n (room_width self.now) stage room.now choice.now }
         requires wide { length choice.now ≡ (Self.Stages.network self.now).choice_width }
         requires room { length step.old ≡ step_width self.now }
         ensures { step.new ≡ step_of self.now stage room.now choice.now };

@@ -8,16 +8,16 @@ ghost use Rattle.node_pool.specs.Nodes.{key_eq, keys, node, weighted};
 ghost use Rattle.stage_network.specs.Completions.{total_weight};
 ghost use Rattle.stage_network.specs.Rooms.{IsRoomed};
 ghost use Rattle.stage_network.specs.NodeSteps.{AreNodes, AllHeavy, AllReached};
-ghost use Rattle.stage_network.specs.WaySteps.{AreWays, spread_out};
+ghost use Rattle.stage_network.specs.ArcSteps.{AreArcs, spread_out};
 ghost use Rattle.stage_network.specs.SweepSteps.{IsSwept, closed_at, counted, staying, sum_for};
 
+use crate::arcs::Arcs;
 use crate::keys::{behind, front};
 use crate::nodes::StageNodes;
-use crate::rooms::{fill, list_ways};
+use crate::rooms::{fill, list_arcs};
 use crate::settling::settle;
 use crate::stages::{Roomed, Stages};
 use crate::tail_sums::{Kept, TailSums};
-use crate::ways::Ways;
 use node_pool::NodePool;
 use std::alloc::Global;
 use std::mem;
@@ -38,7 +38,7 @@ fn gather<C: Count, S: Roomed>(
     keep: Kept,
     nodes: &StageNodes<C>,
     rooms: &NodePool<Narrow>,
-    ways: &Ways,
+    arcs: &Arcs,
     step: &mut [i128],
     next: &mut [i128],
     sums: TailSums,
@@ -48,9 +48,9 @@ fn gather<C: Count, S: Roomed>(
     requires nodes { AreNodes (S.Stages.network stages.now) stage nodes.now.nodes }
     requires here { nodes.now.room_width ≡ S.room_width stages.now }
     requires small { rooms.now.width ≡ S.room_width stages.now }
-    requires ways { let n = S.Stages.network stages.now in
+    requires arcs { let n = S.Stages.network stages.now in
         let width = S.room_width stages.now in
-        AreWays n stage width nodes.now.nodes rooms.now.nodes ways.now }
+        AreArcs n stage width nodes.now.nodes rooms.now.nodes arcs.now }
     requires step { length step.old ≡ S.step_width stages.now }
     requires next { length next.old ≡ work.old.width }
     requires wide { S.room_width stages.now + work.old.width ≡ (S.Stages.network stages.now).width }
@@ -58,10 +58,10 @@ fn gather<C: Count, S: Roomed>(
     requires deep { kept.old.width ≡ (S.Stages.network stages.now).width }
     requires empty { kept.old.nodes ≡ [] }
     requires limit { let n = S.Stages.network stages.now in
-        let all = spread_out n stage nodes.now.nodes ways.now.ways in
+        let all = spread_out n stage nodes.now.nodes arcs.now.arcs in
         weighted (total_weight n (stage + 1)) all ≤ C.LIMIT }
     requires fits { let n = S.Stages.network stages.now in
-        let all = spread_out n stage nodes.now.nodes ways.now.ways in
+        let all = spread_out n stage nodes.now.nodes arcs.now.arcs in
         (t : Tail) → (sum_for sums t).sum + weighted (total_weight n (stage + 1)) all ≤ MAX }
     requires few { (t : Tail) → (sum_for sums t).opened + 2 ^ 64 ≤ 2 ^ 128 }
     ensures step { OnOk result (length step.new ≡ length step.old) }
@@ -72,11 +72,11 @@ fn gather<C: Count, S: Roomed>(
     ensures heavy { OnOk result (AllHeavy kept.new.nodes) }
     ensures distinct { OnOk result (IsDistinct key_eq (keys kept.new.nodes)) }
     ensures told { let n = S.Stages.network stages.now in
-        let all = spread_out n stage nodes.now.nodes ways.now.ways in
+        let all = spread_out n stage nodes.now.nodes arcs.now.arcs in
         OnOk result ((f : List ℤ → ℕ)
         → weighted f kept.new.nodes ≡ weighted f (staying n keep (stage + 1) all)) }
     ensures sum { let n = S.Stages.network stages.now in
-        let all = spread_out n stage nodes.now.nodes ways.now.ways in
+        let all = spread_out n stage nodes.now.nodes arcs.now.arcs in
         IfOk result (λ more. (t : Tail) → (sum_for more t).sum
         ≡ (sum_for sums t).sum + weighted (closed_at n keep t (stage + 1)) all) }
     ensures opened { let n = S.Stages.network stages.now in
@@ -88,7 +88,7 @@ fn gather<C: Count, S: Roomed>(
     let mut more = sums;
     for target in 0..rooms.len() {
         work.clear();
-        fill(stages, stage, nodes, rooms, ways, target, step, next, work)?;
+        fill(stages, stage, nodes, rooms, arcs, target, step, next, work)?;
         let _apart = work.len();
         more = settle(stages, stage + 1, keep, work, rooms.key(target), more, kept)?;
     }
@@ -153,13 +153,13 @@ pub fn sweep<C: Count, S: Roomed>(
     let mut here = StageNodes::<C>::new(alloc, width, partial_width);
     let mut ahead = StageNodes::<C>::new(alloc, width, partial_width);
     let mut rooms = NodePool::<Narrow>::new(alloc, width)?;
-    let mut ways = Ways::new(alloc, stages.choice_width());
+    let mut arcs = Arcs::new(alloc, stages.choice_width());
     let none = TailSums::none();
     let mut sums = settle(stages, 0, keep, &work, front(key, width), none, &mut here)?;
     for stage in 0..count {
         rooms.clear();
-        ways.clear();
-        list_ways(
+        arcs.clear();
+        list_arcs(
             stages,
             stage,
             &here,
@@ -167,11 +167,11 @@ pub fn sweep<C: Count, S: Roomed>(
             choice,
             target_room,
             &mut rooms,
-            &mut ways,
+            &mut arcs,
         )?;
         ahead.clear();
         sums = gather(
-            stages, stage, keep, &here, &rooms, &ways, step, next, sums, &mut work, &mut ahead,
+            stages, stage, keep, &here, &rooms, &arcs, step, next, sums, &mut work, &mut ahead,
         )?;
         mem::swap(&mut here, &mut ahead);
         let _held = here.len();

@@ -1,6 +1,6 @@
 // The distribution of a test by a walk through its reference set, member by member.
 ghost use Rattle.std.specs.Prelude.{◌≡◌, IfOk};
-ghost use Rattle.stage_network.specs.Lines.{IsSpreadOf};
+ghost use Rattle.stage_network.specs.Lines.{IsSpreadOf, WeightsFit};
 ghost use Rattle.stage_network.specs.Follows.{statistic_sums};
 
 use crate::lines::Spread;
@@ -9,9 +9,11 @@ use std::alloc::Global;
 use weights::NoMemory;
 
 /// The statistics of all members of a test's reference set by strictly ascending value, each with
-/// its summed weight, found by a walk through the members.
+/// its summed weight, found by a walk through the members. All weights sum to at most
+/// [`weights::MAX`].
 pub fn plain_spread<P: Plain>(alloc: Global, problem: &P) -> Result<Spread, NoMemory>
-    ensures { IfOk result (IsSpreadOf (statistic_sums (P.test problem.now))) }
+    ensures sums { IfOk result (IsSpreadOf (statistic_sums (P.test problem.now))) }
+    ensures weights { IfOk result WeightsFit }
 {
     let mut labels = problem.first(alloc)?;
     let mut spread = Spread::empty(alloc);

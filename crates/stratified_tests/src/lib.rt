@@ -4,6 +4,7 @@
 ghost use Rattle.std.specs.Prelude.{◌≡◌, ◌≤◌, IfOk};
 ghost use Rattle.weights.specs.Conditional.{distribution};
 ghost use Rattle.stage_network.specs.Follows.{answer_of, open_keys};
+ghost use Rattle.stage_network.specs.Lines.{TailsFit, WeightsFit};
 ghost use Rattle.stratified_tests.specs.StrataTests.{strata_test};
 ghost use Rattle.stratified_tests.specs.StrataNetwork.{strata_network};
 
@@ -41,7 +42,9 @@ pub fn answer(
 /// The distribution of the sum of the first cells: each value that it takes, ascending, with the
 /// number of labellings that have it, by either way.
 pub fn distribution(alloc: Global, problem: &StrataTest, way: Way) -> Result<Spread, NoMemory>
-    ensures { IfOk result (λ spread. spread ≡ distribution (strata_test problem.now)) }
+    ensures lines { IfOk result (λ spread. spread ≡ distribution (strata_test problem.now)) }
+    ensures weights { IfOk result WeightsFit }
+    ensures rules { IfOk result (TailsFit (strata_test problem.now)) }
 {
     stage_network::distribution(alloc, problem, way)
 }

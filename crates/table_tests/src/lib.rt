@@ -6,6 +6,7 @@
 ghost use Rattle.std.specs.Prelude.{◌≡◌, ◌≤◌, IfOk};
 ghost use Rattle.weights.specs.Conditional.{distribution};
 ghost use Rattle.stage_network.specs.Follows.{HasTails, answer_of, open_keys};
+ghost use Rattle.stage_network.specs.Lines.{TailsFit, WeightsFit};
 ghost use Rattle.table_tests.specs.TableTests.{table_network, table_test};
 
 mod fillings;
@@ -50,7 +51,9 @@ pub fn answer(
 /// The distribution of the statistic of a test of a table: each value that it takes, ascending,
 /// with the number of labellings that have it, by either way.
 pub fn distribution(alloc: Global, problem: &TableTest, way: Way) -> Result<Spread, NoMemory>
-    ensures { IfOk result (λ spread. spread ≡ distribution (table_test problem.now)) }
+    ensures lines { IfOk result (λ spread. spread ≡ distribution (table_test problem.now)) }
+    ensures weights { IfOk result WeightsFit }
+    ensures rules { IfOk result (TailsFit (table_test problem.now)) }
 {
     stage_network::distribution(alloc, problem, way)
 }

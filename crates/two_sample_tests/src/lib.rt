@@ -5,6 +5,7 @@
 ghost use Rattle.std.specs.Prelude.{◌≡◌, ◌≤◌, IfOk};
 ghost use Rattle.weights.specs.Conditional.{distribution};
 ghost use Rattle.stage_network.specs.Follows.{answer_of, open_keys};
+ghost use Rattle.stage_network.specs.Lines.{TailsFit, WeightsFit};
 ghost use Rattle.two_sample_tests.specs.TwoSamples.{two_sample_test};
 ghost use Rattle.two_sample_tests.specs.Columns.{two_sample_network};
 
@@ -38,7 +39,9 @@ pub fn answer(
 /// The distribution of the sum of the second sample's scores: each value that it takes, ascending,
 /// with the number of labellings that have it, by either way.
 pub fn distribution(alloc: Global, problem: &TwoSample, way: Way) -> Result<Spread, NoMemory>
-    ensures { IfOk result (λ spread. spread ≡ distribution (two_sample_test problem.now)) }
+    ensures lines { IfOk result (λ spread. spread ≡ distribution (two_sample_test problem.now)) }
+    ensures weights { IfOk result WeightsFit }
+    ensures rules { IfOk result (TailsFit (two_sample_test problem.now)) }
 {
     stage_network::distribution(alloc, problem, way)
 }

@@ -83,9 +83,12 @@ fn equality_belongs_to_the_tail(rt: HostRuntime) {
         two: Rule::far(6, 126, 30),
     };
     assert_eq!(rt; frame.rule(Tail::Two), Rule::Far(6, 126, 54));
+    assert_eq!(rt; frame.rule(Tail::Less), Rule::AtMost(30));
+    let greater = frame.rule(Tail::Greater);
+    assert_eq!(rt; greater, Rule::AtLeast(30));
     for (rule, value, passes) in [
-        (frame.rule(Tail::Less), 30, true),
-        (frame.rule(Tail::Greater), 29, false),
+        (Rule::AtMost(30), 30, true),
+        (Rule::AtLeast(30), 29, false),
         (Rule::Far(6, 126, 54), 12, true),
         (Rule::Far(6, 126, 54), 13, false),
     ] {

@@ -18,11 +18,10 @@ returns-in-Err-clause-words g c = rw c.usage_refusal.ensures (refused-words (mea
 no-fault : (line : CommandLine) (fault : UsageFault) → Ok line ≡ Err fault → ⊥
 no-fault line fault same = cc
 
-told : CommandLine → Result CommandLine UsageFault
+abbrev told : CommandLine → Result CommandLine UsageFault
 told line = Ok line
 
 no-help : (line : CommandLine) (number : ℕ) → line ≡ Drill number → told line ≡ told Help → ⊥
-unfolding told
 no-help line number is same = cc
 
 made-comes : (rose : Type 0) (outcome made text : Outcome) → text ≡ made → Meets outcome made → ComesTo rose (Some outcome) text

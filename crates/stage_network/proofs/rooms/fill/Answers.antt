@@ -2,10 +2,10 @@ use Rattle.std.proofs.Common.{◌≡◌, ◌≢◌, ◌<◌, ◌≤◌, ◌+◌,
 use Rattle.std.specs.Prelude.{ℤ}
 use Rattle.node_pool.specs.Nodes.{Node, weighted}
 use Rattle.stage_network.specs.Network.{Network}
-use Rattle.stage_network.specs.WaySteps.{Way, IsPlace, spread_out, bucket}
+use Rattle.stage_network.specs.ArcSteps.{Arc, IsPlace, spread_out, bucket}
 use Rattle.stage_network.proofs.Roomwise.{fill-step, lift-weighted, whole-weighted}
 use Rattle.stage_network.proofs.Gathered.{spread-here}
-use Rattle.stage_network.proofs.OneArc.{no_way, fine_is, nodes_are, way_of_room}
+use Rattle.stage_network.proofs.OneArc.{no_arc, fine_is, nodes_are, arc_of_room}
 use Rattle.stage_network.proofs.rooms.fill.Goals as goal
 
 -- behind a place that is not 0 stands an arc
@@ -19,30 +19,30 @@ place_is place h = omega (arith, h)
 pub room-room-requires : goal.room-room-requires
 room-room-requires g c =
     let n : Network = g.S.Stages.network c.args.stages.now in
-    let fine = fine_is n c.args.stage _ c.args.nodes.now.nodes c.args.rooms.now.nodes c.args.ways.now.ways c.requires.ways.fine (c.loop-place.place - 1) _ _ _ _ (place_below c.loop-place.place _ c.loop-place-test.true c.loop-place.invariant.low) c.arc-arc.ensures.start c.arc-arc.ensures.last c.arc-arc.ensures.weight c.choice-choice.ensures.choice in
+    let fine = fine_is n c.args.stage _ c.args.nodes.now.nodes c.args.rooms.now.nodes c.args.arcs.now.arcs c.requires.arcs.fine (c.loop-place.place - 1) _ _ _ _ (place_below c.loop-place.place _ c.loop-place-test.true c.loop-place.invariant.low) c.arc-arc.ensures.start c.arc-arc.ensures.last c.arc-arc.ensures.weight c.choice-choice.ensures.choice in
     omega (arith, fine.chosen.order, fine.chosen.last)
 
-pub step-requires-clause-way : goal.step-requires-clause-way
-step-requires-clause-way g c =
+pub step-requires-clause-arc : goal.step-requires-clause-arc
+step-requires-clause-arc g c =
     let n : Network = g.S.Stages.network c.args.stages.now in
-    let fine = fine_is n c.args.stage _ c.args.nodes.now.nodes c.args.rooms.now.nodes c.args.ways.now.ways c.requires.ways.fine (c.loop-place.place - 1) _ _ _ _ (place_below c.loop-place.place _ c.loop-place-test.true c.loop-place.invariant.low) c.arc-arc.ensures.start c.arc-arc.ensures.last c.arc-arc.ensures.weight c.choice-choice.ensures.choice in
-    way_of_room n c.args.stage _ _ _ _ c.args.nodes.now.nodes _ c.room-room.result.now c.requires.nodes fine.chosen (c.room-room.ensures.wide ∙ c.requires.here) (λ d. c.room-room.ensures.room d ∙ ap (λ m. take m (get_or c.args.nodes.now.nodes c.arc-arc.result.start d).key) c.requires.here)
+    let fine = fine_is n c.args.stage _ c.args.nodes.now.nodes c.args.rooms.now.nodes c.args.arcs.now.arcs c.requires.arcs.fine (c.loop-place.place - 1) _ _ _ _ (place_below c.loop-place.place _ c.loop-place-test.true c.loop-place.invariant.low) c.arc-arc.ensures.start c.arc-arc.ensures.last c.arc-arc.ensures.weight c.choice-choice.ensures.choice in
+    arc_of_room n c.args.stage _ _ _ _ c.args.nodes.now.nodes _ c.room-room.result.now c.requires.nodes fine.chosen (c.room-room.ensures.wide ∙ c.requires.here) (λ d. c.room-room.ensures.room d ∙ ap (λ m. take m (get_or c.args.nodes.now.nodes c.arc-arc.result.start d).key) c.requires.here)
 
 pub step-requires-clause-wide : goal.step-requires-clause-wide
-step-requires-clause-wide g c = c.choice-choice.ensures.wide ∙ c.requires.ways.wide
+step-requires-clause-wide g c = c.choice-choice.ensures.wide ∙ c.requires.arcs.wide
 
 pub pour-requires-clause-choice : goal.pour-requires-clause-choice
-pour-requires-clause-choice g c = c.choice-choice.ensures.wide ∙ c.requires.ways.wide
+pour-requires-clause-choice g c = c.choice-choice.ensures.wide ∙ c.requires.arcs.wide
 
 pub pour-requires-clause-chosen : goal.pour-requires-clause-chosen
 pour-requires-clause-chosen g c =
     let n : Network = g.S.Stages.network c.args.stages.now in
-    (fine_is n c.args.stage _ c.args.nodes.now.nodes c.args.rooms.now.nodes c.args.ways.now.ways c.requires.ways.fine (c.loop-place.place - 1) _ _ _ _ (place_below c.loop-place.place _ c.loop-place-test.true c.loop-place.invariant.low) c.arc-arc.ensures.start c.arc-arc.ensures.last c.arc-arc.ensures.weight c.choice-choice.ensures.choice).chosen
+    (fine_is n c.args.stage _ c.args.nodes.now.nodes c.args.rooms.now.nodes c.args.arcs.now.arcs c.requires.arcs.fine (c.loop-place.place - 1) _ _ _ _ (place_below c.loop-place.place _ c.loop-place-test.true c.loop-place.invariant.low) c.arc-arc.ensures.start c.arc-arc.ensures.last c.arc-arc.ensures.weight c.choice-choice.ensures.choice).chosen
 
 pub pour-requires-clause-run : goal.pour-requires-clause-run
 pour-requires-clause-run g c =
     let n : Network = g.S.Stages.network c.args.stages.now in
-    (fine_is n c.args.stage _ c.args.nodes.now.nodes c.args.rooms.now.nodes c.args.ways.now.ways c.requires.ways.fine (c.loop-place.place - 1) _ _ _ _ (place_below c.loop-place.place _ c.loop-place-test.true c.loop-place.invariant.low) c.arc-arc.ensures.start c.arc-arc.ensures.last c.arc-arc.ensures.weight c.choice-choice.ensures.choice).run
+    (fine_is n c.args.stage _ c.args.nodes.now.nodes c.args.rooms.now.nodes c.args.arcs.now.arcs c.requires.arcs.fine (c.loop-place.place - 1) _ _ _ _ (place_below c.loop-place.place _ c.loop-place-test.true c.loop-place.invariant.low) c.arc-arc.ensures.start c.arc-arc.ensures.last c.arc-arc.ensures.weight c.choice-choice.ensures.choice).run
 
 pub pour-requires-clause-room : goal.pour-requires-clause-room
 pour-requires-clause-room g c = λ d. c.room-room.ensures.room d ∙ ap (λ m. take m (get_or c.args.nodes.now.nodes c.arc-arc.result.start d).key) c.requires.here
@@ -50,18 +50,18 @@ pour-requires-clause-room g c = λ d. c.room-room.ensures.room d ∙ ap (λ m. t
 pub pour-requires-clause-limit : goal.pour-requires-clause-limit
 pour-requires-clause-limit g c =
     let n : Network = g.S.Stages.network c.args.stages.now in
-    let step = fill-step n c.args.stage c.args.nodes.now.nodes (λ k. 1) c.args.target c.args.ways.now.ways (c.loop-place.place - 1) c.loop-place.place no_way (place_below c.loop-place.place _ c.loop-place-test.true c.loop-place.invariant.low) (c.loop-place.invariant.here (c.loop-place.place - 1) no_way (place_is c.loop-place.place c.loop-place-test.true)) (omega (arith, c.loop-place-test.true)) in
-    omega (arith, nodes_are n c.args.stage c.args.nodes.now.nodes c.args.ways.now.ways (c.loop-place.place - 1) _ _ _ _ c.arc-arc.ensures.start c.arc-arc.ensures.last c.arc-arc.ensures.weight c.choice-choice.ensures.choice (λ k. 1), c.loop-place.invariant.told (λ k. 1), step, c.requires.limit)
+    let step = fill-step n c.args.stage c.args.nodes.now.nodes (λ k. 1) c.args.target c.args.arcs.now.arcs (c.loop-place.place - 1) c.loop-place.place no_arc (place_below c.loop-place.place _ c.loop-place-test.true c.loop-place.invariant.low) (c.loop-place.invariant.here (c.loop-place.place - 1) no_arc (place_is c.loop-place.place c.loop-place-test.true)) (omega (arith, c.loop-place-test.true)) in
+    omega (arith, nodes_are n c.args.stage c.args.nodes.now.nodes c.args.arcs.now.arcs (c.loop-place.place - 1) _ _ _ _ c.arc-arc.ensures.start c.arc-arc.ensures.last c.arc-arc.ensures.weight c.choice-choice.ensures.choice (λ k. 1), c.loop-place.invariant.told (λ k. 1), step, c.requires.limit)
 
 pub pour-requires-clause-fits : goal.pour-requires-clause-fits
 pour-requires-clause-fits g c =
     let n : Network = g.S.Stages.network c.args.stages.now in
-    let step = fill-step n c.args.stage c.args.nodes.now.nodes (λ k. 1) c.args.target c.args.ways.now.ways (c.loop-place.place - 1) c.loop-place.place no_way (place_below c.loop-place.place _ c.loop-place-test.true c.loop-place.invariant.low) (c.loop-place.invariant.here (c.loop-place.place - 1) no_way (place_is c.loop-place.place c.loop-place-test.true)) (omega (arith, c.loop-place-test.true)) in
-    omega (arith, nodes_are n c.args.stage c.args.nodes.now.nodes c.args.ways.now.ways (c.loop-place.place - 1) _ _ _ _ c.arc-arc.ensures.start c.arc-arc.ensures.last c.arc-arc.ensures.weight c.choice-choice.ensures.choice (λ k. 1), c.loop-place.invariant.told (λ k. 1), step, c.requires.fits)
+    let step = fill-step n c.args.stage c.args.nodes.now.nodes (λ k. 1) c.args.target c.args.arcs.now.arcs (c.loop-place.place - 1) c.loop-place.place no_arc (place_below c.loop-place.place _ c.loop-place-test.true c.loop-place.invariant.low) (c.loop-place.invariant.here (c.loop-place.place - 1) no_arc (place_is c.loop-place.place c.loop-place-test.true)) (omega (arith, c.loop-place-test.true)) in
+    omega (arith, nodes_are n c.args.stage c.args.nodes.now.nodes c.args.arcs.now.arcs (c.loop-place.place - 1) _ _ _ _ c.arc-arc.ensures.start c.arc-arc.ensures.last c.arc-arc.ensures.weight c.choice-choice.ensures.choice (λ k. 1), c.loop-place.invariant.told (λ k. 1), step, c.requires.fits)
 
 pub loop-place-smaller : goal.loop-place-smaller
 loop-place-smaller g c =
-    let place : IsPlace c.args.ways.now.ways _ (c.loop-place.place - 1) c.arc-arc.result.next = c.arc-arc.ensures.next no_way in
+    let place : IsPlace c.args.arcs.now.arcs _ (c.loop-place.place - 1) c.arc-arc.result.next = c.arc-arc.ensures.next no_arc in
     omega (arith, place.low, c.loop-place-test.true)
 
 pub loop-place-preserved : goal.loop-place-preserved
@@ -70,18 +70,18 @@ loop-place-preserved g c =
     let s : ℕ = c.args.stage in
     let nodes : List Node = c.args.nodes.now.nodes in
     let w : ℕ = g.S.Roomed.room_width c.args.stages.now in
-    let ways : List Way = c.args.ways.now.ways in
+    let arcs : List Arc = c.args.arcs.now.arcs in
     let i : ℕ = c.loop-place.place - 1 in
-    let low : i < length ways = place_below c.loop-place.place _ c.loop-place-test.true c.loop-place.invariant.low in
-    let there : (get_or ways i no_way).target ≡ c.args.target = c.loop-place.invariant.here i no_way (place_is c.loop-place.place c.loop-place-test.true) in
-    let place : IsPlace ways (get_or ways i no_way).target i c.arc-arc.result.next = c.arc-arc.ensures.next no_way in
-    let on : bucket c.args.target (take c.arc-arc.result.next ways) ≡ bucket c.args.target (take i ways) = subst (λ t. bucket t (take c.arc-arc.result.next ways) ≡ bucket t (take i ways)) there place.all in
+    let low : i < length arcs = place_below c.loop-place.place _ c.loop-place-test.true c.loop-place.invariant.low in
+    let there : (get_or arcs i no_arc).target ≡ c.args.target = c.loop-place.invariant.here i no_arc (place_is c.loop-place.place c.loop-place-test.true) in
+    let place : IsPlace arcs (get_or arcs i no_arc).target i c.arc-arc.result.next = c.arc-arc.ensures.next no_arc in
+    let on : bucket c.args.target (take c.arc-arc.result.next arcs) ≡ bucket c.args.target (take i arcs) = subst (λ t. bucket t (take c.arc-arc.result.next arcs) ≡ bucket t (take i arcs)) there place.all in
     record {
       told = λ f.
           let f' : List ℤ → ℕ = λ k. f (drop w k) in
-          let left : weighted f' (spread_out n s nodes (bucket c.args.target (take c.arc-arc.result.next ways))) ≡ weighted f' (spread_out n s nodes (bucket c.args.target (take i ways))) = ap (λ ws. weighted f' (spread_out n s nodes ws)) on in
-          let step = fill-step n s nodes f' c.args.target ways i c.loop-place.place no_way low there (omega (arith, c.loop-place-test.true)) in
-          omega (arith, c.in_ok-pour.ensures.told f, nodes_are n c.args.stage c.args.nodes.now.nodes c.args.ways.now.ways (c.loop-place.place - 1) _ _ _ _ c.arc-arc.ensures.start c.arc-arc.ensures.last c.arc-arc.ensures.weight c.choice-choice.ensures.choice f', left, c.loop-place.invariant.told f, step);
+          let left : weighted f' (spread_out n s nodes (bucket c.args.target (take c.arc-arc.result.next arcs))) ≡ weighted f' (spread_out n s nodes (bucket c.args.target (take i arcs))) = ap (λ ws. weighted f' (spread_out n s nodes ws)) on in
+          let step = fill-step n s nodes f' c.args.target arcs i c.loop-place.place no_arc low there (omega (arith, c.loop-place-test.true)) in
+          omega (arith, c.in_ok-pour.ensures.told f, nodes_are n c.args.stage c.args.nodes.now.nodes c.args.arcs.now.arcs (c.loop-place.place - 1) _ _ _ _ c.arc-arc.ensures.start c.arc-arc.ensures.last c.arc-arc.ensures.weight c.choice-choice.ensures.choice f', left, c.loop-place.invariant.told f, step);
       low = omega (arith, place.low, low);
       here = λ j e h. place.here j e h ∙ there;
       heavy = c.in_ok-pour.ensures.heavy c.loop-place.invariant.heavy;
@@ -95,9 +95,9 @@ returns-clause-told g c = λ d f.
     let nodes : List Node = c.args.nodes.now.nodes in
     let w : ℕ = g.S.Roomed.room_width c.args.stages.now in
     let r : List ℤ = (get_or c.args.rooms.now.nodes c.args.target d).key in
-    let all : List Node = spread_out n s nodes (bucket c.args.target c.args.ways.now.ways) in
+    let all : List Node = spread_out n s nodes (bucket c.args.target c.args.arcs.now.arcs) in
     let told = (rw c.loop-place-test.false at c.loop-place.invariant.told) (λ k. f (r ++ k)) in
-    let there = spread-here n s w nodes c.args.rooms.now.nodes c.requires.nodes d c.args.target c.args.ways.now.ways c.requires.ways.fine in
+    let there = spread-here n s w nodes c.args.rooms.now.nodes c.requires.nodes d c.args.target c.args.arcs.now.arcs c.requires.arcs.fine in
     lift-weighted f r c.loop-place.into.nodes ∙ none_left told ∙ whole-weighted w r f all there
   where
     none_left : {x y : ℕ} → x + 0 ≡ y → x ≡ y

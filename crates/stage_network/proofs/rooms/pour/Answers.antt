@@ -4,7 +4,7 @@ use Rattle.std.proofs.lemmas.List.{take_all}
 use Rattle.node_pool.specs.Nodes.{Node, weighted}
 use Rattle.node_pool.proofs.Puts.{weight_in-le}
 use Rattle.stage_network.specs.Network.{Network}
-use Rattle.stage_network.specs.WaySteps.{chosen, segment}
+use Rattle.stage_network.specs.ArcSteps.{chosen, segment}
 use Rattle.stage_network.proofs.Roomwise.{heavy-merge, length-segment}
 use Rattle.stage_network.proofs.OneArc.{start-reached, start-allowed, start-more, start-fits, start-heavy}
 use Rattle.stage_network.proofs.rooms.pour.Goals as goal

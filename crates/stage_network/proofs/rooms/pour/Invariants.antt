@@ -3,7 +3,7 @@ use Rattle.std.specs.Prelude.{ℤ}
 use Rattle.node_pool.specs.Nodes.{weighted}
 use Rattle.stage_network.specs.Network.{Network}
 use Rattle.stage_network.specs.NodeSteps.{AllHeavy}
-use Rattle.stage_network.specs.WaySteps.{segment, chosen}
+use Rattle.stage_network.specs.ArcSteps.{segment, chosen}
 use Rattle.stage_network.proofs.rooms.pour.Given as goal
 
 -- every sum has grown by the nodes before this one

@@ -1,7 +1,7 @@
 use Rattle.std.proofs.Common.{◌≡◌, ◌<◌, ◌≤◌, ◌++◌, ◌∷◌, ℕ, List, [], length, take, ap, sym, ◌∙◌, arith, append-nil, append_assoc}
 use Rattle.std.specs.Prelude.{ℤ}
 use Rattle.node_pool.specs.Nodes.{Node, node}
-use Rattle.stage_network.specs.WaySteps.{lift}
+use Rattle.stage_network.specs.ArcSteps.{lift}
 use Rattle.stage_network.proofs.RoomNodes.{next-kept, all-nodes}
 use Rattle.stage_network.proofs.settling.keep_room.Goals as goal
 

@@ -1,5 +1,5 @@
 use Rattle.std.proofs.Common.{◌≡◌, ◌≤◌, ◌++◌, length, take}
-use Rattle.stage_network.specs.WaySteps.{lift}
+use Rattle.stage_network.specs.ArcSteps.{lift}
 use Rattle.stage_network.proofs.settling.keep_room.Given as goal
 
 -- the nodes are those before this one

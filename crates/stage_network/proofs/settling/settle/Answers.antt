@@ -2,7 +2,7 @@ use Rattle.std.proofs.Common.{◌+◌, ◌++◌, List, Result, Ok, Err, ap, sym,
 use Rattle.std.specs.Result.{IfOk}
 use Rattle.node_pool.specs.Nodes.{Node}
 use Rattle.stage_network.specs.Network.{Network}
-use Rattle.stage_network.specs.WaySteps.{lift}
+use Rattle.stage_network.specs.ArcSteps.{lift}
 use Rattle.stage_network.specs.SweepSteps.{sum_for}
 use Rattle.stage_network.proofs.Sweeps.{closed-weighted, closed-none, staying-none}
 use Rattle.stage_network.proofs.settling.settle.Goals as goal

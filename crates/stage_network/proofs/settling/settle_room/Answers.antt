@@ -11,7 +11,7 @@ use Rattle.stage_network.specs.declared.tail_sums.Verdicts.{Verdicts}
 use Rattle.stage_network.specs.Opened.{is_open_for_some, is_undecided}
 use Rattle.stage_network.specs.NodeSteps.{open_nodes, opened_in}
 use Rattle.stage_network.specs.SweepSteps.{some_undecided, sum_for, verdict_for}
-use Rattle.stage_network.specs.WaySteps.{lift}
+use Rattle.stage_network.specs.ArcSteps.{lift}
 use Rattle.stage_network.proofs.RoomNodes.{opened-le, next-open, next-inside, next-opened, opened-few, next-fits, in_room, first-place, all-nodes, closed_is, closed-fits}
 use Rattle.stage_network.proofs.settling.settle_room.Goals as goal
 

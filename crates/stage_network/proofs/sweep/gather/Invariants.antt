@@ -4,7 +4,7 @@ use Rattle.std.specs.List.{IsDistinct}
 use Rattle.node_pool.specs.Nodes.{Node, key_eq, keys, weighted}
 use Rattle.stage_network.specs.Network.{Network}
 use Rattle.stage_network.specs.NodeSteps.{AllHeavy}
-use Rattle.stage_network.specs.WaySteps.{firsts, spread_out}
+use Rattle.stage_network.specs.ArcSteps.{firsts, spread_out}
 use Rattle.stage_network.specs.SweepSteps.{sum_for, closed_at, counted, staying}
 use Rattle.weights.specs.declared.tails.Tail.{Tail}
 use Rattle.stage_network.proofs.sweep.gather.Given as goal
@@ -13,7 +13,7 @@ use Rattle.stage_network.proofs.sweep.gather.Given as goal
 abbrev pub invariant-loop-target : goal.invariant-loop-target
 invariant-loop-target g l =
     let n : Network = g.S.Stages.network l.stages in
-    let done : List Node = spread_out n l.stage l.nodes.nodes (firsts l.target l.ways.ways) in
+    let done : List Node = spread_out n l.stage l.nodes.nodes (firsts l.target l.arcs.arcs) in
     record {
       sum : (t : Tail) → (sum_for l.more t).sum ≡ (sum_for l.fn.sums t).sum + weighted (closed_at n l.keep t (l.stage + 1)) done;
       opened : (t : Tail) → (sum_for l.more t).opened ≡ (sum_for l.fn.sums t).opened + counted n l.keep t (l.stage + 1) l.kept.nodes;

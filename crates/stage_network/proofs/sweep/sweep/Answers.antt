@@ -10,7 +10,7 @@ use Rattle.stage_network.specs.StageSteps.{Housed}
 use Rattle.stage_network.specs.Network.{Network, IsReached}
 use Rattle.stage_network.specs.Completions.{total_weight}
 use Rattle.stage_network.specs.NodeSteps.{AllReached, AllHeavy, AreNodes}
-use Rattle.stage_network.specs.WaySteps.{spread_out, lift}
+use Rattle.stage_network.specs.ArcSteps.{spread_out, lift}
 use Rattle.stage_network.specs.SweepSteps.{sum_for, closed_at, counted, stays, staying}
 use Rattle.stage_network.proofs.Bounds.{weights-le-weighted}
 use Rattle.stage_network.proofs.OpenKeys.{one_distinct, all_filter}
@@ -41,8 +41,8 @@ settle-requires g c =
       wide = search rules;
     }
 
-pub list_ways-requires-clause-nodes : goal.list_ways-requires-clause-nodes
-list_ways-requires-clause-nodes g c =
+pub list_arcs-requires-clause-nodes : goal.list_arcs-requires-clause-nodes
+list_arcs-requires-clause-nodes g c =
     let n : Network = g.S.Stages.network c.args.stages.now in
     are_nodes n c.loop-stage.stage _ c.loop-stage.here.nodes c.stages-count.ensures.lawful c.loop-stage-test.true c.loop-stage.invariant.end c.loop-stage.invariant.reached c.loop-stage.invariant.heavy
 
@@ -55,13 +55,13 @@ pub gather-requires-clause-limit : goal.gather-requires-clause-limit
 gather-requires-clause-limit g c =
     let n : Network = g.S.Stages.network c.args.stages.now in
     let before : c.loop-stage.stage < n.count = omega (arith, c.loop-stage-test.true, c.loop-stage.invariant.end) in
-    omega (arith, all-total n c.loop-stage.stage before c.loop-stage.here.nodes (spread_out n c.loop-stage.stage c.loop-stage.here.nodes c.list_ways.new.ways.ways) c.in_ok-list_ways.ensures.told, c.loop-stage.invariant.fits Less, c.requires)
+    omega (arith, all-total n c.loop-stage.stage before c.loop-stage.here.nodes (spread_out n c.loop-stage.stage c.loop-stage.here.nodes c.list_arcs.new.arcs.arcs) c.in_ok-list_arcs.ensures.told, c.loop-stage.invariant.fits Less, c.requires)
 
 pub gather-requires-clause-fits : goal.gather-requires-clause-fits
 gather-requires-clause-fits g c t =
     let n : Network = g.S.Stages.network c.args.stages.now in
     let before : c.loop-stage.stage < n.count = omega (arith, c.loop-stage-test.true, c.loop-stage.invariant.end) in
-    omega (arith, all-total n c.loop-stage.stage before c.loop-stage.here.nodes (spread_out n c.loop-stage.stage c.loop-stage.here.nodes c.list_ways.new.ways.ways) c.in_ok-list_ways.ensures.told, c.loop-stage.invariant.fits t, c.stages-count.ensures.lawful.fits)
+    omega (arith, all-total n c.loop-stage.stage before c.loop-stage.here.nodes (spread_out n c.loop-stage.stage c.loop-stage.here.nodes c.list_arcs.new.arcs.arcs) c.in_ok-list_arcs.ensures.told, c.loop-stage.invariant.fits t, c.stages-count.ensures.lawful.fits)
 
 pub gather-requires-clause-few : goal.gather-requires-clause-few
 gather-requires-clause-few g c t = omega (arith, c.loop-stage.invariant.few t, c.loop-stage-test.true)
@@ -97,7 +97,7 @@ loop-stage-init g c =
       ahead_wide = search rules;
       work = c.in_ok-work.ensures.wide;
       rooms = search rules;
-      ways = search rules;
+      arcs = search rules;
       key = search rules;
       choice = search rules;
       target_room = search rules;
@@ -113,20 +113,20 @@ loop-stage-preserved g c =
     let nodes : List Node = c.loop-stage.here.nodes in
     let lawful : IsLawful n = c.stages-count.ensures.lawful in
     let are : AreNodes n s nodes = are_nodes n s _ nodes lawful c.loop-stage-test.true c.loop-stage.invariant.end c.loop-stage.invariant.reached c.loop-stage.invariant.heavy in
-    let all : List Node = spread_out n s nodes c.list_ways.new.ways.ways in
-    let fine = c.in_ok-list_ways.ensures.ways.fine in
-    let reached : AllReached n (s + 1) all = every-reached n s _ nodes c.list_ways.new.rooms.nodes are c.list_ways.new.ways.ways fine in
-    let solid : AllHeavy all = every-heavy n s _ nodes c.list_ways.new.rooms.nodes are c.list_ways.new.ways.ways fine in
+    let all : List Node = spread_out n s nodes c.list_arcs.new.arcs.arcs in
+    let fine = c.in_ok-list_arcs.ensures.arcs.fine in
+    let reached : AllReached n (s + 1) all = every-reached n s _ nodes c.list_arcs.new.rooms.nodes are c.list_arcs.new.arcs.arcs fine in
+    let solid : AllHeavy all = every-heavy n s _ nodes c.list_arcs.new.rooms.nodes are c.list_arcs.new.arcs.arcs fine in
     let kept : c.swap.new.x.nodes ≡ c.gather.new.kept.nodes = ap (λ (h : Housed). h.nodes) c.swap.ensures.x_after in
     let told : (f : List ℤ → ℕ) → weighted f c.swap.new.x.nodes ≡ weighted f (staying n keep (s + 1) all) = λ f. ap (weighted f) kept ∙ c.in_ok-sums-2.ensures.told f in
     let heavy : AllHeavy c.swap.new.x.nodes = rw kept c.in_ok-sums-2.ensures.heavy in
     let distinct : IsDistinct key_eq (keys c.swap.new.x.nodes) = rw kept c.in_ok-sums-2.ensures.distinct in
     let count : (t : Tail) → (sum_for c.in_ok-sums-2.sums t).opened ≡ (sum_for c.loop-stage.sums t).opened + counted n keep t (s + 1) c.swap.new.x.nodes = λ t.
     c.in_ok-sums-2.ensures.opened t ∙ ap (λ ns. (sum_for c.loop-stage.sums t).opened + counted n keep t (s + 1) ns) (sym kept) in
-    let arriving : IsArriving n keep (s + 1) c.loop-stage.sums all = arriving_from n keep s _ nodes all are solid c.in_ok-list_ways.ensures.told c.loop-stage.invariant.swept in
+    let arriving : IsArriving n keep (s + 1) c.loop-stage.sums all = arriving_from n keep s _ nodes all are solid c.in_ok-list_arcs.ensures.told c.loop-stage.invariant.swept in
     record {
       swept = sweeping_from n lawful (s + 1) (omega (arith, are.before)) all c.swap.new.x.nodes solid heavy distinct reached keep c.loop-stage.sums _ told c.in_ok-sums-2.ensures.sum count arriving;
-      fits = λ t. fits-next n keep t (s + 1) all c.swap.new.x.nodes (sum_for c.loop-stage.sums t).sum _ _ told (c.in_ok-sums-2.ensures.sum t) (omega (arith, all-total n s are.before nodes all c.in_ok-list_ways.ensures.told, c.loop-stage.invariant.fits t));
+      fits = λ t. fits-next n keep t (s + 1) all c.swap.new.x.nodes (sum_for c.loop-stage.sums t).sum _ _ told (c.in_ok-sums-2.ensures.sum t) (omega (arith, all-total n s are.before nodes all c.in_ok-list_arcs.ensures.told, c.loop-stage.invariant.fits t));
       reached = kept-holds (IsReached n (s + 1)) (stays n keep (s + 1)) c.swap.new.x.nodes all heavy solid reached told;
       heavy = heavy;
       few = λ t. omega (arith, count t, c.loop-stage.invariant.few t, counted-le n keep t (s + 1) c.swap.new.x.nodes, c.len-held.ensures);
@@ -136,8 +136,8 @@ loop-stage-preserved g c =
       ahead = search rules;
       ahead_wide = search rules;
       work = search rules;
-      rooms = c.in_ok-list_ways.ensures.wide ∙ sym c.room_width-width.ensures.width;
-      ways = c.in_ok-list_ways.ensures.ways.wide;
+      rooms = c.in_ok-list_arcs.ensures.wide ∙ sym c.room_width-width.ensures.width;
+      arcs = c.in_ok-list_arcs.ensures.arcs.wide;
       key = search rules;
       choice = search rules;
       target_room = search rules;

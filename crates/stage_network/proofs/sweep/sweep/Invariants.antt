@@ -25,7 +25,7 @@ invariant-loop-stage g l =
       ahead_wide : l.ahead.width ≡ n.width;
       work : l.width + l.work.width ≡ n.width;
       rooms : l.rooms.width ≡ l.width;
-      ways : l.ways.width ≡ n.choice_width;
+      arcs : l.arcs.width ≡ n.choice_width;
       key : length l.key ≡ n.width;
       choice : length l.choice ≡ n.choice_width;
       target_room : length l.target_room ≡ l.width;

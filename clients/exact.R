@@ -1,0 +1,108 @@
+# Exact nonparametric tests from R, by the program `exact`. One file, base R alone: source("exact.R").
+#
+#   exact_test("ranksum", x, y)                      two samples (the statistic is of the second)
+#   exact_test("signedrank", before, after, paired = TRUE)
+#   exact_test("sign", after - before)               differences
+#   exact_test("jt", value ~ group, data = d)        groups stand in the order of the factor's levels
+#   exact_test("fisher", table(d$sex, d$answer))     a table of counts, or a matrix
+#   exact_test("friedman", d)                        a data frame: its columns are the fields
+#
+# Further arguments are the options of the program, with _ for the dash: tail = "less", order = c("b", "a"),
+# row_scores = 1:4, nodes = TRUE. The answer is an htest; `numerator`, `denominator` and `total` are texts, since a double
+# does not hold them, `tails` has every tail that was asked, and `distribution` the whole distribution where it was asked.
+# A refusal is an error of class exact_refused, whose message is the program's line; `status` is its status.
+#
+# Numbers are written with 15 digits, as R shows them, and rounded to 18 decimals where they have more, with a warning.
+
+exact_test <- function(test, x, y = NULL, data = NULL, paired = FALSE, ...,
+                       program = Sys.getenv("EXACT", "exact")) {
+  name <- paste(c(deparse1(substitute(x)), if (!is.null(y)) deparse1(substitute(y))), collapse = " and ")
+  rows <- exact_rows(x, y, data, paired)
+  file <- tempfile(fileext = ".csv")
+  said <- tempfile()
+  on.exit(unlink(c(file, said)))
+  write.table(rows, file, sep = ",", row.names = FALSE, qmethod = "double", na = "", fileEncoding = "UTF-8")
+  words <- c(test, file, exact_words(list(...)))
+  report <- suppressWarnings(system2(program, shQuote(words), stdout = TRUE, stderr = said))
+  status <- attr(report, "status")
+  if (!is.null(status) && status != 0) {
+    line <- paste(readLines(said, warn = FALSE), collapse = "\n")
+    stop(structure(list(message = line, call = sys.call(), status = status),
+                   class = c("exact_refused", "error", "condition")))
+  }
+  exact_report(report, name)
+}
+
+# what the file holds, a column a field
+exact_rows <- function(x, y, data, paired) {
+  if (inherits(x, "formula")) {
+    frame <- model.frame(x, data, na.action = NULL)
+    group <- as.factor(frame[[2]])
+    frame <- frame[order(as.integer(group)), ]
+    rows <- data.frame(label = as.character(frame[[2]]), value = exact_numbers(frame[[1]]))
+  } else if (is.data.frame(x)) {
+    rows <- as.data.frame(lapply(x, function(column) if (is.numeric(column)) exact_numbers(column) else as.character(column)))
+  } else if (is.matrix(x)) {
+    rows <- as.data.frame(apply(unclass(x), 2, exact_numbers))
+  } else if (is.null(y)) {
+    rows <- data.frame(value = exact_numbers(x))
+  } else if (paired) {
+    rows <- data.frame(first = exact_numbers(x), second = exact_numbers(y))
+  } else {
+    rows <- data.frame(label = rep(c("x", "y"), c(length(x), length(y))), value = exact_numbers(c(x, y)))
+  }
+  rows
+}
+
+# numbers as texts
+exact_numbers <- function(x) {
+  x <- as.numeric(x)
+  text <- vapply(x, format, "", digits = 15, trim = TRUE)
+  parts <- regmatches(text, regexec("^-?[0-9]*[.]?([0-9]*)(?:e([-+][0-9]+))?$", text))
+  decimals <- vapply(parts, function(p) if (length(p) < 3) 0 else nchar(p[2]) - if (p[3] == "") 0 else as.numeric(p[3]), 0)
+  long <- !is.na(x) & decimals > 18
+  if (any(long)) {
+    warning("rounded to 18 decimals: ", paste(text[long], collapse = ", "), call. = FALSE)
+    text[long] <- sprintf("%.18f", x[long])
+  }
+  text[is.na(x)] <- NA
+  text
+}
+
+# options as words
+exact_words <- function(options) {
+  words <- character()
+  for (name in names(options)) {
+    value <- options[[name]]
+    flag <- paste0("--", gsub("_", "-", name))
+    if (isTRUE(value)) words <- c(words, flag)
+    else if (!is.null(value) && !identical(value, FALSE)) words <- c(words, paste0(flag, "=", paste(value, collapse = ",")))
+  }
+  words
+}
+
+# the report as an htest
+exact_report <- function(report, name) {
+  lines <- strsplit(report, " ")
+  first <- vapply(lines, `[`, "", 1)
+  ratio <- function(text) strsplit(text, "/")[[1]]
+  told <- lines[first %in% c("less", "greater", "two")]
+  tails <- data.frame(tail = vapply(told, `[`, "", 1),
+                      numerator = vapply(told, function(l) ratio(l[2])[1], ""),
+                      denominator = vapply(told, function(l) ratio(l[2])[2], ""))
+  tails$p.value <- as.numeric(tails$numerator) / as.numeric(tails$denominator)
+  shown <- if ("two" %in% tails$tail) "two" else tails$tail[1]
+  one <- tails[tails$tail == shown, ]
+  statistic <- as.numeric(ratio(lines[first == "statistic"][[1]][2]))
+  answer <- list(statistic = c(T = statistic[1] / statistic[2]), p.value = one$p.value,
+                 alternative = c(less = "less", greater = "greater", two = "two.sided")[[shown]],
+                 method = paste("Exact test", lines[[1]][2]), data.name = name,
+                 numerator = one$numerator, denominator = one$denominator,
+                 total = lines[first == "total"][[1]][2], tails = tails, report = as.vector(report))
+  at <- lines[first == "at"]
+  if (length(at) > 0) {
+    answer$distribution <- data.frame(value = as.numeric(vapply(at, `[`, "", 2)) / statistic[2],
+                                      weight = vapply(at, `[`, "", 3))
+  }
+  structure(answer, class = "htest")
+}

@@ -1,0 +1,183 @@
+"""Exact nonparametric tests from Python, by the program `exact`.
+
+    >>> import exact
+    >>> report = exact.run("ranksum", {"x": [1, 2, 3], "y": [4, 5, 6]})
+    >>> report.greater
+    Fraction(1, 20)
+    >>> report.statistic, report.total
+    (Fraction(15, 1), 20)
+    >>> exact.run("signedrank", zip([1, 2, 4], [2, 4, 7]), tail="greater").greater
+    Fraction(1, 8)
+    >>> exact.run("fisher", [[3, 1], [1, 3]], distribution=True).distribution[0]
+    (Fraction(0, 1), 1)
+    >>> exact.run("ranksum", {"x": [1, 2, None], "y": [4, 5, 6]})
+    Traceback (most recent call last):
+    ...
+    exact.BadData: refused: row 4 field 2: missing
+
+One file, no dependency. Nothing is rounded: a number is written as Python shows it (`repr`), a text or a Decimal as it
+is; None and NaN are written as an empty field, which is missing. A number that has more than 18 decimals, such as
+3.3333333333333335e-06, is refused as out of range: round it first.
+"""
+from __future__ import annotations
+
+import csv
+import dataclasses
+import math
+import os
+import subprocess
+import tempfile
+from collections.abc import Iterable, Mapping
+from fractions import Fraction
+
+
+class Refused(Exception):
+    """There is no report; the text is the program's line, `status` its status."""
+
+    status = 0
+
+
+class Usage(Refused):
+    """The words are refused, or an option does not fit the data."""
+
+    status = 2
+
+
+class BadData(Refused):
+    """The data have a fault, told by row and field of the file: the header is row 1."""
+
+    status = 3
+
+
+class TooWide(Refused):
+    """More than 128 bits."""
+
+    status = 4
+
+
+class ReadFault(Refused):
+    """A call to the file failed."""
+
+    status = 5
+
+
+class WriteFault(Refused):
+    """A write of the report failed."""
+
+    status = 6
+
+
+class NoMemory(Refused):
+    """Memory ran out."""
+
+    status = 7
+
+
+REFUSALS = {kind.status: kind for kind in Refused.__subclasses__()}
+
+
+@dataclasses.dataclass(frozen=True)
+class Report:
+    """A report; its p-values are exact ratios, or None where a tail was not asked or is not there."""
+
+    test: str
+    sizes: tuple[str, ...]
+    """The lines between the test and the statistic, as they are printed."""
+    statistic: Fraction
+    total: int
+    less: Fraction | None = None
+    greater: Fraction | None = None
+    two: Fraction | None = None
+    nodes: tuple[tuple[str, int], ...] = ()
+    distribution: tuple[tuple[Fraction, int], ...] = ()
+    text: str = ""
+    """The report as it was printed."""
+
+
+def run(test: str, data: object = None, *, program: str | None = None, **options: object) -> Report:
+    """The report of a test.
+
+    data: a mapping from labels to samples (a label and a value in each row), or rows: a list of lists or tuples, a zip
+    of two lists, a numpy array, a pandas frame (whose columns are the fields); a list of numbers is one field a row. A
+    text or a path names a file that stands. Without data no file is named, as `drill` wants it.
+    options: as the program has them, with `_` for the dash: tail="less", order=["x", "y"], columns=[2, 3], nodes=True.
+    program: its path; else that in the environment variable EXACT, else the one on the PATH.
+    """
+    words = [program or os.environ.get("EXACT") or "exact", test]
+    with tempfile.TemporaryDirectory() as folder:
+        if isinstance(data, (str, os.PathLike)):
+            words.append(os.fspath(data))
+        elif data is not None:
+            words.append(os.path.join(folder, "data.csv"))
+            _write(words[-1], _rows(data))
+        words += [_word(name, value) for name, value in options.items() if value is not None and value is not False]
+        done = subprocess.run(words, stdin=subprocess.DEVNULL, capture_output=True, check=False)
+    if done.returncode in REFUSALS:
+        raise REFUSALS[done.returncode](done.stderr.decode(errors="replace").rstrip("\n"))
+    done.check_returncode()
+    return read(done.stdout.decode(errors="replace"))
+
+
+def read(text: str) -> Report:
+    """Reads the text of a report: each line is a word and what belongs to it."""
+    found: dict = {"sizes": [], "nodes": [], "distribution": [], "text": text}
+    scale = 1
+    for line in text.splitlines():
+        word, _, rest = line.partition(" ")
+        parts = rest.split(" ")
+        if word == "test":
+            found["test"] = rest
+        elif word == "statistic":
+            value, scale = map(int, rest.split("/"))
+            found["statistic"] = Fraction(value, scale)
+        elif word == "total":
+            found["total"] = int(rest)
+        elif word in ("less", "greater", "two"):
+            found[word] = Fraction(parts[0])
+        elif word == "nodes":
+            found["nodes"].append((parts[0], int(parts[1])))
+        elif word == "at":
+            found["distribution"].append((Fraction(int(parts[0]), scale), int(parts[1])))
+        else:
+            found["sizes"].append(line)
+    return Report(**{name: tuple(value) if isinstance(value, list) else value for name, value in found.items()})
+
+
+def _word(name: str, value: object) -> str:
+    flag = "--" + name.replace("_", "-")
+    if value is True:
+        return flag
+    if not isinstance(value, str) and isinstance(value, Iterable):
+        value = ",".join(str(item) for item in value)
+    return f"{flag}={value}"
+
+
+def _rows(data: object) -> tuple[list[str], list[list[object]]]:
+    """A header and the rows below it."""
+    if hasattr(data, "columns") and hasattr(data, "itertuples"):
+        return [str(name) for name in data.columns], [list(row) for row in data.itertuples(index=False)]
+    if isinstance(data, Mapping):
+        return ["label", "value"], [[label, value] for label, sample in data.items() for value in sample]
+    rows = []
+    for row in data:
+        is_row = isinstance(row, Iterable) and not isinstance(row, (str, bytes))
+        rows.append(list(row) if is_row else [row])
+    return [f"field{i}" for i in range(1, len(rows[0]) + 1)] if rows else ["field1"], rows
+
+
+def _write(path: str, table: tuple[list[str], list[list[object]]]) -> None:
+    header, rows = table
+    with open(path, "w", newline="", encoding="utf-8") as file:
+        out = csv.writer(file)
+        out.writerow(header)
+        out.writerows([_field(value) for value in row] for row in rows)
+
+
+def _field(value: object) -> str:
+    if hasattr(value, "item"):
+        value = value.item()
+    if value is None or isinstance(value, float) and math.isnan(value):
+        return ""
+    if isinstance(value, bool):
+        return str(int(value))
+    return repr(value) if isinstance(value, float) else str(value)

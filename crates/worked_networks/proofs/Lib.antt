@@ -1,0 +1,4 @@
+pub mod RankLaws
+pub mod RankRooms
+pub mod SignLaws
+pub mod BlockLaws

@@ -1,0 +1,3 @@
+pub mod SampleRanks
+pub mod SignedRanks
+pub mod Blocks

@@ -1,0 +1,15 @@
+//! Networks and tests that are known by hand, each written on the public surface of the crates below,
+//! as a stranger would write it.
+#![tactic(auto)]
+
+mod blocks;
+mod from_lines;
+mod ranks;
+mod signed_ranks;
+#[cfg(test)]
+mod tests;
+
+pub use blocks::Blocks;
+pub use from_lines::{OneSided, one_sided};
+pub use ranks::Ranks;
+pub use signed_ranks::{RankStages, SignedRanks};

@@ -1,0 +1,38 @@
+# Tries the R client on examples; a line for each: 0 where it came right, else 1, and what was tried.
+examples <- commandArgs(trailingOnly = TRUE)[1]
+source(file.path(examples, "..", "clients", "exact.R"))
+
+tell <- function(right, what) cat(if (isTRUE(right)) 0 else 1, what, "\n")
+data_of <- function(name) read.csv(file.path(examples, paste0(name, ".csv")))
+is_example <- function(name, answer) {
+  wanted <- readLines(file.path(examples, paste0(name, ".out")))
+  tell(identical(answer$report, wanted[seq_len(match("-- standard error", wanted) - 1)]), paste("R:", name))
+}
+refused <- function(status, ...) {
+  tryCatch({ exact_test(...); FALSE }, exact_refused = function(e) e$status == status && startsWith(conditionMessage(e), "refused: "))
+}
+in_file_order <- function(labels) factor(labels, levels = unique(labels))
+
+is_example("six", exact_test("ranksum", value ~ group, data = data_of("six")))
+d <- data_of("chorioamnion")
+is_example("chorioamnion", exact_test("ranksum", pd ~ in_file_order(age), data = d))
+d <- data_of("sleep")
+is_example("sleep", exact_test("signedrank", d$drug1, d$drug2, paired = TRUE))
+is_example("depression_sign", exact_test("sign", data_of("depression")))
+is_example("motivation", exact_test("jt", value ~ in_file_order(group), data = data_of("motivation")))
+is_example("rounding", exact_test("friedman", data_of("rounding")))
+is_example("tea", exact_test("fisher", as.matrix(data_of("tea")), distribution = TRUE))
+is_example("satisfaction", exact_test("linear", as.matrix(data_of("satisfaction")), row_scores = c(3, 10, 20, 35), column_scores = c(1, 3, 4, 5)))
+is_example("rabbits", exact_test("strata", data_of("rabbits")))
+is_example("mucociliary", exact_test("kw", value ~ in_file_order(group), data = data_of("mucociliary")))
+is_example("diphtheria", exact_test("cochran", data_of("diphtheria"), nodes = TRUE))
+
+tell(refused(2, "ranksum", c(1, 2), c(3, 4), tail = "left"), "R: refused words")
+tell(refused(3, "ranksum", c(1, NA), 2), "R: a missing value")
+tell(refused(4, "ranksum", 1:66, 1:65), "R: too wide")
+odd <- data.frame(g = c("a, \"b\"\nc\u00e9", "y"), v = 1:2)
+tell(grepl("a, \"b\"?c", exact_test("ranksum", odd)$report[2], fixed = TRUE), "R: a label with everything")
+long <- tryCatch(exact_test("raw", c(1 / 3e5, 2), 1), warning = function(w) conditionMessage(w))
+tell(is.character(long) && startsWith(long, "rounded to 18 decimals"), "R: more than eighteen decimals")
+ordered <- exact_test("ranksum", c(1, 2, 3, 4, 5, 6) ~ factor(rep(c("x", "y"), each = 3), levels = c("y", "x")))
+tell(ordered$report[2] == "group 3 y" && ordered$tails$numerator[1] == "1", "R: the order of the levels")

@@ -1,0 +1,79 @@
+"""Tries the Python client on examples; a line for each: 0 where it came right, else 1, and what was tried."""
+import csv
+import decimal
+import pathlib
+import sys
+
+EXAMPLES = pathlib.Path(sys.argv[1])
+sys.path.insert(0, str(EXAMPLES.parent / "clients"))
+import exact  # noqa: E402
+
+
+def rows_of(name):
+    """The rows of a file below its header."""
+    with open(EXAMPLES / name, newline="", encoding="utf-8") as file:
+        return list(csv.reader(file))[1:]
+
+
+def samples_of(name):
+    samples = {}
+    for label, value in rows_of(name):
+        samples.setdefault(label, []).append(decimal.Decimal(value))
+    return samples
+
+
+def tell(right, what):
+    print(0 if right else 1, what)
+
+
+def refused(kind, *given, **options):
+    """Whether a run is refused so."""
+    try:
+        exact.run(*given, **options)
+    except kind as fault:
+        return str(fault).startswith("refused: ") and fault.status == kind.status
+    return False
+
+
+def numbers(rows):
+    return [[float(cell) for cell in row] for row in rows]
+
+
+def columns(rows):
+    return list(zip(*rows))
+
+
+def counts(rows):
+    return [[int(cell) for cell in row] for row in rows]
+
+
+runs = {
+    "six": lambda: exact.run("ranksum", {"x": [1, 2, 3], "y": [4, 5, 6]}),
+    "chorioamnion": lambda: exact.run("ranksum", samples_of("chorioamnion.csv")),
+    "sleep": lambda: exact.run("signedrank", zip(*columns(numbers(rows_of("sleep.csv"))))),
+    "depression_sign": lambda: exact.run("sign", numbers(rows_of("depression.csv"))),
+    "motivation": lambda: exact.run("jt", samples_of("motivation.csv")),
+    "rounding": lambda: exact.run("friedman", numbers(rows_of("rounding.csv"))),
+    "tea": lambda: exact.run("fisher", counts(rows_of("tea.csv")), distribution=True),
+    "satisfaction": lambda: exact.run(
+        "linear", counts(rows_of("satisfaction.csv")), row_scores=[3, 10, 20, 35], column_scores=[1, 3, 4, 5]
+    ),
+    "rabbits": lambda: exact.run("strata", rows_of("rabbits.csv")),
+    "diphtheria": lambda: exact.run("cochran", counts(rows_of("diphtheria.csv")), nodes=True),
+    "mucociliary": lambda: exact.run("kw", EXAMPLES / "mucociliary.csv"),
+    "drill": lambda: exact.run("drill", number=1),
+}
+for name, answer in runs.items():
+    wanted = (EXAMPLES / f"{name}.out").read_text(encoding="utf-8").split("-- standard error")[0]
+    tell(answer().text == wanted, f"Python: {name}")
+
+six = {"x": [1, 2, 3], "y": [4, 5, 6]}
+tell(refused(exact.Usage, "ranksum", six, tail="left"), "Python: refused words")
+tell(refused(exact.BadData, "ranksum", {"x": [1, float("nan")], "y": [2]}), "Python: a missing value")
+tell(refused(exact.TooWide, "ranksum", {"x": range(66), "y": range(65)}), "Python: too wide")
+tell(refused(exact.ReadFault, "ranksum", "no such file"), "Python: a file that is not there")
+odd = 'a, "b"\nc\u00e9'
+tell(exact.run("ranksum", {odd: [1], "y": [2]}).sizes[0] == 'group 1 a, "b"?c\u00e9', "Python: a label with everything")
+fine = exact.run("raw", {"x": [decimal.Decimal("0.123456789012345678")], "y": [1]})
+tell(str(fine.statistic) == "1", "Python: eighteen decimals")
+tell(exact.run("ranksum", six, order=["y", "x"]).less == exact.run("ranksum", six).greater, "Python: another order")
