@@ -4,7 +4,7 @@ ghost use Rattle.weights.specs.declared.TheConstants.{MAX};
 ghost use Rattle.weights.specs.Numbers.{absolute_sum};
 ghost use Rattle.label_network.specs.LaterSums.{total_score};
 
-use label_network::plus;
+use weights::plus;
 
 /// The sum of all scores.
 pub(crate) fn total_score(scores: &[i128]) -> i128
