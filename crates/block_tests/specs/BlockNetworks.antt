@@ -141,7 +141,7 @@ running_addends Friedman bound k = square_addends bound k
 running_addends Page bound k = line_addends
 running_addends Cochran bound k = square_addends bound k
 
--- the network that runs, which has as many
+-- the network that runs, which opens as many keys
 abbrev pub running_network : BlockTests → Tail → Network
 running_network tests tail =
     let test = block_test tests in

@@ -8,4 +8,4 @@ use Rattle.block_tests.proofs.page.walked_lines.Goals as goal
 pub returns : goal.returns
 returns c =
     c.in_ok-lines.ensures.items ∙ c.as_slice.ensures.lines
-    ∙ spread-is (arrangement_test c.args.block.now) c.in_ok-spread.spread (each-one (labellings c.args.block.now)) c.in_ok-spread.ensures
+    ∙ spread-is (arrangement_test c.args.block.now) c.in_ok-spread.spread (each-one (labellings c.args.block.now)) c.in_ok-spread.ensures.sums
