@@ -8,8 +8,9 @@
 #   exact_test("friedman", d)                        a data frame: its columns are the fields
 #
 # Further arguments are the options of the program, with _ for the dash: tail = "less", order = c("b", "a"),
-# row_scores = 1:4, nodes = TRUE. The answer is an htest; `numerator`, `denominator` and `total` are texts, since a double
-# does not hold them, `tails` has every tail that was asked, and `distribution` the whole distribution where it was asked.
+# row_scores = 1:4, nodes = TRUE, missing = "drop", which leaves out rows with an NA. The answer is an htest; `numerator`,
+# `denominator` and `total` are texts, since a double does not hold them, `tails` has every tail that was asked, and
+# `distribution` the whole distribution where it was asked.
 # A refusal is an error of class exact_refused, whose message is the program's line; `status` is its status.
 #
 # Numbers are written with 15 digits, as R shows them, and rounded to 18 decimals where they have more, with a warning.

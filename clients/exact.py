@@ -14,10 +14,12 @@
     Traceback (most recent call last):
     ...
     exact.BadData: refused: row 4 field 2: missing
+    >>> exact.run("ranksum", {"x": [1, 2, None], "y": [4, 5, 6]}, missing="drop").sizes
+    ('group 2 x', 'group 3 y', 'dropped 1')
 
 One file, no dependency. Nothing is rounded: a number is written as Python shows it (`repr`), a text or a Decimal as it
-is; None and NaN are written as an empty field, which is missing. A number that has more than 18 decimals, such as
-3.3333333333333335e-06, is refused as out of range: round it first.
+is; None and NaN are written as an empty field, which is missing, and missing="drop" leaves such rows out. A number
+that has more than 18 decimals, such as 3.3333333333333335e-06, is refused as out of range: round it first.
 """
 from __future__ import annotations
 
