@@ -1,9 +1,9 @@
 ghost use Rattle.std.specs.Prelude.{◌≢◌, ◌≤◌, IfOk};
 ghost use Rattle.record_reader.specs.Layouts.{MayPick};
 
-use crate::longest_field;
-use record_reader::{DataFault, Kind, LayoutFault, Picks, records};
-use sample_reader::{Labels, groups, pooled_subjects};
+use crate::{longest_field, rows_with_empty_fields};
+use record_reader::{DataFault, Kind, LayoutFault, Missing, Picks, records};
+use sample_reader::{Labels, Layout, blocks, dropped, groups, pooled_subjects};
 use std::alloc::Global;
 use std::test::Fail;
 use weights::{NoMemory, Nums};
@@ -20,7 +20,7 @@ fn reads_a_layout_of_its_own(rt: HostRuntime) -> Result<(), Fail> {
         ("", None, Some((1, 0, Kind::NoHeader))),
     ] {
         let rows = records(rt.alloc(), text.as_bytes(), b',')?;
-        let answer = longest_field(rt.alloc(), &rows, &Picks::Natural);
+        let answer = longest_field(rt.alloc(), &rows, &Picks::Natural, Missing::Refuse);
         assert_eq!(rt; answer.ok(), longest, "at {text:?}");
         let wanted = fault.map(|(row, field, kind)| LayoutFault::At(DataFault {
             row,
@@ -28,6 +28,54 @@ fn reads_a_layout_of_its_own(rt: HostRuntime) -> Result<(), Fail> {
             kind,
         }));
         assert!(rt; answer.err() == wanted, "at {text:?}");
+    }
+    Ok(())
+}
+
+// Rows that miss a field are dropped in a layout of a stranger's too: but not one too many, nor one
+// of another width.
+#[test]
+fn drops_rows_of_a_layout_of_its_own(rt: HostRuntime) -> Result<(), Fail> {
+    for (text, dropped, longest, fault) in [
+        ("a,b\nxx,y\nlonger,\n", 1, Some(2), None),
+        (
+            "a,b\nxx,y\n,longer,\n",
+            0,
+            None,
+            Some((3, 0, Kind::FieldCount)),
+        ),
+        (
+            "a\n\"\"\nx\nx\nx\n",
+            1,
+            None,
+            Some((5, 0, Kind::TooManyRows)),
+        ),
+        (
+            "a\nx\nx\nx\n\"\"\n",
+            0,
+            None,
+            Some((5, 0, Kind::TooManyRows)),
+        ),
+        ("a\n\"\"\n\"\"\n", 2, None, Some((3, 0, Kind::EndsEarly))),
+        (
+            "a,b,c,d\n,,,\n",
+            0,
+            None,
+            Some((1, 0, Kind::TooManyColumns)),
+        ),
+        ("", 0, None, Some((1, 0, Kind::NoHeader))),
+    ] {
+        let rows = records(rt.alloc(), text.as_bytes(), b',')?;
+        let answer = longest_field(rt.alloc(), &rows, &Picks::Natural, Missing::Drop);
+        assert_eq!(rt; answer.ok(), longest, "at {text:?}");
+        let wanted = fault.map(|(row, field, kind)| LayoutFault::At(DataFault {
+            row,
+            field,
+            kind,
+        }));
+        assert!(rt; answer.err() == wanted, "at {text:?}");
+        let told = rows_with_empty_fields(&rows, &Picks::Natural, Missing::Drop);
+        assert_eq!(rt; told, dropped, "at {text:?}");
     }
     Ok(())
 }
@@ -46,9 +94,11 @@ fn third_and_first(alloc: Global) -> Result<Picks, NoMemory>
 fn reads_the_picked_fields(rt: HostRuntime) -> Result<(), Fail> {
     let picks = third_and_first(rt.alloc())?;
     let rows = records(rt.alloc(), b"a,b,c\nx,longer,yy\n", b',')?;
-    assert!(rt; longest_field(rt.alloc(), &rows, &picks) == Ok(2));
+    assert!(rt; longest_field(rt.alloc(), &rows, &picks, Missing::Refuse) == Ok(2));
     let rows = records(rt.alloc(), b"a,b\nx,yy\n", b',')?;
-    assert!(rt; longest_field(rt.alloc(), &rows, &picks) == Err(LayoutFault::Columns));
+    assert!(rt;
+        longest_field(rt.alloc(), &rows, &picks, Missing::Refuse) == Err(LayoutFault::Columns)
+    );
     Ok(())
 }
 
@@ -92,7 +142,7 @@ fn keeps_labels_and_pools(rt: HostRuntime) -> Result<(), Fail> {
         b"group,value\nx,2\ny,2\nx,-1\ny,1e-18\nx,2\n",
         b',',
     )?;
-    let groups = groups(rt.alloc(), &rows, &Picks::Natural, 2)?;
+    let groups = groups(rt.alloc(), &rows, &Picks::Natural, 2, Missing::Refuse)?;
     let subjects = pooled_subjects(rt.alloc(), &groups)?;
     for (place, label) in [0, 1, 0, 0, 1].iter().enumerate() {
         assert_eq!(rt;
@@ -100,5 +150,49 @@ fn keeps_labels_and_pools(rt: HostRuntime) -> Result<(), Fail> {
             Some(*label)
         );
     }
+    Ok(())
+}
+
+// A dropped row with another fault before the missing field or behind it, and a label that stands
+// in dropped rows alone, change nothing.
+#[test]
+fn drops_rows_whatever_else_they_hold(rt: HostRuntime) -> Result<(), Fail> {
+    let rows = records(
+        rt.alloc(),
+        b"group,value\nz,NA\nx,2\n ,text\nNA,1\nw,\nx,1\n",
+        b',',
+    )?;
+    assert_eq!(rt;
+        dropped(&rows, &Picks::Natural, Layout::Groups, Missing::Drop),
+        3
+    );
+    assert_eq!(rt;
+        dropped(&rows, &Picks::Natural, Layout::Groups, Missing::Refuse),
+        0
+    );
+    let read = groups(rt.alloc(), &rows, &Picks::Natural, 2, Missing::Drop)?;
+    assert!(rt; read.labels.len() == 2);
+    assert!(rt; read.labels.label(0) == b"x".as_slice());
+    assert!(rt; read.labels.label(1) == b"NA".as_slice());
+    assert!(rt; read.members.as_slice() == [0, 1, 0].as_slice());
+    let rows = records(
+        rt.alloc(),
+        b"a,b,c\n1,2,3\ntext,NA,3\n1,,text\n4,5,6\n",
+        b',',
+    )?;
+    assert_eq!(rt;
+        dropped(&rows, &Picks::Natural, Layout::Blocks, Missing::Drop),
+        2
+    );
+    let read = blocks(rt.alloc(), &rows, &Picks::Natural, Missing::Drop)?;
+    assert_eq!(rt; read.blocks, 2);
+    assert_eq!(rt; read.cells.len(), 6);
+    let fault = blocks(rt.alloc(), &rows, &Picks::Natural, Missing::Refuse).err();
+    let wanted = DataFault {
+        row: 3,
+        field: 1,
+        kind: Kind::NotNumber,
+    };
+    assert!(rt; fault == Some(LayoutFault::At(wanted)));
     Ok(())
 }
