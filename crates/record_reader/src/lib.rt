@@ -5,11 +5,13 @@
 mod faults;
 mod fields;
 mod layouts;
+mod missing;
 mod picks;
 mod rows;
 
 pub use faults::{DataFault, Kind, LayoutFault};
 pub use layouts::{FieldFault, Layout, Shape, read_in};
+pub use missing::Missing;
 pub use picks::Picks;
 pub use rows::{Rows, records};
 

@@ -16,13 +16,14 @@ use Rattle.record_reader.specs.Layouts.{MayList}
 use Rattle.weights.specs.Results.{and_then, with_value}
 use Rattle.record_reader.specs.Records.{IsSeparator, comma, semicolon, tab}
 use Rattle.record_reader.specs.declared.layouts.Shape.{Shape}
+use Rattle.record_reader.specs.declared.missing.Missing.{Missing}
 use Rattle.record_reader.specs.declared.picks.Picks.TheVariants.{Listed}
 use Rattle.settings.specs.Faults.{Meets}
 use Rattle.settings.specs.Meaning.{command_of, is_complete, meaning_for, meaning_of_given, meaning_of_test, settings_of}
 use Rattle.settings.specs.Options.{form_of, listed_names, setting, settings_without_options, suited, with_option, with_options}
 use Rattle.settings.specs.Tests.{reads_file, shape_of, test_named}
 use Rattle.settings.specs.Usable.{AreLabels, AreUsable, AreWithin, IsDrillNumber, IsUsable}
-use Rattle.settings.specs.Values.{are_distinct, are_labels, at_least, column_scores_form, columns_of, distinct_fields, fields_form, is_empty, labels_in, number_form, number_of, numbers_of, order_of, peak_form, row_scores_form, scores_of, separator_of, tail_of}
+use Rattle.settings.specs.Values.{are_distinct, are_labels, at_least, column_scores_form, columns_of, distinct_fields, fields_form, is_empty, labels_in, missing_of, number_form, number_of, numbers_of, order_of, peak_form, row_scores_form, scores_of, separator_of, tail_of}
 use Rattle.settings.specs.Words.{Given, none_given, value_in, with_words}
 use Rattle.settings.specs.declared.command_line.CommandLine.{CommandLine}
 use Rattle.settings.specs.declared.command_line.CommandLine.TheVariants.{Test, Drill}
@@ -230,9 +231,9 @@ flag_keeps raised more usable found =
     subst AreUsable same usable
 
 -- some values may be any
-plainly : (settings : Settings) (tail : TailChoice) (scores : ScoreKind) (peak : ℕ) (distribution plain nodes : Bool) → AreUsable settings
-    → AreUsable (record settings { tail = tail; scores = scores; peak = peak; distribution = distribution; plain = plain; nodes = nodes })
-plainly settings tail scores peak distribution plain nodes usable =
+plainly : (settings : Settings) (tail : TailChoice) (scores : ScoreKind) (peak : ℕ) (missing : Missing) (distribution plain nodes : Bool) → AreUsable settings
+    → AreUsable (record settings { tail = tail; scores = scores; peak = peak; missing = missing; distribution = distribution; plain = plain; nodes = nodes })
+plainly settings tail scores peak missing distribution plain nodes usable =
     record { order = usable.order; row_scores = usable.row_scores; column_scores = usable.column_scores; picks = usable.picks; separator = usable.separator; number = usable.number }
 
 each_keeps : (name : OptionName) → Keeps name
@@ -240,16 +241,16 @@ unfolding Keeps
 each_keeps option.Test text settings more usable found = absurd cc
 each_keeps option.Tail text settings more usable found =
     setting_keeps tail_of (λ tail s. record s { tail = tail }) (λ _. Unit {0}) text settings more (any_value (tail_of text))
-    (λ tail fit. plainly settings tail settings.scores settings.peak settings.distribution settings.plain settings.nodes usable) found
+    (λ tail fit. plainly settings tail settings.scores settings.peak settings.missing settings.distribution settings.plain settings.nodes usable) found
 each_keeps option.Scores text settings more usable found =
     setting_keeps scores_of (λ kind s. record s { scores = kind }) (λ _. Unit {0}) text settings more (any_value (scores_of text))
-    (λ kind fit. plainly settings settings.tail kind settings.peak settings.distribution settings.plain settings.nodes usable) found
+    (λ kind fit. plainly settings settings.tail kind settings.peak settings.missing settings.distribution settings.plain settings.nodes usable) found
 each_keeps option.Order text settings more usable found =
     setting_keeps order_of (λ order s. record s { order = order }) AreLabels text settings more (order_of-AreLabels text)
     (λ order fit. record { order = inr fit; row_scores = usable.row_scores; column_scores = usable.column_scores; picks = usable.picks; separator = usable.separator; number = usable.number }) found
 each_keeps option.Peak text settings more usable found =
     setting_keeps (number_of peak_form) (λ peak s. record s { peak = peak }) (λ _. Unit {0}) text settings more (any_value (number_of peak_form text))
-    (λ peak fit. plainly settings settings.tail settings.scores peak settings.distribution settings.plain settings.nodes usable) found
+    (λ peak fit. plainly settings settings.tail settings.scores peak settings.missing settings.distribution settings.plain settings.nodes usable) found
 each_keeps option.RowScores text settings more usable found =
     setting_keeps (numbers_of row_scores_form) (λ scores s. record s { row_scores = scores }) (AreWithin row_scores_form) text settings more (numbers_of-AreWithin row_scores_form text)
     (λ scores fit. record { order = usable.order; row_scores = fit; column_scores = usable.column_scores; picks = usable.picks; separator = usable.separator; number = usable.number }) found
@@ -266,12 +267,15 @@ each_keeps option.Separator text settings more usable found =
 each_keeps option.Number text settings more usable found =
     setting_keeps (number_of number_form) (λ number s. record s { number = number }) IsDrillNumber text settings more (number_of-IsDrillNumber text)
     (λ number fit. record { order = usable.order; row_scores = usable.row_scores; column_scores = usable.column_scores; picks = usable.picks; separator = usable.separator; number = fit }) found
+each_keeps option.Missing text settings more usable found =
+    setting_keeps missing_of (λ missing s. record s { missing = missing }) (λ _. Unit {0}) text settings more (any_value (missing_of text))
+    (λ missing fit. plainly settings settings.tail settings.scores settings.peak missing settings.distribution settings.plain settings.nodes usable) found
 each_keeps option.Distribution text settings more usable found =
-    flag_keeps (record settings { distribution = true }) more (plainly settings settings.tail settings.scores settings.peak true settings.plain settings.nodes usable) found
+    flag_keeps (record settings { distribution = true }) more (plainly settings settings.tail settings.scores settings.peak settings.missing true settings.plain settings.nodes usable) found
 each_keeps option.Plain text settings more usable found =
-    flag_keeps (record settings { plain = true }) more (plainly settings settings.tail settings.scores settings.peak settings.distribution true settings.nodes usable) found
+    flag_keeps (record settings { plain = true }) more (plainly settings settings.tail settings.scores settings.peak settings.missing settings.distribution true settings.nodes usable) found
 each_keeps option.Nodes text settings more usable found =
-    flag_keeps (record settings { nodes = true }) more (plainly settings settings.tail settings.scores settings.peak settings.distribution settings.plain true usable) found
+    flag_keeps (record settings { nodes = true }) more (plainly settings settings.tail settings.scores settings.peak settings.missing settings.distribution settings.plain true usable) found
 
 with_option-AreUsable : (name : OptionName) (value : Option (List ℕ)) (settings more : Settings) → AreUsable settings → with_option name value settings ≡ Ok more → AreUsable more
 unfolding Keeps

@@ -1,6 +1,7 @@
 -- A limit that definitions cite, and worked command lines, at which the definitions compute.
 use Rattle.std.proofs.Common.{◌≡◌, ◌∷◌, [], Ok, Err, codes, negsuc, pos, refl, true}
 use Rattle.number_text.specs.ListTexts.{list_of}
+use Rattle.record_reader.specs.declared.missing.Missing.TheVariants.{Drop}
 use Rattle.record_reader.specs.declared.picks.Picks.TheVariants.{Listed}
 use Rattle.scores.specs.declared.kinds.ScoreKind.TheVariants.{Savage}
 use Rattle.settings.specs.Meaning.{meaning_of}
@@ -65,6 +66,22 @@ peak_between_blanks : meaning_of (codes "umbrella" ∷ codes "f" ∷ codes "--pe
     ≡ Ok (Test (record (settings_without_options test.Umbrella (codes "f")) { peak = 3 }))
 unfolding list_of
 peak_between_blanks = refl
+
+rows_dropped : meaning_of (codes "kw" ∷ codes "f" ∷ codes "--missing" ∷ codes "drop" ∷ [])
+    ≡ Ok (Test (record (settings_without_options test.Kw (codes "f")) { missing = Drop }))
+rows_dropped = refl
+
+rows_refused_by_default : meaning_of (codes "--missing=refuse" ∷ codes "cochran" ∷ codes "f" ∷ []) ≡ Ok (Test (settings_without_options test.Cochran (codes "f")))
+rows_refused_by_default = refl
+
+neither_dropped_nor_refused : meaning_of (codes "sign" ∷ codes "f" ∷ codes "--missing=dro" ∷ []) ≡ Err (Value option.Missing)
+neither_dropped_nor_refused = refl
+
+counts_are_not_missing : meaning_of (codes "mcnemar" ∷ codes "f" ∷ codes "--missing=drop" ∷ []) ≡ Err (Pairing option.Missing test.Mcnemar)
+counts_are_not_missing = refl
+
+separator_before_missing : meaning_of (codes "fisher" ∷ codes "f" ∷ codes "--missing=drop" ∷ codes "--separator=" ∷ []) ≡ Err (Value option.Separator)
+separator_before_missing = refl
 
 value_that_looks_like_an_option : meaning_of (codes "ranksum" ∷ codes "f" ∷ codes "--tail" ∷ codes "--separator" ∷ codes "tab" ∷ []) ≡ Err Form
 value_that_looks_like_an_option = refl

@@ -3,7 +3,7 @@ use Rattle.std.specs.Prelude.{ℕ, Bool, true, false, List, codes}
 use Rattle.scores.specs.declared.kinds.ScoreKind.{ScoreKind}
 use Rattle.scores.specs.declared.kinds.ScoreKind.TheVariants as scores
 use Rattle.settings.specs.declared.names.OptionName.{OptionName}
-use Rattle.settings.specs.declared.names.OptionName.TheVariants.{Test, Tail, Scores, Order, Peak, RowScores, ColumnScores, Columns, Separator, Number, Distribution, Plain, Nodes}
+use Rattle.settings.specs.declared.names.OptionName.TheVariants.{Test, Tail, Scores, Order, Peak, RowScores, ColumnScores, Columns, Separator, Number, Missing, Distribution, Plain, Nodes}
 use Rattle.settings.specs.declared.names.TestName.{TestName}
 use Rattle.settings.specs.declared.names.TestName.TheVariants.{SignedRank, Sign, RawSigned, Mcnemar, RankSum, Ansari, Mood, Savage, Median, Raw, Kw, Jt, Umbrella, Friedman, Page, Cochran, Fisher, Linear, Strata, Drill}
 
@@ -42,6 +42,7 @@ option_word ColumnScores = codes "column-scores"
 option_word Columns = codes "columns"
 option_word Separator = codes "separator"
 option_word Number = codes "number"
+option_word Missing = codes "missing"
 option_word Distribution = codes "distribution"
 option_word Plain = codes "plain"
 option_word Nodes = codes "nodes"

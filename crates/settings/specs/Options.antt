@@ -3,10 +3,11 @@ use Rattle.std.specs.Prelude.{ℕ, Bool, true, false, List, [], ◌∷◌, Optio
 use Rattle.std.specs.Option.{ok_or}
 use Rattle.weights.specs.Results.{and_then}
 use Rattle.record_reader.specs.Records.{comma}
+use Rattle.record_reader.specs.declared.missing.Missing.TheVariants.{Refuse}
 use Rattle.record_reader.specs.declared.picks.Picks.TheVariants.{Natural, Listed}
 use Rattle.scores.specs.declared.kinds.ScoreKind.TheVariants.{Wilcoxon}
-use Rattle.settings.specs.Tests.{has_tail, orders_groups, reads_file, shape_of}
-use Rattle.settings.specs.Values.{column_scores_form, columns_of, number_form, number_of, numbers_of, order_of, peak_form, row_scores_form, scores_of, separator_of, tail_of}
+use Rattle.settings.specs.Tests.{has_tail, orders_groups, reads_file, reads_samples, shape_of}
+use Rattle.settings.specs.Values.{column_scores_form, columns_of, missing_of, number_form, number_of, numbers_of, order_of, peak_form, row_scores_form, scores_of, separator_of, tail_of}
 use Rattle.settings.specs.declared.names.OptionName.{OptionName}
 use Rattle.settings.specs.declared.names.OptionName.TheVariants as option
 use Rattle.settings.specs.declared.names.TestName.{TestName}
@@ -30,6 +31,7 @@ settings_without_options test file = record {
   picks = Natural;
   separator = comma;
   number = 0;
+  missing = Refuse;
   distribution = false;
   plain = false;
   nodes = false;
@@ -109,6 +111,9 @@ form_of option.Separator =
 form_of option.Number =
     value_option makes_data
     (setting (number_of number_form) (λ number settings. record settings { number = number }))
+form_of option.Missing =
+    value_option reads_samples
+    (setting missing_of (λ missing settings. record settings { missing = missing }))
 form_of option.Distribution = flag (λ settings. record settings { distribution = true })
 form_of option.Plain = flag (λ settings. record settings { plain = true })
 form_of option.Nodes = flag (λ settings. record settings { nodes = true })
@@ -118,7 +123,7 @@ abbrev pub listed_names : List OptionName
 listed_names =
     option.Tail ∷ option.Scores ∷ option.Order ∷ option.Peak ∷ option.RowScores
     ∷ option.ColumnScores ∷ option.Columns ∷ option.Separator ∷ option.Number
-    ∷ option.Distribution ∷ option.Plain ∷ option.Nodes ∷ []
+    ∷ option.Missing ∷ option.Distribution ∷ option.Plain ∷ option.Nodes ∷ []
 
 -- the settings, where the test goes with what the option asks for
 abbrev pub suited : OptionName → Settings → Result Settings UsageFault

@@ -37,6 +37,15 @@ abbrev pub reads_file : TestName → Bool
 reads_file Drill = false
 reads_file _ = true
 
+-- the layout is of labels and values, which may be missing, and not of counts
+abbrev pub reads_samples : TestName → Bool
+reads_samples Mcnemar = false
+reads_samples Fisher = false
+reads_samples Linear = false
+reads_samples Strata = false
+reads_samples Drill = false
+reads_samples _ = true
+
 -- the shape of the file's layout: how many fields of a row are read
 abbrev pub shape_of : TestName → Shape
 shape_of SignedRank = pair_shape

@@ -7,6 +7,8 @@ use Rattle.number_text.specs.ListTexts.{is_comma, list_of}
 use Rattle.number_text.specs.Trimmed.{trimmed}
 use Rattle.record_reader.specs.Records.{comma, semicolon, tab}
 use Rattle.record_reader.specs.declared.layouts.Shape.{Shape}
+use Rattle.record_reader.specs.declared.missing.Missing.{Missing}
+use Rattle.record_reader.specs.declared.missing.Missing.TheVariants.{Refuse, Drop}
 use Rattle.scores.specs.declared.kinds.ScoreKind.{ScoreKind}
 use Rattle.scores.specs.declared.kinds.ScoreKind.TheVariants.{Wilcoxon, Ansari, Mood, Savage, Median, Raw}
 use Rattle.settings.specs.Names.{score_word}
@@ -30,6 +32,13 @@ separator_of word =
     if bytes_eq word (codes "comma") then Some comma
     else if bytes_eq word (codes "semicolon") then Some semicolon
     else if bytes_eq word (codes "tab") then Some tab
+    else None
+
+-- what a word asks for where a field of a row is missing
+abbrev pub missing_of : List ℕ → Option Missing
+missing_of word =
+    if bytes_eq word (codes "refuse") then Some Refuse
+    else if bytes_eq word (codes "drop") then Some Drop
     else None
 
 -- the kinds of scores

@@ -2,7 +2,7 @@
 ghost use Rattle.std.specs.Prelude.{◌≡◌};
 ghost use Rattle.settings.specs.Names.{is_flag, option_word, test_word};
 ghost use Rattle.settings.specs.Options.{form_of};
-ghost use Rattle.settings.specs.Tests.{has_greater_alone, has_tail, needs, orders_groups, reads_file, shape_of, test_named};
+ghost use Rattle.settings.specs.Tests.{has_greater_alone, has_tail, needs, orders_groups, reads_file, reads_samples, shape_of, test_named};
 ghost use Rattle.settings.specs.Values.{fields_form};
 
 use crate::lists::ListForm;
@@ -85,6 +85,8 @@ pub enum OptionName {
     Separator,
     /// `--number`: the number of made data.
     Number,
+    /// `--missing`: what becomes of a row with a missing field.
+    Missing,
     /// `--distribution`: the distribution is printed too.
     Distribution,
     /// `--plain`: all rearrangements are listed.
@@ -135,7 +137,7 @@ const TESTS: [TestName; 20] = [
 ];
 
 // The options and flags that can be given, in the order in which their faults are told.
-pub(crate) const OPTIONS: [OptionName; 12] = [
+pub(crate) const OPTIONS: [OptionName; 13] = [
     OptionName::Tail,
     OptionName::Scores,
     OptionName::Order,
@@ -145,6 +147,7 @@ pub(crate) const OPTIONS: [OptionName; 12] = [
     OptionName::Columns,
     OptionName::Separator,
     OptionName::Number,
+    OptionName::Missing,
     OptionName::Distribution,
     OptionName::Plain,
     OptionName::Nodes,
@@ -193,6 +196,20 @@ impl TestName {
         !matches!(self, TestName::Drill)
     }
 
+    // Whether its layout is of labels and values, which may be missing, and not of counts.
+    pub(crate) fn reads_samples(self) -> bool
+        ensures { result ≡ reads_samples self }
+    {
+        !matches!(
+            self,
+            TestName::Mcnemar
+                | TestName::Fisher
+                | TestName::Linear
+                | TestName::Strata
+                | TestName::Drill
+        )
+    }
+
     // Whether its statistic depends on the order of the groups.
     pub(crate) fn orders_groups(self) -> bool
         ensures { result ≡ orders_groups self }
@@ -221,6 +238,7 @@ impl TestName {
             OptionName::Peak => matches!(self, TestName::Umbrella),
             OptionName::RowScores | OptionName::ColumnScores => matches!(self, TestName::Linear),
             OptionName::Number => matches!(self, TestName::Drill),
+            OptionName::Missing => self.reads_samples(),
             _ => self.reads_file(),
         }
     }
@@ -293,6 +311,7 @@ impl OptionName {
             OptionName::Columns => "columns",
             OptionName::Separator => "separator",
             OptionName::Number => "number",
+            OptionName::Missing => "missing",
             OptionName::Distribution => "distribution",
             OptionName::Plain => "plain",
             OptionName::Nodes => "nodes",

@@ -9,8 +9,8 @@ ghost use Rattle.settings.specs.WordSteps.{text_of};
 use crate::lists::{ListForm, columns_in, number_of, numbers_of};
 use crate::names::{OptionName, TestName, UsageFault};
 use crate::tails::TailChoice;
-use crate::values::{order_of, scores_of, separator_of};
-use record_reader::Picks;
+use crate::values::{missing_of, order_of, scores_of, separator_of};
+use record_reader::{Missing, Picks};
 use sample_reader::Labels;
 use scores::ScoreKind;
 use std::alloc::Global;
@@ -78,6 +78,8 @@ pub struct Settings {
     pub separator: u8,
     /// The number of made data, where the test is of such data; else 0.
     pub number: u64,
+    /// What becomes of a row with a missing field; by default it is a fault.
+    pub missing: Missing,
     /// Whether the distribution is asked for.
     pub distribution: bool,
     /// Whether all rearrangements are to be listed.
@@ -136,6 +138,7 @@ impl Settings {
             picks: Picks::Natural,
             separator: b',',
             number: 0,
+            missing: Missing::Refuse,
             distribution: false,
             plain: false,
             nodes: false,
@@ -205,6 +208,7 @@ impl Settings {
             }
             OptionName::Separator => self.separator = separator_of(text).ok_or(fault)?,
             OptionName::Number => self.number = number_of(name, NUMBER, text)?,
+            OptionName::Missing => self.missing = missing_of(text).ok_or(fault)?,
             OptionName::Distribution => self.distribution = true,
             OptionName::Plain => self.plain = true,
             OptionName::Nodes => self.nodes = true,

@@ -4,11 +4,12 @@ ghost use Rattle.std.specs.List.{list_any};
 ghost use Rattle.std.specs.Option.{ok_or};
 ghost use Rattle.settings.specs.Faults.{Meets};
 ghost use Rattle.settings.specs.Names.{score_word};
-ghost use Rattle.settings.specs.Values.{are_distinct, are_labels, is_empty, labels_in, order_of, scores_of, separator_of};
+ghost use Rattle.settings.specs.Values.{are_distinct, are_labels, is_empty, labels_in, missing_of, order_of, scores_of, separator_of};
 ghost use Rattle.settings.specs.declared.names.OptionName.TheVariants as option;
 
 use crate::names::{OptionName, UsageFault};
 use number_text::trim;
+use record_reader::Missing;
 use sample_reader::Labels;
 use scores::ScoreKind;
 use std::alloc::Global;
@@ -22,6 +23,17 @@ pub(crate) fn separator_of(word: &str) -> Option<u8>
         "comma" => Some(b','),
         "semicolon" => Some(b';'),
         "tab" => Some(b'\t'),
+        _ => None,
+    }
+}
+
+// What a word asks for where a field of a row is missing.
+pub(crate) fn missing_of(word: &str) -> Option<Missing>
+    ensures { result ≡ missing_of word.now }
+{
+    match word {
+        "refuse" => Some(Missing::Refuse),
+        "drop" => Some(Missing::Drop),
         _ => None,
     }
 }

@@ -19,7 +19,7 @@ loop-option-preserved c =
 
 pub returns : goal.returns
 returns c =
-    let end : c.loop-option.option-index ≡ 12 = omega arith in
+    let end : c.loop-option.option-index ≡ length listed_names = omega arith in
     let options = c.loop-option.invariant ∙ ap (λ k. fold with_option_rule bare_app (take k listed_names)) end in
     let test = c.in_ok-arg.ensures.shape c.positional_argument.ensures.local ∙ ap₂ with_rule options c.positional_argument.ensures.rule in
     c.in_ok-command-2.ensures.shape c.positional_argument-2.ensures.local ∙ ap₂ with_rule test c.positional_argument-2.ensures.rule
