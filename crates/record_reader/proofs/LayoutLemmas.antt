@@ -1,23 +1,18 @@
 -- What follows from the definition of the data of a file in a layout.
-use Rattle.std.proofs.Common.{◌≡◌, ℕ, zero, suc, ◌+◌, ◌<◌, ◌≤◌, Bool, true, false, cond, nat_lt, List, [], ◌∷◌, ◌++◌, length, Result, Ok, Err, refl, sym, ap, ◌∙◌, arith, add-one, add-zero}
+use Rattle.std.proofs.Common.{◌≡◌, ℕ, ◌+◌, ◌<◌, ◌≤◌, Bool, true, false, cond, nat_lt, List, [], ◌∷◌, length, Result, Ok, Err, refl, sym, ap, ◌∙◌, arith, add-zero}
 use Rattle.std.specs.List.{list_any, range_with_len}
 use Rattle.std.proofs.lemmas.Bool.Decides.{nat_tests}
 use Rattle.std.proofs.lemmas.List.Elements.{All-from_get_or}
 use Rattle.std.proofs.lemmas.List.FromFn.{get_or-range_with_len, length-range_with_len}
+use Rattle.record_reader.specs.declared.missing.Missing.{Missing}
+use Rattle.record_reader.specs.declared.missing.Missing.TheVariants.{Refuse, Drop}
 use Rattle.record_reader.specs.declared.picks.Picks.{Picks}
 use Rattle.record_reader.specs.declared.picks.Picks.TheVariants.{Natural, Listed}
 use Rattle.record_reader.specs.declared.layouts.Shape.{Shape}
-use Rattle.record_reader.specs.Layouts.{AreFields, Layout, MayPick, if_enough, picked, read_in, with_fields, with_row, with_rows}
+use Rattle.record_reader.specs.Layouts.{AreFields, Layout, MayPick, dropped_among, dropped_rows, if_enough, is_dropped, picked, read_in, with_fields, with_kept, with_row, with_rows}
 use Rattle.weights.specs.Results.{and_then, with_fault, with_value}
 
 -- ---- numbers of fields
-
-suc-more : (a n j : ℕ) → a + n ≡ j → range_with_len a (suc n) ≡ range_with_len a n ++ j ∷ []
-suc-more a zero j e = let k : a ≡ j = omega arith in ap (λ x. x ∷ []) k
-suc-more a (suc n) j e = ap (λ xs. a ∷ xs) (suc-more (a + 1) n j (omega arith))
-
-pub range_with_len-more : (a n j : ℕ) → a + n ≡ j → range_with_len a (n + 1) ≡ range_with_len a n ++ j ∷ []
-range_with_len-more a n j e = rw add-one (suc-more a n j e)
 
 pub AreFields-range : (width : ℕ) → AreFields width (range_with_len 1 width)
 AreFields-range width =
@@ -69,41 +64,66 @@ picked-many shape (Listed listed) width fields may e =
     let same : listed ≡ fields = let k = all.1 in cc in
     rw (← same) (may.wide_enough, may.narrow_enough)
 
--- A fact about what is said after so many rows holds after all rows.
-module _ {S : Type 0} (layout : Layout S) (width : ℕ) (fields : List ℕ) (Holds : ℕ → S → Type 0)
+-- A dropped row is not one too many.
+dropped-low : {S : Type 0} (layout : Layout S) (missing : Missing) (width : ℕ) (fields : List ℕ) (number : ℕ) (row : List (List ℕ)) → is_dropped layout missing width fields number row ≡ true
+    → number ≤ layout.shape.most_rows + 1
+dropped-low layout Refuse width fields number row e = absurd (cc)
+dropped-low layout Drop width fields number row e = grind (arith, nat_tests)
+
+-- What is said after rows of which so many are kept, and the others dropped.
+pub record AreRead {S : Type 0} (layout : Layout S) (missing : Missing) (width : ℕ) (fields : List ℕ) (Holds : ℕ → S → Type 0) (number n : ℕ) (rows : List (List (List ℕ))) (said : S) : Type 0 where
+  pub few : number + length rows ≤ layout.shape.most_rows + 2
+  pub kept : ℕ
+  pub all : kept + dropped_among layout missing width fields number rows ≡ length rows
+  pub holds : Holds (n + kept) said
+
+-- A fact about what is said after so many rows that are kept holds after all rows.
+module _ {S : Type 0} (layout : Layout S) (missing : Missing) (width : ℕ) (fields : List ℕ) (Holds : ℕ → S → Type 0)
     (one_more : (number n : ℕ) (row : List (List ℕ)) (s t : S) → Holds n s → with_fields layout number row 0 fields s ≡ Ok t → Holds (n + 1) t) where
-  with_row-keeps : (number n : ℕ) (row : List (List ℕ)) (s t : S) → Holds n s → with_row layout width fields number row s ≡ Ok t → (number ≤ layout.shape.most_rows + 1) × Holds (n + 1) t
-  with_row-keeps number n row s t h e =
+  with_kept-keeps : (number n : ℕ) (row : List (List ℕ)) (s t : S) → Holds n s → with_kept layout width fields number row s ≡ Ok t → (number ≤ layout.shape.most_rows + 1) × Holds (n + 1) t
+  with_kept-keeps number n row s t h e =
       let few = unless_ok (nat_lt (layout.shape.most_rows + 1) number) _ _ t e in
       let low : number ≤ layout.shape.most_rows + 1 = let test = few.0 in grind (arith, nat_tests) in
       let as_wide = where_ok _ _ _ t few.1 in
       (low, one_more number n row s t h as_wide.1)
 
-  pub with_rows-keep : (number n : ℕ) (rows : List (List (List ℕ))) (s t : S) → number ≤ layout.shape.most_rows + 2 → Holds n s → with_rows layout width fields number rows s ≡ Ok t
-      → (number + length rows ≤ layout.shape.most_rows + 2) × Holds (n + length rows) t
-  with_rows-keep number n [] s t few h e = let same : s ≡ t = cc in (omega arith, rw (← same, add-zero) h)
+  pub with_rows-keep : (number n : ℕ) (rows : List (List (List ℕ))) (s t : S) → number ≤ layout.shape.most_rows + 2 → Holds n s → with_rows layout missing width fields number rows s ≡ Ok t
+      → AreRead layout missing width fields Holds number n rows t
+  with_rows-keep number n [] s t few h e = let same : s ≡ t = cc in record { few = omega arith; kept = 0; all = refl; holds = rw (← same, add-zero) h }
   with_rows-keep number n (row ∷ rows) s t few h e =
-      let first = and_then-ok (with_rows layout width fields (number + 1) rows) (with_row layout width fields number row s) t e in
-      let kept = with_row-keeps number n row s first.0 h first.1 in
-      let rest = with_rows-keep (number + 1) (n + 1) rows first.0 t (omega arith) kept.1 first.2 in
-      let more : n + 1 + length rows ≡ n + length (row ∷ rows) = omega arith in
-      (omega (arith, rest.0), rw (← more) rest.1)
+      let first = and_then-ok (with_rows layout missing width fields (number + 1) rows) (with_row layout missing width fields number row s) t e in
+      by (is_dropped layout missing width fields number row) refl first.0 first.1 (λ m few h. with_rows-keep (number + 1) m rows first.0 t few h first.2)
+    where
+      by : (test : Bool) → is_dropped layout missing width fields number row ≡ test → (u : S) → with_row layout missing width fields number row s ≡ Ok u
+          → ((m : ℕ) → number + 1 ≤ layout.shape.most_rows + 2 → Holds m u → AreRead layout missing width fields Holds (number + 1) m rows t)
+          → AreRead layout missing width fields Holds number n (row ∷ rows) t
+      by true is u said later =
+          let same : s ≡ u = let left = rw is at said in cc in
+          let low = dropped-low layout missing width fields number row is in
+          let rest = later n (omega arith) (rw (← same) h) in
+          record { few = omega (arith, rest.few); kept = rest.kept; all = rw is (omega (arith, rest.all)); holds = rest.holds }
+      by false is u said later =
+          let read : with_kept layout width fields number row s ≡ Ok u = rw is at said in
+          let one = with_kept-keeps number n row s u h read in
+          let rest = later (n + 1) (omega (arith, one.0)) one.1 in
+          let more : n + 1 + rest.kept ≡ n + (1 + rest.kept) = omega arith in
+          record { few = omega (arith, rest.few); kept = 1 + rest.kept; all = rw is (omega (arith, rest.all)); holds = rw (← more) rest.holds }
 
 -- What is known of a file that is read.
-pub record IsRead {S : Type 0} (layout : Layout S) (picks : Picks) (rows : List (List (List ℕ))) (said : S) (fields : List ℕ) : Type 0 where
+pub record IsRead {S : Type 0} (layout : Layout S) (missing : Missing) (picks : Picks) (rows : List (List (List ℕ))) (said : S) (fields : List ℕ) : Type 0 where
   pub header : List (List ℕ)
   pub rest : List (List (List ℕ))
   pub rows_are : rows ≡ header ∷ rest
   pub fields_are : picked layout.shape picks (length header) ≡ Ok fields
-  pub rows_say : with_rows layout (length header) fields 2 rest layout.start ≡ Ok said
+  pub rows_say : with_rows layout missing (length header) fields 2 rest layout.start ≡ Ok said
   pub enough : layout.is_enough said ≡ true
 
-pub read_in-ok : {S : Type 0} (layout : Layout S) (picks : Picks) (rows : List (List (List ℕ))) (said : S) → read_in layout picks rows ≡ Ok said
-    → (fields : List ℕ) × IsRead layout picks rows said fields
-read_in-ok layout picks [] said e = absurd (cc)
-read_in-ok layout picks (header ∷ rows) said e =
+pub read_in-ok : {S : Type 0} (layout : Layout S) (missing : Missing) (picks : Picks) (rows : List (List (List ℕ))) (said : S) → read_in layout missing picks rows ≡ Ok said
+    → (fields : List ℕ) × IsRead layout missing picks rows said fields
+read_in-ok layout missing picks [] said e = absurd (cc)
+read_in-ok layout missing picks (header ∷ rows) said e =
     let by_rows = and_then-ok (if_enough layout (length rows + 1)) _ said e in
-    let by_header = and_then-ok (λ fields. with_rows layout (length header) fields 2 rows layout.start) (picked layout.shape picks (length header)) by_rows.0 by_rows.1 in
+    let by_header = and_then-ok (λ fields. with_rows layout missing (length header) fields 2 rows layout.start) (picked layout.shape picks (length header)) by_rows.0 by_rows.1 in
     let last = if_ok (layout.is_enough by_rows.0) _ by_rows.0 said by_rows.2 in (
       by_header.0,
       record {
@@ -115,3 +135,10 @@ read_in-ok layout picks (header ∷ rows) said e =
         enough = rw (← last.1) last.0;
       },
     )
+
+-- ---- dropped rows
+
+-- Of a file that is read, the dropped rows are those among its data rows.
+pub dropped-read : {S : Type 0} (layout : Layout S) (missing : Missing) (picks : Picks) (rows : List (List (List ℕ))) (said : S) (fields : List ℕ)
+    → (read : IsRead layout missing picks rows said fields) → dropped_rows layout missing picks rows ≡ dropped_among layout missing (length read.header) fields 2 read.rest
+dropped-read layout missing picks rows said fields read = rw (read.rows_are, read.fields_are) refl

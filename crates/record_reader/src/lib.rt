@@ -2,15 +2,20 @@
 //! fields, in which order, and the first fault.
 #![tactic(auto)]
 
+mod data;
+mod dropping;
 mod faults;
 mod fields;
+mod headers;
 mod layouts;
 mod missing;
 mod picks;
 mod rows;
 
+pub use data::read_in;
+pub use dropping::dropped;
 pub use faults::{DataFault, Kind, LayoutFault};
-pub use layouts::{FieldFault, Layout, Shape, read_in};
+pub use layouts::{FieldFault, Layout, Shape};
 pub use missing::Missing;
 pub use picks::Picks;
 pub use rows::{Rows, records};

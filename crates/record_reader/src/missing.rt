@@ -1,10 +1,10 @@
-// What becomes of a row with a missing field.
+// What is done with rows that miss a field.
 
-/// What becomes of a row with a missing picked field.
+/// What is done with a row of data that misses a picked field.
 #[derive(Clone, Copy, Debug, PartialEq, Eq)]
 pub enum Missing {
-    /// It is a fault, as any other that a row has.
+    /// It is a fault of the file.
     Refuse,
-    /// The row is left out.
+    /// The row is left out: it is read no further, and no other fault of it counts.
     Drop,
 }

@@ -3,6 +3,7 @@ use Rattle.std.proofs.Common.{◌≡◌, ℕ, ◌-◌, ◌*◌, ◌^◌, pos, ne
 use Rattle.number_text.specs.NumberTexts.{units_of, value_of}
 use Rattle.record_reader.specs.declared.faults.Kind.TheVariants as kind
 use Rattle.record_reader.specs.declared.faults.LayoutFault.{LayoutFault}
+use Rattle.record_reader.specs.declared.missing.Missing.TheVariants.{Refuse}
 use Rattle.record_reader.specs.declared.picks.Picks.{Picks}
 use Rattle.record_reader.specs.declared.faults.LayoutFault.TheVariants.{Columns}
 use Rattle.record_reader.specs.declared.picks.Picks.TheVariants.{Natural, Listed}
@@ -33,7 +34,7 @@ small = record {
   values = pos (10 ^ 13) ∷ pos (2 * 10 ^ 18) ∷ negsuc (3 * 10 ^ 18 - 1) ∷ [];
 }
 
-small_file : groups_in 2 Natural (header ∷ two (codes " y\t") (codes "1e-05") ∷ two (codes "x") (codes " 2 ") ∷ two (codes "y") (codes "-3") ∷ []) ≡ Ok small
+small_file : groups_in 2 Refuse Natural (header ∷ two (codes " y\t") (codes "1e-05") ∷ two (codes "x") (codes " 2 ") ∷ two (codes "y") (codes "-3") ∷ []) ≡ Ok small
 unfolding units_of value_of
 small_file = refl
 
@@ -42,7 +43,7 @@ small_sizes = refl
 
 -- a file of two labels at most has this first fault
 abbrev IsFaulty : Picks → List (List (List ℕ)) → LayoutFault → Type 0
-IsFaulty picks rows fault = groups_in 2 picks rows ≡ Err fault
+IsFaulty picks rows fault = groups_in 2 Refuse picks rows ≡ Err fault
 
 not_a_number : IsFaulty Natural (header ∷ two (codes "x") (codes "1") ∷ two (codes "x") (codes "2") ∷ two (codes "y") (codes "1.2.3") ∷ []) (field_fault 4 2 kind.NotNumber)
 unfolding units_of value_of
@@ -94,40 +95,40 @@ value_before_label = refl
 
 -- ---- pairs
 
-single_values : differences_in Natural (one (codes "d") ∷ one (codes "1") ∷ one (codes "-2") ∷ one (codes "0") ∷ []) ≡ Ok (pos (10 ^ 18) ∷ negsuc (2 * 10 ^ 18 - 1) ∷ pos 0 ∷ [])
+single_values : differences_in Refuse Natural (one (codes "d") ∷ one (codes "1") ∷ one (codes "-2") ∷ one (codes "0") ∷ []) ≡ Ok (pos (10 ^ 18) ∷ negsuc (2 * 10 ^ 18 - 1) ∷ pos 0 ∷ [])
 unfolding units_of value_of
 single_values = refl
 
-two_values : differences_in Natural (two (codes "before") (codes "after") ∷ two (codes "1") (codes "2") ∷ two (codes "5") (codes "4") ∷ []) ≡ Ok (pos (10 ^ 18) ∷ negsuc (10 ^ 18 - 1) ∷ [])
+two_values : differences_in Refuse Natural (two (codes "before") (codes "after") ∷ two (codes "1") (codes "2") ∷ two (codes "5") (codes "4") ∷ []) ≡ Ok (pos (10 ^ 18) ∷ negsuc (10 ^ 18 - 1) ∷ [])
 unfolding units_of value_of
 two_values = refl
 
-turned_values : differences_in (Listed (2 ∷ 1 ∷ [])) (two (codes "after") (codes "before") ∷ two (codes "3") (codes "1") ∷ []) ≡ Ok (pos (2 * 10 ^ 18) ∷ [])
+turned_values : differences_in Refuse (Listed (2 ∷ 1 ∷ [])) (two (codes "after") (codes "before") ∷ two (codes "3") (codes "1") ∷ []) ≡ Ok (pos (2 * 10 ^ 18) ∷ [])
 unfolding units_of value_of
 turned_values = refl
 
-no_pairs : differences_in Natural (one (codes "d") ∷ []) ≡ Err (row_fault 1 kind.EndsEarly)
+no_pairs : differences_in Refuse Natural (one (codes "d") ∷ []) ≡ Err (row_fault 1 kind.EndsEarly)
 no_pairs = refl
 
 -- ---- blocks
 
-two_blocks : blocks_in Natural (two (codes "a") (codes "b") ∷ two (codes "1") (codes "2") ∷ two (codes "3") (codes "4") ∷ [])
+two_blocks : blocks_in Refuse Natural (two (codes "a") (codes "b") ∷ two (codes "1") (codes "2") ∷ two (codes "3") (codes "4") ∷ [])
     ≡ Ok (record { blocks = 2; treatments = 2; cells = pos (10 ^ 18) ∷ pos (2 * 10 ^ 18) ∷ pos (3 * 10 ^ 18) ∷ pos (4 * 10 ^ 18) ∷ [] })
 unfolding units_of value_of
 two_blocks = refl
 
-picked_treatments : binary_blocks_in (Listed (3 ∷ 1 ∷ [])) (three (codes "a") (codes "b") (codes "c") ∷ three (codes "0 ") (codes "") (codes "1") ∷ [])
+picked_treatments : binary_blocks_in Refuse (Listed (3 ∷ 1 ∷ [])) (three (codes "a") (codes "b") (codes "c") ∷ three (codes "0 ") (codes "") (codes "1") ∷ [])
     ≡ Ok (record { blocks = 1; treatments = 2; cells = pos 1 ∷ pos 0 ∷ [] })
 picked_treatments = refl
 
-not_binary : binary_blocks_in Natural (two (codes "a") (codes "b") ∷ two (codes "1") (codes "+1") ∷ []) ≡ Err (field_fault 2 2 kind.NotBinary)
+not_binary : binary_blocks_in Refuse Natural (two (codes "a") (codes "b") ∷ two (codes "1") (codes "+1") ∷ []) ≡ Err (field_fault 2 2 kind.NotBinary)
 not_binary = refl
 
-missing_binary : binary_blocks_in Natural (two (codes "a") (codes "b") ∷ two (codes " NA ") (codes "2") ∷ []) ≡ Err (field_fault 2 1 kind.Missing)
+missing_binary : binary_blocks_in Refuse Natural (two (codes "a") (codes "b") ∷ two (codes " NA ") (codes "2") ∷ []) ≡ Err (field_fault 2 1 kind.Missing)
 missing_binary = refl
 
-one_treatment : blocks_in Natural (one (codes "a") ∷ one (codes "1") ∷ []) ≡ Err (row_fault 1 kind.FieldCount)
+one_treatment : blocks_in Refuse Natural (one (codes "a") ∷ one (codes "1") ∷ []) ≡ Err (row_fault 1 kind.FieldCount)
 one_treatment = refl
 
-nine_treatments : blocks_in Natural ((codes "a" ∷ codes "b" ∷ codes "c" ∷ codes "d" ∷ codes "e" ∷ codes "f" ∷ codes "g" ∷ codes "h" ∷ codes "i" ∷ []) ∷ []) ≡ Err (row_fault 1 kind.TooManyColumns)
+nine_treatments : blocks_in Refuse Natural ((codes "a" ∷ codes "b" ∷ codes "c" ∷ codes "d" ∷ codes "e" ∷ codes "f" ∷ codes "g" ∷ codes "h" ∷ codes "i" ∷ []) ∷ []) ≡ Err (row_fault 1 kind.TooManyColumns)
 nine_treatments = refl

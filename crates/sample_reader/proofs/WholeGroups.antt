@@ -2,6 +2,7 @@
 use Rattle.std.proofs.Common.{◌≡◌, ℕ, ◌+◌, ◌≤◌, nat_lt, List, [], ◌∷◌, ◌++◌, length, Ok, refl, sym, ap, ◌∙◌, arith, zero-add}
 use Rattle.std.proofs.lemmas.Bool.Decides.{nat_tests}
 use Rattle.std.proofs.lemmas.List.{length_push}
+use Rattle.record_reader.specs.declared.missing.Missing.{Missing}
 use Rattle.record_reader.specs.declared.picks.Picks.{Picks}
 use Rattle.sample_reader.specs.GroupLayout.{Subjects, different, group_layout, grouped, groups_in, group_shape, no_subjects, with_label, with_number}
 use Rattle.sample_reader.specs.Groups.{GroupData}
@@ -40,35 +41,35 @@ one_row most number rows (a ∷ b ∷ []) row s t two have e =
     rw (← all) (record { labels = said.0; values = length_push label.0.values valued.0 ∙ ap (λ n. n + 1) said.1; few = said.2 })
 one_row most number rows (a ∷ b ∷ d ∷ fields) row s t two have e = absurd (omega arith)
 
--- what is true of the subjects of all rows
-all_rows : (most : ℕ) (picks : Picks) (rows : List (List (List ℕ))) (subjects : Subjects) (fields : List ℕ) → MayPick 2 2 picks
-    → (read : IsRead (group_layout most) picks rows subjects fields) → (length read.rest ≤ group_shape.most_rows) × HaveRows most (length read.rest) subjects
-all_rows most picks rows subjects fields may read =
+-- what is true of the subjects of all rows: so many are kept
+all_rows : (most : ℕ) (missing : Missing) (picks : Picks) (rows : List (List (List ℕ))) (subjects : Subjects) (fields : List ℕ) → MayPick 2 2 picks
+    → IsRead (group_layout most) missing picks rows subjects fields → (kept : ℕ) × (kept ≤ group_shape.most_rows) × HaveRows most kept subjects
+all_rows most missing picks rows subjects fields may read =
     let many = picked-many group_shape picks (length read.header) fields may read.fields_are in
     let two : length fields ≡ 2 = omega (arith, many.0, many.1) in
     let none : HaveRows most 0 no_subjects = record { labels = refl; values = refl; few = omega arith } in
-    let kept = with_rows-keep (group_layout most) (length read.header) fields (HaveRows most) (λ number n row s t have e. one_row most number n fields row s t two have e)
+    let kept = with_rows-keep (group_layout most) missing (length read.header) fields (HaveRows most) (λ number n row s t have e. one_row most number n fields row s t two have e)
     2 0 read.rest no_subjects subjects (omega arith) none read.rows_say in
-    (omega (arith, kept.0), rw (← zero-add (length read.rest)) kept.1)
+    (kept.kept, omega (arith, kept.few, kept.all), rw (← zero-add kept.kept) kept.holds)
 
-whole : (most : ℕ) (picks : Picks) (rows : List (List (List ℕ))) (subjects : Subjects) (fields : List ℕ) → MayPick 2 2 picks → most ≤ 8
-    → IsRead (group_layout most) picks rows subjects fields → AreWhole subjects
-whole most picks rows subjects fields may eight read =
-    let all = all_rows most picks rows subjects fields may read in
+whole : (most : ℕ) (missing : Missing) (picks : Picks) (rows : List (List (List ℕ))) (subjects : Subjects) (fields : List ℕ) → MayPick 2 2 picks → most ≤ 8
+    → IsRead (group_layout most) missing picks rows subjects fields → AreWhole subjects
+whole most missing picks rows subjects fields may eight read =
+    let all = all_rows most missing picks rows subjects fields may read in
     record {
       at_least_two = let test = read.enough in grind (arith, nat_tests);
-      at_most_eight = omega (arith, all.1.few);
-      few_enough = omega (arith, all.0, all.1.values);
-      one_label_each = all.1.labels ∙ sym all.1.values;
+      at_most_eight = omega (arith, all.2.few);
+      few_enough = omega (arith, all.1, all.2.values);
+      one_label_each = all.2.labels ∙ sym all.2.values;
     }
 
-pub read_in-whole : (most : ℕ) (picks : Picks) (rows : List (List (List ℕ))) (subjects : Subjects) → MayPick 2 2 picks → most ≤ 8
-    → read_in (group_layout most) picks rows ≡ Ok subjects → AreWhole subjects
-read_in-whole most picks rows subjects may eight e = let read = read_in-ok (group_layout most) picks rows subjects e in whole most picks rows subjects read.0 may eight read.1
+pub read_in-whole : (most : ℕ) (missing : Missing) (picks : Picks) (rows : List (List (List ℕ))) (subjects : Subjects) → MayPick 2 2 picks → most ≤ 8
+    → read_in (group_layout most) missing picks rows ≡ Ok subjects → AreWhole subjects
+read_in-whole most missing picks rows subjects may eight e = let read = read_in-ok (group_layout most) missing picks rows subjects e in whole most missing picks rows subjects read.0 may eight read.1
 
-pub groups_in-few : (most : ℕ) (picks : Picks) (rows : List (List (List ℕ))) (groups : GroupData) → MayPick 2 2 picks → groups_in most picks rows ≡ Ok groups → length groups.labels ≤ most
-groups_in-few most picks rows groups may e =
-    let subjects = with_value-ok grouped (read_in (group_layout most) picks rows) groups e in
-    let read = read_in-ok (group_layout most) picks rows subjects.0 subjects.1 in
-    let all = all_rows most picks rows subjects.0 read.0 may read.1 in
-    rw (← subjects.2) all.1.few
+pub groups_in-few : (most : ℕ) (missing : Missing) (picks : Picks) (rows : List (List (List ℕ))) (groups : GroupData) → MayPick 2 2 picks → groups_in most missing picks rows ≡ Ok groups → length groups.labels ≤ most
+groups_in-few most missing picks rows groups may e =
+    let subjects = with_value-ok grouped (read_in (group_layout most) missing picks rows) groups e in
+    let read = read_in-ok (group_layout most) missing picks rows subjects.0 subjects.1 in
+    let all = all_rows most missing picks rows subjects.0 read.0 may read.1 in
+    rw (← subjects.2) all.2.few

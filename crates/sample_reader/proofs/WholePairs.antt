@@ -3,6 +3,7 @@ use Rattle.std.proofs.Common.{◌≡◌, ◌⊎◌, inl, inr, ℕ, zero, suc, �
 use Rattle.std.proofs.lemmas.Int.{ints}
 use Rattle.std.proofs.lemmas.Bool.Decides.{nat_tests}
 use Rattle.std.proofs.lemmas.List.{length_push}
+use Rattle.record_reader.specs.declared.missing.Missing.{Missing}
 use Rattle.record_reader.specs.declared.picks.Picks.{Picks}
 use Rattle.sample_reader.specs.CellLayouts.{PairValues, no_pairs, pair_layout, pair_shape, second_less_first, with_pair_value}
 use Rattle.sample_reader.specs.Kept.{AreDifferences, AreInRange, AreWholePairs}
@@ -56,16 +57,16 @@ one_or_two (suc zero) some few = inl (refl, refl)
 one_or_two (suc (suc zero)) some few = inr (refl, refl)
 one_or_two (suc (suc (suc n))) some few = absurd (omega arith)
 
-whole : (picks : Picks) (rows : List (List (List ℕ))) (pairs : PairValues) (fields : List ℕ) → MayPick 1 2 picks → IsRead pair_layout picks rows pairs fields → AreWholePairs pairs
-whole picks rows pairs fields may read =
+whole : (missing : Missing) (picks : Picks) (rows : List (List (List ℕ))) (pairs : PairValues) (fields : List ℕ) → MayPick 1 2 picks → IsRead pair_layout missing picks rows pairs fields → AreWholePairs pairs
+whole missing picks rows pairs fields may read =
     let many = picked-many pair_shape picks (length read.header) fields may read.fields_are in
     let none : HaveRows (length fields) 0 no_pairs = record { first = refl; second = one_or_two (length fields) many.0 many.1 } in
-    let kept = with_rows-keep pair_layout (length read.header) fields (HaveRows (length fields)) (λ number n row s t have e. one_row number n fields row s t many.0 many.1 have e)
+    let kept = with_rows-keep pair_layout missing (length read.header) fields (HaveRows (length fields)) (λ number n row s t have e. one_row number n fields row s t many.0 many.1 have e)
     2 0 read.rest no_pairs pairs (omega arith) none read.rows_say in
     record {
       not_empty = let test = read.enough in grind (arith, nat_tests);
-      few_enough = omega (arith, kept.0, kept.1.first);
-      one_or_two = by kept.1.first kept.1.second;
+      few_enough = omega (arith, kept.few, kept.all, kept.holds.first);
+      one_or_two = by kept.holds.first kept.holds.second;
     }
   where
     by : {width n : ℕ} → length pairs.first ≡ n → OneOrTwo width n (length pairs.second)
@@ -73,8 +74,8 @@ whole picks rows pairs fields may read =
     by first (inl none) = inl none.1
     by first (inr two) = inr (first ∙ sym two.1)
 
-pub read_in-whole : (picks : Picks) (rows : List (List (List ℕ))) (pairs : PairValues) → MayPick 1 2 picks → read_in pair_layout picks rows ≡ Ok pairs → AreWholePairs pairs
-read_in-whole picks rows pairs may e = let read = read_in-ok pair_layout picks rows pairs e in whole picks rows pairs read.0 may read.1
+pub read_in-whole : (missing : Missing) (picks : Picks) (rows : List (List (List ℕ))) (pairs : PairValues) → MayPick 1 2 picks → read_in pair_layout missing picks rows ≡ Ok pairs → AreWholePairs pairs
+read_in-whole missing picks rows pairs may e = let read = read_in-ok pair_layout missing picks rows pairs e in whole missing picks rows pairs read.0 may read.1
 
 -- ---- the differences
 

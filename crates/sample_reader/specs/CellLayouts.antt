@@ -3,13 +3,14 @@ use Rattle.std.specs.Prelude.{ℕ, ◌-◌, ◌==◌, ℤ, ◌-ℤ◌, List, [],
 use Rattle.record_reader.specs.declared.faults.Kind.{Kind}
 use Rattle.record_reader.specs.declared.faults.Kind.TheVariants.{FieldCount, TooManyColumns}
 use Rattle.record_reader.specs.declared.faults.LayoutFault.{LayoutFault}
+use Rattle.record_reader.specs.declared.missing.Missing.{Missing}
 use Rattle.record_reader.specs.declared.picks.Picks.{Picks}
 use Rattle.record_reader.specs.declared.picks.Picks.TheVariants.{Natural, Listed}
 use Rattle.record_reader.specs.declared.TheConstants.{MOST_ROWS}
 use Rattle.record_reader.specs.declared.layouts.Shape.{Shape}
-use Rattle.record_reader.specs.Layouts.{Layout, read_in}
+use Rattle.record_reader.specs.Layouts.{Layout, dropped_rows, read_in}
 use Rattle.weights.specs.Results.{with_value}
-use Rattle.sample_reader.specs.Values.{binary_in, value_in}
+use Rattle.sample_reader.specs.Values.{binary_in, is_missing_value, value_in}
 
 -- ---- pairs
 
@@ -36,6 +37,7 @@ pair_layout = record {
   shape = pair_shape;
   start = no_pairs;
   with_field = λ place text pairs. with_value (with_pair_value place pairs) (value_in text);
+  is_missing = λ place text. is_missing_value text;
   is_enough = λ pairs. nat_lt 0 (length pairs.first);
 }
 
@@ -53,8 +55,8 @@ abbrev pub differences : PairValues → List ℤ
 differences pairs = differences_of pairs.first pairs.second
 
 -- the differences of a file's pairs, or its first fault
-abbrev pub differences_in : Picks → List (List (List ℕ)) → Result (List ℤ) LayoutFault
-differences_in picks rows = with_value differences (read_in pair_layout picks rows)
+abbrev pub differences_in : Missing → Picks → List (List (List ℕ)) → Result (List ℤ) LayoutFault
+differences_in missing picks rows = with_value differences (read_in pair_layout missing picks rows)
 
 -- ---- blocks
 
@@ -67,6 +69,7 @@ block_layout cell_in = record {
   shape = block_shape;
   start = [];
   with_field = λ place text cells. with_value (λ cell. cells ++ cell ∷ []) (cell_in text);
+  is_missing = λ place text. is_missing_value text;
   is_enough = λ cells. nat_lt 0 (length cells);
 }
 
@@ -83,20 +86,26 @@ width_in (Listed fields) rows = length fields
 width_in Natural [] = 0
 width_in Natural (header ∷ rows) = length header
 
--- the cells of the rows below a header
-abbrev pub blocked : Picks → List (List (List ℕ)) → List ℤ → BlockData
-blocked picks rows cells =
-    record { blocks = length rows - 1; treatments = width_in picks rows; cells = cells }
+-- the cells of the rows below a header, of which so many are dropped
+abbrev pub blocked : ℕ → Picks → List (List (List ℕ)) → List ℤ → BlockData
+blocked dropped picks rows cells = record {
+  blocks = length rows - 1 - dropped;
+  treatments = width_in picks rows;
+  cells = cells;
+}
 
 -- the blocks of a file whose cells are read like this, or its first fault
-abbrev pub cells_in : (List ℕ → Result ℤ Kind) → Picks → List (List (List ℕ))
+abbrev pub cells_in : (List ℕ → Result ℤ Kind) → Missing → Picks → List (List (List ℕ))
     → Result BlockData LayoutFault
-cells_in cell_in picks rows =
-    with_value (blocked picks rows) (read_in (block_layout cell_in) picks rows)
+cells_in cell_in missing picks rows =
+    let layout = block_layout cell_in in
+    with_value (blocked (dropped_rows layout missing picks rows) picks rows)
+    (read_in layout missing picks rows)
 
-abbrev pub blocks_in : Picks → List (List (List ℕ)) → Result BlockData LayoutFault
+abbrev pub blocks_in : Missing → Picks → List (List (List ℕ)) → Result BlockData LayoutFault
 blocks_in = cells_in value_in
 
 -- the blocks of a file whose cells are 0 or 1
-abbrev pub binary_blocks_in : Picks → List (List (List ℕ)) → Result BlockData LayoutFault
+abbrev pub binary_blocks_in : Missing → Picks → List (List (List ℕ))
+    → Result BlockData LayoutFault
 binary_blocks_in = cells_in binary_in

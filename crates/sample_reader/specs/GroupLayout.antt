@@ -1,15 +1,16 @@
 -- The layout of groups: in each row a label and a value.
-use Rattle.std.specs.Prelude.{ℕ, ◌==◌, ℤ, List, [], ◌∷◌, ◌++◌, length, map, bytes_eq, nat_le, nat_lt, Result, Ok, Err, if◌then◌else◌}
+use Rattle.std.specs.Prelude.{ℕ, ◌==◌, Bool, ℤ, List, [], ◌∷◌, ◌++◌, length, map, bytes_eq, nat_le, nat_lt, Result, Ok, Err, if◌then◌else◌}
 use Rattle.record_reader.specs.declared.faults.Kind.{Kind}
 use Rattle.record_reader.specs.declared.faults.Kind.TheVariants.{FieldCount, GroupTooMany}
 use Rattle.record_reader.specs.declared.faults.LayoutFault.{LayoutFault}
+use Rattle.record_reader.specs.declared.missing.Missing.{Missing}
 use Rattle.record_reader.specs.declared.picks.Picks.{Picks}
 use Rattle.record_reader.specs.declared.TheConstants.{MOST_ROWS}
 use Rattle.record_reader.specs.declared.layouts.Shape.{Shape}
 use Rattle.sample_reader.specs.Groups.{GroupData, first_appearances, number_among}
 use Rattle.record_reader.specs.Layouts.{Layout, read_in}
 use Rattle.weights.specs.Results.{and_then, with_value}
-use Rattle.sample_reader.specs.Values.{label_in, value_in}
+use Rattle.sample_reader.specs.Values.{is_missing_label, is_missing_value, label_in, value_in}
 
 -- Each subject's label, and each subject's value in units of 10^-18.
 pub record Subjects : Type 0 where
@@ -41,6 +42,11 @@ with_subject_field most place text subjects =
     if place == 0 then and_then (with_label most subjects) (label_in text)
     else with_value (with_number subjects) (value_in text)
 
+-- whether a field of a row is missing, as a label or as a value
+abbrev pub is_missing_field : ℕ → List ℕ → Bool
+is_missing_field place text =
+    if place == 0 then is_missing_label text else is_missing_value text
+
 abbrev pub group_shape : Shape
 group_shape = record { narrowest = 2; widest = 2; too_wide = FieldCount; most_rows = MOST_ROWS }
 
@@ -50,6 +56,7 @@ group_layout most = record {
   shape = group_shape;
   start = no_subjects;
   with_field = with_subject_field most;
+  is_missing = is_missing_field;
   is_enough = λ subjects. nat_le 2 (length (different subjects.labels));
 }
 
@@ -62,5 +69,6 @@ grouped subjects = record {
 }
 
 -- the groups of a file, of at most so many labels, or its first fault
-abbrev pub groups_in : ℕ → Picks → List (List (List ℕ)) → Result GroupData LayoutFault
-groups_in most picks rows = with_value grouped (read_in (group_layout most) picks rows)
+abbrev pub groups_in : ℕ → Missing → Picks → List (List (List ℕ)) → Result GroupData LayoutFault
+groups_in most missing picks rows =
+    with_value grouped (read_in (group_layout most) missing picks rows)

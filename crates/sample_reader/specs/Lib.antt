@@ -1,6 +1,7 @@
 pub mod CellLayouts
 pub mod Cells
 pub mod Data
+pub mod Dropped
 pub mod GroupLayout
 pub mod Groups
 pub mod Kept

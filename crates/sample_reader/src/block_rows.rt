@@ -8,10 +8,10 @@ ghost use Rattle.sample_reader.specs.Kept.{AreWholeBlocks};
 ghost use Rattle.record_reader.specs.Layouts.{MayPick};
 ghost use Rattle.sample_reader.specs.Values.{IsBinary};
 
-use crate::fields::{binary_in, value_in};
+use crate::fields::{binary_in, is_missing_value, value_in};
 use crate::samples::Blocks;
 use record_reader::{
-    FieldFault, Kind, Layout, LayoutFault, MOST_ROWS, Picks, Rows, Shape, read_in,
+    FieldFault, Kind, Layout, LayoutFault, MOST_ROWS, Missing, Picks, Rows, Shape, dropped, read_in,
 };
 use std::alloc::Global;
 use std::marker::Model;
@@ -19,7 +19,7 @@ use weights::{Ints, NoMemory};
 
 // The cells so far, by blocks.
 #[derive(Drop)]
-struct CellsSoFar {
+pub(crate) struct CellsSoFar {
     cells: Ints,
 }
 
@@ -69,7 +69,7 @@ impl CellsSoFar {
 
 // What the cells of blocks are.
 #[derive(Clone, Copy)]
-enum Cell {
+pub(crate) enum Cell {
     Value,
     Binary,
 }
@@ -89,8 +89,8 @@ impl Cell {
 
 // The layout of blocks: a cell for each treatment in each row.
 #[derive(Clone, Copy)]
-struct BlockLayout {
-    cell: Cell,
+pub(crate) struct BlockLayout {
+    pub(crate) cell: Cell,
 }
 
 impl Layout<CellsSoFar> for BlockLayout {
@@ -121,6 +121,10 @@ impl Layout<CellsSoFar> for BlockLayout {
         Ok(so_far.with_cell(self.cell.read(text)?)?)
     }
 
+    fn is_missing(&self, _place: usize, text: &[u8]) -> bool {
+        is_missing_value(text)
+    }
+
     fn is_enough(&self, so_far: &CellsSoFar) -> bool {
         so_far.cells.len() > 0
     }
@@ -137,14 +141,21 @@ fn width_in(picks: &Picks, rows: &Rows) -> usize
 }
 
 // The blocks of a file whose cells are these.
-fn blocks_of(alloc: Global, cell: Cell, rows: &Rows, picks: &Picks) -> Result<Blocks, LayoutFault>
+fn blocks_of(
+    alloc: Global,
+    cell: Cell,
+    rows: &Rows,
+    picks: &Picks,
+    missing: Missing,
+) -> Result<Blocks, LayoutFault>
     requires { MayPick 2 8 picks.now }
-    ensures ok { IfOk result (λ blocks. cells_in (cell_in cell) picks.now rows.now
+    ensures ok { IfOk result (λ blocks. cells_in (cell_in cell) missing picks.now rows.now
         ≡ Ok (block_data_of blocks)) }
-    ensures fault { IfErr result (IsFaultOf (cells_in (cell_in cell) picks.now rows.now)) }
+    ensures fault { IfErr result (IsFaultOf (cells_in (cell_in cell) missing picks.now rows.now)) }
 {
-    let cells = read_in(alloc, &BlockLayout { cell }, rows, picks)?;
-    let blocks = rows.len() as u64 - 1;
+    let layout = BlockLayout { cell };
+    let cells = read_in(alloc, &layout, missing, rows, picks)?;
+    let blocks = rows.len() as u64 - 1 - dropped(&layout, missing, rows, picks);
     Ok(cells.into_blocks(blocks, width_in(picks, rows) as u64))
 }
 
@@ -155,19 +166,29 @@ fn blocks_of(alloc: Global, cell: Cell, rows: &Rows, picks: &Picks) -> Result<Bl
 /// and 1 to [`MOST_ROWS`] rows below the header, whose texts are not used. Rows and fields have
 /// numbers from 1, so the header is row 1.
 ///
+/// Where rows with a missing value are dropped, a row below the header that is not one too many, is
+/// as wide as the header, and of which a picked value is empty or `NA`, is no block, and none of
+/// its faults counts.
+///
 /// # Errors
 /// `Columns` where there is a header and a listed field is not in it. Else `At` with the first
 /// fault of the file: `NoHeader` where it has no row, `FieldCount` or `TooManyColumns` where its
 /// header has fewer than two fields or more than eight and none are listed, and then, row by row,
 /// `TooManyRows`, `FieldCount` where the row is not as wide as the header, and the faults of its
-/// picked fields in the order picked: `Missing`, `NotNumber`, `OutOfRange`. `EndsEarly` at the
-/// header where no row stands below it. Or else `NoMemory` where memory runs out.
-pub fn blocks(alloc: Global, rows: &Rows, picks: &Picks) -> Result<Blocks, LayoutFault>
+/// picked fields in the order picked: `Missing`, `NotNumber`, `OutOfRange`. `EndsEarly` at the last
+/// row where no row below the header is left. Or else `NoMemory` where memory runs out.
+pub fn blocks(
+    alloc: Global,
+    rows: &Rows,
+    picks: &Picks,
+    missing: Missing,
+) -> Result<Blocks, LayoutFault>
     requires { MayPick 2 8 picks.now }
-    ensures ok { IfOk result (λ blocks. blocks_in picks.now rows.now ≡ Ok (block_data_of blocks)) }
-    ensures fault { IfErr result (IsFaultOf (blocks_in picks.now rows.now)) }
+    ensures ok { IfOk result (λ blocks.
+        blocks_in missing picks.now rows.now ≡ Ok (block_data_of blocks)) }
+    ensures fault { IfErr result (IsFaultOf (blocks_in missing picks.now rows.now)) }
 {
-    blocks_of(alloc, Cell::Value, rows, picks)
+    blocks_of(alloc, Cell::Value, rows, picks, missing)
 }
 
 /// The blocks of a file whose cells are `0` or `1`, as [`blocks`] reads those of values. Spaces and
@@ -176,12 +197,17 @@ pub fn blocks(alloc: Global, rows: &Rows, picks: &Picks) -> Result<Blocks, Layou
 /// # Errors
 /// As those of [`blocks`], but the faults of a field are `Missing`, where it is empty or `NA`, and
 /// `NotBinary`.
-pub fn binary_blocks(alloc: Global, rows: &Rows, picks: &Picks) -> Result<Blocks, LayoutFault>
+pub fn binary_blocks(
+    alloc: Global,
+    rows: &Rows,
+    picks: &Picks,
+    missing: Missing,
+) -> Result<Blocks, LayoutFault>
     requires { MayPick 2 8 picks.now }
     ensures ok { IfOk result (λ blocks.
-        binary_blocks_in picks.now rows.now ≡ Ok (block_data_of blocks)) }
+        binary_blocks_in missing picks.now rows.now ≡ Ok (block_data_of blocks)) }
     ensures binary { IfOk result (λ blocks. All IsBinary blocks.cells) }
-    ensures fault { IfErr result (IsFaultOf (binary_blocks_in picks.now rows.now)) }
+    ensures fault { IfErr result (IsFaultOf (binary_blocks_in missing picks.now rows.now)) }
 {
-    blocks_of(alloc, Cell::Binary, rows, picks)
+    blocks_of(alloc, Cell::Binary, rows, picks, missing)
 }

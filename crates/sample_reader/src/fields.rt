@@ -1,6 +1,6 @@
 // The fields of samples: values and binary values.
 ghost use Rattle.std.specs.Prelude.{◌≡◌, ◌^◌, ◌<◌, Err, IfErr, IfOk, Ok, nat_abs};
-ghost use Rattle.sample_reader.specs.Values.{binary_in, kind_of, label_in, value_in};
+ghost use Rattle.sample_reader.specs.Values.{binary_in, is_missing_label, is_missing_value, kind_of, label_in, value_in};
 
 use number_text::{NumberFault, read_value, trim};
 use record_reader::Kind;
@@ -27,13 +27,29 @@ pub(crate) fn value_in(text: &[u8]) -> Result<i128, Kind>
     }
 }
 
+// Whether a value is missing.
+pub(crate) fn is_missing_value(text: &[u8]) -> bool
+    ensures { result ≡ is_missing_value text.now }
+{
+    matches!(trim(text), b"" | b"NA")
+}
+
+// Whether a label is missing.
+pub(crate) fn is_missing_label(text: &[u8]) -> bool
+    ensures { result ≡ is_missing_label text.now }
+{
+    trim(text).is_empty()
+}
+
 // The number of a field that is 0 or 1.
 pub(crate) fn binary_in(text: &[u8]) -> Result<i128, Kind>
     ensures value { result ≡ binary_in text.now }
     ensures in_range { IfOk result (λ value. nat_abs value < 10 ^ 36) }
 {
+    if is_missing_value(text) {
+        return Err(Kind::Missing);
+    }
     match trim(text) {
-        b"" | b"NA" => Err(Kind::Missing),
         b"0" => Ok(0),
         b"1" => Ok(1),
         _ => Err(Kind::NotBinary),
@@ -45,9 +61,8 @@ pub(crate) fn label_in(text: &[u8]) -> Result<&[u8], Kind>
     ensures label { IfOk result (λ label. label_in text.now ≡ Ok label.now) }
     ensures fault { IfErr result (λ kind. label_in text.now ≡ Err kind) }
 {
-    let label = trim(text);
-    if label.is_empty() {
+    if is_missing_label(text) {
         return Err(Kind::Missing);
     }
-    Ok(label)
+    Ok(trim(text))
 }

@@ -6,11 +6,11 @@ ghost use Rattle.sample_reader.specs.GroupLayout.{grouped, groups_in, no_subject
 ghost use Rattle.record_reader.specs.Layouts.{MayPick};
 ghost use Rattle.sample_reader.specs.Kept.{AreWhole};
 
-use crate::fields::{label_in, value_in};
+use crate::fields::{is_missing_label, is_missing_value, label_in, value_in};
 use crate::labels::Labels;
 use crate::samples::{Groups, sizes_of};
 use record_reader::{
-    FieldFault, Kind, Layout, LayoutFault, MOST_ROWS, Picks, Rows, Shape, read_in,
+    FieldFault, Kind, Layout, LayoutFault, MOST_ROWS, Missing, Picks, Rows, Shape, read_in,
 };
 use std::alloc::Global;
 use std::marker::Model;
@@ -19,7 +19,7 @@ use weights::{Ints, NoMemory, Nums};
 // The groups of the subjects so far: the labels in the order in which they first appear, and each
 // subject's number of its label, and value.
 #[derive(Drop)]
-struct GroupsSoFar {
+pub(crate) struct GroupsSoFar {
     labels: Labels,
     members: Nums,
     values: Ints,
@@ -103,8 +103,8 @@ impl GroupsSoFar {
 
 // The layout of groups: a label and a value in each row, and at most so many different labels.
 #[derive(Clone, Copy)]
-struct GroupLayout {
-    most: u64,
+pub(crate) struct GroupLayout {
+    pub(crate) most: u64,
 }
 
 impl Layout<GroupsSoFar> for GroupLayout {
@@ -138,6 +138,14 @@ impl Layout<GroupsSoFar> for GroupLayout {
         }
     }
 
+    fn is_missing(&self, place: usize, text: &[u8]) -> bool {
+        if place == 0 {
+            is_missing_label(text)
+        } else {
+            is_missing_value(text)
+        }
+    }
+
     fn is_enough(&self, so_far: &GroupsSoFar) -> bool {
         so_far.labels.len() >= 2
     }
@@ -150,6 +158,10 @@ impl Layout<GroupsSoFar> for GroupLayout {
 /// are at least two different labels and at most `most`, and at most [`MOST_ROWS`] rows below the
 /// header, whose texts are not used. Rows and fields have numbers from 1, so the header is row 1.
 ///
+/// Where rows with a missing field are dropped, a row below the header that is not one too many, is
+/// as wide as the header, and whose label is empty or whose value is empty or `NA`, gives no
+/// subject and no label, and none of its faults counts.
+///
 /// # Errors
 /// `Columns` where there is a header and a listed field is not in it. Else `At` with the first
 /// fault of the file: `NoHeader` where it has no row, `FieldCount` where its header has not two
@@ -157,14 +169,21 @@ impl Layout<GroupsSoFar> for GroupLayout {
 /// not as wide as the header, and the faults of its picked fields in the order picked: `Missing`,
 /// `GroupTooMany`, `NotNumber`, `OutOfRange`. `EndsEarly` at the last row, where fewer than two
 /// labels occur. Or else `NoMemory` where memory runs out.
-pub fn groups(alloc: Global, rows: &Rows, picks: &Picks, most: u64) -> Result<Groups, LayoutFault>
+pub fn groups(
+    alloc: Global,
+    rows: &Rows,
+    picks: &Picks,
+    most: u64,
+    missing: Missing,
+) -> Result<Groups, LayoutFault>
     requires picks { MayPick 2 2 picks.now }
     requires two { 2 ≤ most }
     requires eight { most ≤ 8 }
-    ensures ok { IfOk result (λ groups. groups_in most picks.now rows.now ≡ Ok (data_of groups)) }
+    ensures ok { IfOk result (λ groups.
+        groups_in most missing picks.now rows.now ≡ Ok (data_of groups)) }
     ensures most { IfOk result (λ groups. length groups.labels ≤ most) }
-    ensures fault { IfErr result (IsFaultOf (groups_in most picks.now rows.now)) }
+    ensures fault { IfErr result (IsFaultOf (groups_in most missing picks.now rows.now)) }
 {
-    let subjects = read_in(alloc, &GroupLayout { most }, rows, picks)?;
+    let subjects = read_in(alloc, &GroupLayout { most }, missing, rows, picks)?;
     Ok(subjects.into_groups(alloc)?)
 }

@@ -5,10 +5,10 @@ ghost use Rattle.sample_reader.specs.CellLayouts.{differences, differences_in, d
 ghost use Rattle.sample_reader.specs.Kept.{AreDifferences, AreInRange, AreWholePairs};
 ghost use Rattle.record_reader.specs.Layouts.{MayPick};
 
-use crate::fields::value_in;
+use crate::fields::{is_missing_value, value_in};
 use crate::samples::Pairs;
 use record_reader::{
-    FieldFault, Kind, Layout, LayoutFault, MOST_ROWS, Picks, Rows, Shape, read_in,
+    FieldFault, Kind, Layout, LayoutFault, MOST_ROWS, Missing, Picks, Rows, Shape, read_in,
 };
 use std::alloc::Global;
 use std::marker::Model;
@@ -16,7 +16,7 @@ use weights::{Ints, NoMemory};
 
 // The values of the pairs so far: the first of each, and the second, if rows have two.
 #[derive(Drop)]
-struct PairsSoFar {
+pub(crate) struct PairsSoFar {
     first: Ints,
     second: Ints,
 }
@@ -115,7 +115,7 @@ fn differences(alloc: Global, first: Ints, second: &Ints) -> Result<Ints, NoMemo
 
 // The layout of pairs: one value or two in each row.
 #[derive(Clone, Copy)]
-struct PairLayout;
+pub(crate) struct PairLayout;
 
 impl Layout<PairsSoFar> for PairLayout {
     ghost use Rattle.sample_reader.specs.CellLayouts.{pair_layout};
@@ -144,6 +144,10 @@ impl Layout<PairsSoFar> for PairLayout {
         Ok(so_far.with_value(place, value_in(text)?)?)
     }
 
+    fn is_missing(&self, _place: usize, text: &[u8]) -> bool {
+        is_missing_value(text)
+    }
+
     fn is_enough(&self, so_far: &PairsSoFar) -> bool {
         so_far.first.len() > 0
     }
@@ -156,18 +160,28 @@ impl Layout<PairsSoFar> for PairLayout {
 /// rows below the header, whose texts are not used. Rows and fields have numbers from 1, so the
 /// header is row 1.
 ///
+/// Where rows with a missing value are dropped, a row below the header that is not one too many, is
+/// as wide as the header, and of which a picked value is empty or `NA`, gives no pair, and none of
+/// its faults counts.
+///
 /// # Errors
 /// `Columns` where there is a header and a listed field is not in it. Else `At` with the first
 /// fault of the file: `NoHeader` where it has no row, `FieldCount` where its header has neither one
 /// field nor two and none are listed, and then, row by row, `TooManyRows`, `FieldCount` where the
 /// row is not as wide as the header, and the faults of its picked fields in the order picked:
-/// `Missing`, `NotNumber`, `OutOfRange`. `EndsEarly` at the header where no row stands below it. Or
-/// else `NoMemory` where memory runs out.
-pub fn pairs(alloc: Global, rows: &Rows, picks: &Picks) -> Result<Pairs, LayoutFault>
+/// `Missing`, `NotNumber`, `OutOfRange`. `EndsEarly` at the last row where no row below the header
+/// is left. Or else `NoMemory` where memory runs out.
+pub fn pairs(
+    alloc: Global,
+    rows: &Rows,
+    picks: &Picks,
+    missing: Missing,
+) -> Result<Pairs, LayoutFault>
     requires { MayPick 1 2 picks.now }
-    ensures ok { IfOk result (λ pairs. differences_in picks.now rows.now ≡ Ok pairs.differences) }
-    ensures fault { IfErr result (IsFaultOf (differences_in picks.now rows.now)) }
+    ensures ok { IfOk result (λ pairs.
+        differences_in missing picks.now rows.now ≡ Ok pairs.differences) }
+    ensures fault { IfErr result (IsFaultOf (differences_in missing picks.now rows.now)) }
 {
-    let values = read_in(alloc, &PairLayout, rows, picks)?;
+    let values = read_in(alloc, &PairLayout, missing, rows, picks)?;
     Ok(values.into_pairs(alloc)?)
 }

@@ -3,6 +3,7 @@ use Rattle.std.proofs.Common.{◌≡◌, ℕ, ◌==◌, ◌+◌, ◌*◌, ◌%�
 use Rattle.std.proofs.lemmas.Bool.{cond-false}
 use Rattle.std.proofs.lemmas.Bool.Decides.{nat_tests}
 use Rattle.std.proofs.lemmas.List.{length_push}
+use Rattle.record_reader.specs.declared.missing.Missing.TheVariants.{Refuse}
 use Rattle.record_reader.specs.declared.picks.Picks.{Picks}
 use Rattle.record_reader.specs.Layouts.{MayPick, field_fault, read_in, text_of, with_fields}
 use Rattle.weights.specs.Results.{with_value}
@@ -35,20 +36,20 @@ one_row number (field ∷ fields) row s t five e =
 fours : (strata many : ℕ) → many ≡ strata * 4 → many % 4 ≡ 0
 fours strata many e = omega (arith, e)
 
-pub read_in-whole : (picks : Picks) (rows : List (List (List ℕ))) (cells : List ℕ) → MayPick 5 5 picks → read_in strata_layout picks rows ≡ Ok cells → AreWholeStrata cells
+pub read_in-whole : (picks : Picks) (rows : List (List (List ℕ))) (cells : List ℕ) → MayPick 5 5 picks → read_in strata_layout Refuse picks rows ≡ Ok cells → AreWholeStrata cells
 read_in-whole picks rows cells may e =
-    let found = read_in-ok strata_layout picks rows cells e in
+    let found = read_in-ok strata_layout Refuse picks rows cells e in
     let fields = found.0 in
     let read = found.1 in
     let many = picked-many strata_shape picks (length read.header) fields may read.fields_are in
     let five : length fields ≡ 5 = omega (arith, many.0, many.1) in
-    let kept = with_rows-keep strata_layout (length read.header) fields (λ n cells. length cells ≡ n * 4)
+    let kept = with_rows-keep strata_layout Refuse (length read.header) fields (λ n cells. length cells ≡ n * 4)
     (λ number n row s t have e. let more = one_row number fields row s t five e in omega (arith, have, more))
     2 0 read.rest [] cells (omega arith) (omega arith) read.rows_say in
-    let each : length cells ≡ length read.rest * 4 = rw (← zero-add (length read.rest)) kept.1 in
+    let each : length cells ≡ kept.kept * 4 = rw (← zero-add kept.kept) kept.holds in
     let some : 0 < length cells = let test = read.enough in grind (arith, nat_tests) in
     record {
       not_empty = omega (arith, each, some);
-      few_enough = omega (arith, each, kept.0);
-      four_each = fours (length read.rest) (length cells) each;
+      few_enough = omega (arith, each, kept.few, kept.all);
+      four_each = fours kept.kept (length cells) each;
     }

@@ -5,6 +5,7 @@ use Rattle.std.proofs.lemmas.Bool.{cond-false}
 use Rattle.std.proofs.lemmas.Bool.Decides.{nat_tests}
 use Rattle.std.proofs.lemmas.List.{length_push}
 use Rattle.record_reader.specs.declared.layouts.Shape.{Shape}
+use Rattle.record_reader.specs.declared.missing.Missing.TheVariants.{Refuse}
 use Rattle.record_reader.specs.declared.picks.Picks.{Picks}
 use Rattle.record_reader.specs.Layouts.{MayPick, field_fault, read_in, text_of, with_fields}
 use Rattle.record_reader.proofs.LayoutLemmas.{IsRead, and_then-ok, picked-many, read_in-ok, with_fault-ok, with_rows-keep, with_value-ok}
@@ -52,27 +53,27 @@ module _ (shape : Shape) where
   same_product n rows width many e f = rw e f
 
   whole : (picks : Picks) (rows : List (List (List ℕ))) (table : RowCounts) (fields : List ℕ) → shape.narrowest ≡ 2 → MayPick shape.narrowest shape.widest picks
-      → IsRead (table_layout shape) picks rows table fields → HasShape shape (tabled table)
+      → IsRead (table_layout shape) Refuse picks rows table fields → HasShape shape (tabled table)
   whole picks rows table fields two may read =
       let many = picked-many shape picks (length read.header) fields may read.fields_are in
       let some : 2 ≤ length fields = omega (arith, two, many.0) in
       let Holds : ℕ → RowCounts → Type 0 = λ n table. (table.rows ≡ n) × (length table.cells ≡ n * length fields) in
-      let kept = with_rows-keep (table_layout shape) (length read.header) fields Holds
+      let kept = with_rows-keep (table_layout shape) Refuse (length read.header) fields Holds
       (λ number n row s t have e. let more = one_row number fields row s t (omega (arith, some)) e in
       (omega (arith, have.0, more.0), more_rows n (length fields) (length s.cells) (length t.cells) have.1 more.1))
       2 0 read.rest no_rows table (omega arith) (omega arith, omega arith) read.rows_say in
-      let as_many : table.rows ≡ length read.rest = omega (arith, kept.1.0) in
-      let each : length table.cells ≡ table.rows * length fields = same_product (0 + length read.rest) table.rows (length fields) (length table.cells) kept.1.0 kept.1.1 in
+      let as_many : table.rows ≡ kept.kept = omega (arith, kept.holds.0) in
+      let each : length table.cells ≡ table.rows * length fields = same_product (0 + kept.kept) table.rows (length fields) (length table.cells) kept.holds.0 kept.holds.1 in
       let rows_two : 2 ≤ table.rows = let test = read.enough in grind (arith, nat_tests) in
       let wide = divided (length table.cells) table.rows (length fields) rows_two each in
       record {
         two_rows = rows_two;
-        few_rows = omega (arith, as_many, kept.0);
+        few_rows = omega (arith, as_many, kept.few, kept.all);
         two_columns = omega (arith, wide, some);
         few_columns = omega (arith, wide, many.1);
         one_each = rw wide each;
       }
 
   pub read_in-whole : (picks : Picks) (rows : List (List (List ℕ))) (table : RowCounts) → shape.narrowest ≡ 2 → MayPick shape.narrowest shape.widest picks
-      → read_in (table_layout shape) picks rows ≡ Ok table → HasShape shape (tabled table)
-  read_in-whole picks rows table two may e = let read = read_in-ok (table_layout shape) picks rows table e in whole picks rows table read.0 two may read.1
+      → read_in (table_layout shape) Refuse picks rows ≡ Ok table → HasShape shape (tabled table)
+  read_in-whole picks rows table two may e = let read = read_in-ok (table_layout shape) Refuse picks rows table e in whole picks rows table read.0 two may read.1

@@ -1,8 +1,9 @@
 -- The layout of tables: each field is a count.
-use Rattle.std.specs.Prelude.{ℕ, ◌+◌, ◌/◌, ◌==◌, Bool, List, [], ◌∷◌, ◌++◌, length, nat_le, Result, if◌then◌else◌}
+use Rattle.std.specs.Prelude.{ℕ, ◌+◌, ◌/◌, ◌==◌, Bool, false, List, [], ◌∷◌, ◌++◌, length, nat_le, Result, if◌then◌else◌}
 use Rattle.record_reader.specs.declared.faults.Kind.TheVariants.{TooManyColumns}
 use Rattle.record_reader.specs.declared.faults.LayoutFault.{LayoutFault}
 use Rattle.record_reader.specs.declared.layouts.Shape.{Shape}
+use Rattle.record_reader.specs.declared.missing.Missing.TheVariants.{Refuse}
 use Rattle.record_reader.specs.declared.picks.Picks.{Picks}
 use Rattle.record_reader.specs.Layouts.{Layout, read_in}
 use Rattle.weights.specs.Results.{with_value}
@@ -40,12 +41,13 @@ two_by_two_shape =
 abbrev pub table_shape : Bool → Shape
 table_shape two_by_two = if two_by_two then two_by_two_shape else any_table_shape
 
--- the layout of tables of this shape, which have at least two rows
+-- the layout of tables of this shape, which have at least two rows; no field is missing
 abbrev pub table_layout : Shape → Layout RowCounts
 table_layout shape = record {
   shape = shape;
   start = no_rows;
   with_field = λ place text table. with_value (with_count place table) (count_in text);
+  is_missing = λ place text. false;
   is_enough = λ table. nat_le 2 table.rows;
 }
 
@@ -66,4 +68,4 @@ tabled table = record {
 -- the table of a file, or its first fault
 abbrev pub table_in : Bool → Picks → List (List (List ℕ)) → Result TableData LayoutFault
 table_in two_by_two picks rows =
-    with_value tabled (read_in (table_layout (table_shape two_by_two)) picks rows)
+    with_value tabled (read_in (table_layout (table_shape two_by_two)) Refuse picks rows)

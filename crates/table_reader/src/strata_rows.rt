@@ -9,7 +9,7 @@ ghost use Rattle.table_reader.specs.declared.TheConstants.{MOST_COUNT};
 use crate::counts::count_in;
 use crate::tables::Strata;
 use record_reader::{
-    FieldFault, Kind, Layout, LayoutFault, MOST_ROWS, Picks, Rows, Shape, read_in,
+    FieldFault, Kind, Layout, LayoutFault, MOST_ROWS, Missing, Picks, Rows, Shape, read_in,
 };
 use std::alloc::Global;
 use std::marker::Model;
@@ -94,6 +94,10 @@ impl Layout<CountsSoFar> for StrataLayout {
         Ok(so_far.with_count(count_in(text)?)?)
     }
 
+    fn is_missing(&self, _place: usize, _text: &[u8]) -> bool {
+        false
+    }
+
     fn is_enough(&self, so_far: &CountsSoFar) -> bool {
         so_far.cells.len() > 0
     }
@@ -118,5 +122,5 @@ pub fn strata(alloc: Global, rows: &Rows, picks: &Picks) -> Result<Strata, Layou
     ensures ok { IfOk result (λ strata. strata_in picks.now rows.now ≡ Ok strata.cells) }
     ensures fault { IfErr result (IsFaultOf (strata_in picks.now rows.now)) }
 {
-    Ok(read_in(alloc, &StrataLayout, rows, picks)?.into_strata())
+    Ok(read_in(alloc, &StrataLayout, Missing::Refuse, rows, picks)?.into_strata())
 }

@@ -10,7 +10,7 @@ ghost use Rattle.table_reader.specs.declared.TheConstants.{MOST_COUNT};
 use crate::counts::count_in;
 use crate::tables::Table;
 use crate::{MOST_TABLE_COLUMNS, MOST_TABLE_ROWS};
-use record_reader::{FieldFault, Kind, Layout, LayoutFault, Picks, Rows, Shape, read_in};
+use record_reader::{FieldFault, Kind, Layout, LayoutFault, Missing, Picks, Rows, Shape, read_in};
 use std::alloc::Global;
 use std::marker::Model;
 use weights::{NoMemory, Nums};
@@ -106,6 +106,10 @@ impl Layout<RowsSoFar> for TableLayout {
         Ok(so_far.with_count(place, count_in(text)?)?)
     }
 
+    fn is_missing(&self, _place: usize, _text: &[u8]) -> bool {
+        false
+    }
+
     fn is_enough(&self, so_far: &RowsSoFar) -> bool {
         so_far.rows >= 2
     }
@@ -140,6 +144,12 @@ pub fn table(
         HasShape (table_shape two_by_two) (table_data_of table)) }
     ensures fault { IfErr result (IsFaultOf (table_in two_by_two picks.now rows.now)) }
 {
-    let read = read_in(alloc, &TableLayout { two_by_two }, rows, picks)?;
+    let read = read_in(
+        alloc,
+        &TableLayout { two_by_two },
+        Missing::Refuse,
+        rows,
+        picks,
+    )?;
     Ok(read.into_table(two_by_two))
 }

@@ -9,7 +9,8 @@ use Rattle.sample_reader.proofs.block_rows.binary_blocks.Goals as goal
 
 pub returns-clause-binary : goal.returns-clause-binary
 returns-clause-binary c =
+    let missing = c.args.missing in
     let picks = c.args.picks.now in
     let rows = c.args.rows.now in
-    IfOk-weaker c.blocks_of.result (λ blocks. binary_blocks_in picks rows ≡ Ok (block_data_of blocks)) (λ blocks. All IsBinary blocks.cells)
-    (λ blocks e. cells-binary picks rows (block_data_of blocks) e) c.blocks_of.ensures.ok
+    IfOk-weaker c.blocks_of.result (λ blocks. binary_blocks_in missing picks rows ≡ Ok (block_data_of blocks)) (λ blocks. All IsBinary blocks.cells)
+    (λ blocks e. cells-binary missing picks rows (block_data_of blocks) e) c.blocks_of.ensures.ok

@@ -1,0 +1,15 @@
+// The layouts of samples by their names.
+
+/// The layouts of samples.
+#[derive(Clone, Copy, Debug, PartialEq, Eq)]
+pub enum Layout {
+    /// One value or two in each row, as [`pairs`](crate::pairs) reads them.
+    Pairs,
+    /// A label and a value in each row, as [`groups`](crate::groups) reads them.
+    Groups,
+    /// A value for each treatment in each row, as [`blocks`](crate::blocks) reads them.
+    Blocks,
+    /// `0` or `1` for each treatment in each row, as [`binary_blocks`](crate::binary_blocks) reads
+    /// them.
+    BinaryBlocks,
+}
