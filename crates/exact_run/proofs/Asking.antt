@@ -1,5 +1,5 @@
 -- What a prepared problem comes to is the outcome of its question.
-use Rattle.std.proofs.Common.{◌≡◌, ◌∙◌, Bool, IfOk, Option, Some, None, Result, Ok, Err, refl, sym, ap, subst}
+use Rattle.std.proofs.Common.{◌≡◌, ◌∙◌, ℕ, Bool, IfOk, Option, Some, None, Result, Ok, Err, refl, sym, ap, subst}
 use Rattle.weights.specs.Conditional.{ConditionalTest}
 use Rattle.weights.specs.Wide.{Prepares, too_wide}
 use Rattle.stage_network.specs.Follows.{asks}
@@ -29,25 +29,25 @@ no-memory wanted (Err (refusal.Row fault)) m = absurd cc
 no-memory wanted (Err refusal.TooLong) m = absurd cc
 no-memory wanted (Err (refusal.TooWide what)) m = absurd cc
 
-pub asked_outcome : {X : Type 0} (test_of : X → ConditionalTest) (network_of : X → Tail → Network) (asking : Asking) (sizes : Sizes) (extra : Extra) (value : X)
+pub asked_outcome : {X : Type 0} (test_of : X → ConditionalTest) (network_of : X → Tail → Network) (asking : Asking) (sizes : Sizes) (dropped : Option ℕ) (extra : Extra) (value : X)
     (prepared : Result X PrepareFault) (result : Outcome) → Prepares test_of value prepared
-    → Meets (prepared_outcome test_of network_of asking sizes extra (asked asking.tail (tails_in (test_of value))) prepared) result
-    → Meets (outcome_of_question asking (question_about test_of network_of value sizes extra)) result
-asked_outcome {X} test_of network_of asking sizes extra value prepared result is meets =
+    → Meets (prepared_outcome test_of network_of asking sizes dropped extra (asked asking.tail (tails_in (test_of value))) prepared) result
+    → Meets (outcome_of_question asking (question_about test_of network_of value sizes dropped extra)) result
+asked_outcome {X} test_of network_of asking sizes dropped extra value prepared result is meets =
     by (asked asking.tail (tails_in (test_of value))) prepared is meets
   where
     by : (tails : Option Tails) (prepared : Result X PrepareFault) → Prepares test_of value prepared
-        → Meets (prepared_outcome test_of network_of asking sizes extra tails prepared) result
-        → Meets (outcome_of_asked asking tails (question_about test_of network_of value sizes extra)) result
+        → Meets (prepared_outcome test_of network_of asking sizes dropped extra tails prepared) result
+        → Meets (outcome_of_asked asking tails (question_about test_of network_of value sizes dropped extra)) result
     by None prepared is meets = meets
     by (Some tails) (Ok problem) is meets =
         subst (λ wanted. Meets wanted result)
-        (ap (λ v. Ok (report_for asking tails (question_about test_of network_of v sizes extra))) is.0
-        ∙ sym (ap (λ what. told asking tails what (question_about test_of network_of value sizes extra)) is.1)) meets
+        (ap (λ v. Ok (report_for asking tails (question_about test_of network_of v sizes dropped extra))) is.0
+        ∙ sym (ap (λ what. told asking tails what (question_about test_of network_of value sizes dropped extra)) is.1)) meets
     by (Some tails) (Err (prepare.TooWide what)) is meets =
-        subst (λ wanted. Meets wanted result) (sym (ap (λ w. told asking tails w (question_about test_of network_of value sizes extra)) is)) meets
+        subst (λ wanted. Meets wanted result) (sym (ap (λ w. told asking tails w (question_about test_of network_of value sizes dropped extra)) is)) meets
     by (Some tails) (Err prepare.NoMemory) is meets =
-        no-memory (told asking tails (too_wide (test_of value)) (question_about test_of network_of value sizes extra)) result meets
+        no-memory (told asking tails (too_wide (test_of value)) (question_about test_of network_of value sizes dropped extra)) result meets
 
 -- a prepared problem has the tails of the value that it was prepared of
 pub prepared-tails : {X : Type 0} (test_of : X → ConditionalTest) (value : X) (prepared : Result X PrepareFault) (has : Tails) → has ≡ tails_in (test_of value)

@@ -5,7 +5,8 @@ use Rattle.std.specs.Fmt.{digits}
 use Rattle.csv.specs.Machine.{next_record}
 use Rattle.csv.specs.Reading.{records_from, strip_bom}
 use Rattle.number_text.specs.NumberTexts.{units_of, value_of}
-use Rattle.record_reader.specs.declared.faults.Kind.TheVariants.{EndsEarly}
+use Rattle.record_reader.specs.declared.faults.Kind.TheVariants as kind
+use Rattle.record_reader.specs.declared.missing.Missing.TheVariants.{Drop}
 use Rattle.midranks.specs.Midranks.{doubled_midrank, midranks_among, number_below, number_equal}
 use Rattle.sample_reader.specs.PooledSample.{paired_subjects}
 use Rattle.settings.specs.Options.{settings_without_options}
@@ -13,7 +14,7 @@ use Rattle.settings.specs.declared.names.OptionName.TheVariants as option
 use Rattle.settings.specs.declared.names.TestName.TheVariants as test
 use Rattle.settings.specs.declared.settings.Settings.{Settings}
 use Rattle.settings.specs.declared.tails.TailChoice.TheVariants as choice
-use Rattle.report.specs.Report.{extra_lines, group_line, group_lines, report_text, size_lines, spread_lines, statistic_line, tail_line, tail_lines, title_line, total_line}
+use Rattle.report.specs.Report.{dropped_line, extra_lines, group_line, group_lines, report_text, size_lines, spread_lines, statistic_line, tail_line, tail_lines, title_line, total_line}
 use Rattle.report.specs.declared.refusals.Refusal.TheVariants as refusal
 use Rattle.exact_run.specs.Outcome.{outcome_of_bytes}
 
@@ -23,13 +24,13 @@ rank_sum = settings_without_options test.RankSum (codes "f.csv")
 -- a whole file and its whole report
 six_values : outcome_of_bytes rank_sum (codes "group,value\nx,1\nx,2\nx,3\ny,4\ny,5\ny,6\n")
     ≡ Ok (codes "test ranksum\ngroup 3 x\ngroup 3 y\nstatistic 30/2\ntotal 20\nless 20/20 1.000000\ngreater 1/20 0.050000\ntwo 2/20 0.100000\n")
-unfolding outcome_of_bytes records_from next_record strip_bom value_of units_of paired_subjects midranks_among doubled_midrank number_below number_equal report_text title_line size_lines group_lines group_line extra_lines statistic_line total_line tail_lines tail_line spread_lines digits
+unfolding outcome_of_bytes records_from next_record strip_bom value_of units_of paired_subjects midranks_among doubled_midrank number_below number_equal report_text title_line size_lines group_lines group_line dropped_line extra_lines statistic_line total_line tail_lines tail_line spread_lines digits
 six_values = refl
 
 -- another order of the groups, and one tail
 turned : outcome_of_bytes (record rank_sum { order = codes "y" ∷ codes "x" ∷ []; tail = choice.Less }) (codes "group,value\nx,1\nx,2\ny,3\n")
     ≡ Ok (codes "test ranksum\ngroup 1 y\ngroup 2 x\nstatistic 6/2\ntotal 3\nless 1/3 0.333333\n")
-unfolding outcome_of_bytes records_from next_record strip_bom value_of units_of paired_subjects midranks_among doubled_midrank number_below number_equal report_text title_line size_lines group_lines group_line extra_lines statistic_line total_line tail_lines tail_line spread_lines digits
+unfolding outcome_of_bytes records_from next_record strip_bom value_of units_of paired_subjects midranks_among doubled_midrank number_below number_equal report_text title_line size_lines group_lines group_line dropped_line extra_lines statistic_line total_line tail_lines tail_line spread_lines digits
 turned = refl
 
 -- labels that are not those of the file
@@ -38,6 +39,22 @@ unfolding outcome_of_bytes records_from next_record strip_bom value_of units_of
 other_labels = refl
 
 -- a file that ends too early, before its labels are compared
-one_group : outcome_of_bytes (record rank_sum { order = codes "x" ∷ codes "z" ∷ [] }) (codes "group,value\nx,1\nx,2\n") ≡ Err (refusal.Row (record { row = 3; field = 0; kind = EndsEarly }))
+one_group : outcome_of_bytes (record rank_sum { order = codes "x" ∷ codes "z" ∷ [] }) (codes "group,value\nx,1\nx,2\n") ≡ Err (refusal.Row (record { row = 3; field = 0; kind = kind.EndsEarly }))
 unfolding outcome_of_bytes records_from next_record strip_bom value_of units_of
 one_group = refl
+
+-- rows with a missing field are left out and counted, whatever else is wrong with them
+left_out : outcome_of_bytes (record rank_sum { missing = Drop }) (codes "group,value\nx,1\nx,2\nz,NA\nx,3\ny,4\n,seven\ny,5\ny,6\n")
+    ≡ Ok (codes "test ranksum\ngroup 3 x\ngroup 3 y\ndropped 2\nstatistic 30/2\ntotal 20\nless 20/20 1.000000\ngreater 1/20 0.050000\ntwo 2/20 0.100000\n")
+unfolding outcome_of_bytes records_from next_record strip_bom value_of units_of paired_subjects midranks_among doubled_midrank number_below number_equal report_text title_line size_lines group_lines group_line dropped_line extra_lines statistic_line total_line tail_lines tail_line spread_lines digits
+left_out = refl
+
+-- where they are not, the first of them is a fault
+not_left_out : outcome_of_bytes rank_sum (codes "group,value\nx,1\nx,NA\n,seven\n") ≡ Err (refusal.Row (record { row = 3; field = 2; kind = kind.Missing }))
+unfolding outcome_of_bytes records_from next_record strip_bom value_of units_of
+not_left_out = refl
+
+-- where all rows are left out, the file ends too early at its last one
+none_left : outcome_of_bytes (record (settings_without_options test.Sign (codes "f.csv")) { missing = Drop }) (codes "d\nNA\n \n") ≡ Err (refusal.Row (record { row = 3; field = 0; kind = kind.EndsEarly }))
+unfolding outcome_of_bytes records_from next_record strip_bom value_of units_of
+none_left = refl

@@ -1,5 +1,5 @@
 -- What each step of a run answers: the wanted result, or a refusal with its cause.
-use Rattle.std.specs.Prelude.{◌≡◌, ⊤, Option, Some, None, IfSome, Result, Ok, Err}
+use Rattle.std.specs.Prelude.{◌≡◌, ℕ, ⊤, Option, Some, None, IfSome, Result, Ok, Err}
 use Rattle.weights.specs.Conditional.{ConditionalTest}
 use Rattle.weights.specs.declared.tails.Tail.{Tail}
 use Rattle.weights.specs.declared.tails.Tails.{Tails}
@@ -42,10 +42,10 @@ ComesTo rose known (Err cause) = IsCauseIn rose known cause
 
 -- what a prepared problem, or why it is not prepared, comes to
 abbrev pub prepared_outcome : {V : Type 0} → (V → ConditionalTest) → (V → Tail → Network)
-    → Asking → Sizes → Extra → Option Tails → Result V PrepareFault → Outcome
-prepared_outcome test_of network_of asking sizes extra None prepared =
+    → Asking → Sizes → Option ℕ → Extra → Option Tails → Result V PrepareFault → Outcome
+prepared_outcome test_of network_of asking sizes dropped extra None prepared =
     Err (refusal.Unfit option.Tail)
-prepared_outcome test_of network_of asking sizes extra (Some tails) (Err fault) =
+prepared_outcome test_of network_of asking sizes dropped extra (Some tails) (Err fault) =
     Err (prepare_refusal fault)
-prepared_outcome test_of network_of asking sizes extra (Some tails) (Ok problem) =
-    Ok (report_for asking tails (question_about test_of network_of problem sizes extra))
+prepared_outcome test_of network_of asking sizes dropped extra (Some tails) (Ok problem) =
+    Ok (report_for asking tails (question_about test_of network_of problem sizes dropped extra))

@@ -1,10 +1,11 @@
 -- What is asked of groups: the tests of two samples, and of several ones.
-use Rattle.std.specs.Prelude.{ℕ, Bool, List, [], length, bytes_eq, nat_eq, nat_le, Result, Ok, Err, ◌&&◌, if◌then◌else◌}
+use Rattle.std.specs.Prelude.{ℕ, Bool, List, [], length, bytes_eq, nat_eq, nat_le, Option, Result, Ok, Err, ◌&&◌, if◌then◌else◌}
 use Rattle.std.specs.List.{list_all, list_any}
 use Rattle.weights.specs.Results.{and_then, with_fault, with_value}
 use Rattle.sample_reader.specs.GroupLayout.{groups_in}
 use Rattle.sample_reader.specs.Groups.{GroupData, group_sizes}
 use Rattle.sample_reader.specs.Orders.{reordered}
+use Rattle.sample_reader.specs.declared.layout.Layout.TheVariants as layout
 use Rattle.scores.specs.declared.kinds.ScoreKind.{ScoreKind}
 use Rattle.settings.specs.declared.names.OptionName.TheVariants as option
 use Rattle.settings.specs.declared.settings.Settings.{Settings}
@@ -19,7 +20,7 @@ use Rattle.two_sample_tests.specs.TwoSamples.{two_sample_test}
 use Rattle.k_sample_tests.specs.KSamples.{k_sample_network, k_sample_test}
 use Rattle.k_sample_tests.specs.declared.k_sample.KSample.{KSample}
 use Rattle.k_sample_tests.specs.declared.k_sample.KSample.TheVariants.{Differing, Ordered}
-use Rattle.exact_run.specs.Question.{Question, layout_refusal, question_about}
+use Rattle.exact_run.specs.Question.{Question, dropped_told, layout_refusal, question_about}
 
 -- ---- groups
 
@@ -41,7 +42,11 @@ in_order order groups =
 abbrev pub groups_of : ℕ → Settings → List (List (List ℕ)) → Result GroupData Refusal
 groups_of most settings rows =
     and_then (in_order settings.order)
-    (with_fault layout_refusal (groups_in most settings.picks rows))
+    (with_fault layout_refusal (groups_in most settings.missing settings.picks rows))
+
+-- how many rows are left out
+abbrev pub groups_dropped : Settings → List (List (List ℕ)) → Option ℕ
+groups_dropped settings = dropped_told settings layout.Groups
 
 abbrev pub group_rows : GroupData → Sizes
 group_rows groups = sizes.Groups groups.labels (group_sizes groups)
@@ -49,54 +54,59 @@ group_rows groups = sizes.Groups groups.labels (group_sizes groups)
 -- ---- two samples
 
 -- their test by the scores of a kind
-abbrev pub two_sample_question : ScoreKind → GroupData → Question
-two_sample_question kind groups =
+abbrev pub two_sample_question : ScoreKind → Option ℕ → GroupData → Question
+two_sample_question kind dropped groups =
     question_about two_sample_test two_sample_network (record { kind = kind; groups = groups })
-    (group_rows groups) extra.None
+    (group_rows groups) dropped extra.None
 
 abbrev pub two_samples_of : ScoreKind → Settings → List (List (List ℕ)) → Result Question Refusal
 two_samples_of kind settings rows =
-    with_value (two_sample_question kind) (groups_of 2 settings rows)
+    with_value (two_sample_question kind (groups_dropped settings rows))
+    (groups_of 2 settings rows)
 
 -- ---- several samples
 
-abbrev pub k_sample_question : KSample → GroupData → Extra → Question
-k_sample_question samples groups extra =
-    question_about k_sample_test k_sample_network samples (group_rows groups) extra
+abbrev pub k_sample_question : KSample → GroupData → Option ℕ → Extra → Question
+k_sample_question samples groups dropped extra =
+    question_about k_sample_test k_sample_network samples (group_rows groups) dropped extra
 
 -- whether they differ, by the scores of a kind
-abbrev pub kruskal_wallis_question : ScoreKind → GroupData → Question
-kruskal_wallis_question kind groups =
-    k_sample_question (Differing (record { kind = kind; groups = groups })) groups
+abbrev pub kruskal_wallis_question : ScoreKind → Option ℕ → GroupData → Question
+kruskal_wallis_question kind dropped groups =
+    k_sample_question (Differing (record { kind = kind; groups = groups })) groups dropped
     (extra.Scores kind)
 
 abbrev pub kruskal_wallis_of : Settings → List (List (List ℕ)) → Result Question Refusal
 kruskal_wallis_of settings rows =
-    with_value (kruskal_wallis_question settings.scores) (groups_of 8 settings rows)
+    with_value (kruskal_wallis_question settings.scores (groups_dropped settings rows))
+    (groups_of 8 settings rows)
 
 -- groups that are ordered have their peak at the last one
-abbrev pub ordered_question : GroupData → Question
-ordered_question groups =
+abbrev pub ordered_question : Option ℕ → GroupData → Question
+ordered_question dropped groups =
     k_sample_question (Ordered (record { peak = length groups.labels; groups = groups })) groups
-    extra.None
+    dropped extra.None
 
 abbrev pub ordered_of : Settings → List (List (List ℕ)) → Result Question Refusal
-ordered_of settings rows = with_value ordered_question (groups_of 8 settings rows)
+ordered_of settings rows =
+    with_value (ordered_question (groups_dropped settings rows)) (groups_of 8 settings rows)
 
 -- the peak is the number of a group, from 1
 abbrev pub has_peak : ℕ → GroupData → Bool
 has_peak peak groups = nat_le 1 peak && nat_le peak (length groups.labels)
 
-abbrev pub peaked_question : ℕ → GroupData → Question
-peaked_question peak groups =
-    k_sample_question (Ordered (record { peak = peak; groups = groups })) groups (extra.Peak peak)
+abbrev pub peaked_question : ℕ → Option ℕ → GroupData → Question
+peaked_question peak dropped groups =
+    k_sample_question (Ordered (record { peak = peak; groups = groups })) groups dropped
+    (extra.Peak peak)
 
 -- the groups rise up to the peak and fall behind it
-abbrev pub umbrella_question : ℕ → GroupData → Result Question Refusal
-umbrella_question peak groups =
-    if has_peak peak groups then Ok (peaked_question peak groups)
+abbrev pub umbrella_question : ℕ → Option ℕ → GroupData → Result Question Refusal
+umbrella_question peak dropped groups =
+    if has_peak peak groups then Ok (peaked_question peak dropped groups)
     else Err (refusal.Unfit option.Peak)
 
 abbrev pub umbrella_of : Settings → List (List (List ℕ)) → Result Question Refusal
 umbrella_of settings rows =
-    and_then (umbrella_question settings.peak) (groups_of 8 settings rows)
+    and_then (umbrella_question settings.peak (groups_dropped settings rows))
+    (groups_of 8 settings rows)

@@ -1,6 +1,6 @@
 -- Data that are made from a number: two samples of forty values, by a linear congruential generator
 -- with the multiplier and the increment of the C standard's example of `rand`, modulo 2 ^ 31.
-use Rattle.std.specs.Prelude.{ℕ, zero, suc, ◌+◌, ◌*◌, ◌/◌, ◌%◌, ◌^◌, List, [], ◌∷◌, ◌++◌, ℤ, pos, codes, replicate}
+use Rattle.std.specs.Prelude.{ℕ, zero, suc, ◌+◌, ◌*◌, ◌/◌, ◌%◌, ◌^◌, List, [], ◌∷◌, ◌++◌, ℤ, pos, None, codes, replicate}
 use Rattle.sample_reader.specs.Groups.{GroupData}
 use Rattle.scores.specs.declared.kinds.ScoreKind.TheVariants.{Wilcoxon}
 use Rattle.exact_run.specs.GroupQuestions.{two_sample_question}
@@ -39,6 +39,6 @@ made_groups number = record {
   values = two_samples_made number;
 }
 
--- the rank sum test of them
+-- the rank sum test of them, which are in no rows
 abbrev pub made_question : ℕ → Question
-made_question number = two_sample_question Wilcoxon (made_groups number)
+made_question number = two_sample_question Wilcoxon None (made_groups number)

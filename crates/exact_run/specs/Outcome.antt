@@ -98,7 +98,7 @@ asking_of_made number = record {
 -- the report of a question for some tails
 abbrev pub report_for : Asking → Tails → Question → List ℕ
 report_for asking tails question =
-    report_text asking.title question.sizes question.extra
+    report_text asking.title question.sizes question.dropped question.extra
     (answer_of question.test question.opened tails (way_of asking.plain))
     asking.nodes (spread_of asking.distribution question.test)
 

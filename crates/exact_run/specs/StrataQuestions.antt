@@ -1,5 +1,5 @@
 -- What is asked of strata of tables of two rows and two columns.
-use Rattle.std.specs.Prelude.{ℕ, ◌/◌, List, length, Result}
+use Rattle.std.specs.Prelude.{ℕ, ◌/◌, List, length, None, Result}
 use Rattle.std.specs.List.{sum}
 use Rattle.weights.specs.Results.{with_fault, with_value}
 use Rattle.table_reader.specs.StrataLayout.{strata_in}
@@ -18,7 +18,7 @@ strata_sizes cells = sizes.Strata (length cells / 4) (sum cells)
 
 abbrev pub strata_question : List ℕ → Question
 strata_question cells =
-    question_about strata_test strata_network cells (strata_sizes cells) extra.None
+    question_about strata_test strata_network cells (strata_sizes cells) None extra.None
 
 abbrev pub strata_of : Settings → List (List (List ℕ)) → Result Question Refusal
 strata_of settings rows =

@@ -1,5 +1,5 @@
 -- What is asked of tables of counts.
-use Rattle.std.specs.Prelude.{ℕ, ◌==◌, Bool, true, false, List, [], length, ℤ, pos, map, Result, Ok, Err, if◌then◌else◌}
+use Rattle.std.specs.Prelude.{ℕ, ◌==◌, Bool, true, false, List, [], length, ℤ, pos, map, None, Result, Ok, Err, if◌then◌else◌}
 use Rattle.std.specs.List.{range_with_len, sum}
 use Rattle.weights.specs.Results.{and_then, with_fault, with_value}
 use Rattle.table_reader.specs.TableLayout.{TableData, table_in}
@@ -31,7 +31,7 @@ table_sizes table = sizes.Table table.rows table.columns (sum table.cells)
 abbrev pub mcnemar_question : TableData → Question
 mcnemar_question table =
     question_about one_sample_test one_sample_network (discordant table) (table_sizes table)
-    extra.None
+    None extra.None
 
 abbrev pub mcnemar_of : Settings → List (List (List ℕ)) → Result Question Refusal
 mcnemar_of settings rows = with_value mcnemar_question (table_of true settings rows)
@@ -40,7 +40,7 @@ mcnemar_of settings rows = with_value mcnemar_question (table_of true settings r
 
 abbrev pub fisher_question : TableData → Question
 fisher_question table =
-    question_about table_test table_network (Fisher table) (table_sizes table) extra.None
+    question_about table_test table_network (Fisher table) (table_sizes table) None extra.None
 
 abbrev pub fisher_of : Settings → List (List (List ℕ)) → Result Question Refusal
 fisher_of settings rows = with_value fisher_question (table_of false settings rows)
@@ -61,7 +61,7 @@ fitting_scores name count given =
 abbrev pub linear_question : TableData → List ℤ → List ℤ → Question
 linear_question table row_scores column_scores =
     question_about table_test table_network (Linear (scored_of table row_scores column_scores))
-    (table_sizes table) extra.None
+    (table_sizes table) None extra.None
 
 -- the scores of rows are looked at before those of columns
 abbrev pub scored_question : Settings → TableData → Result Question Refusal

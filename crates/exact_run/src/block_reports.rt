@@ -4,17 +4,18 @@ ghost use Rattle.record_reader.specs.Layouts.{MayPick};
 ghost use Rattle.weights.specs.Results.{and_then, with_fault};
 ghost use Rattle.sample_reader.specs.Data.{block_data_of};
 ghost use Rattle.block_tests.specs.BlockTests.{TakesCells, has_tail};
-ghost use Rattle.exact_run.specs.BlockQuestions.{block_sizes, blocks_of, blocks_read};
+ghost use Rattle.exact_run.specs.BlockQuestions.{block_sizes, blocks_of, blocks_read, layout_read};
 ghost use Rattle.exact_run.specs.CauseSteps.{IsCauseOf, Meets};
 ghost use Rattle.exact_run.specs.Outcome.{asking_of, outcome_of_question, tails_by};
 ghost use Rattle.exact_run.specs.Question.{layout_refusal};
 
+use crate::dropping::dropped_told;
 use crate::refusing::layout_refusal;
 use crate::reports::{ALL, Asking, GREATER, Heading, report_on};
 use block_tests::{BlockKind, prepare};
 use record_reader::Rows;
 use report::{Extra, Refusal, Sizes};
-use sample_reader::{Blocks, binary_blocks, blocks};
+use sample_reader::{Blocks, Layout, binary_blocks, blocks};
 use settings::Settings;
 use std::alloc::Global;
 use weights::{Bytes, Tails};
@@ -27,17 +28,27 @@ fn blocks_read(
     rows: &Rows,
 ) -> Result<Blocks, Refusal>
     requires { MayPick 2 8 settings.now.picks }
-    ensures ok { let found = blocks_read kind settings.now.picks rows.now in
+    ensures ok { let found = blocks_read kind settings.now.missing settings.now.picks rows.now in
         IfOk result (λ blocks. with_fault layout_refusal found ≡ Ok (block_data_of blocks)) }
     ensures cells { IfOk result (λ blocks. TakesCells kind blocks.cells) }
-    ensures err { let found = blocks_read kind settings.now.picks rows.now in
+    ensures err { let found = blocks_read kind settings.now.missing settings.now.picks rows.now in
         IfErr result (IsCauseOf (with_fault layout_refusal found)) }
 {
     let read = match kind {
-        BlockKind::Cochran => binary_blocks(alloc, rows, &settings.picks),
-        _ => blocks(alloc, rows, &settings.picks),
+        BlockKind::Cochran => binary_blocks(alloc, rows, &settings.picks, settings.missing),
+        _ => blocks(alloc, rows, &settings.picks, settings.missing),
     };
     read.map_err(layout_refusal)
+}
+
+// The layout of the blocks that a test reads.
+fn layout_read(kind: BlockKind) -> Layout
+    ensures { result ≡ layout_read kind }
+{
+    match kind {
+        BlockKind::Cochran => Layout::BinaryBlocks,
+        _ => Layout::Blocks,
+    }
 }
 
 // The tails that a test has.
@@ -74,6 +85,7 @@ pub(crate) fn block_report(
     let problem = prepare(alloc, kind, &blocks);
     let heading = Heading {
         sizes: sizes_of(&blocks),
+        dropped: dropped_told(settings, layout_read(kind), rows),
         extra: Extra::None,
     };
     report_on(

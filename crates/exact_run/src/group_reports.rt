@@ -9,12 +9,13 @@ ghost use Rattle.exact_run.specs.GroupQuestions.{group_rows, groups_of, has_peak
 ghost use Rattle.exact_run.specs.Outcome.{asking_of, outcome_of_question};
 ghost use Rattle.exact_run.specs.Question.{layout_refusal};
 
+use crate::dropping::dropped_told;
 use crate::refusing::layout_refusal;
 use crate::reports::{ALL, Asking, GREATER, Heading, report_on};
 use k_sample_tests::{prepare_kw, prepare_umbrella};
 use record_reader::Rows;
 use report::{Extra, Refusal, Sizes};
-use sample_reader::{Groups, Labels, OrderFault, groups, reorder};
+use sample_reader::{Groups, Labels, Layout, OrderFault, groups, reorder};
 use scores::ScoreKind;
 use settings::{OptionName, Settings};
 use std::alloc::Global;
@@ -36,13 +37,13 @@ fn groups_read(
     requires picks { MayPick 2 2 settings.now.picks }
     requires two { 2 ≤ most }
     requires eight { most ≤ 8 }
-    ensures ok { let found = groups_in most settings.now.picks rows.now in
+    ensures ok { let found = groups_in most settings.now.missing settings.now.picks rows.now in
         IfOk result (λ groups. with_fault layout_refusal found ≡ Ok (data_of groups)) }
     ensures most { IfOk result (λ groups. length groups.labels ≤ most) }
-    ensures err { let found = groups_in most settings.now.picks rows.now in
+    ensures err { let found = groups_in most settings.now.missing settings.now.picks rows.now in
         IfErr result (IsCauseOf (with_fault layout_refusal found)) }
 {
-    groups(alloc, rows, &settings.picks, most).map_err(layout_refusal)
+    groups(alloc, rows, &settings.picks, most, settings.missing).map_err(layout_refusal)
 }
 
 // The groups in the order that is asked, or the refusal of an order that does not fit.
@@ -100,6 +101,7 @@ pub(crate) fn two_sample_report(
     let problem = prepare(alloc, kind, &groups);
     let heading = Heading {
         sizes: sizes_of(groups),
+        dropped: dropped_told(settings, Layout::Groups, rows),
         extra: Extra::None,
     };
     report_on(alloc, Asking::of(settings), &heading, ALL, problem)
@@ -120,6 +122,7 @@ pub(crate) fn kruskal_wallis_report(
     let problem = prepare_kw(alloc, kind, &groups);
     let heading = Heading {
         sizes: sizes_of(groups),
+        dropped: dropped_told(settings, Layout::Groups, rows),
         extra: Extra::Scores(kind),
     };
     report_on(alloc, Asking::of(settings), &heading, GREATER, problem)
@@ -139,6 +142,7 @@ pub(crate) fn ordered_report(
     let problem = prepare_umbrella(alloc, groups.labels.len() as u64, &groups);
     let heading = Heading {
         sizes: sizes_of(groups),
+        dropped: dropped_told(settings, Layout::Groups, rows),
         extra: Extra::None,
     };
     report_on(alloc, Asking::of(settings), &heading, ALL, problem)
@@ -169,6 +173,7 @@ pub(crate) fn umbrella_report(
     let problem = prepare_umbrella(alloc, peak, &groups);
     let heading = Heading {
         sizes: sizes_of(groups),
+        dropped: dropped_told(settings, Layout::Groups, rows),
         extra: Extra::Peak(peak),
     };
     report_on(alloc, Asking::of(settings), &heading, ALL, problem)

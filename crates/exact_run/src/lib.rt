@@ -3,6 +3,7 @@
 
 mod block_reports;
 mod command;
+mod dropping;
 mod group_reports;
 mod made_data;
 mod pair_reports;

@@ -124,6 +124,7 @@ pub(crate) fn made_report(alloc: Global, number: u64) -> Result<Bytes, Refusal>
     let problem = prepare(alloc, ScoreKind::Wilcoxon, &groups);
     let heading = Heading {
         sizes: sizes_of(groups),
+        dropped: None,
         extra: Extra::None,
     };
     report_on(alloc, Asking::of_made(number), &heading, ALL, problem)

@@ -8,12 +8,13 @@ ghost use Rattle.exact_run.specs.Outcome.{asking_of, outcome_of_question};
 ghost use Rattle.exact_run.specs.PairQuestions.{pair_sizes, pairs_of};
 ghost use Rattle.exact_run.specs.Question.{layout_refusal};
 
+use crate::dropping::dropped_told;
 use crate::refusing::layout_refusal;
 use crate::reports::{ALL, Asking, Heading, report_on};
 use one_sample_tests::{SignKind, prepare_pairs, used_pairs};
 use record_reader::Rows;
 use report::{Extra, Refusal, Sizes};
-use sample_reader::{Pairs, pairs};
+use sample_reader::{Layout, Pairs, pairs};
 use settings::Settings;
 use std::alloc::Global;
 use weights::Bytes;
@@ -21,12 +22,12 @@ use weights::Bytes;
 // The pairs of the rows, or the refusal of their fault.
 fn pairs_read(alloc: Global, settings: &Settings, rows: &Rows) -> Result<Pairs, Refusal>
     requires { MayPick 1 2 settings.now.picks }
-    ensures ok { let found = differences_in settings.now.picks rows.now in
+    ensures ok { let found = differences_in settings.now.missing settings.now.picks rows.now in
         IfOk result (λ pairs. with_fault layout_refusal found ≡ Ok pairs.differences) }
-    ensures err { let found = differences_in settings.now.picks rows.now in
+    ensures err { let found = differences_in settings.now.missing settings.now.picks rows.now in
         IfErr result (IsCauseOf (with_fault layout_refusal found)) }
 {
-    pairs(alloc, rows, &settings.picks).map_err(layout_refusal)
+    pairs(alloc, rows, &settings.picks, settings.missing).map_err(layout_refusal)
 }
 
 fn sizes_of(pairs: &Pairs) -> Sizes
@@ -53,6 +54,7 @@ pub(crate) fn pair_report(
     let problem = prepare_pairs(alloc, kind, &pairs);
     let heading = Heading {
         sizes: sizes_of(&pairs),
+        dropped: dropped_told(settings, Layout::Pairs, rows),
         extra: Extra::None,
     };
     report_on(alloc, Asking::of(settings), &heading, ALL, problem)

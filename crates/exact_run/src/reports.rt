@@ -115,6 +115,7 @@ impl Asking {
 #[derive(Drop)]
 pub(crate) struct Heading {
     pub sizes: Sizes,
+    pub dropped: Option<u64>,
     pub extra: Extra,
 }
 
@@ -129,7 +130,7 @@ fn report_for<P: Prepared>(
     requires has { HasTails (P.test problem.now) tails }
     requires fits { too_wide (P.test problem.now) ≡ None }
     ensures { let about = question_about P.test P.network problem.now in
-        let question = about heading.now.sizes heading.now.extra in
+        let question = about heading.now.sizes heading.now.dropped heading.now.extra in
         IfOk result (λ text. text ≡ report_for asking tails question) }
 {
     let way = way_of(asking.plain);
@@ -140,6 +141,7 @@ fn report_for<P: Prepared>(
         asking.title,
         &heading.sizes,
         heading.extra,
+        heading.dropped,
         &answer,
         asking.nodes,
         spread.as_ref(),
@@ -160,7 +162,8 @@ pub(crate) fn report_on<P: Prepared + Drop>(
     requires fits { IfOk prepared (λ problem. too_wide (P.test problem) ≡ None) }
     ensures { let tails = asked asking.tail has in
         let outcome = prepared_outcome P.test P.network asking in
-        Meets (outcome heading.now.sizes heading.now.extra tails prepared) result }
+        let told = outcome heading.now.sizes heading.now.dropped heading.now.extra in
+        Meets (told tails prepared) result }
 {
     let Some(tails) = asked(asking.tail, has) else {
         return Err(Refusal::Unfit(OptionName::Tail));

@@ -53,6 +53,7 @@ pub(crate) fn strata_report(
     let problem = prepare(alloc, &strata);
     let heading = Heading {
         sizes: sizes_of(&strata),
+        dropped: None,
         extra: Extra::None,
     };
     report_on(alloc, Asking::of(settings), &heading, ALL, problem)

@@ -1,5 +1,5 @@
 // The reports of the tests of tables of counts.
-ghost use Rattle.std.specs.Prelude.{◌≡◌, ◌≤◌, pos, length, map, Ok, IfErr, IfOk};
+ghost use Rattle.std.specs.Prelude.{◌≡◌, ◌≤◌, pos, length, map, None, Ok, IfErr, IfOk};
 ghost use Rattle.std.specs.List.{range_with_len};
 ghost use Rattle.record_reader.specs.Layouts.{MayPick};
 ghost use Rattle.weights.specs.Results.{and_then};
@@ -46,6 +46,7 @@ fn table_of(
 // The sizes of a table of a file.
 fn heading_of(table: &Table) -> Heading
     ensures sizes { result.sizes ≡ table_sizes (table_data_of table.now) }
+    ensures dropped { result.dropped ≡ None }
     ensures extra { result.extra ≡ Extra.None }
 {
     Heading {
@@ -54,6 +55,7 @@ fn heading_of(table: &Table) -> Heading
             columns: table.columns,
             sum: cell_sum(table.cells.as_slice()),
         },
+        dropped: None,
         extra: Extra::None,
     }
 }

@@ -9,9 +9,9 @@ use Rattle.settings.specs.declared.names.TestName.TheVariants as test
 use Rattle.settings.specs.declared.names.UsageFault.TheVariants as usage
 use Rattle.report.specs.Decimals.{six_decimals}
 use Rattle.report.specs.Refusals.{refusal_line_text}
-use Rattle.report.specs.Report.{extra_lines, group_line, group_lines, node_line, node_lines, report_text, size_lines, spread_lines, statistic_line, tail_line, tail_lines, title_line, total_line, value_line}
+use Rattle.report.specs.Report.{dropped_line, extra_lines, group_line, group_lines, node_line, node_lines, report_text, size_lines, spread_lines, statistic_line, tail_line, tail_lines, title_line, total_line, value_line}
 use Rattle.report.specs.declared.headings.Extra.TheVariants as extra
-use Rattle.report.specs.declared.headings.Sizes.TheVariants.{Groups, Table}
+use Rattle.report.specs.declared.headings.Sizes.TheVariants.{Groups, Pairs, Table}
 use Rattle.report.specs.declared.headings.Title.TheVariants.{Drill, Test}
 use Rattle.report.specs.declared.refusals.Refusal.TheVariants as refusal
 
@@ -29,7 +29,7 @@ nearly_one = refl
 
 -- two samples of three values, with the open keys of each tail
 ranks :
-    report_text (Test test.RankSum) (Groups (codes "x" ∷ codes "y" ∷ []) (3 ∷ 3 ∷ [])) extra.None (record {
+    report_text (Test test.RankSum) (Groups (codes "x" ∷ codes "y" ∷ []) (3 ∷ 3 ∷ [])) None extra.None (record {
       statistic = pos 30;
       scale = 2;
       total = 20;
@@ -38,12 +38,12 @@ ranks :
       two = Some (record { sum = 2; opened = 5 });
     }) true None
     ≡ codes "test ranksum\ngroup 3 x\ngroup 3 y\nstatistic 30/2\ntotal 20\nless 20/20 1.000000\ngreater 1/20 0.050000\ntwo 2/20 0.100000\nnodes less 0\nnodes greater 3\nnodes two 5\n"
-unfolding report_text title_line size_lines group_lines group_line extra_lines statistic_line total_line tail_lines tail_line node_lines node_line spread_lines digits
+unfolding report_text title_line size_lines group_lines group_line dropped_line extra_lines statistic_line total_line tail_lines tail_line node_lines node_line spread_lines digits
 ranks = refl
 
 -- a table with a negative value in the distribution, and one tail
 linear :
-    report_text (Test test.Linear) (Table 2 3 4) extra.None (record {
+    report_text (Test test.Linear) (Table 2 3 4) None extra.None (record {
       statistic = negsuc 3;
       scale = 1;
       total = 6;
@@ -52,8 +52,27 @@ linear :
       two = None;
     }) false (Some (record { value = negsuc 3; weight = 1 } ∷ record { value = pos 2; weight = 5 } ∷ []))
     ≡ codes "test linear\ntable 2 by 3 sum 4\nstatistic -4/1\ntotal 6\nless 1/6 0.166667\nat -4 1\nat 2 5\n"
-unfolding report_text title_line size_lines extra_lines statistic_line total_line tail_lines tail_line spread_lines value_line digits
+unfolding report_text title_line size_lines dropped_line extra_lines statistic_line total_line tail_lines tail_line spread_lines value_line digits
 linear = refl
+
+-- six pairs, and two rows more that were left out
+left_out :
+    report_text (Test test.Sign) (Pairs 6 5) (Some 2) extra.None (record {
+      statistic = pos 5;
+      scale = 1;
+      total = 32;
+      less = None;
+      greater = Some (record { sum = 1; opened = 0 });
+      two = None;
+    }) false None
+    ≡ codes "test sign\nrows 6 used 5\ndropped 2\nstatistic 5/1\ntotal 32\ngreater 1/32 0.031250\n"
+unfolding report_text title_line size_lines dropped_line extra_lines statistic_line total_line tail_lines tail_line spread_lines digits
+left_out = refl
+
+-- rows are told to be left out also where none is, and before what a test has beside the sizes
+none_left_out : dropped_line (Some 0) ++ extra_lines (extra.Scores Raw) ≡ codes "dropped 0\nscores raw\n"
+unfolding dropped_line extra_lines digits
+none_left_out = refl
 
 heads : title_line (Drill 7) ++ extra_lines (extra.Scores Raw) ++ extra_lines (extra.Peak 2) ≡ codes "test drill 7\nscores raw\npeak 2\n"
 unfolding title_line extra_lines digits

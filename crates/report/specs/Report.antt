@@ -54,6 +54,11 @@ size_lines (Table rows columns sum) =
 size_lines (Strata strata sum) =
     line (codes "strata " ++ decimal strata ++ codes " sum " ++ decimal sum)
 
+-- how many rows with a missing field were left out, where they are
+unfoldable pub dropped_line : Option ℕ → List ℕ
+dropped_line None = []
+dropped_line (Some dropped) = line (codes "dropped " ++ decimal dropped)
+
 -- what a test has beside the sizes
 unfoldable pub extra_lines : Extra → List ℕ
 extra_lines extra.None = []
@@ -106,10 +111,12 @@ spread_lines None = []
 spread_lines (Some lines) = flat_map value_line lines
 
 -- the report of an answer
-unfoldable pub report_text : Title → Sizes → Extra → Answer → Bool → Option (List Line) → List ℕ
-report_text title sizes extra answer nodes spread =
+unfoldable pub report_text : Title → Sizes → Option ℕ → Extra → Answer → Bool → Option (List Line)
+    → List ℕ
+report_text title sizes dropped extra answer nodes spread =
     title_line title
     ++ size_lines sizes
+    ++ dropped_line dropped
     ++ extra_lines extra
     ++ statistic_line answer.statistic answer.scale
     ++ total_line answer.total

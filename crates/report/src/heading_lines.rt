@@ -1,6 +1,6 @@
 // The lines of a report above the numbers of the answer.
 ghost use Rattle.std.specs.Prelude.{◌≡◌, ◌++◌, OnOk};
-ghost use Rattle.report.specs.Report.{extra_lines, group_line, group_lines, size_lines, title_line};
+ghost use Rattle.report.specs.Report.{dropped_line, extra_lines, group_line, group_lines, size_lines, title_line};
 
 use crate::headings::{Extra, Sizes, Title};
 use crate::pieces::{end_line, push_label, push_number, push_words};
@@ -65,6 +65,17 @@ pub(crate) fn push_sizes(text: &mut Bytes, sizes: &Sizes) -> Result<(), NoMemory
             push_number(text, "strata ", *strata)?;
             end_line(text, " sum ", *sum)
         }
+    }
+}
+
+// Adds how many rows were left out, where they are.
+#[tactic(auto, unfolding(crate::specs::Report::dropped_line))]
+pub(crate) fn push_dropped(text: &mut Bytes, dropped: Option<u64>) -> Result<(), NoMemory>
+    ensures { OnOk result (text.new ≡ text.old ++ dropped_line dropped) }
+{
+    match dropped {
+        Some(count) => end_line(text, "dropped ", count),
+        None => Ok(()),
     }
 }
 

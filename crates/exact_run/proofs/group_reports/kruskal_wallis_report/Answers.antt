@@ -2,7 +2,7 @@ use Rattle.sample_reader.specs.Data.{data_of}
 use Rattle.report.specs.declared.headings.Extra.TheVariants as extra
 use Rattle.k_sample_tests.specs.KSamples.{k_sample_network, k_sample_test}
 use Rattle.k_sample_tests.specs.declared.k_sample.KSample.TheVariants.{Differing}
-use Rattle.exact_run.specs.GroupQuestions.{group_rows}
+use Rattle.exact_run.specs.GroupQuestions.{group_rows, groups_dropped}
 use Rattle.exact_run.specs.Outcome.{asking_of}
 use Rattle.exact_run.proofs.Asking.{asked_outcome}
 use Rattle.exact_run.proofs.group_reports.kruskal_wallis_report.Goals as goal
@@ -10,6 +10,7 @@ use Rattle.exact_run.proofs.group_reports.kruskal_wallis_report.Goals as goal
 pub returns : goal.returns
 returns c =
     let groups = data_of c.in_ok-groups.groups in
+    let dropped = groups_dropped c.args.settings.now c.args.rows.now in
     rw c.in_ok-groups.ensures.ok
-    (asked_outcome k_sample_test k_sample_network (asking_of c.args.settings.now) (group_rows groups) (extra.Scores c.args.settings.now.scores)
-    (Differing (record { kind = c.args.settings.now.scores; groups = groups })) _ _ c.prepare_kw-problem.ensures (rw (c.of.ensures, c.sizes_of.ensures) at c.report_on.ensures))
+    (asked_outcome k_sample_test k_sample_network (asking_of c.args.settings.now) (group_rows groups) dropped (extra.Scores c.args.settings.now.scores)
+    (Differing (record { kind = c.args.settings.now.scores; groups = groups })) _ _ c.prepare_kw-problem.ensures (rw (c.of.ensures, c.sizes_of.ensures, c.dropped_told.ensures) at c.report_on.ensures))

@@ -1,3 +1,4 @@
+use Rattle.std.proofs.Common.{None}
 use Rattle.report.specs.declared.headings.Extra.TheVariants as extra
 use Rattle.stratified_tests.specs.StrataNetwork.{strata_network}
 use Rattle.stratified_tests.specs.StrataTests.{strata_test}
@@ -10,5 +11,5 @@ pub returns : goal.returns
 returns c =
     let cells = c.in_ok-strata.strata.cells in
     rw c.in_ok-strata.ensures.ok
-    (asked_outcome strata_test strata_network (asking_of c.args.settings.now) (strata_sizes cells) extra.None
+    (asked_outcome strata_test strata_network (asking_of c.args.settings.now) (strata_sizes cells) None extra.None
     cells _ _ c.prepare-problem.ensures (rw (c.of.ensures, c.sizes_of.ensures) at c.report_on.ensures))

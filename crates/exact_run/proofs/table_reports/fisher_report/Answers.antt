@@ -1,3 +1,4 @@
+use Rattle.std.proofs.Common.{None}
 use Rattle.table_reader.specs.Data.{table_data_of}
 use Rattle.report.specs.declared.headings.Extra.TheVariants as extra
 use Rattle.table_tests.specs.FisherExact.{fisher_test}
@@ -18,5 +19,5 @@ pub returns : goal.returns
 returns c =
     let table = table_data_of c.in_ok-table.table in
     rw c.in_ok-table.ensures.ok
-    (asked_outcome table_test table_network (asking_of c.args.settings.now) (table_sizes table) extra.None
-    (Fisher table) _ _ c.prepare_fisher-problem.ensures (rw (c.of.ensures, c.heading_of.ensures.sizes, c.heading_of.ensures.extra, same-tails c.fisher_tails-tails.result (fisher_test table).has_tail c.fisher_tails-tails.ensures) at c.report_on.ensures))
+    (asked_outcome table_test table_network (asking_of c.args.settings.now) (table_sizes table) None extra.None
+    (Fisher table) _ _ c.prepare_fisher-problem.ensures (rw (c.of.ensures, c.heading_of.ensures.sizes, c.heading_of.ensures.dropped, c.heading_of.ensures.extra, same-tails c.fisher_tails-tails.result (fisher_test table).has_tail c.fisher_tails-tails.ensures) at c.report_on.ensures))

@@ -1,3 +1,4 @@
+use Rattle.std.proofs.Common.{None}
 use Rattle.table_reader.specs.Data.{table_data_of}
 use Rattle.report.specs.declared.headings.Extra.TheVariants as extra
 use Rattle.table_tests.specs.TableSteps.{scored_of}
@@ -36,6 +37,6 @@ returns c =
     let us = c.in_ok-row_scores.row_scores in
     let vs = c.in_ok-column_scores.column_scores in
     rw (c.in_ok-table.ensures.ok, c.in_ok-row_scores.ensures.ok, c.in_ok-column_scores.ensures.ok)
-    (asked_outcome table_test table_network (asking_of c.args.settings.now) (table_sizes table) extra.None
+    (asked_outcome table_test table_network (asking_of c.args.settings.now) (table_sizes table) None extra.None
     (Linear (scored_of table us vs)) _ _ (rw (c.as_slice.ensures, c.as_slice-2.ensures) at c.prepare_linear-problem.ensures)
-    (rw (c.of.ensures, c.heading_of.ensures.sizes, c.heading_of.ensures.extra) at c.report_on.ensures))
+    (rw (c.of.ensures, c.heading_of.ensures.sizes, c.heading_of.ensures.dropped, c.heading_of.ensures.extra) at c.report_on.ensures))

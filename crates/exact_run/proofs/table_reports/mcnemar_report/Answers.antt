@@ -1,3 +1,4 @@
+use Rattle.std.proofs.Common.{None}
 use Rattle.table_reader.specs.Data.{table_data_of}
 use Rattle.report.specs.declared.headings.Extra.TheVariants as extra
 use Rattle.one_sample_tests.specs.SignNetwork.{one_sample_network}
@@ -11,5 +12,5 @@ pub returns : goal.returns
 returns c =
     let table = table_data_of c.in_ok-table.table in
     rw c.in_ok-table.ensures.ok
-    (asked_outcome one_sample_test one_sample_network (asking_of c.args.settings.now) (table_sizes table) extra.None
-    (discordant table) _ _ c.prepare_mcnemar-problem.ensures (rw (c.of.ensures, c.heading_of.ensures.sizes, c.heading_of.ensures.extra) at c.report_on.ensures))
+    (asked_outcome one_sample_test one_sample_network (asking_of c.args.settings.now) (table_sizes table) None extra.None
+    (discordant table) _ _ c.prepare_mcnemar-problem.ensures (rw (c.of.ensures, c.heading_of.ensures.sizes, c.heading_of.ensures.dropped, c.heading_of.ensures.extra) at c.report_on.ensures))

@@ -10,4 +10,4 @@ returns c =
       | then-nodes+in_ok-push_nodes w ↦ w.text-is ∙ rw w.if-nodes.true w.in_ok-push_nodes.ensures
       | else-nodes w ↦ w.text-is ∙ rw w.if-nodes.false (sym (append-nil c.push_tails.new.text))
     ] in
-    rw (c.in_ok-push_spread.ensures, nodes, c.in_ok-push_tails.ensures, c.in_ok-push_total.ensures, c.in_ok-push_statistic.ensures, c.in_ok-push_extra.ensures, c.in_ok-push_sizes.ensures, c.in_ok-push_title.ensures, c.empty-text.ensures) refl
+    rw (c.in_ok-push_spread.ensures, nodes, c.in_ok-push_tails.ensures, c.in_ok-push_total.ensures, c.in_ok-push_statistic.ensures, c.in_ok-push_extra.ensures, c.in_ok-push_dropped.ensures, c.in_ok-push_sizes.ensures, c.in_ok-push_title.ensures, c.empty-text.ensures) refl
