@@ -8,9 +8,9 @@
 #   exact_test("friedman", d)                        a data frame: its columns are the fields
 #
 # Further arguments are the options of the program, with _ for the dash: tail = "less", order = c("b", "a"),
-# row_scores = 1:4, nodes = TRUE, missing = "drop", which leaves out rows with an NA. The answer is an htest; `numerator`,
-# `denominator` and `total` are texts, since a double does not hold them, `tails` has every tail that was asked, and
-# `distribution` the whole distribution where it was asked.
+# row_scores = 1:4, nodes = TRUE. The answer is an htest; `numerator`, `denominator` and `total` are texts, since a double
+# does not hold them, `tails` has every tail that was asked, `distribution` the whole distribution where it was asked, and
+# `dropped` the number of rows that missing = "drop" left out.
 # A refusal is an error of class exact_refused, whose message is the program's line; `status` is its status.
 #
 # Numbers are written with 15 digits, as R shows them, and rounded to 18 decimals where they have more, with a warning.
@@ -100,6 +100,7 @@ exact_report <- function(report, name) {
                  method = paste("Exact test", lines[[1]][2]), data.name = name,
                  numerator = one$numerator, denominator = one$denominator,
                  total = lines[first == "total"][[1]][2], tails = tails, report = as.vector(report))
+  answer$dropped <- if ("dropped" %in% first) as.integer(lines[first == "dropped"][[1]][2])
   at <- lines[first == "at"]
   if (length(at) > 0) {
     answer$distribution <- data.frame(value = as.numeric(vapply(at, `[`, "", 2)) / statistic[2],

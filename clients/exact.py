@@ -14,12 +14,12 @@
     Traceback (most recent call last):
     ...
     exact.BadData: refused: row 4 field 2: missing
-    >>> exact.run("ranksum", {"x": [1, 2, None], "y": [4, 5, 6]}, missing="drop").sizes
-    ('group 2 x', 'group 3 y', 'dropped 1')
+    >>> exact.run("ranksum", {"x": [1, 2, None], "y": [4, 5, 6]}, missing="drop").dropped
+    1
 
 One file, no dependency. Nothing is rounded: a number is written as Python shows it (`repr`), a text or a Decimal as it
-is; None and NaN are written as an empty field, which is missing, and missing="drop" leaves such rows out. A number
-that has more than 18 decimals, such as 3.3333333333333335e-06, is refused as out of range: round it first.
+is; None and NaN are written as an empty field, which is missing. A number that has more than 18 decimals, such as
+3.3333333333333335e-06, is refused as out of range: round it first.
 """
 from __future__ import annotations
 
@@ -84,9 +84,11 @@ class Report:
 
     test: str
     sizes: tuple[str, ...]
-    """The lines between the test and the statistic, as they are printed."""
+    """The lines between the test and the statistic, as they are printed, but for that of dropped rows."""
     statistic: Fraction
     total: int
+    dropped: int | None = None
+    """How many rows were left out, with missing="drop"."""
     less: Fraction | None = None
     greater: Fraction | None = None
     two: Fraction | None = None
@@ -132,8 +134,8 @@ def read(text: str) -> Report:
         elif word == "statistic":
             value, scale = map(int, rest.split("/"))
             found["statistic"] = Fraction(value, scale)
-        elif word == "total":
-            found["total"] = int(rest)
+        elif word in ("total", "dropped"):
+            found[word] = int(rest)
         elif word in ("less", "greater", "two"):
             found[word] = Fraction(parts[0])
         elif word == "nodes":

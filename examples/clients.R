@@ -30,6 +30,8 @@ is_example("diphtheria", exact_test("cochran", data_of("diphtheria"), nodes = TR
 tell(refused(2, "ranksum", c(1, 2), c(3, 4), tail = "left"), "R: refused words")
 tell(refused(3, "ranksum", c(1, NA), 2), "R: a missing value")
 tell(refused(4, "ranksum", 1:66, 1:65), "R: too wide")
+kept <- exact_test("ranksum", c(1, 2, 3, NA), c(4, NA, 5, 6), missing = "drop")
+tell(kept$dropped == 2 && kept$tails$numerator[2] == "1", "R: missing values dropped")
 odd <- data.frame(g = c("a, \"b\"\nc\u00e9", "y"), v = 1:2)
 tell(grepl("a, \"b\"?c", exact_test("ranksum", odd)$report[2], fixed = TRUE), "R: a label with everything")
 long <- tryCatch(exact_test("raw", c(1 / 3e5, 2), 1), warning = function(w) conditionMessage(w))

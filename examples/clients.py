@@ -72,6 +72,9 @@ tell(refused(exact.Usage, "ranksum", six, tail="left"), "Python: refused words")
 tell(refused(exact.BadData, "ranksum", {"x": [1, float("nan")], "y": [2]}), "Python: a missing value")
 tell(refused(exact.TooWide, "ranksum", {"x": range(66), "y": range(65)}), "Python: too wide")
 tell(refused(exact.ReadFault, "ranksum", "no such file"), "Python: a file that is not there")
+gap = {"x": [1, 2, 3, None], "y": [4, float("nan"), 5, 6]}
+kept = exact.run("ranksum", gap, missing="drop")
+tell(kept.dropped == 2 and kept.greater == exact.run("ranksum", six).greater, "Python: missing values dropped")
 odd = 'a, "b"\nc\u00e9'
 tell(exact.run("ranksum", {odd: [1], "y": [2]}).sizes[0] == 'group 1 a, "b"?c\u00e9', "Python: a label with everything")
 fine = exact.run("raw", {"x": [decimal.Decimal("0.123456789012345678")], "y": [1]})

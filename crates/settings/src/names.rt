@@ -105,7 +105,7 @@ pub enum UsageFault {
     #[error("value of an option")]
     Value(OptionName),
     /// The test does not go with the option, or with the tail that it asks for.
-    #[error("option of another test")]
+    #[error("option of other tests")]
     Pairing(OptionName, TestName),
     /// Memory ran out.
     #[error("no memory")]
