@@ -11,6 +11,7 @@ use Rattle.sample_reader.specs.CellLayouts.{binary_blocks_in, blocks_in, differe
 use Rattle.sample_reader.specs.Dropped.{dropped_of}
 use Rattle.sample_reader.specs.GroupLayout.{groups_in}
 use Rattle.sample_reader.specs.Groups.{GroupData, group_sizes}
+use Rattle.sample_reader.specs.declared.TheConstants.{MOST_LABELS}
 use Rattle.sample_reader.specs.declared.layout.Layout.TheVariants.{Pairs, Groups, Blocks, BinaryBlocks}
 use Rattle.record_reader.specs.Layouts.{field_fault, row_fault}
 
@@ -28,6 +29,9 @@ abbrev header : List (List ℕ)
 header = two (codes "group") (codes "value")
 
 -- ---- groups
+
+most_labels : MOST_LABELS ≡ 8
+most_labels = refl
 
 abbrev small : GroupData
 small = record {
