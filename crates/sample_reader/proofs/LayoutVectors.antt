@@ -3,13 +3,16 @@ use Rattle.std.proofs.Common.{◌≡◌, ℕ, ◌-◌, ◌*◌, ◌^◌, pos, ne
 use Rattle.number_text.specs.NumberTexts.{units_of, value_of}
 use Rattle.record_reader.specs.declared.faults.Kind.TheVariants as kind
 use Rattle.record_reader.specs.declared.faults.LayoutFault.{LayoutFault}
-use Rattle.record_reader.specs.declared.missing.Missing.TheVariants.{Refuse}
+use Rattle.record_reader.specs.declared.missing.Missing.TheVariants.{Refuse, Drop}
 use Rattle.record_reader.specs.declared.picks.Picks.{Picks}
 use Rattle.record_reader.specs.declared.faults.LayoutFault.TheVariants.{Columns}
 use Rattle.record_reader.specs.declared.picks.Picks.TheVariants.{Natural, Listed}
 use Rattle.sample_reader.specs.CellLayouts.{binary_blocks_in, blocks_in, differences_in}
+use Rattle.sample_reader.specs.Dropped.{dropped_of}
 use Rattle.sample_reader.specs.GroupLayout.{groups_in}
 use Rattle.sample_reader.specs.Groups.{GroupData, group_sizes}
+use Rattle.sample_reader.specs.declared.TheConstants.{MOST_LABELS}
+use Rattle.sample_reader.specs.declared.layout.Layout.TheVariants.{Pairs, Groups, Blocks, BinaryBlocks}
 use Rattle.record_reader.specs.Layouts.{field_fault, row_fault}
 
 -- a row of one field, of two and of three
@@ -26,6 +29,9 @@ abbrev header : List (List ℕ)
 header = two (codes "group") (codes "value")
 
 -- ---- groups
+
+most_labels : MOST_LABELS ≡ 8
+most_labels = refl
 
 abbrev small : GroupData
 small = record {
@@ -132,3 +138,57 @@ one_treatment = refl
 
 nine_treatments : blocks_in Refuse Natural ((codes "a" ∷ codes "b" ∷ codes "c" ∷ codes "d" ∷ codes "e" ∷ codes "f" ∷ codes "g" ∷ codes "h" ∷ codes "i" ∷ []) ∷ []) ≡ Err (row_fault 1 kind.TooManyColumns)
 nine_treatments = refl
+
+-- ---- dropped rows
+
+-- A label in dropped rows alone, and a fault before the missing field or behind it, change nothing. NA is a label.
+abbrev gaps : List (List (List ℕ))
+gaps = header ∷ two (codes "z") (codes "NA") ∷ two (codes "x") (codes "1") ∷ two (codes " ") (codes "one") ∷ two (codes "NA") (codes "2") ∷ two (codes "w") [] ∷ []
+
+without_gaps : groups_in 2 Drop Natural gaps ≡ Ok (record { labels = codes "x" ∷ codes "NA" ∷ []; members = 0 ∷ 1 ∷ []; values = pos (10 ^ 18) ∷ pos (2 * 10 ^ 18) ∷ [] })
+unfolding units_of value_of
+without_gaps = refl
+
+three_gaps : dropped_of Groups Drop Natural gaps ≡ 3
+three_gaps = refl
+
+no_gap_dropped : dropped_of Groups Refuse Natural gaps ≡ 0
+no_gap_dropped = refl
+
+first_gap : IsFaulty Natural gaps (field_fault 2 2 kind.Missing)
+unfolding units_of value_of
+first_gap = refl
+
+-- a row of another width is not dropped
+short_gap : groups_in 2 Drop Natural (header ∷ two (codes "x") (codes "1") ∷ one [] ∷ []) ≡ Err (row_fault 3 kind.FieldCount)
+unfolding units_of value_of
+short_gap = refl
+
+-- nor is one that misses a field which is not picked
+abbrev beside : List (List (List ℕ))
+beside = three (codes "a") (codes "b") (codes "c") ∷ three (codes "1") (codes "NA") (codes "0") ∷ three [] (codes "1") (codes "1") ∷ three (codes "0") (codes "x") (codes "1") ∷ []
+
+gap_beside : binary_blocks_in Drop (Listed (3 ∷ 1 ∷ [])) beside ≡ Ok (record { blocks = 2; treatments = 2; cells = pos 0 ∷ pos 1 ∷ pos 1 ∷ pos 0 ∷ [] })
+gap_beside = refl
+
+one_gap : dropped_of BinaryBlocks Drop (Listed (3 ∷ 1 ∷ [])) beside ≡ 1
+one_gap = refl
+
+block_left_out : blocks_in Drop Natural (two (codes "a") (codes "b") ∷ two (codes "1") (codes "2") ∷ two (codes "z") (codes "NA") ∷ two (codes "3") (codes "4") ∷ [])
+    ≡ Ok (record { blocks = 2; treatments = 2; cells = pos (10 ^ 18) ∷ pos (2 * 10 ^ 18) ∷ pos (3 * 10 ^ 18) ∷ pos (4 * 10 ^ 18) ∷ [] })
+unfolding units_of value_of
+block_left_out = refl
+
+-- where no row is left, the last row of the file is named
+abbrev all_gaps : List (List (List ℕ))
+all_gaps = one (codes "d") ∷ one (codes "NA") ∷ one [] ∷ []
+
+none_left : differences_in Drop Natural all_gaps ≡ Err (row_fault 3 kind.EndsEarly)
+none_left = refl
+
+all_dropped : dropped_of Pairs Drop Natural all_gaps ≡ 2
+all_dropped = refl
+
+-- a header at fault drops no row
+narrow_header : dropped_of Blocks Drop Natural all_gaps ≡ 0
+narrow_header = refl

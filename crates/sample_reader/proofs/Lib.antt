@@ -1,5 +1,6 @@
 mod Appearances
 mod BinaryBlocks
+mod DroppedGroups
 mod LayoutVectors
 mod OrderLemmas
 mod PooledLemmas

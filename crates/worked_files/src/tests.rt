@@ -8,65 +8,87 @@ use std::alloc::Global;
 use std::test::Fail;
 use weights::{NoMemory, Nums};
 
+// A layout of a stranger's is read by the same rules. Rows that miss a field may be dropped, but not
+// one too many, nor one of another width.
 #[test]
 fn reads_a_layout_of_its_own(rt: HostRuntime) -> Result<(), Fail> {
-    for (text, longest, fault) in [
-        ("a,b\nxx,y\nz,\"a,b\"\n", Some(3), None),
-        ("a,b\nxx,y\nz,\n", None, Some((3, 2, Kind::Missing))),
-        ("a\nx\nx\nx\nx\n", None, Some((5, 0, Kind::TooManyRows))),
-        ("a,b,c,d\n", None, Some((1, 0, Kind::TooManyColumns))),
-        ("a,b\nx\n", None, Some((2, 0, Kind::FieldCount))),
-        ("a\n", None, Some((1, 0, Kind::EndsEarly))),
-        ("", None, Some((1, 0, Kind::NoHeader))),
-    ] {
-        let rows = records(rt.alloc(), text.as_bytes(), b',')?;
-        let answer = longest_field(rt.alloc(), &rows, &Picks::Natural, Missing::Refuse);
-        assert_eq!(rt; answer.ok(), longest, "at {text:?}");
-        let wanted = fault.map(|(row, field, kind)| LayoutFault::At(DataFault {
-            row,
-            field,
-            kind,
-        }));
-        assert!(rt; answer.err() == wanted, "at {text:?}");
-    }
-    Ok(())
-}
-
-// Rows that miss a field are dropped in a layout of a stranger's too: but not one too many, nor one
-// of another width.
-#[test]
-fn drops_rows_of_a_layout_of_its_own(rt: HostRuntime) -> Result<(), Fail> {
-    for (text, dropped, longest, fault) in [
-        ("a,b\nxx,y\nlonger,\n", 1, Some(2), None),
+    for (text, missing, dropped, longest, fault) in [
+        ("a,b\nxx,y\nz,\"a,b\"\n", Missing::Refuse, 0, Some(3), None),
+        (
+            "a,b\nxx,y\nz,\n",
+            Missing::Refuse,
+            0,
+            None,
+            Some((3, 2, Kind::Missing)),
+        ),
+        (
+            "a\nx\nx\nx\nx\n",
+            Missing::Refuse,
+            0,
+            None,
+            Some((5, 0, Kind::TooManyRows)),
+        ),
+        (
+            "a,b,c,d\n",
+            Missing::Refuse,
+            0,
+            None,
+            Some((1, 0, Kind::TooManyColumns)),
+        ),
+        (
+            "a,b\nx\n",
+            Missing::Refuse,
+            0,
+            None,
+            Some((2, 0, Kind::FieldCount)),
+        ),
+        (
+            "a\n",
+            Missing::Refuse,
+            0,
+            None,
+            Some((1, 0, Kind::EndsEarly)),
+        ),
+        ("", Missing::Refuse, 0, None, Some((1, 0, Kind::NoHeader))),
+        ("a,b\nxx,y\nlonger,\n", Missing::Drop, 1, Some(2), None),
         (
             "a,b\nxx,y\n,longer,\n",
+            Missing::Drop,
             0,
             None,
             Some((3, 0, Kind::FieldCount)),
         ),
         (
             "a\n\"\"\nx\nx\nx\n",
+            Missing::Drop,
             1,
             None,
             Some((5, 0, Kind::TooManyRows)),
         ),
         (
             "a\nx\nx\nx\n\"\"\n",
+            Missing::Drop,
             0,
             None,
             Some((5, 0, Kind::TooManyRows)),
         ),
-        ("a\n\"\"\n\"\"\n", 2, None, Some((3, 0, Kind::EndsEarly))),
+        (
+            "a\n\"\"\n\"\"\n",
+            Missing::Drop,
+            2,
+            None,
+            Some((3, 0, Kind::EndsEarly)),
+        ),
         (
             "a,b,c,d\n,,,\n",
+            Missing::Drop,
             0,
             None,
             Some((1, 0, Kind::TooManyColumns)),
         ),
-        ("", 0, None, Some((1, 0, Kind::NoHeader))),
     ] {
         let rows = records(rt.alloc(), text.as_bytes(), b',')?;
-        let answer = longest_field(rt.alloc(), &rows, &Picks::Natural, Missing::Drop);
+        let answer = longest_field(rt.alloc(), &rows, &Picks::Natural, missing);
         assert_eq!(rt; answer.ok(), longest, "at {text:?}");
         let wanted = fault.map(|(row, field, kind)| LayoutFault::At(DataFault {
             row,
@@ -74,7 +96,7 @@ fn drops_rows_of_a_layout_of_its_own(rt: HostRuntime) -> Result<(), Fail> {
             kind,
         }));
         assert!(rt; answer.err() == wanted, "at {text:?}");
-        let told = rows_with_empty_fields(&rows, &Picks::Natural, Missing::Drop);
+        let told = rows_with_empty_fields(&rows, &Picks::Natural, missing);
         assert_eq!(rt; told, dropped, "at {text:?}");
     }
     Ok(())
@@ -98,6 +120,15 @@ fn reads_the_picked_fields(rt: HostRuntime) -> Result<(), Fail> {
     let rows = records(rt.alloc(), b"a,b\nx,yy\n", b',')?;
     assert!(rt;
         longest_field(rt.alloc(), &rows, &picks, Missing::Refuse) == Err(LayoutFault::Columns)
+    );
+    let rows = records(rt.alloc(), b"a,b,c\nx,yy,\n", b',')?;
+    let wanted = DataFault {
+        row: 2,
+        field: 3,
+        kind: Kind::Missing,
+    };
+    assert!(rt;
+        longest_field(rt.alloc(), &rows, &picks, Missing::Refuse) == Err(LayoutFault::At(wanted))
     );
     Ok(())
 }
