@@ -8,8 +8,8 @@ use std::alloc::Global;
 use std::test::Fail;
 use weights::{NoMemory, Nums};
 
-// A layout of a stranger's is read by the same rules. Rows that miss a field may be dropped, but not
-// one too many, nor one of another width.
+// A layout of a stranger's is read by the same rules. Rows that miss a field may be dropped, but
+// not one too many, nor one of another width.
 #[test]
 fn reads_a_layout_of_its_own(rt: HostRuntime) -> Result<(), Fail> {
     for (text, missing, dropped, longest, fault) in [
