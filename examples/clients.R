@@ -27,6 +27,7 @@ is_example("rabbits", exact_test("strata", data_of("rabbits")))
 is_example("mucociliary", exact_test("kw", value ~ in_file_order(group), data = data_of("mucociliary")))
 is_example("diphtheria", exact_test("cochran", data_of("diphtheria"), nodes = TRUE))
 
+for (status in 2:7) tell(refused(status, "ranksum", status, program = Sys.getenv("FAKE")), paste("R: status", status))
 tell(refused(2, "ranksum", c(1, 2), c(3, 4), tail = "left"), "R: refused words")
 tell(refused(3, "ranksum", c(1, NA), 2), "R: a missing value")
 tell(refused(4, "ranksum", 1:66, 1:65), "R: too wide")

@@ -1,6 +1,7 @@
 """Tries the Python client on examples; a line for each: 0 where it came right, else 1, and what was tried."""
 import csv
 import decimal
+import os
 import pathlib
 import sys
 
@@ -68,6 +69,9 @@ for name, answer in runs.items():
     tell(answer().text == wanted, f"Python: {name}")
 
 six = {"x": [1, 2, 3], "y": [4, 5, 6]}
+for status, kind in exact.REFUSALS.items():
+    told = refused(kind, "ranksum", [status], program=os.environ["FAKE"])
+    tell(told and 2 <= status <= 7, f"Python: status {status}")
 tell(refused(exact.Usage, "ranksum", six, tail="left"), "Python: refused words")
 tell(refused(exact.BadData, "ranksum", {"x": [1, float("nan")], "y": [2]}), "Python: a missing value")
 tell(refused(exact.TooWide, "ranksum", {"x": range(66), "y": range(65)}), "Python: too wide")
