@@ -26,5 +26,5 @@ help =
     ++ codes "         --scores KIND --order LABELS --peak P" ++ line_feed
     ++ codes "         --row-scores LIST --column-scores LIST" ++ line_feed
     ++ codes "         --columns LIST --separator comma|semicolon|tab" ++ line_feed
-    ++ codes "         --missing refuse|drop" ++ line_feed
     ++ codes "         --distribution --plain --nodes" ++ line_feed
+    ++ codes "         --missing refuse|drop" ++ line_feed

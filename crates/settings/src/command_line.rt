@@ -44,8 +44,8 @@ pub fn help_text() -> &'static str
         "         --scores KIND --order LABELS --peak P\n",
         "         --row-scores LIST --column-scores LIST\n",
         "         --columns LIST --separator comma|semicolon|tab\n",
-        "         --missing refuse|drop\n",
         "         --distribution --plain --nodes\n",
+        "         --missing refuse|drop\n",
     )
 }
 
