@@ -44,7 +44,8 @@ exact_rows <- function(x, y, data, paired) {
   } else if (is.data.frame(x)) {
     rows <- as.data.frame(lapply(x, function(column) if (is.numeric(column)) exact_numbers(column) else as.character(column)))
   } else if (is.matrix(x)) {
-    rows <- as.data.frame(apply(unclass(x), 2, exact_numbers))
+    rows <- as.data.frame(lapply(seq_len(ncol(x)), function(column) exact_numbers(x[, column])),
+                          col.names = paste0("column", seq_len(ncol(x))))
   } else if (is.null(y)) {
     rows <- data.frame(value = exact_numbers(x))
   } else if (paired) {
