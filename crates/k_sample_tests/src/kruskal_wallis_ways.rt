@@ -7,7 +7,7 @@ use crate::kruskal_wallis::KruskalWallis;
 use crate::packed_sums::{PackedSums, half_for};
 use crate::rank_sums::RankSums;
 use enumerate::{Plain, first_labelling, next_labelling};
-use label_network::LabelStages;
+use label_network::{LabelStages, label_stages};
 use stage_network::{Judge, OneOf, Prepared};
 use std::alloc::Global;
 use weights::{Bytes, Frame, NoMemory, Tail};
@@ -91,9 +91,9 @@ impl Prepared for KruskalWallis {
         )?;
         if fits_one(made.sum, rows.len()) {
             let packed = PackedSums::new(measure, made.sum);
-            Ok(OneOf::First(LabelStages::new(alloc, columns, rows, packed)?))
+            Ok(OneOf::First(label_stages(alloc, columns, rows, packed)?))
         } else {
-            Ok(OneOf::Second(LabelStages::new(alloc, columns, rows, measure)?))
+            Ok(OneOf::Second(label_stages(alloc, columns, rows, measure)?))
         }
     }
 }

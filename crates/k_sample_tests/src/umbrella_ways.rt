@@ -3,7 +3,7 @@ use crate::pair_counts::PairCounts;
 use crate::pair_points::labelling_points;
 use crate::umbrella::Umbrella;
 use enumerate::{Plain, first_labelling, next_labelling};
-use label_network::LabelStages;
+use label_network::{LabelStages, label_stages};
 use stage_network::{Judge, Prepared};
 use std::alloc::Global;
 use weights::{Bytes, Frame, NoMemory, Tail};
@@ -70,6 +70,6 @@ impl Prepared for Umbrella {
         let columns = made.columns.as_slice();
         let judge = Judge { tail, rule };
         let measure = PairCounts::new(alloc, made.pairs.as_slice(), rows, columns, judge)?;
-        LabelStages::new(alloc, columns, rows, measure)
+        label_stages(alloc, columns, rows, measure)
     }
 }

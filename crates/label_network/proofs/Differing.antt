@@ -1,6 +1,6 @@
--- The choices at a key are all different.
-use Rattle.std.proofs.Common.{◌≡◌, ◌≢◌, ℕ, zero, suc, ◌+◌, ◌≤◌, List, [], ◌∷◌, length, get_or, All, AllPairs, Bool, true, false, cond, ◌&&◌, refl, sym, ◌∙◌, ap, arith, nat_eq, nat_lt}
-use Rattle.std.specs.Prelude.{ℤ, Contains, slice_index}
+-- The choices of a column are all different.
+use Rattle.std.proofs.Common.{◌≡◌, ◌≢◌, ℕ, zero, suc, ◌+◌, ◌≤◌, List, [], ◌∷◌, get_or, All, AllPairs, Bool, true, false, ◌&&◌, refl, sym, ◌∙◌, ap, arith, nat_eq}
+use Rattle.std.specs.Prelude.{Contains}
 use Rattle.std.specs.List.{count_by, sum}
 use Rattle.std.specs.Cmp.Lexicographic.{pointwise}
 use Rattle.std.proofs.lemmas.List.{get_or_default}
@@ -12,9 +12,6 @@ use Rattle.weights.proofs.ChoiceLists.{IsChoice, choices-each}
 use Rattle.weights.proofs.Chosen.{chosen_once, one_if}
 use Rattle.weights.proofs.Filters.{all_weaker}
 use Rattle.weights.proofs.Members.{same_refl}
-use Rattle.stage_network.specs.Network.{IsReached}
-use Rattle.label_network.specs.LabelNetwork.{label_network, remaining}
-use Rattle.label_network.specs.Meanings.{Meaning, allowed}
 
 -- how often a list of counts stands in another list, where one more is put before that
 grown : (x y : List ℕ) (xs : List (List ℕ)) → count_by (pointwise nat_eq x) (y ∷ xs) ≡ one_if (pointwise nat_eq x y) + count_by (pointwise nat_eq x) xs
@@ -55,14 +52,3 @@ pub choices-differ : (c : ℕ) (r : List ℕ) → AllPairs ◌≢◌ (choices c 
 choices-differ c r =
     differing (choices c r) (All-from_recursion (λ x. count_by (pointwise nat_eq x) (choices c r) ≤ 1) (choices c r)
     (all_weaker (IsChoice c r) (λ x. count_by (pointwise nat_eq x) (choices c r) ≤ 1) (λ x o. omega (arith, chosen_once c r x o.long, one-most (nat_eq c (sum x) && fits x r))) (choices c r) (choices-each c r)))
-
-none-differ : AllPairs {X = List ℕ} ◌≢◌ []
-none-differ i j d below within = absurd (omega (arith, within))
-
--- those of a key of a measure's network
-pub label_different : (m : Meaning) (g : ℕ) (k : List ℤ) → IsReached (label_network m) g k → AllPairs ◌≢◌ ((label_network m).choices g k)
-label_different m g k r = by (nat_lt g (length m.columns))
-  where
-    by : (b : Bool) → AllPairs ◌≢◌ (cond b (allowed m g (remaining m k)) [])
-    by true = choices-differ (slice_index m.columns g) (remaining m k)
-    by false = none-differ

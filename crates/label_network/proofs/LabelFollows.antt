@@ -1,21 +1,22 @@
 -- A measure's network follows a test of labellings that measures the same of each labelling.
-use Rattle.std.proofs.Common.{◌≡◌, ℕ, List, Bool, cond, refl, sym, ◌∙◌, ap, subst}
-use Rattle.std.specs.Prelude.{ℤ}
+use Rattle.std.proofs.Common.{◌≡◌, ℕ, ◌*◌, List, length, sym, ◌∙◌, ap, subst}
 use Rattle.std.specs.List.{sum_by, Contains}
-use Rattle.std.proofs.lemmas.List.Elements.{recursion_from_All, All-contains_itself}
 use Rattle.weights.specs.declared.tails.Tail.{Tail}
 use Rattle.weights.specs.Conditional.{ConditionalTest}
+use Rattle.weights.specs.Grouped.{columns_of}
 use Rattle.weights.specs.Labellings.{labellings}
 use Rattle.weights.specs.Rules.{measured, rule_of}
-use Rattle.weights.proofs.Sums.{sum_by-filter, sum_by-same_where}
-use Rattle.stage_network.specs.Completions.{value_weights}
-use Rattle.stage_network.specs.Follows.{Follows, measured_weight}
-use Rattle.stage_network.specs.Judged.{HasIntervals}
+use Rattle.weights.proofs.Sums.{sum_by-same}
+use Rattle.stage_network.specs.Follows.{Follows}
+use Rattle.room_network.specs.Meanings.{way_value}
+use Rattle.room_network.specs.Plans.{Gives}
+use Rattle.room_network.proofs.RoomFollows.{room_follows}
 use Rattle.label_network.specs.Endings.{labelling_value}
-use Rattle.label_network.specs.LabelNetwork.{label_network}
+use Rattle.label_network.specs.LabelNetwork.{label_network, over_rooms}
+use Rattle.label_network.specs.LabelRooms.{label_plan, label_weight}
 use Rattle.label_network.specs.Meanings.{Meaning, IsMeasure}
-use Rattle.label_network.proofs.LabelKeys.{label_ending}
-use Rattle.label_network.proofs.LabelLaws.{label_intervals}
+use Rattle.label_network.proofs.LabelPlans.{labels_give, label_width}
+use Rattle.label_network.proofs.OverRooms.{over_measure, over_value}
 
 -- what a test has in common with a measure, for one tail
 pub record IsOfTest (m : Meaning) (test : ConditionalTest) (tail : Tail) : Type 0 where
@@ -26,20 +27,24 @@ pub record IsOfTest (m : Meaning) (test : ConditionalTest) (tail : Tail) : Type 
   pub values : (xs : List ℕ) → Contains (labellings m.rows) xs → measured test tail xs ≡ labelling_value m xs
 
 module _ (m : Meaning) (s : IsMeasure m) (test : ConditionalTest) (tail : Tail) (o : IsOfTest m test tail) where
-  term : (p : ℤ → Bool) (xs : List ℕ) → Contains (labellings m.rows) xs → cond (p (measured test tail xs)) (test.weight xs) 0 ≡ cond (p (labelling_value m xs)) 1 0
-  term p xs a = rw (o.values xs a, o.alike xs) refl
+  abbrev cut : List ℕ → List (List ℕ)
+  cut = columns_of (length m.rows) m.columns
 
-  label_ends : (p : ℤ → Bool) → value_weights (label_network m) p ≡ measured_weight test tail p
-  label_ends p =
-      label_ending m s.level p
-      ∙ sym (
-      sum_by-filter test.weight (λ xs. p (measured test tail xs)) test.reference
-      ∙ ap (sum_by (λ xs. cond (p (measured test tail xs)) (test.weight xs) 0)) o.reference
-      ∙ sum_by-same_where (Contains (labellings m.rows)) _ _ (term p) (labellings m.rows)
-      (recursion_from_All (Contains (labellings m.rows)) (labellings m.rows) (All-contains_itself (labellings m.rows))))
+  gives : Gives (label_plan m.columns m.rows) test.reference test.weight cut
+  gives = record {
+    law = λ f.
+        (labels_give m.columns m.rows s.level).law f
+        ∙ sum_by-same _ _ (λ xs. ap (λ n. n * f (cut xs)) (sym (o.alike xs))) (labellings m.rows)
+        ∙ ap (sum_by (λ xs. test.weight xs * f (cut xs))) (sym o.reference);
+  }
+
+  values : (xs : List ℕ) → Contains test.reference xs → measured test tail xs ≡ way_value (over_rooms m) (cut xs)
+  values xs a = o.values xs (subst (λ rs. Contains rs xs) o.reference a) ∙ sym (over_value m (cut xs))
 
   pub label_follows : Follows test tail (label_network m)
-  label_follows = record {
-    intervals = subst (λ rule. HasIntervals (label_network m) tail rule) o.rule_is (subst (λ t. HasIntervals (label_network m) t m.rule) o.tail_is (label_intervals m s));
-    ends = label_ends;
-  }
+  label_follows = room_follows (over_rooms m) label_weight (label_width m.columns m.rows) (over_measure m s) test tail cut (record {
+    tail_is = o.tail_is;
+    rule_is = o.rule_is;
+    gives = gives;
+    values = values;
+  })

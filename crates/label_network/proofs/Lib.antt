@@ -3,10 +3,6 @@ pub mod ChoiceMoves
 pub mod ChoiceSteps
 pub mod Climbing
 pub mod Differing
-pub mod KeyParts
-pub mod LabelFollows
-pub mod LabelKeys
-pub mod LabelLaws
 pub mod LaterChoices
 pub mod Narrowing
 pub mod Absolute
@@ -32,4 +28,7 @@ pub mod LinearKeys
 pub mod LinearPairings
 pub mod Rows
 pub mod Sizes
+pub mod LabelPlans
+pub mod OverRooms
+pub mod LabelFollows
 pub mod Vectors

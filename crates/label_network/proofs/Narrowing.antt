@@ -29,9 +29,12 @@ fits-self [] = refl
 fits-self (r ∷ rs) = rw (le-leb r r (omega arith), fits-self rs) refl
 
 -- the sizes are those of the columns to come, and no more than there were
-pub record IsLeft (m : Meaning) (g : ℕ) (r : List ℕ) : Type 0 where
-  pub whole : sum (drop g m.columns) ≡ sum r
-  pub within : fits r m.rows ≡ true
+pub record AreLeft (columns rows : List ℕ) (g : ℕ) (r : List ℕ) : Type 0 where
+  pub whole : sum (drop g columns) ≡ sum r
+  pub within : fits r rows ≡ true
+
+abbrev pub IsLeft : Meaning → ℕ → List ℕ → Type 0
+IsLeft m = AreLeft m.columns m.rows
 
 -- an interval that narrows along each choice and ends at the value; `kept` says what is known of a partial
 pub record IsNarrowing (m : Meaning) (kept : ℕ → List ℕ → List ℤ → Type 0) : Type 0 where
@@ -41,21 +44,22 @@ pub record IsNarrowing (m : Meaning) (kept : ℕ → List ℕ → List ℤ → T
   pub low_end : (r : List ℕ) (p : List ℤ) → IsLeft m (length m.columns) r → kept (length m.columns) r p → m.low (length m.columns) r p ≡ m.value p
   pub high_end : (r : List ℕ) (p : List ℤ) → IsLeft m (length m.columns) r → kept (length m.columns) r p → m.high (length m.columns) r p ≡ m.value p
 
-module _ (m : Meaning) (level : sum m.columns ≡ sum m.rows) where
-  pub left-first : IsLeft m 0 m.rows
-  left-first = record { whole = level; within = fits-self m.rows }
+module _ (columns rows : List ℕ) (level : sum columns ≡ sum rows) where
+  pub left-first : AreLeft columns rows 0 rows
+  left-first = record { whole = level; within = fits-self rows }
 
-  pub left-next : (g : ℕ) (r x : List ℕ) → g < length m.columns → IsLeft m g r → IsChoice (slice_index m.columns g) r x → IsLeft m (g + 1) (minus r x)
+  pub left-next : (g : ℕ) (r x : List ℕ) → g < length columns → AreLeft columns rows g r → IsChoice (slice_index columns g) r x → AreLeft columns rows (g + 1) (minus r x)
   left-next g r x h l c =
-      let more : sum (drop g m.columns) ≡ get_or m.columns g 0 + sum (drop (g + 1) m.columns) = sum_by-drop_more (λ v. v) m.columns g 0 h in
+      let more : sum (drop g columns) ≡ get_or columns g 0 + sum (drop (g + 1) columns) = sum_by-drop_more (λ v. v) columns g 0 h in
       record {
         whole = omega (arith, more, l.whole, c.whole, sum-minus r x c.fitting);
-        within = minus-within r x m.rows c.fitting l.within;
+        within = minus-within r x rows c.fitting l.within;
       }
 
+module _ (m : Meaning) (level : sum m.columns ≡ sum m.rows) where
   pub reached-left : (g : ℕ) (r : List ℕ) (p : List ℤ) → AreReached m g r p → IsLeft m g r
-  reached-left zero r p a = subst (λ s. IsLeft m 0 s) (sym a.0) left-first
-  reached-left (suc g) r p (s, q, c, a, before, o, e, f) = rw (e, ← add-one) (left-next g s c before (reached-left g s q a) (chosen (slice_index m.columns g) s c o))
+  reached-left zero r p a = subst (λ s. IsLeft m 0 s) (sym a.0) (left-first m.columns m.rows level)
+  reached-left (suc g) r p (s, q, c, a, before, o, e, f) = rw (e, ← add-one) (left-next m.columns m.rows level g s c before (reached-left g s q a) (chosen (slice_index m.columns g) s c o))
 
   module _ (kept : ℕ → List ℕ → List ℤ → Type 0) (i : IsNarrowing m kept) (starts : kept 0 m.rows m.first) where
     pub reached-kept : (g : ℕ) (r : List ℕ) (p : List ℤ) → AreReached m g r p → kept g r p

@@ -6,7 +6,9 @@ use Rattle.weights.specs.declared.tails.Tail.TheVariants.{Greater, Two}
 use Rattle.stage_network.specs.declared.stages.Verdict.{Verdict}
 use Rattle.stage_network.specs.declared.stages.Verdict.TheVariants.{Inside, Outside, Undecided}
 use Rattle.stage_network.specs.Opened.{opened_below}
-use Rattle.label_network.specs.LabelNetwork.{label_network, partial, remaining}
+use Rattle.room_network.specs.Meanings.{Meaning as RoomMeaning}
+use Rattle.room_network.specs.RoomNetworks.{partial_of, room_of}
+use Rattle.label_network.specs.LabelNetwork.{label_network, over_rooms}
 use Rattle.label_network.specs.Linear.{linear_meaning}
 use Rattle.label_network.specs.Meanings.{Meaning}
 
@@ -34,9 +36,9 @@ record Known : Type 0 where
   next : List (List ℤ)
 
 abbrev known : Meaning → ℕ → List ℤ → Known
-known m g k = record {
-  low = m.low g (remaining m k) (partial m k);
-  high = m.high g (remaining m k) (partial m k);
+known m g k = let r : RoomMeaning = over_rooms m in record {
+  low = r.low g (room_of r k) (partial_of r k);
+  high = r.high g (room_of r k) (partial_of r k);
   verdict = (label_network m).verdict m.tail g k;
   next = map ((label_network m).next g k) ((label_network m).choices g k);
 }

@@ -1,17 +1,16 @@
--- Words for the bodies: the next choice, sizes in a key, and tables of binomials.
+-- Words for the bodies: the next choice, sizes in a room, and tables of binomials.
 use Rattle.std.specs.Prelude.{◌≡◌, ℕ, ◌+◌, ◌-◌, ◌*◌, ◌^◌, ◌<◌, ◌≤◌, ℤ, pos, nat_abs, List, [], ◌∷◌, length, drop, get_or, min}
 use Rattle.std.specs.List.{sum}
 use Rattle.weights.specs.Numbers.{binomial}
 use Rattle.weights.specs.declared.TheConstants.{MAX}
-use Rattle.label_network.specs.LabelNetwork.{IsMargin}
-use Rattle.label_network.specs.Meanings.{Meaning, IsMeasure}
+use Rattle.label_network.specs.LabelRooms.{IsLabelled}
 
 -- the first choice, which takes as little as it can from each row in turn
 abbrev pub least : ℕ → List ℕ → List ℕ
 least c [] = []
 least c (r ∷ rs) = (c - sum rs) ∷ least (min c (sum rs)) rs
 
--- a number of a key that is a size
+-- a number of a room that is a size
 pub record IsSize (z : ℤ) : Type 0 where
   pub whole : z ≡ pos (nat_abs z)
   pub small : nat_abs z < 2 ^ 64
@@ -34,9 +33,7 @@ pub record AreBinomials (width long : ℕ) (table : List ℕ) : Type 0 where
   pub each : (m j : ℕ) → j < width → m * width + j < long
       → get_or table (m * width + j) 0 ≡ capped (binomial m j)
 
--- what the network of a measure keeps
-pub record IsStaged (m : Meaning) (columns rows : List ℕ) (slots width : ℕ) : Type 0 where
-  pub sound : IsMeasure m
-  pub margin : IsMargin m columns rows
-  pub slots_are : slots ≡ m.slots
-  pub held : IsHeld width m.rows
+-- what rooms of labels keep
+pub record AreLabels (columns rows : List ℕ) (width : ℕ) : Type 0 where
+  pub sound : IsLabelled columns rows
+  pub held : IsHeld width rows

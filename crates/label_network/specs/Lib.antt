@@ -1,5 +1,6 @@
 pub mod Meanings
 pub mod ChoiceOrder
+pub mod LabelRooms
 pub mod LabelNetwork
 pub mod Endings
 pub mod LaterSums

@@ -13,7 +13,7 @@ use crate::fisher_table::{FisherTable, held};
 use crate::sums::{count_label, front, labelled_weight};
 use crate::weight_measure::WeightMeasure;
 use enumerate::{Plain, first_labelling, next_labelling};
-use label_network::{LabelStages, LinearMeasure};
+use label_network::{LabelStages, LinearMeasure, label_stages};
 use stage_network::{Judge, OneOf, Prepared};
 use std::alloc::Global;
 use weights::{Bytes, Frame, NoMemory, Tail};
@@ -46,8 +46,8 @@ impl FisherTable {
     ) -> Result<LabelStages<LinearMeasure>, NoMemory>
         requires { is_two_by_two self.now ≡ true }
         ensures built { let meaning = first_cell_meaning self.now tail in
-            IfOk result (λ m. meaning ≡ linear_meaning m.scores.items m.rows.items
-            m.later.scores.items m.later.columns.items m.judge.tail m.judge.rule) }
+            IfOk result (λ s. meaning ≡ linear_meaning s.1.scores.items s.1.rows.items
+            s.1.later.scores.items s.1.later.columns.items s.1.judge.tail s.1.judge.rule) }
         ensures follows { Follows (fisher_test self.now) tail (fisher_network self.now tail) }
     {
         let made = self.made();
@@ -56,14 +56,14 @@ impl FisherTable {
         let columns = made.margins.columns.as_slice();
         let judge = Judge { tail, rule };
         let measure = LinearMeasure::new(alloc, &[1, 0], rows, &[1, 0], columns, judge)?;
-        LabelStages::new(alloc, columns, rows, measure)
+        label_stages(alloc, columns, rows, measure)
     }
 
     // The network of the table's weight.
     fn by_weight(&self, alloc: Global) -> Result<LabelStages<WeightMeasure>, NoMemory>
         ensures built { let meaning = rarity_meaning self.now side.Two in
-            IfOk result (λ m. meaning ≡ weight_meaning m.rows.items m.columns.items
-            m.judge.tail m.judge.rule) }
+            IfOk result (λ s. meaning ≡ weight_meaning s.1.rows.items s.1.columns.items
+            s.1.judge.tail s.1.judge.rule) }
         ensures follows { let network = fisher_network self.now side.Two in
             Follows (fisher_test self.now) side.Two network }
     {
@@ -76,7 +76,7 @@ impl FisherTable {
             rule,
         };
         let measure = WeightMeasure::new(alloc, rows, columns, judge)?;
-        LabelStages::new(alloc, columns, rows, measure)
+        label_stages(alloc, columns, rows, measure)
     }
 }
 

@@ -2,7 +2,7 @@
 use crate::linear_table::LinearTable;
 use crate::sums::labelled_sum;
 use enumerate::{Plain, first_labelling, next_labelling};
-use label_network::{LabelStages, LinearMeasure};
+use label_network::{LabelStages, LinearMeasure, label_stages};
 use stage_network::{Judge, Prepared};
 use std::alloc::Global;
 use weights::{Bytes, Frame, NoMemory, Tail};
@@ -71,6 +71,6 @@ impl Prepared for LinearTable {
         let column_scores = made.column_scores.as_slice();
         let judge = Judge { tail, rule };
         let measure = LinearMeasure::new(alloc, row_scores, rows, column_scores, columns, judge)?;
-        LabelStages::new(alloc, columns, rows, measure)
+        label_stages(alloc, columns, rows, measure)
     }
 }

@@ -1,7 +1,7 @@
 // Both ways to the answer of a test of two samples.
 use crate::two_sample::TwoSample;
 use enumerate::{Plain, first_labelling, next_labelling};
-use label_network::{LabelStages, LinearMeasure};
+use label_network::{LabelStages, LinearMeasure, label_stages};
 use scores::labelled_sum;
 use stage_network::{Judge, Prepared};
 use std::alloc::Global;
@@ -65,6 +65,6 @@ impl Prepared for TwoSample {
         let scores = made.columns.scores.as_slice();
         let judge = Judge { tail, rule };
         let measure = LinearMeasure::new(alloc, &[0, 1], rows, scores, columns, judge)?;
-        LabelStages::new(alloc, columns, rows, measure)
+        label_stages(alloc, columns, rows, measure)
     }
 }

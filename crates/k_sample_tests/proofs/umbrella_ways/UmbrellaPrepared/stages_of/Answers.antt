@@ -39,4 +39,4 @@ returns-clause-shape c =
     ∙ ap (λ x. pairs_meaning pairs sizes x t c.rule-rule.result) (c.as_slice-columns.ensures ∙ made.columns)
     ∙ ap (λ x. pairs_meaning pairs sizes (column_sizes (pooled_values samples.groups)) t x) rule in
     let same : (m : PairCounts) → m ≡ c.in_ok-measure.measure → label_shape (pairs_meaning m.pairs.items m.rows.items m.columns.items m.judge.tail m.judge.rule) ≡ label_shape (umbrella_meaning c.args.self.now c.args.tail) = λ m e. ap (λ (m : PairCounts). label_shape (pairs_meaning m.pairs.items m.rows.items m.columns.items m.judge.tail m.judge.rule)) e ∙ ap label_shape given in
-    IfOk-weaker c.new-2.result (λ m. m ≡ c.in_ok-measure.measure) (λ m. label_shape (pairs_meaning m.pairs.items m.rows.items m.columns.items m.judge.tail m.judge.rule) ≡ label_shape (umbrella_meaning c.args.self.now c.args.tail)) same c.new-2.ensures
+    IfOk-weaker c.label_stages.result (λ s. s.1 ≡ c.in_ok-measure.measure) _ (λ s e. same s.1 e) c.label_stages.ensures

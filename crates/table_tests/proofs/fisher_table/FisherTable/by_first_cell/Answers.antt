@@ -15,8 +15,8 @@ new-requires c =
     let rule : c.rule-rule.result ≡ rule_of (fisher_test c.args.self.now) c.args.tail = c.rule-rule.ensures (fisher_test c.args.self.now) made.frame in
     rw (c.as_slice-rows.ensures ∙ made.margins.rows, c.as_slice-columns.ensures ∙ made.margins.columns) (linear-of c.args.self.now made.fitting c.args.tail c.rule-rule.result c.requires rule)
 
-pub new-requires-2 : goal.new-requires-2
-new-requires-2 c =
+pub label_stages-requires : goal.label_stages-requires
+label_stages-requires c =
     let made = c.made-made.ensures in
     let rule : c.rule-rule.result ≡ rule_of (fisher_test c.args.self.now) c.args.tail = c.rule-rule.ensures (fisher_test c.args.self.now) made.frame in
     let given = rw (c.as_slice-rows.ensures ∙ made.margins.rows, c.as_slice-columns.ensures ∙ made.margins.columns, rule) at c.in_ok-measure.ensures in
@@ -28,7 +28,7 @@ returns-clause-built c =
     let made = c.made-made.ensures in
     let rule : c.rule-rule.result ≡ rule_of (fisher_test c.args.self.now) c.args.tail = c.rule-rule.ensures (fisher_test c.args.self.now) made.frame in
     let given = rw (c.as_slice-rows.ensures ∙ made.margins.rows, c.as_slice-columns.ensures ∙ made.margins.columns, rule) at c.in_ok-measure.ensures in
-    IfOk-weaker c.new-2.result (λ m. m ≡ c.in_ok-measure.measure) _ (λ m e. sym (ap (λ (m : LinearMeasure). linear_meaning m.scores.items m.rows.items m.later.scores.items m.later.columns.items m.judge.tail m.judge.rule) e ∙ given)) c.new-2.ensures
+    IfOk-weaker c.label_stages.result (λ s. s.1 ≡ c.in_ok-measure.measure) _ (λ s e. sym (ap (λ (m : LinearMeasure). linear_meaning m.scores.items m.rows.items m.later.scores.items m.later.columns.items m.judge.tail m.judge.rule) e ∙ given)) c.label_stages.ensures
 
 pub returns-in_err-measure-clause-follows : goal.returns-in_err-measure-clause-follows
 returns-in_err-measure-clause-follows c = follows c.args.self.now c.made-made.ensures.fitting c.args.tail (both-tails c.args.self.now c.args.tail c.requires)

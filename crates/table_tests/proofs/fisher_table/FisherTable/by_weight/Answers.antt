@@ -13,8 +13,8 @@ new-requires c =
     let made = c.made-made.ensures in
     rw (c.as_slice-rows.ensures ∙ made.margins.rows, c.as_slice-columns.ensures ∙ made.margins.columns) (weighing c.args.self.now made.fitting c.made-made.result.now.frame.two made.frame.two)
 
-pub new-requires-2 : goal.new-requires-2
-new-requires-2 c =
+pub label_stages-requires : goal.label_stages-requires
+label_stages-requires c =
     let made = c.made-made.ensures in
     let given = rw (c.as_slice-rows.ensures ∙ made.margins.rows, c.as_slice-columns.ensures ∙ made.margins.columns, made.frame.two) at c.in_ok-measure.ensures in
     margin-of _ (rarity_meaning c.args.self.now Two) c.as_slice-columns.result.now c.as_slice-rows.result.now given (c.as_slice-columns.ensures ∙ made.margins.columns) (c.as_slice-rows.ensures ∙ made.margins.rows) refl
@@ -24,7 +24,7 @@ pub returns-clause-built : goal.returns-clause-built
 returns-clause-built c =
     let made = c.made-made.ensures in
     let given = rw (c.as_slice-rows.ensures ∙ made.margins.rows, c.as_slice-columns.ensures ∙ made.margins.columns, made.frame.two) at c.in_ok-measure.ensures in
-    IfOk-weaker c.new-2.result (λ m. m ≡ c.in_ok-measure.measure) _ (λ m e. sym (ap (λ (m : WeightMeasure). weight_meaning m.rows.items m.columns.items m.judge.tail m.judge.rule) e ∙ given)) c.new-2.ensures
+    IfOk-weaker c.label_stages.result (λ s. s.1 ≡ c.in_ok-measure.measure) _ (λ s e. sym (ap (λ (m : WeightMeasure). weight_meaning m.rows.items m.columns.items m.judge.tail m.judge.rule) e ∙ given)) c.label_stages.ensures
 
 pub returns-in_err-measure-clause-follows : goal.returns-in_err-measure-clause-follows
 returns-in_err-measure-clause-follows c = follows c.args.self.now c.made-made.ensures.fitting Two refl

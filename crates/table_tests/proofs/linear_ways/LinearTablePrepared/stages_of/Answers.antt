@@ -17,8 +17,8 @@ new-requires c =
     rw (c.as_slice-rows.ensures ∙ made.margins.rows, c.as_slice-columns.ensures ∙ made.margins.columns, c.as_slice-row_scores.ensures ∙ made.row_scores, c.as_slice-column_scores.ensures ∙ made.column_scores)
     (linear-of c.args.self.now made.fitting c.args.tail c.rule-rule.result rule)
 
-pub new-requires-2 : goal.new-requires-2
-new-requires-2 c =
+pub label_stages-requires : goal.label_stages-requires
+label_stages-requires c =
     let made = c.made-made.ensures in
     let rule : c.rule-rule.result ≡ rule_of (linear_test c.args.self.now) c.args.tail = c.rule-rule.ensures (linear_test c.args.self.now) made.frame in
     let given = rw (c.as_slice-rows.ensures ∙ made.margins.rows, c.as_slice-columns.ensures ∙ made.margins.columns, c.as_slice-row_scores.ensures ∙ made.row_scores, c.as_slice-column_scores.ensures ∙ made.column_scores, rule) at c.in_ok-measure.ensures in
@@ -36,11 +36,11 @@ returns-clause-built c =
     let made = c.made-made.ensures in
     let rule : c.rule-rule.result ≡ rule_of (linear_test c.args.self.now) c.args.tail = c.rule-rule.ensures (linear_test c.args.self.now) made.frame in
     let given = rw (c.as_slice-rows.ensures ∙ made.margins.rows, c.as_slice-columns.ensures ∙ made.margins.columns, c.as_slice-row_scores.ensures ∙ made.row_scores, c.as_slice-column_scores.ensures ∙ made.column_scores, rule) at c.in_ok-measure.ensures in
-    IfOk-weaker c.new-2.result (λ m. m ≡ c.in_ok-measure.measure) _ (λ m e. ap (λ (m : LinearMeasure). label_network (linear_meaning m.scores.items m.rows.items m.later.scores.items m.later.columns.items m.judge.tail m.judge.rule)) e ∙ ap label_network given) c.new-2.ensures
+    IfOk-weaker c.label_stages.result (λ s. s.1 ≡ c.in_ok-measure.measure) _ (λ s e. ap (λ (m : LinearMeasure). label_network (linear_meaning m.scores.items m.rows.items m.later.scores.items m.later.columns.items m.judge.tail m.judge.rule)) e ∙ ap label_network given) c.label_stages.ensures
 
 pub returns-clause-shape : goal.returns-clause-shape
 returns-clause-shape c =
     let made = c.made-made.ensures in
     let rule : c.rule-rule.result ≡ rule_of (linear_test c.args.self.now) c.args.tail = c.rule-rule.ensures (linear_test c.args.self.now) made.frame in
     let given = rw (c.as_slice-rows.ensures ∙ made.margins.rows, c.as_slice-columns.ensures ∙ made.margins.columns, c.as_slice-row_scores.ensures ∙ made.row_scores, c.as_slice-column_scores.ensures ∙ made.column_scores, rule) at c.in_ok-measure.ensures in
-    IfOk-weaker c.new-2.result (λ m. m ≡ c.in_ok-measure.measure) _ (λ m e. ap (λ (m : LinearMeasure). label_shape (linear_meaning m.scores.items m.rows.items m.later.scores.items m.later.columns.items m.judge.tail m.judge.rule)) e ∙ ap label_shape given) c.new-2.ensures
+    IfOk-weaker c.label_stages.result (λ s. s.1 ≡ c.in_ok-measure.measure) _ (λ s e. ap (λ (m : LinearMeasure). label_shape (linear_meaning m.scores.items m.rows.items m.later.scores.items m.later.columns.items m.judge.tail m.judge.rule)) e ∙ ap label_shape given) c.label_stages.ensures

@@ -1,12 +1,11 @@
-use Rattle.std.proofs.Common.{◌∙◌, refl, sym}
-use Rattle.label_network.proofs.KeyParts.{column-read}
-use Rattle.table_tests.specs.Weighing.{weight_meaning}
+use Rattle.std.proofs.Common.{◌∙◌, sym}
+use Rattle.label_network.proofs.Rows.{column-read}
 use Rattle.table_tests.proofs.WeightKeys.{choice, choice-few, choice-held}
 use Rattle.table_tests.proofs.weight_measure.WeightMeasure.weight.Goals as goal
 
 pub labellings-requires-clause-whole : goal.labellings-requires-clause-whole
 labellings-requires-clause-whole c =
-    column-read (weight_meaning c.args.self.now.rows.items c.args.self.now.columns.items c.args.self.now.judge.tail c.args.self.now.judge.rule) c.args.self.now.columns.items refl c.args.stage c.index.result.now c.requires.move.before c.index.ensures
+    column-read c.args.self.now.columns.items c.args.stage c.index.result.now c.requires.move.before c.index.ensures
     ∙ sym (choice c.args.self.now.rows.items c.args.self.now.columns.items c.args.self.now.binomials.width c.args.self.now.falling_binomials.width c.args.self.now.highs.items c.args.self.now.judge.rule c.args.self.now.right c.args.self.now.judge.tail c.args.stage c.args.remaining.now c.requires.partial c.requires.move.place c.requires.move.before c.args.choice.now c.requires.move.allowed).whole
 
 pub labellings-requires-clause-held : goal.labellings-requires-clause-held

@@ -1,7 +1,7 @@
 use Rattle.std.proofs.Common.{◌≡◌, ◌∙◌, ap}
 use Rattle.std.proofs.lemmas.Result.{IfOk-weaker}
 use Rattle.weights.specs.Rules.{rule_of}
-use Rattle.label_network.specs.LabelNetwork.{label_shape}
+use Rattle.label_network.specs.LabelNetwork.{label_network, label_shape}
 use Rattle.label_network.specs.Linear.{linear_meaning}
 use Rattle.label_network.specs.declared.linear.LinearMeasure.{LinearMeasure}
 use Rattle.two_sample_tests.specs.TwoSamples.{TwoSamples, two_sample_test}
@@ -21,9 +21,16 @@ returns-in_err-measure-clause-follows c = follows c.args.self.now c.made-made.en
 pub returns-clause-follows : goal.returns-clause-follows
 returns-clause-follows c = follows c.args.self.now c.made-made.ensures.fitting c.args.tail
 
+pub returns-clause-built : goal.returns-clause-built
+returns-clause-built c =
+    let made = c.made-made.ensures in
+    let rule : c.rule-rule.result ≡ rule_of (two_sample_test c.args.self.now) c.args.tail = c.rule-rule.ensures (two_sample_test c.args.self.now) made.frame in
+    let given = rw (c.as_slice-rows.ensures ∙ made.sizes, c.as_slice-scores.ensures ∙ made.column_scores, c.as_slice-columns.ensures ∙ made.column_sizes, rule) at c.in_ok-measure.ensures in
+    IfOk-weaker c.label_stages.result (λ s. s.1 ≡ c.in_ok-measure.measure) _ (λ s e. ap (λ (m : LinearMeasure). label_network (linear_meaning m.scores.items m.rows.items m.later.scores.items m.later.columns.items m.judge.tail m.judge.rule)) e ∙ ap label_network given) c.label_stages.ensures
+
 pub returns-clause-shape : goal.returns-clause-shape
 returns-clause-shape c =
     let made = c.made-made.ensures in
     let rule : c.rule-rule.result ≡ rule_of (two_sample_test c.args.self.now) c.args.tail = c.rule-rule.ensures (two_sample_test c.args.self.now) made.frame in
     let given = rw (c.as_slice-rows.ensures ∙ made.sizes, c.as_slice-scores.ensures ∙ made.column_scores, c.as_slice-columns.ensures ∙ made.column_sizes, rule) at c.in_ok-measure.ensures in
-    IfOk-weaker c.new-2.result (λ m. m ≡ c.in_ok-measure.measure) _ (λ m e. ap (λ (m : LinearMeasure). label_shape (linear_meaning m.scores.items m.rows.items m.later.scores.items m.later.columns.items m.judge.tail m.judge.rule)) e ∙ ap label_shape given) c.new-2.ensures
+    IfOk-weaker c.label_stages.result (λ s. s.1 ≡ c.in_ok-measure.measure) _ (λ s e. ap (λ (m : LinearMeasure). label_shape (linear_meaning m.scores.items m.rows.items m.later.scores.items m.later.columns.items m.judge.tail m.judge.rule)) e ∙ ap label_shape given) c.label_stages.ensures

@@ -1,0 +1,5 @@
+pub mod RoomKeys
+pub mod RoomLaws
+pub mod RoomFollows
+pub mod NetworkParts
+pub mod Vectors

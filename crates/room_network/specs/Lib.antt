@@ -1,0 +1,4 @@
+pub mod Plans
+pub mod Meanings
+pub mod RoomNetworks
+pub mod RoomSteps
