@@ -6,9 +6,9 @@ use Rattle.std.specs.Option.{ok_or}
 use Rattle.std.proofs.lemmas.Slice.Eq.{bytes_eq-Decides}
 use Rattle.weights.specs.Results.{and_then}
 use Rattle.settings.specs.Faults.{MeetsAs}
-use Rattle.settings.specs.Names.{is_flag, option_word}
+use Rattle.settings.specs.Names.{is_flag, is_same, option_word}
 use Rattle.settings.specs.Options.{listed_names}
-use Rattle.settings.specs.Words.{Given, ended, is_equals_sign, is_plain, is_same, none_given, option_named, value_in, with_any, with_dashes, with_name, with_next, with_positional, with_use, with_value, with_word, with_words}
+use Rattle.settings.specs.Words.{Given, ended, is_equals_sign, is_plain, none_given, option_named, value_in, with_any, with_dashes, with_name, with_next, with_positional, with_use, with_value, with_word, with_words}
 use Rattle.settings.specs.WordSteps.{IsListedNext, IsSound, given_in, Pair, are_listed, are_new, is_listed}
 use Rattle.settings.specs.declared.names.OptionName.{OptionName}
 use Rattle.settings.specs.declared.names.UsageFault.{UsageFault}

@@ -1,5 +1,5 @@
 -- Settings that words give can be used.
-use Rattle.std.proofs.Common.{◌≡◌, ◌≢◌, ◌≤◌, ◌&&◌, ◌||◌, ◌∷◌, ℕ, All, AllPairs, Bool, true, false, not, List, [], ℤ, pos, Option, Some, None, IfOk, IfSome, Ok, Err, Result, arith, codes, cond, inl, inr, length, map, nat_abs, nat_le, option_and_then, option_map, refl, slice_index_or, subst, bytes_eq, unwrap_or}
+use Rattle.std.proofs.Common.{◌≡◌, ◌≢◌, ◌≤◌, ◌&&◌, ◌||◌, ◌∷◌, ℕ, All, AllPairs, Bool, true, false, not, List, [], ℤ, pos, Option, Some, None, IfOk, IfSome, Ok, Err, Result, arith, codes, cond, inl, inr, length, map, nat_abs, nat_le, nat_lt, option_and_then, option_map, refl, slice_index_or, subst, bytes_eq, unwrap_or}
 use Rattle.std.proofs.lemmas.Bool.{and_parts, not-true}
 use Rattle.std.proofs.lemmas.Bool.Decides.{Decides-int_eq, nat_tests}
 use Rattle.std.proofs.lemmas.Int.{ints}
@@ -7,9 +7,12 @@ use Rattle.std.proofs.lemmas.List.{length-map}
 use Rattle.std.proofs.lemmas.List.Elements.{All-cons, All-head, All-nil, All-tail}
 use Rattle.std.proofs.lemmas.List.Kept.{AllPairs-cons}
 use Rattle.std.proofs.lemmas.Slice.Eq.{bytes_eq-Decides}
-use Rattle.std.specs.List.{list_any, slice_split}
+use Rattle.std.specs.List.{after_first, before_first, list_any, slice_split}
 use Rattle.std.specs.Option.{ok_or}
 use Rattle.std.specs.Ordering.{int_eq}
+use Rattle.number_text.specs.CountTexts.{count_of}
+use Rattle.number_text.specs.Numerals.{all_digits, decimal_value, is_numeral}
+use Rattle.number_text.specs.Trimmed.{trimmed}
 use Rattle.number_text.specs.ListTexts.{IsWithin, fitting, is_comma, items_of, list_of}
 use Rattle.number_text.proofs.ListItems.{items_of-within}
 use Rattle.record_reader.specs.Layouts.{MayList}
@@ -19,18 +22,18 @@ use Rattle.record_reader.specs.declared.layouts.Shape.{Shape}
 use Rattle.record_reader.specs.declared.missing.Missing.{Missing}
 use Rattle.record_reader.specs.declared.picks.Picks.TheVariants.{Listed}
 use Rattle.settings.specs.Faults.{Meets}
-use Rattle.settings.specs.Meaning.{command_of, is_complete, meaning_for, meaning_of_given, meaning_of_test, settings_of}
+use Rattle.settings.specs.Meaning.{command_for, command_of, is_complete, meaning_for, meaning_of_given, meaning_of_test, settings_of}
 use Rattle.settings.specs.Options.{form_of, listed_names, setting, settings_without_options, suited, with_option, with_options}
-use Rattle.settings.specs.Tests.{reads_file, shape_of, test_named}
-use Rattle.settings.specs.Usable.{AreLabels, AreUsable, AreWithin, IsDrillNumber, IsUsable}
-use Rattle.settings.specs.Values.{are_distinct, are_labels, at_least, column_scores_form, columns_of, distinct_fields, fields_form, is_empty, labels_in, missing_of, number_form, number_of, numbers_of, order_of, peak_form, row_scores_form, scores_of, separator_of, tail_of}
+use Rattle.settings.specs.Tests.{shape_of, test_named}
+use Rattle.settings.specs.Usable.{AreLabels, AreUsable, AreWithin, IsDrillNumber, IsMiss, IsUsable}
+use Rattle.settings.specs.Values.{are_distinct, are_labels, at_least, column_scores_form, below_one, columns_of, distinct_fields, fields_form, is_empty, is_slash, labels_in, miss_of, missing_of, number_form, number_of, numbers_of, odds_with, order_of, part_of, peak_form, positive, row_scores_form, scores_of, separator_of, tail_of}
 use Rattle.settings.specs.Words.{Given, none_given, value_in, with_words}
 use Rattle.settings.specs.declared.command_line.CommandLine.{CommandLine}
-use Rattle.settings.specs.declared.command_line.CommandLine.TheVariants.{Test, Drill}
 use Rattle.settings.specs.declared.lists.ListForm.{ListForm}
 use Rattle.settings.specs.declared.names.OptionName.{OptionName}
 use Rattle.settings.specs.declared.names.OptionName.TheVariants as option
 use Rattle.settings.specs.declared.names.TestName.{TestName}
+use Rattle.settings.specs.declared.names.TestName.TheVariants as test
 use Rattle.settings.specs.declared.names.UsageFault.{UsageFault}
 use Rattle.settings.specs.declared.names.UsageFault.TheVariants.{Form, Value, Pairing}
 use Rattle.settings.specs.declared.settings.Settings.{Settings}
@@ -204,6 +207,46 @@ separator_of-IsSeparator word = by_tests (bytes_eq word (codes "comma")) (bytes_
     by_tests false false true = inr (inr refl)
     by_tests false false false = tt
 
+-- ---- ratios
+
+part_of-small : (text : List ℕ) (part : ℕ) → part_of text ≡ Some part → (1 ≤ part) × (part ≤ 1000)
+unfolding count_of
+part_of-small text part found = by_digits (all_digits text) found
+  where
+    by_one : (some : Bool) (number : ℕ) → number ≤ 1000 → nat_le 1 number ≡ some → cond some (Some number) None ≡ Some part → (1 ≤ part) × (part ≤ 1000)
+    by_one true number small some found =
+        let same : number ≡ part = cc in
+        (grind (arith, nat_tests), grind (arith, nat_tests))
+    by_one false number small some found = absurd cc
+
+    by_count : (fits : Bool) (number : ℕ) → (fits ≡ true → number ≤ 1000) → option_and_then positive (cond fits (Some number) None) ≡ Some part → (1 ≤ part) × (part ≤ 1000)
+    by_count true number small found = by_one (nat_le 1 number) number (small refl) refl found
+    by_count false number small found = absurd cc
+
+    few : (digits : List ℕ) → (is_numeral digits && nat_le (decimal_value digits) 1000) ≡ true → decimal_value digits ≤ 1000
+    few digits test =
+        let last : nat_le (decimal_value digits) 1000 ≡ true = (and_parts (is_numeral digits) (nat_le (decimal_value digits) 1000) test).1 in
+        grind (arith, nat_tests)
+
+    by_digits : (digits : Bool) → cond digits (option_and_then positive (count_of 1000 text)) None ≡ Some part → (1 ≤ part) × (part ≤ 1000)
+    by_digits true found = by_count (is_numeral (trimmed text) && nat_le (decimal_value (trimmed text)) 1000) (decimal_value (trimmed text)) (few (trimmed text)) found
+    by_digits false found = absurd cc
+
+miss_of-IsMiss : (text : List ℕ) → IfSome (miss_of text) IsMiss
+miss_of-IsMiss text = by_below (part_of (after_first is_slash text)) (part_of-small (after_first is_slash text))
+  where
+    by_test : (above below : ℕ) → 1 ≤ above → below ≤ 1000 → (less : Bool) → nat_lt above below ≡ less → IfSome (cond less (Some (odds_with below above)) None) IsMiss
+    by_test above below some small true less = record { some = some; below_one = grind (arith, nat_tests); small = small }
+    by_test above below some small false less = tt
+
+    by_above : (below : ℕ) → below ≤ 1000 → (above : Option ℕ) → ((part : ℕ) → above ≡ Some part → (1 ≤ part) × (part ≤ 1000)) → IfSome (option_and_then below_one (option_map (odds_with below) above)) IsMiss
+    by_above below small None parts = tt
+    by_above below small (Some above) parts = by_test above below (parts above refl).0 small (nat_lt above below) refl
+
+    by_below : (below : Option ℕ) → ((part : ℕ) → below ≡ Some part → (1 ≤ part) × (part ≤ 1000)) → IfSome (option_and_then below_one (option_and_then (λ below. option_map (odds_with below) (part_of (before_first is_slash text))) below)) IsMiss
+    by_below None parts = tt
+    by_below (Some below) parts = by_above below (parts below refl).1 (part_of (before_first is_slash text)) (part_of-small (before_first is_slash text))
+
 -- ---- options
 
 -- an option keeps settings that can be used
@@ -234,7 +277,7 @@ flag_keeps raised more usable found =
 plainly : (settings : Settings) (tail : TailChoice) (scores : ScoreKind) (peak : ℕ) (missing : Missing) (distribution plain nodes : Bool) → AreUsable settings
     → AreUsable (record settings { tail = tail; scores = scores; peak = peak; missing = missing; distribution = distribution; plain = plain; nodes = nodes })
 plainly settings tail scores peak missing distribution plain nodes usable =
-    record { order = usable.order; row_scores = usable.row_scores; column_scores = usable.column_scores; picks = usable.picks; separator = usable.separator; number = usable.number }
+    record { order = usable.order; row_scores = usable.row_scores; column_scores = usable.column_scores; picks = usable.picks; separator = usable.separator; number = usable.number; miss = usable.miss }
 
 each_keeps : (name : OptionName) → Keeps name
 unfolding Keeps
@@ -247,29 +290,32 @@ each_keeps option.Scores text settings more usable found =
     (λ kind fit. plainly settings settings.tail kind settings.peak settings.missing settings.distribution settings.plain settings.nodes usable) found
 each_keeps option.Order text settings more usable found =
     setting_keeps order_of (λ order s. record s { order = order }) AreLabels text settings more (order_of-AreLabels text)
-    (λ order fit. record { order = inr fit; row_scores = usable.row_scores; column_scores = usable.column_scores; picks = usable.picks; separator = usable.separator; number = usable.number }) found
+    (λ order fit. record { order = inr fit; row_scores = usable.row_scores; column_scores = usable.column_scores; picks = usable.picks; separator = usable.separator; number = usable.number; miss = usable.miss }) found
 each_keeps option.Peak text settings more usable found =
     setting_keeps (number_of peak_form) (λ peak s. record s { peak = peak }) (λ _. Unit {0}) text settings more (any_value (number_of peak_form text))
     (λ peak fit. plainly settings settings.tail settings.scores peak settings.missing settings.distribution settings.plain settings.nodes usable) found
 each_keeps option.RowScores text settings more usable found =
     setting_keeps (numbers_of row_scores_form) (λ scores s. record s { row_scores = scores }) (AreWithin row_scores_form) text settings more (numbers_of-AreWithin row_scores_form text)
-    (λ scores fit. record { order = usable.order; row_scores = fit; column_scores = usable.column_scores; picks = usable.picks; separator = usable.separator; number = usable.number }) found
+    (λ scores fit. record { order = usable.order; row_scores = fit; column_scores = usable.column_scores; picks = usable.picks; separator = usable.separator; number = usable.number; miss = usable.miss }) found
 each_keeps option.ColumnScores text settings more usable found =
     setting_keeps (numbers_of column_scores_form) (λ scores s. record s { column_scores = scores }) (AreWithin column_scores_form) text settings more (numbers_of-AreWithin column_scores_form text)
-    (λ scores fit. record { order = usable.order; row_scores = usable.row_scores; column_scores = fit; picks = usable.picks; separator = usable.separator; number = usable.number }) found
+    (λ scores fit. record { order = usable.order; row_scores = usable.row_scores; column_scores = fit; picks = usable.picks; separator = usable.separator; number = usable.number; miss = usable.miss }) found
 each_keeps option.Columns text settings more usable found =
     let shape = shape_of settings.test in
     setting_keeps (columns_of shape) (λ columns s. record s { picks = Listed columns }) (MayList shape.narrowest shape.widest) text settings more (columns_of-MayList shape text)
-    (λ columns fit. record { order = usable.order; row_scores = usable.row_scores; column_scores = usable.column_scores; picks = fit; separator = usable.separator; number = usable.number }) found
+    (λ columns fit. record { order = usable.order; row_scores = usable.row_scores; column_scores = usable.column_scores; picks = fit; separator = usable.separator; number = usable.number; miss = usable.miss }) found
 each_keeps option.Separator text settings more usable found =
     setting_keeps separator_of (λ separator s. record s { separator = separator }) IsSeparator text settings more (separator_of-IsSeparator text)
-    (λ separator fit. record { order = usable.order; row_scores = usable.row_scores; column_scores = usable.column_scores; picks = usable.picks; separator = fit; number = usable.number }) found
+    (λ separator fit. record { order = usable.order; row_scores = usable.row_scores; column_scores = usable.column_scores; picks = usable.picks; separator = fit; number = usable.number; miss = usable.miss }) found
 each_keeps option.Number text settings more usable found =
     setting_keeps (number_of number_form) (λ number s. record s { number = number }) IsDrillNumber text settings more (number_of-IsDrillNumber text)
-    (λ number fit. record { order = usable.order; row_scores = usable.row_scores; column_scores = usable.column_scores; picks = usable.picks; separator = usable.separator; number = fit }) found
+    (λ number fit. record { order = usable.order; row_scores = usable.row_scores; column_scores = usable.column_scores; picks = usable.picks; separator = usable.separator; number = fit; miss = usable.miss }) found
 each_keeps option.Missing text settings more usable found =
     setting_keeps missing_of (λ missing s. record s { missing = missing }) (λ _. Unit {0}) text settings more (any_value (missing_of text))
     (λ missing fit. plainly settings settings.tail settings.scores settings.peak missing settings.distribution settings.plain settings.nodes usable) found
+each_keeps option.Miss text settings more usable found =
+    setting_keeps miss_of (λ miss s. record s { miss = miss }) IsMiss text settings more (miss_of-IsMiss text)
+    (λ miss fit. record { order = usable.order; row_scores = usable.row_scores; column_scores = usable.column_scores; picks = usable.picks; separator = usable.separator; number = usable.number; miss = fit }) found
 each_keeps option.Distribution text settings more usable found =
     flag_keeps (record settings { distribution = true }) more (plainly settings settings.tail settings.scores settings.peak settings.missing true settings.plain settings.nodes usable) found
 each_keeps option.Plain text settings more usable found =
@@ -317,16 +363,18 @@ start-AreUsable test file = record {
   picks = tt;
   separator = inl refl;
   number = omega arith;
+  miss = record { some = omega arith; below_one = omega arith; small = omega arith };
 }
 
 -- ---- the command line
 
 command_of-IsUsable : (settings : Settings) → AreUsable settings → IsUsable (command_of settings)
-command_of-IsUsable settings usable = by_test (reads_file settings.test)
+command_of-IsUsable settings usable = by_test settings.test
   where
-    by_test : (reads : Bool) → IsUsable (cond reads (Test settings) (Drill settings.number))
-    by_test true = usable
-    by_test false = usable.number
+    by_test : (name : TestName) → IsUsable (command_for name settings)
+    by_test test.Drill = usable.number
+    by_test test.Shift = usable
+    by_test _ = usable
 
 meaning_for-IsUsable : (given : Given) (test : TestName) (line : CommandLine) → meaning_for given test ≡ Ok line → IsUsable line
 meaning_for-IsUsable given test line found = by_test (is_complete test given) found

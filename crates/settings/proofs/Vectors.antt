@@ -1,12 +1,13 @@
 -- A limit that definitions cite, and worked command lines, at which the definitions compute.
 use Rattle.std.proofs.Common.{◌≡◌, ◌∷◌, [], Ok, Err, codes, negsuc, pos, refl, true}
+use Rattle.number_text.specs.CountTexts.{count_of}
 use Rattle.number_text.specs.ListTexts.{list_of}
 use Rattle.record_reader.specs.declared.missing.Missing.TheVariants.{Drop}
 use Rattle.record_reader.specs.declared.picks.Picks.TheVariants.{Listed}
 use Rattle.scores.specs.declared.kinds.ScoreKind.TheVariants.{Savage}
 use Rattle.settings.specs.Meaning.{meaning_of}
 use Rattle.settings.specs.Options.{settings_without_options}
-use Rattle.settings.specs.declared.command_line.CommandLine.TheVariants.{Help, Test, Drill}
+use Rattle.settings.specs.declared.command_line.CommandLine.TheVariants.{Help, Test, Drill, Shift}
 use Rattle.settings.specs.declared.names.OptionName.TheVariants as option
 use Rattle.settings.specs.declared.names.TestName.TheVariants as test
 use Rattle.settings.specs.declared.names.UsageFault.TheVariants.{Form, Value, Pairing}
@@ -132,3 +133,62 @@ greatest_made_data = refl
 
 made_data_of_a_file : meaning_of (codes "drill" ∷ codes "f" ∷ codes "--number=1" ∷ []) ≡ Err Form
 made_data_of_a_file = refl
+
+shift_by_default : meaning_of (codes "shift" ∷ codes "f.csv" ∷ []) ≡ Ok (Shift (settings_without_options test.Shift (codes "f.csv")))
+shift_by_default = refl
+
+missed_by_default : (settings_without_options test.Shift []).miss ≡ record { above = 1; below = 20 }
+missed_by_default = refl
+
+shift_with_options : meaning_of (codes "shift" ∷ codes "f.csv" ∷ codes "--miss" ∷ codes "01/5" ∷ codes "--order=b,a" ∷ codes "--missing=drop" ∷ [])
+    ≡ Ok (Shift (record (settings_without_options test.Shift (codes "f.csv")) { miss = record { above = 1; below = 5 }; order = codes "b" ∷ codes "a" ∷ []; missing = Drop }))
+unfolding count_of
+shift_with_options = refl
+
+miss_below_a_thousand : meaning_of (codes "shift" ∷ codes "f.csv" ∷ codes "--miss=999/1000" ∷ [])
+    ≡ Ok (Shift (record (settings_without_options test.Shift (codes "f.csv")) { miss = record { above = 999; below = 1000 } }))
+unfolding count_of
+miss_below_a_thousand = refl
+
+always_missed : meaning_of (codes "shift" ∷ codes "f.csv" ∷ codes "--miss" ∷ codes "1/1" ∷ []) ≡ Err (Value option.Miss)
+unfolding count_of
+always_missed = refl
+
+never_missed : meaning_of (codes "shift" ∷ codes "f.csv" ∷ codes "--miss" ∷ codes "0/5" ∷ []) ≡ Err (Value option.Miss)
+unfolding count_of
+never_missed = refl
+
+miss_past_a_thousand : meaning_of (codes "shift" ∷ codes "f.csv" ∷ codes "--miss" ∷ codes "1001/1002" ∷ []) ≡ Err (Value option.Miss)
+unfolding count_of
+miss_past_a_thousand = refl
+
+miss_with_a_blank : meaning_of (codes "shift" ∷ codes "f.csv" ∷ codes "--miss=1/ 5" ∷ []) ≡ Err (Value option.Miss)
+unfolding count_of
+miss_with_a_blank = refl
+
+miss_with_a_sign : meaning_of (codes "shift" ∷ codes "f.csv" ∷ codes "--miss=+1/5" ∷ []) ≡ Err (Value option.Miss)
+unfolding count_of
+miss_with_a_sign = refl
+
+miss_without_a_slash : meaning_of (codes "shift" ∷ codes "f.csv" ∷ codes "--miss=1" ∷ []) ≡ Err (Value option.Miss)
+unfolding count_of
+miss_without_a_slash = refl
+
+miss_with_two_slashes : meaning_of (codes "shift" ∷ codes "f.csv" ∷ codes "--miss=1/2/3" ∷ []) ≡ Err (Value option.Miss)
+unfolding count_of
+miss_with_two_slashes = refl
+
+plain_shift : meaning_of (codes "shift" ∷ codes "f.csv" ∷ codes "--plain" ∷ []) ≡ Err (Pairing option.Plain test.Shift)
+plain_shift = refl
+
+tail_of_shift : meaning_of (codes "shift" ∷ codes "f.csv" ∷ codes "--tail=less" ∷ []) ≡ Err (Pairing option.Tail test.Shift)
+tail_of_shift = refl
+
+shift_with_plain_and_nodes : meaning_of (codes "shift" ∷ codes "f.csv" ∷ codes "--plain" ∷ codes "--nodes" ∷ []) ≡ Err Form
+shift_with_plain_and_nodes = refl
+
+shift_without_file : meaning_of (codes "shift" ∷ []) ≡ Err Form
+shift_without_file = refl
+
+miss_with_a_test : meaning_of (codes "ranksum" ∷ codes "f.csv" ∷ codes "--miss=1/5" ∷ []) ≡ Err (Pairing option.Miss test.RankSum)
+miss_with_a_test = refl

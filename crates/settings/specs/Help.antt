@@ -21,6 +21,7 @@ abbrev pub help : List ℕ
 help =
     codes "usage: exact TEST FILE [options]" ++ line_feed
     ++ codes "       exact drill --number K" ++ line_feed
+    ++ codes "       exact shift FILE [--miss P/Q]" ++ line_feed
     ++ test_lines (codes "tests:") test_rows
     ++ codes "options: --tail all|less|greater|two" ++ line_feed
     ++ codes "         --scores KIND --order LABELS --peak P" ++ line_feed

@@ -1,5 +1,5 @@
-pub mod Names
 pub mod Tests
+pub mod Names
 pub mod Faults
 pub mod Values
 pub mod Options
@@ -8,4 +8,5 @@ pub mod Meaning
 pub mod Usable
 pub mod Help
 pub mod ClapLine
+pub mod TestSteps
 pub mod WordSteps

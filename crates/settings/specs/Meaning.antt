@@ -4,14 +4,15 @@ use Rattle.std.specs.List.{list_all}
 use Rattle.std.specs.Option.{ok_or}
 use Rattle.std.specs.Str.{bytes_eq}
 use Rattle.weights.specs.Results.{and_then, with_value}
-use Rattle.settings.specs.Options.{listed_names, settings_without_options, with_options}
-use Rattle.settings.specs.Tests.{needs, reads_file, test_named}
+use Rattle.settings.specs.Options.{listed_names, needs, settings_without_options, with_options}
+use Rattle.settings.specs.Tests.{reads_file, test_named}
 use Rattle.settings.specs.Words.{Given, none_given, value_in, with_words}
 use Rattle.settings.specs.declared.command_line.CommandLine.{CommandLine}
-use Rattle.settings.specs.declared.command_line.CommandLine.TheVariants.{Help, Test, Drill}
+use Rattle.settings.specs.declared.command_line.CommandLine.TheVariants.{Help, Test, Drill, Shift}
 use Rattle.settings.specs.declared.names.OptionName.{OptionName}
 use Rattle.settings.specs.declared.names.OptionName.TheVariants as option
 use Rattle.settings.specs.declared.names.TestName.{TestName}
+use Rattle.settings.specs.declared.names.TestName.TheVariants as test
 use Rattle.settings.specs.declared.names.UsageFault.{UsageFault}
 use Rattle.settings.specs.declared.names.UsageFault.TheVariants.{Form, Value}
 use Rattle.settings.specs.declared.settings.Settings.{Settings}
@@ -42,10 +43,14 @@ settings_of given test =
     with_options listed_names (value_in given.uses)
     (settings_without_options test (unwrap_or given.file []))
 
--- the command that settings stand for: a test of the data of a file, or of made data
+-- the command that settings stand for: a test of the data of a file, or of made data, or a shift
+abbrev pub command_for : TestName → Settings → CommandLine
+command_for test.Drill settings = Drill settings.number
+command_for test.Shift settings = Shift settings
+command_for _ settings = Test settings
+
 abbrev pub command_of : Settings → CommandLine
-command_of settings =
-    if reads_file settings.test then Test settings else Drill settings.number
+command_of settings = command_for settings.test settings
 
 abbrev pub meaning_for : Given → TestName → Result CommandLine UsageFault
 meaning_for given test =

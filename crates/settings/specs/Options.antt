@@ -1,17 +1,18 @@
 -- The options, and what they make of the settings of a test.
 use Rattle.std.specs.Prelude.{ℕ, Bool, true, false, List, [], ◌∷◌, Option, Some, None, Result, Ok, Err, if◌then◌else◌, option_map}
+use Rattle.std.specs.List.{list_any}
 use Rattle.std.specs.Option.{ok_or}
 use Rattle.weights.specs.Results.{and_then}
 use Rattle.record_reader.specs.Records.{comma}
 use Rattle.record_reader.specs.declared.missing.Missing.TheVariants.{Refuse}
 use Rattle.record_reader.specs.declared.picks.Picks.TheVariants.{Natural, Listed}
 use Rattle.scores.specs.declared.kinds.ScoreKind.TheVariants.{Wilcoxon}
-use Rattle.settings.specs.Tests.{has_tail, orders_groups, reads_file, reads_samples, shape_of}
-use Rattle.settings.specs.Values.{column_scores_form, columns_of, missing_of, number_form, number_of, numbers_of, order_of, peak_form, row_scores_form, scores_of, separator_of, tail_of}
+use Rattle.settings.specs.Names.{is_same}
+use Rattle.settings.specs.Tests.{form, has_tail, is_test, orders_groups, reads_file, reads_samples, shape_of}
+use Rattle.settings.specs.Values.{column_scores_form, columns_of, miss_of, missing_of, number_form, number_of, numbers_of, order_of, peak_form, row_scores_form, scores_of, separator_of, tail_of}
 use Rattle.settings.specs.declared.names.OptionName.{OptionName}
 use Rattle.settings.specs.declared.names.OptionName.TheVariants as option
 use Rattle.settings.specs.declared.names.TestName.{TestName}
-use Rattle.settings.specs.declared.names.TestName.TheVariants as test
 use Rattle.settings.specs.declared.names.UsageFault.{UsageFault}
 use Rattle.settings.specs.declared.names.UsageFault.TheVariants.{Value, Pairing}
 use Rattle.settings.specs.declared.settings.Settings.{Settings}
@@ -32,10 +33,24 @@ settings_without_options test file = record {
   separator = comma;
   number = 0;
   missing = Refuse;
+  miss = record { above = 1; below = 20 };
   distribution = false;
   plain = false;
   nodes = false;
 }
+
+-- the test takes the option for itself
+abbrev pub has_own : OptionName → TestName → Bool
+has_own name test = list_any (λ own. is_same own name) (form test).own
+
+-- the option is there, and is this one
+abbrev pub is_the : OptionName → Option OptionName → Bool
+is_the name None = false
+is_the name (Some other) = is_same other name
+
+-- the test cannot do without the option
+abbrev pub needs : TestName → OptionName → Bool
+needs test name = is_the name (form test).needed
 
 -- An option or a flag.
 pub record OptionForm : Type 0 where
@@ -56,29 +71,20 @@ abbrev pub value_option : (TestName → Bool) → (List ℕ → Settings → Opt
 value_option goes_with set =
     record { goes_with = goes_with; set = set; suits = λ settings. true }
 
--- a flag of the tests of a file's data, which has no text
-abbrev pub flag : (Settings → Settings) → OptionForm
-flag raise = value_option reads_file (λ text settings. Some (raise settings))
+-- the settings with a flag that is raised
+abbrev pub raised : OptionName → Settings → Settings
+raised option.Distribution settings = record settings { distribution = true }
+raised option.Plain settings = record settings { plain = true }
+raised option.Nodes settings = record settings { nodes = true }
+raised _ settings = settings
 
-abbrev pub takes_scores : TestName → Bool
-takes_scores test.Kw = true
-takes_scores _ = false
-
-abbrev pub takes_peak : TestName → Bool
-takes_peak test.Umbrella = true
-takes_peak _ = false
-
-abbrev pub scores_table : TestName → Bool
-scores_table test.Linear = true
-scores_table _ = false
-
-abbrev pub makes_data : TestName → Bool
-makes_data test.Drill = true
-makes_data _ = false
+-- a flag of a test, which has no text
+abbrev pub flag : OptionName → OptionForm
+flag name = value_option is_test (λ text settings. Some (raised name settings))
 
 abbrev pub tail_option : OptionForm
 tail_option = record {
-  goes_with = reads_file;
+  goes_with = is_test;
   set = setting tail_of (λ tail settings. record settings { tail = tail });
   suits = λ settings. has_tail settings.test settings.tail;
 }
@@ -88,19 +94,19 @@ abbrev pub form_of : OptionName → OptionForm
 form_of option.Test = value_option (λ test. false) (λ text settings. None)
 form_of option.Tail = tail_option
 form_of option.Scores =
-    value_option takes_scores
+    value_option (has_own option.Scores)
     (setting scores_of (λ kind settings. record settings { scores = kind }))
 form_of option.Order =
     value_option orders_groups
     (setting order_of (λ order settings. record settings { order = order }))
 form_of option.Peak =
-    value_option takes_peak
+    value_option (has_own option.Peak)
     (setting (number_of peak_form) (λ peak settings. record settings { peak = peak }))
 form_of option.RowScores =
-    value_option scores_table (setting (numbers_of row_scores_form)
+    value_option (has_own option.RowScores) (setting (numbers_of row_scores_form)
     (λ scores settings. record settings { row_scores = scores }))
 form_of option.ColumnScores =
-    value_option scores_table (setting (numbers_of column_scores_form)
+    value_option (has_own option.ColumnScores) (setting (numbers_of column_scores_form)
     (λ scores settings. record settings { column_scores = scores }))
 form_of option.Columns =
     value_option reads_file (λ text settings. setting (columns_of (shape_of settings.test))
@@ -109,21 +115,24 @@ form_of option.Separator =
     value_option reads_file
     (setting separator_of (λ separator settings. record settings { separator = separator }))
 form_of option.Number =
-    value_option makes_data
+    value_option (has_own option.Number)
     (setting (number_of number_form) (λ number settings. record settings { number = number }))
 form_of option.Missing =
     value_option reads_samples
     (setting missing_of (λ missing settings. record settings { missing = missing }))
-form_of option.Distribution = flag (λ settings. record settings { distribution = true })
-form_of option.Plain = flag (λ settings. record settings { plain = true })
-form_of option.Nodes = flag (λ settings. record settings { nodes = true })
+form_of option.Miss =
+    value_option (has_own option.Miss)
+    (setting miss_of (λ miss settings. record settings { miss = miss }))
+form_of option.Distribution = flag option.Distribution
+form_of option.Plain = flag option.Plain
+form_of option.Nodes = flag option.Nodes
 
 -- the options and flags that may be given, in the order in which their faults are told
 abbrev pub listed_names : List OptionName
 listed_names =
     option.Tail ∷ option.Scores ∷ option.Order ∷ option.Peak ∷ option.RowScores
     ∷ option.ColumnScores ∷ option.Columns ∷ option.Separator ∷ option.Number
-    ∷ option.Missing ∷ option.Distribution ∷ option.Plain ∷ option.Nodes ∷ []
+    ∷ option.Missing ∷ option.Miss ∷ option.Distribution ∷ option.Plain ∷ option.Nodes ∷ []
 
 -- the settings, where the test goes with what the option asks for
 abbrev pub suited : OptionName → Settings → Result Settings UsageFault

@@ -1,12 +1,13 @@
 -- What settings keep to, so that they can be used.
-use Rattle.std.specs.Prelude.{◌≡◌, ◌≢◌, ◌≤◌, ◌⊎◌, ⊤, ℕ, ℤ, All, AllPairs, List, [], length}
+use Rattle.std.specs.Prelude.{◌≡◌, ◌≢◌, ◌≤◌, ◌<◌, ◌⊎◌, ⊤, ℕ, ℤ, All, AllPairs, List, [], length}
 use Rattle.number_text.specs.ListTexts.{IsWithin}
+use Rattle.weights.specs.declared.odds.Odds.{Odds}
 use Rattle.record_reader.specs.Layouts.{MayPick}
 use Rattle.record_reader.specs.Records.{IsSeparator}
 use Rattle.settings.specs.Tests.{shape_of}
 use Rattle.settings.specs.Values.{column_scores_form, row_scores_form}
 use Rattle.settings.specs.declared.command_line.CommandLine.{CommandLine}
-use Rattle.settings.specs.declared.command_line.CommandLine.TheVariants.{Help, Test, Drill}
+use Rattle.settings.specs.declared.command_line.CommandLine.TheVariants.{Help, Test, Drill, Shift}
 use Rattle.settings.specs.declared.lists.ListForm.{ListForm}
 use Rattle.settings.specs.declared.settings.Settings.{Settings}
 use Rattle.settings.specs.declared.settings.TheConstants.{GREATEST_NUMBER}
@@ -26,8 +27,14 @@ AreWithin form numbers = All (IsWithin form.low form.high) numbers
 abbrev pub IsDrillNumber : ℕ → Type 0
 IsDrillNumber number = number ≤ GREATEST_NUMBER
 
+-- how often limits may miss: less than always
+pub record IsMiss (miss : Odds) : Type 0 where
+  pub some : 1 ≤ miss.above
+  pub below_one : miss.above < miss.below
+  pub small : miss.below ≤ 1000
+
 -- Settings that can be used: no order of the groups or one, scores that are not too great, as many
--- fields as the layout has where they are listed, and a separator.
+-- fields as the layout has where they are listed, a separator, and how often limits may miss.
 pub record AreUsable (settings : Settings) : Type 0 where
   pub order : (settings.order ≡ []) ⊎ AreLabels settings.order
   pub row_scores : AreWithin row_scores_form settings.row_scores
@@ -36,9 +43,11 @@ pub record AreUsable (settings : Settings) : Type 0 where
       let shape = shape_of settings.test in MayPick shape.narrowest shape.widest settings.picks
   pub separator : IsSeparator settings.separator
   pub number : IsDrillNumber settings.number
+  pub miss : IsMiss settings.miss
 
 -- the settings of a command line can be used
 abbrev pub IsUsable : CommandLine → Type 0
 IsUsable Help = ⊤
 IsUsable (Test settings) = AreUsable settings
 IsUsable (Drill number) = IsDrillNumber number
+IsUsable (Shift settings) = AreUsable settings

@@ -2,8 +2,9 @@
 use Rattle.std.specs.Prelude.{◌≡◌, ℕ, ⊤, Bool, true, not, ◌&&◌, List, [], ◌∷◌, ◌++◌, Option, is_some, map, option_map}
 use Rattle.std.specs.Borrow.{Bor}
 use Rattle.std.specs.List.{list_all, list_any}
+use Rattle.settings.specs.Names.{is_same}
 use Rattle.settings.specs.Options.{listed_names}
-use Rattle.settings.specs.Words.{Given, is_same, value_in}
+use Rattle.settings.specs.Words.{Given, value_in}
 use Rattle.settings.specs.declared.words.Next.{Next}
 use Rattle.settings.specs.declared.words.Next.TheVariants.{ValueOf}
 use Rattle.settings.specs.declared.names.OptionName.{OptionName}

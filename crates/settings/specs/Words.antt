@@ -9,7 +9,7 @@ use Rattle.std.specs.List.{after_first, before_first, find, list_any}
 use Rattle.std.specs.Option.{ok_or}
 use Rattle.std.specs.Str.{bytes_eq}
 use Rattle.weights.specs.Results.{and_then}
-use Rattle.settings.specs.Names.{is_flag, option_word}
+use Rattle.settings.specs.Names.{is_flag, is_same, option_word}
 use Rattle.settings.specs.Options.{listed_names}
 use Rattle.settings.specs.declared.names.OptionName.{OptionName}
 use Rattle.settings.specs.declared.names.UsageFault.{UsageFault}
@@ -29,9 +29,6 @@ abbrev pub none_given : Given
 none_given = record { uses = []; test = None; file = None; next = Any }
 
 -- ---- options
-
-abbrev pub is_same : OptionName → OptionName → Bool
-is_same first second = bytes_eq (option_word first) (option_word second)
 
 -- the text that is given for an option
 abbrev pub value_in : List (OptionName × List ℕ) → OptionName → Option (List ℕ)

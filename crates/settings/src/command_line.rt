@@ -27,6 +27,8 @@ pub enum CommandLine {
     Test(Settings),
     /// The rank sum test of made data, by their number, which is at most 2,147,483,647.
     Drill(u64),
+    /// The estimate of a shift between two samples of the data of a file, with its limits.
+    Shift(Settings),
 }
 
 /// The help text, which names the tests and the options that can be given.
@@ -36,6 +38,7 @@ pub fn help_text() -> &'static str
     concat!(
         "usage: exact TEST FILE [options]\n",
         "       exact drill --number K\n",
+        "       exact shift FILE [--miss P/Q]\n",
         "tests: signedrank sign rawsigned mcnemar\n",
         "       ranksum ansari mood savage median raw\n",
         "       kw jt umbrella friedman page cochran\n",
@@ -173,9 +176,9 @@ fn with_matches(
 fn command_of(settings: Settings) -> CommandLine
     ensures { result ≡ command_of settings }
 {
-    if settings.test.reads_file() {
-        CommandLine::Test(settings)
-    } else {
-        CommandLine::Drill(settings.number)
+    match settings.test {
+        TestName::Drill => CommandLine::Drill(settings.number),
+        TestName::Shift => CommandLine::Shift(settings),
+        _ => CommandLine::Test(settings),
     }
 }

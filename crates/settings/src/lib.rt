@@ -7,6 +7,7 @@ mod lists;
 mod names;
 mod settings;
 mod tails;
+mod tests;
 mod values;
 mod words;
 

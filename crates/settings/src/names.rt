@@ -1,12 +1,7 @@
 // The names of tests and options, and what is wrong with words.
 ghost use Rattle.std.specs.Prelude.{◌≡◌};
-ghost use Rattle.settings.specs.Names.{is_flag, option_word, test_word};
-ghost use Rattle.settings.specs.Options.{form_of};
-ghost use Rattle.settings.specs.Tests.{has_greater_alone, has_tail, needs, orders_groups, reads_file, reads_samples, shape_of, test_named};
-ghost use Rattle.settings.specs.Values.{fields_form};
+ghost use Rattle.settings.specs.Names.{is_flag, option_word};
 
-use crate::lists::ListForm;
-use crate::tails::TailChoice;
 use std::alloc::AllocFailed;
 use thiserror::Error;
 use weights::NoMemory;
@@ -60,6 +55,8 @@ pub enum TestName {
     Strata,
     /// The rank sum test of made data.
     Drill,
+    /// The estimate of a shift between two samples with its limits, which is no test.
+    Shift,
 }
 
 /// What a fault of the words is about: an option, a flag, or the word TEST.
@@ -87,6 +84,8 @@ pub enum OptionName {
     Number,
     /// `--missing`: what becomes of a row with a missing field.
     Missing,
+    /// `--miss`: how often the limits of a shift may miss it.
+    Miss,
     /// `--distribution`: the distribution is printed too.
     Distribution,
     /// `--plain`: all rearrangements are listed.
@@ -112,32 +111,8 @@ pub enum UsageFault {
     NoMemory,
 }
 
-// The tests that can be asked for.
-const TESTS: [TestName; 20] = [
-    TestName::SignedRank,
-    TestName::Sign,
-    TestName::RawSigned,
-    TestName::Mcnemar,
-    TestName::RankSum,
-    TestName::Ansari,
-    TestName::Mood,
-    TestName::Savage,
-    TestName::Median,
-    TestName::Raw,
-    TestName::Kw,
-    TestName::Jt,
-    TestName::Umbrella,
-    TestName::Friedman,
-    TestName::Page,
-    TestName::Cochran,
-    TestName::Fisher,
-    TestName::Linear,
-    TestName::Strata,
-    TestName::Drill,
-];
-
 // The options and flags that can be given, in the order in which their faults are told.
-pub(crate) const OPTIONS: [OptionName; 13] = [
+pub(crate) const OPTIONS: [OptionName; 14] = [
     OptionName::Tail,
     OptionName::Scores,
     OptionName::Order,
@@ -148,145 +123,11 @@ pub(crate) const OPTIONS: [OptionName; 13] = [
     OptionName::Separator,
     OptionName::Number,
     OptionName::Missing,
+    OptionName::Miss,
     OptionName::Distribution,
     OptionName::Plain,
     OptionName::Nodes,
 ];
-
-impl TestName {
-    /// The word of the command line that names the test.
-    pub fn word(self) -> &'static str
-        ensures { result.now ≡ test_word self }
-    {
-        match self {
-            TestName::SignedRank => "signedrank",
-            TestName::Sign => "sign",
-            TestName::RawSigned => "rawsigned",
-            TestName::Mcnemar => "mcnemar",
-            TestName::RankSum => "ranksum",
-            TestName::Ansari => "ansari",
-            TestName::Mood => "mood",
-            TestName::Savage => "savage",
-            TestName::Median => "median",
-            TestName::Raw => "raw",
-            TestName::Kw => "kw",
-            TestName::Jt => "jt",
-            TestName::Umbrella => "umbrella",
-            TestName::Friedman => "friedman",
-            TestName::Page => "page",
-            TestName::Cochran => "cochran",
-            TestName::Fisher => "fisher",
-            TestName::Linear => "linear",
-            TestName::Strata => "strata",
-            TestName::Drill => "drill",
-        }
-    }
-
-    // The test that a word names, among those that can be asked for.
-    pub(crate) fn named(word: &str) -> Option<TestName>
-        ensures { result ≡ test_named word.now }
-    {
-        TESTS.iter().find(|test| test.word() == word).copied()
-    }
-
-    // Whether its data are read from a file.
-    pub(crate) fn reads_file(self) -> bool
-        ensures { result ≡ reads_file self }
-    {
-        !matches!(self, TestName::Drill)
-    }
-
-    // Whether its layout is of labels and values, which may be missing, and not of counts.
-    pub(crate) fn reads_samples(self) -> bool
-        ensures { result ≡ reads_samples self }
-    {
-        !matches!(
-            self,
-            TestName::Mcnemar
-                | TestName::Fisher
-                | TestName::Linear
-                | TestName::Strata
-                | TestName::Drill
-        )
-    }
-
-    // Whether its statistic depends on the order of the groups.
-    pub(crate) fn orders_groups(self) -> bool
-        ensures { result ≡ orders_groups self }
-    {
-        matches!(
-            self,
-            TestName::RankSum
-                | TestName::Ansari
-                | TestName::Mood
-                | TestName::Savage
-                | TestName::Median
-                | TestName::Raw
-                | TestName::Jt
-                | TestName::Umbrella
-        )
-    }
-
-    // Whether it takes the option.
-    pub(crate) fn takes(self, option: OptionName) -> bool
-        ensures { result ≡ (form_of option).goes_with self }
-    {
-        match option {
-            OptionName::Test => false,
-            OptionName::Scores => matches!(self, TestName::Kw),
-            OptionName::Order => self.orders_groups(),
-            OptionName::Peak => matches!(self, TestName::Umbrella),
-            OptionName::RowScores | OptionName::ColumnScores => matches!(self, TestName::Linear),
-            OptionName::Number => matches!(self, TestName::Drill),
-            OptionName::Missing => self.reads_samples(),
-            _ => self.reads_file(),
-        }
-    }
-
-    // Whether it cannot do without the option.
-    pub(crate) fn needs(self, option: OptionName) -> bool
-        ensures { result ≡ needs self option }
-    {
-        match self {
-            TestName::Umbrella => matches!(option, OptionName::Peak),
-            TestName::Drill => matches!(option, OptionName::Number),
-            _ => false,
-        }
-    }
-
-    // The form of a list of fields of its layout.
-    pub(crate) fn fields(self) -> ListForm
-        ensures { result ≡ fields_form (shape_of self) }
-    {
-        let (fewest, most) = match self {
-            TestName::SignedRank | TestName::Sign | TestName::RawSigned => (1, 2),
-            TestName::Friedman | TestName::Page | TestName::Cochran => (2, 8),
-            TestName::Fisher | TestName::Linear => (2, 64),
-            TestName::Strata => (5, 5),
-            _ => (2, 2),
-        };
-        ListForm {
-            low: 1,
-            high: 1000,
-            fewest,
-            most,
-        }
-    }
-
-    // Whether great values of its statistic alone are extreme.
-    fn has_greater_alone(self) -> bool
-        ensures { result ≡ has_greater_alone self }
-    {
-        matches!(self, TestName::Kw | TestName::Friedman | TestName::Cochran)
-    }
-
-    // Whether it may be asked for these tails.
-    pub(crate) fn has_tail(self, tail: TailChoice) -> bool
-        ensures { result ≡ has_tail self tail }
-    {
-        !self.has_greater_alone() || !matches!(tail, TailChoice::Less | TailChoice::Two)
-    }
-}
 
 impl OptionName {
     /// The word of the option without its dashes, and `TEST` for the word TEST.
@@ -312,6 +153,7 @@ impl OptionName {
             OptionName::Separator => "separator",
             OptionName::Number => "number",
             OptionName::Missing => "missing",
+            OptionName::Miss => "miss",
             OptionName::Distribution => "distribution",
             OptionName::Plain => "plain",
             OptionName::Nodes => "nodes",

@@ -1,21 +1,21 @@
 // What a run is asked for.
 ghost use Rattle.std.specs.Prelude.{◌≡◌, IfOk, Ok, Err, if◌then◌else◌};
 ghost use Rattle.std.specs.Option.{ok_or};
-ghost use Rattle.settings.specs.Faults.{Meets};
-ghost use Rattle.settings.specs.Options.{form_of, settings_without_options, suited, with_option};
+ghost use Rattle.settings.specs.Faults.{Meets, MeetsAs};
+ghost use Rattle.settings.specs.Options.{form_of, raised, settings_without_options, suited, with_option};
 ghost use Rattle.settings.specs.Values.{column_scores_form, number_form, peak_form, row_scores_form};
 ghost use Rattle.settings.specs.WordSteps.{text_of};
 
 use crate::lists::{ListForm, columns_in, number_of, numbers_of};
 use crate::names::{OptionName, TestName, UsageFault};
 use crate::tails::TailChoice;
-use crate::values::{missing_of, order_of, scores_of, separator_of};
+use crate::values::{miss_of, missing_of, order_of, scores_of, separator_of};
 use record_reader::{Missing, Picks};
 use sample_reader::Labels;
 use scores::ScoreKind;
 use std::alloc::Global;
 use std::marker::Model;
-use weights::{List, NoMemory};
+use weights::{List, NoMemory, Odds};
 
 /// A list of signed numbers of 64 bits.
 pub type Nums64 = List<i64>;
@@ -80,6 +80,8 @@ pub struct Settings {
     pub number: u64,
     /// What becomes of a row with a missing field; by default it is a fault.
     pub missing: Missing,
+    /// How often the limits of a shift may miss it; a twentieth by default.
+    pub miss: Odds,
     /// Whether the distribution is asked for.
     pub distribution: bool,
     /// Whether all rearrangements are to be listed.
@@ -113,6 +115,12 @@ const COLUMN_SCORES: ListForm = ListForm {
 // The greatest number of made data.
 const GREATEST_NUMBER: u64 = 2_147_483_647;
 
+// How often the limits of a shift may miss it where that is not given.
+const DEFAULT_MISS: Odds = Odds {
+    above: 1,
+    below: 20,
+};
+
 // The number of made data.
 const NUMBER: ListForm = ListForm {
     low: 0,
@@ -139,6 +147,7 @@ impl Settings {
             separator: b',',
             number: 0,
             missing: Missing::Refuse,
+            miss: DEFAULT_MISS,
             distribution: false,
             plain: false,
             nodes: false,
@@ -147,7 +156,7 @@ impl Settings {
 
     // With the value of an option, where it is given.
     pub(crate) fn with_option(
-        self,
+        mut self,
         alloc: Global,
         name: OptionName,
         value: Option<&str>,
@@ -160,8 +169,8 @@ impl Settings {
         if !self.test.takes(name) {
             return Err(UsageFault::Pairing(name, self.test));
         }
-        let settings = self.with_text(alloc, name, text)?;
-        settings.suited(name)
+        self.set_text(alloc, name, text)?;
+        self.suited(name)
     }
 
     // Where the test goes with the value of the option too.
@@ -179,15 +188,10 @@ impl Settings {
         }
     }
 
-    // With the value of this text.
-    fn with_text(
-        mut self,
-        alloc: Global,
-        name: OptionName,
-        text: &str,
-    ) -> Result<Settings, UsageFault>
-        ensures { let more = (form_of name).set text.now self in
-            Meets (ok_or more (UsageFault.Value name)) result }
+    // Takes over the value of this text. After a fault they are the same as before.
+    fn set_text(&mut self, alloc: Global, name: OptionName, text: &str) -> Result<(), UsageFault>
+        ensures { let more = (form_of name).set text.now self.old in
+            MeetsAs (λ unit. self.new) (ok_or more (UsageFault.Value name)) result }
     {
         let fault = UsageFault::Value(name);
         match name {
@@ -209,10 +213,21 @@ impl Settings {
             OptionName::Separator => self.separator = separator_of(text).ok_or(fault)?,
             OptionName::Number => self.number = number_of(name, NUMBER, text)?,
             OptionName::Missing => self.missing = missing_of(text).ok_or(fault)?,
+            OptionName::Miss => self.miss = miss_of(text).ok_or(fault)?,
+            OptionName::Distribution | OptionName::Plain | OptionName::Nodes => self.raise(name),
+        }
+        Ok(())
+    }
+
+    // Raises a flag; an option is none.
+    fn raise(&mut self, name: OptionName)
+        ensures { self.new ≡ raised name self.old }
+    {
+        match name {
             OptionName::Distribution => self.distribution = true,
             OptionName::Plain => self.plain = true,
             OptionName::Nodes => self.nodes = true,
+            _ => {}
         }
-        Ok(self)
     }
 }

@@ -2,18 +2,19 @@
 ghost use Rattle.std.specs.Prelude.{◌≡◌, IfOk};
 ghost use Rattle.std.specs.List.{list_any};
 ghost use Rattle.std.specs.Option.{ok_or};
+ghost use Rattle.number_text.specs.Numerals.{all_digits};
 ghost use Rattle.settings.specs.Faults.{Meets};
 ghost use Rattle.settings.specs.Names.{score_word};
-ghost use Rattle.settings.specs.Values.{are_distinct, are_labels, is_empty, labels_in, missing_of, order_of, scores_of, separator_of};
+ghost use Rattle.settings.specs.Values.{are_distinct, are_labels, is_empty, labels_in, miss_of, missing_of, odds_of, part_of, order_of, scores_of, separator_of};
 ghost use Rattle.settings.specs.declared.names.OptionName.TheVariants as option;
 
 use crate::names::{OptionName, UsageFault};
-use number_text::trim;
+use number_text::{read_count, trim};
 use record_reader::Missing;
 use sample_reader::Labels;
 use scores::ScoreKind;
 use std::alloc::Global;
-use weights::NoMemory;
+use weights::{NoMemory, Odds};
 
 // The byte between two fields that a word names.
 pub(crate) fn separator_of(word: &str) -> Option<u8>
@@ -36,6 +37,49 @@ pub(crate) fn missing_of(word: &str) -> Option<Missing>
         "drop" => Some(Missing::Drop),
         _ => None,
     }
+}
+
+// How often limits may miss, less than always.
+pub(crate) fn miss_of(text: &str) -> Option<Odds>
+    ensures { result ≡ miss_of text.now }
+{
+    let odds = odds_of(text)?;
+    if odds.above < odds.below {
+        Some(odds)
+    } else {
+        None
+    }
+}
+
+// The ratio of two numbers, with a slash between them.
+fn odds_of(text: &str) -> Option<Odds>
+    ensures { result ≡ odds_of text.now }
+{
+    let (above, below) = text.split_once('/')?;
+    let below = part_of(below)?;
+    let above = part_of(above)?;
+    Some(Odds { above, below })
+}
+
+// The greatest number of a ratio.
+const GREATEST_PART: u64 = 1000;
+
+// The number from 1 to 1000 that digits alone write.
+fn part_of(text: &str) -> Option<u64>
+    ensures { result ≡ part_of text.now }
+{
+    let text = text.as_bytes();
+    if !all_digits(text) {
+        return None;
+    }
+    let number = read_count(text, GREATEST_PART)?;
+    if 1 <= number { Some(number) } else { None }
+}
+
+fn all_digits(text: &[u8]) -> bool
+    ensures { result ≡ all_digits text.now }
+{
+    text.iter().all(|byte| byte.is_ascii_digit())
 }
 
 const SCORE_KINDS: [ScoreKind; 6] = [

@@ -2,7 +2,8 @@ use Rattle.std.proofs.Common.{◌≡◌, ◌∙◌, ◌||◌, Bool, List, [], �
 use Rattle.std.proofs.lemmas.Iterator.{YieldsList-from_slice}
 use Rattle.std.proofs.lemmas.Iterator.Search.{any_from_yields_List}
 use Rattle.std.specs.List.{list_any}
-use Rattle.settings.specs.Words.{is_same, value_in}
+use Rattle.settings.specs.Names.{is_same}
+use Rattle.settings.specs.Words.{value_in}
 use Rattle.settings.specs.WordSteps.{pair_of}
 use Rattle.settings.specs.declared.names.OptionName.{OptionName}
 use Rattle.settings.specs.declared.words.Use.{Use}
