@@ -25,7 +25,8 @@ use Rattle.settings.specs.Faults.{Meets}
 use Rattle.settings.specs.Meaning.{command_for, command_of, is_complete, meaning_for, meaning_of_given, meaning_of_test, settings_of}
 use Rattle.settings.specs.Options.{form_of, listed_names, setting, settings_without_options, suited, with_option, with_options}
 use Rattle.settings.specs.Tests.{shape_of, test_named}
-use Rattle.settings.specs.Usable.{AreLabels, AreUsable, AreWithin, IsDrillNumber, IsMiss, IsUsable}
+use Rattle.weights.specs.Odds.{IsMiss}
+use Rattle.settings.specs.Usable.{AreLabels, AreUsable, AreWithin, IsDrillNumber, IsUsable}
 use Rattle.settings.specs.Values.{are_distinct, are_labels, at_least, column_scores_form, below_one, columns_of, distinct_fields, fields_form, is_empty, is_slash, labels_in, miss_of, missing_of, number_form, number_of, numbers_of, odds_with, order_of, part_of, peak_form, positive, row_scores_form, scores_of, separator_of, tail_of}
 use Rattle.settings.specs.Words.{Given, none_given, value_in, with_words}
 use Rattle.settings.specs.declared.command_line.CommandLine.{CommandLine}
@@ -236,7 +237,7 @@ miss_of-IsMiss : (text : List ℕ) → IfSome (miss_of text) IsMiss
 miss_of-IsMiss text = by_below (part_of (after_first is_slash text)) (part_of-small (after_first is_slash text))
   where
     by_test : (above below : ℕ) → 1 ≤ above → below ≤ 1000 → (less : Bool) → nat_lt above below ≡ less → IfSome (cond less (Some (odds_with below above)) None) IsMiss
-    by_test above below some small true less = record { some = some; below_one = grind (arith, nat_tests); small = small }
+    by_test above below some small true less = record { some = some; part = grind (arith, nat_tests); small = small }
     by_test above below some small false less = tt
 
     by_above : (below : ℕ) → below ≤ 1000 → (above : Option ℕ) → ((part : ℕ) → above ≡ Some part → (1 ≤ part) × (part ≤ 1000)) → IfSome (option_and_then below_one (option_map (odds_with below) above)) IsMiss
@@ -363,7 +364,7 @@ start-AreUsable test file = record {
   picks = tt;
   separator = inl refl;
   number = omega arith;
-  miss = record { some = omega arith; below_one = omega arith; small = omega arith };
+  miss = record { some = omega arith; part = omega arith; small = omega arith };
 }
 
 -- ---- the command line

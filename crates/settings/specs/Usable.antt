@@ -1,7 +1,7 @@
 -- What settings keep to, so that they can be used.
 use Rattle.std.specs.Prelude.{◌≡◌, ◌≢◌, ◌≤◌, ◌<◌, ◌⊎◌, ⊤, ℕ, ℤ, All, AllPairs, List, [], length}
 use Rattle.number_text.specs.ListTexts.{IsWithin}
-use Rattle.weights.specs.declared.odds.Odds.{Odds}
+use Rattle.weights.specs.Odds.{IsMiss}
 use Rattle.record_reader.specs.Layouts.{MayPick}
 use Rattle.record_reader.specs.Records.{IsSeparator}
 use Rattle.settings.specs.Tests.{shape_of}
@@ -26,12 +26,6 @@ AreWithin form numbers = All (IsWithin form.low form.high) numbers
 -- the number of made data
 abbrev pub IsDrillNumber : ℕ → Type 0
 IsDrillNumber number = number ≤ GREATEST_NUMBER
-
--- how often limits may miss: less than always
-pub record IsMiss (miss : Odds) : Type 0 where
-  pub some : 1 ≤ miss.above
-  pub below_one : miss.above < miss.below
-  pub small : miss.below ≤ 1000
 
 -- Settings that can be used: no order of the groups or one, scores that are not too great, as many
 -- fields as the layout has where they are listed, a separator, and how often limits may miss.
