@@ -1,5 +1,5 @@
 -- What settings keep to, so that they can be used.
-use Rattle.std.specs.Prelude.{◌≡◌, ◌≢◌, ◌≤◌, ◌<◌, ◌⊎◌, ⊤, ℕ, ℤ, All, AllPairs, List, [], length}
+use Rattle.std.specs.Prelude.{◌≡◌, ◌≢◌, ◌≤◌, ◌⊎◌, ⊤, ℕ, ℤ, All, AllPairs, List, [], length}
 use Rattle.number_text.specs.ListTexts.{IsWithin}
 use Rattle.weights.specs.Odds.{IsMiss}
 use Rattle.record_reader.specs.Layouts.{MayPick}

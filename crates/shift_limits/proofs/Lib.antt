@@ -1,0 +1,11 @@
+mod WholeValues
+mod ChosenValues
+mod Dividing
+mod Halving
+mod Pairwise
+mod Promises
+mod RankLines
+mod RankSums
+mod Sampled
+mod UntiedRanks
+mod Vectors

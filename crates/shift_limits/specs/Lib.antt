@@ -1,0 +1,4 @@
+pub mod Differences
+pub mod LaterPairs
+pub mod Limits
+pub mod LimitSteps
