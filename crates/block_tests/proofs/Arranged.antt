@@ -1,11 +1,10 @@
 -- The arrangements of one block: the first one ascends, all have the same cells, and two neighbours may change places in all of them.
-use Rattle.std.proofs.Common.{◌≡◌, ℕ, zero, suc, ◌+◌, ◌-◌, ◌≤◌, ◌<◌, List, [], ◌∷◌, length, map, get_or, Bool, true, false, cond, nat_eq, nat_le, refl, sym, ◌∙◌, ap, subst, arith, inl, inr}
+use Rattle.std.proofs.Common.{◌≡◌, ℕ, zero, suc, ◌-◌, ◌≤◌, ◌<◌, List, [], ◌∷◌, length, map, get_or, cond, nat_eq, nat_le, refl, sym, ◌∙◌, ap, subst, arith, inl, inr}
 use Rattle.std.specs.Prelude.{ℤ, pos, Contains}
 use Rattle.std.specs.List.{AllByRecursion, sum, sum_by}
 use Rattle.std.specs.Cmp.Lexicographic.{pointwise}
 use Rattle.std.proofs.lemmas.Bool.Decides.{leb_tells}
 use Rattle.std.proofs.lemmas.List.Elements.{All-contains_itself, All-weaker, recursion_from_All}
-use Rattle.std.proofs.lemmas.List.Sums.{sum_by-cons}
 use Rattle.weights.specs.Labellings.{counts_of, has_counts, labellings, labels, lists_over}
 use Rattle.weights.proofs.Counted.{all_from_SameCounts, count_of, labelling_from_SameCounts}
 use Rattle.weights.proofs.Filters.{map-same}
@@ -13,7 +12,7 @@ use Rattle.weights.proofs.Members.{IsLabelling, labelling_from}
 use Rattle.weights.specs.InOrder.{in_order, put_in}
 use Rattle.weights.proofs.OneOrder.{all-put_in, length-in_order, sum_by-in_order}
 use Rattle.weights.proofs.Sized.{length-counts_of, sum-counts_of}
-use Rattle.weights.proofs.Sums.{sum_by-filter, sum_by-fronts, sum_by-one, sum_by-same, sum_by-swap}
+use Rattle.weights.proofs.Sums.{sum_by-filter, sum_by-fronts, sum_by-same, sum_by-swap}
 use Rattle.enumerate.specs.Walk.{BeginsWith}
 use Rattle.enumerate.proofs.Extremes.{NeverFalls}
 use Rattle.enumerate.proofs.FirstLabelling.{ascending, ascending_begins}

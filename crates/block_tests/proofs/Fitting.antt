@@ -1,26 +1,20 @@
 -- What holds of a test of blocks of a file, and of one whose total passes no limit.
-use Rattle.std.proofs.Common.{◌≡◌, ℕ, zero, suc, ◌+◌, ◌*◌, ◌<◌, ◌≤◌, List, [], ◌∷◌, ◌++◌, length, map, Some, None, ◌⊎◌, inl, inr, refl, sym, ◌∙◌, ap, subst, arith, lit≤, length-append}
-use Rattle.std.specs.Prelude.{ℤ, pos, ◌-ℤ◌, ◌*ℤ◌, ◌^◌, nat_abs, Contains}
+use Rattle.std.proofs.Common.{◌≡◌, ℕ, zero, suc, ◌+◌, ◌*◌, ◌<◌, ◌≤◌, List, [], ◌∷◌, ◌++◌, length, map, ◌⊎◌, inl, inr, refl, sym, ◌∙◌, ap, subst, arith, lit≤, length-append}
+use Rattle.std.specs.Prelude.{ℤ, pos, ◌^◌, Contains}
 use Rattle.std.specs.List.{All, AllByRecursion, concat, sum, sum_by}
-use Rattle.std.proofs.Math.IntN.{zero-*ℤ}
 use Rattle.std.proofs.Math.Nat.{mul-le-mul, mul-le-mul_right}
-use Rattle.std.proofs.lemmas.Bool.{le-ltb, lt-ltb}
 use Rattle.std.proofs.lemmas.Int.{ints}
 use Rattle.std.proofs.lemmas.List.{length-map}
 use Rattle.std.proofs.lemmas.List.Elements.{All-contains, All-from_recursion}
 use Rattle.std.proofs.lemmas.List.Sums.{sum_by-append, sum_by-cons}
 use Rattle.weights.specs.declared.tails.Tail.{Tail}
-use Rattle.weights.specs.declared.tails.Tail.TheVariants.{Less, Greater, Two}
-use Rattle.weights.specs.declared.frames.Frame.{Frame}
 use Rattle.weights.specs.declared.rules.Rule.{Rule}
 use Rattle.weights.specs.declared.rules.Rule.TheVariants.{Far}
 use Rattle.weights.specs.declared.TheConstants.{MAX}
-use Rattle.weights.specs.declared.wide.WideOf.TheVariants.{Total}
-use Rattle.weights.specs.Conditional.{distance, total, unit_weight}
-use Rattle.weights.specs.Frames.{IsFrameOf, IsShown, RulesFit, first_tail}
+use Rattle.weights.specs.Conditional.{by_distance, total}
 use Rattle.weights.specs.Labellings.{labellings, number_of_labellings, product}
 use Rattle.weights.specs.Rules.{RuleFits, measured, rule_of}
-use Rattle.weights.specs.Wide.{too_wide}
+use Rattle.weights.proofs.Centred.{IsCentred, far-fits, measured-is, no_factor-fits, rule-fits}
 use Rattle.weights.proofs.Filters.{all_append, all_map}
 use Rattle.weights.proofs.FirstLabel.{number_of_labellings-positive}
 use Rattle.weights.proofs.Members.{IsLabelling}
@@ -34,8 +28,8 @@ use Rattle.stage_network.specs.Follows.{Follows}
 use Rattle.stage_network.proofs.AdditiveFollows.{additive_follows}
 use Rattle.block_tests.specs.BlockNetworks.{first_arrangement, line_addends, running_addends, running_network, square_addends}
 use Rattle.block_tests.specs.BlockSteps.{AreStages, IsSmall, IsWhole, cells_sum, ways_of}
-use Rattle.block_tests.specs.BlockTests.{BlockTests, TakesCells, block_counts, block_statistic, block_test, blocks_for, bound_of, cells_in, counts_in, cut, measure, observed_cells, page_sum, rearrangements, rows, scale_of, sides_of, square_sum, squared, treatment_sums}
-use Rattle.block_tests.specs.PreparedSteps.{AreBlocks, AreFitting, far_of}
+use Rattle.block_tests.specs.BlockTests.{BlockTests, TakesCells, block_counts, block_statistic, block_test, blocks_for, bound_of, cells_in, counts_in, cut, measure, observed_cells, page_sum, rearrangements, rows, sides_of, square_sum, squared, treatment_sums}
+use Rattle.block_tests.specs.PreparedSteps.{AreBlocks, AreFitting}
 use Rattle.block_tests.specs.declared.kinds.BlockKind.{BlockKind}
 use Rattle.block_tests.specs.declared.kinds.BlockKind.TheVariants.{Friedman, Page, Cochran}
 use Rattle.block_tests.proofs.Arranged.{each-labelling}
@@ -65,6 +59,9 @@ total-is tests = sum_by-map (λ r. 1) concat (product (map labellings (block_cou
 pub ways-some : (blocks : List (List ℕ)) → 1 ≤ ways_of blocks
 ways-some [] = omega arith
 ways-some (counts ∷ blocks) = (let one : 1 * 1 ≤ number_of_labellings counts * ways_of blocks = mul-le-mul (number_of_labellings-positive counts) (ways-some blocks) in omega (arith, one))
+
+pub total-some : (tests : BlockTests) → 1 ≤ total (block_test tests)
+total-some tests = omega (arith, total-is tests, ways-some (block_counts tests))
 
 -- ---- each rearrangement
 
@@ -122,59 +119,36 @@ statistic-small kind n k r few narrow small =
     by Page = page
     by Cochran = squares
 
--- ---- the rules
+-- ---- the sides
 
-pub no-distance : (v : ℤ) → distance 0 (pos 0) v ≤ MAX
-no-distance v = subst (λ z. nat_abs (z -ℤ pos 0) ≤ MAX) (sym (zero-*ℤ v)) (omega arith)
+abbrev pub factor : BlockKind → ℕ
+factor Friedman = 0
+factor Page = 2
+factor Cochran = 0
 
-pub no-times : (v : ℤ) → nat_abs (pos 0 *ℤ v) ≤ MAX
-no-times v = subst (λ z. nat_abs z ≤ MAX) (sym (zero-*ℤ v)) (omega arith)
+abbrev pub centre : BlockKind → ℕ → ℕ → ℕ
+centre Friedman n k = 0
+centre Page n k = n * k * squared (k + 1)
+centre Cochran n k = 0
 
-page-times : (v : ℤ) → IsSmall v → nat_abs (pos 2 *ℤ v) ≤ MAX
-page-times v h = omega (arith, ints, h.0, h.1)
+pub sides-are : (kind : BlockKind) (n k : ℕ) → sides_of kind n k ≡ by_distance (factor kind) (pos (centre kind n k))
+sides-are Friedman n k = refl
+sides-are Page n k = refl
+sides-are Cochran n k = refl
 
-page-apart : (c : ℕ) (v : ℤ) → c ≤ 2 ^ 60 → IsSmall v → distance 2 (pos c) v ≤ MAX
-page-apart c v few h = omega (arith, ints, few, h.0, h.1)
-
-pub centre-small : (n k : ℕ) → n ≤ 10000 → k ≤ 8 → n * k * squared (k + 1) ≤ 2 ^ 60
+centre-small : (n k : ℕ) → n ≤ 10000 → k ≤ 8 → n * k * squared (k + 1) ≤ 2 ^ 60
 centre-small n k few narrow =
     let next : k + 1 ≤ 9 = omega arith in
     let all : n * k * squared (k + 1) ≤ 10000 * 8 * (9 * 9) = mul-le-mul (mul-le-mul few narrow) (mul-le-mul next next) in
     omega (arith, all)
 
-sides-fit : (kind : BlockKind) (n k : ℕ) (observed v : ℤ) → n ≤ 10000 → k ≤ 8 → IsSmall observed → IsSmall v → RuleFits (far_of (sides_of kind n k) observed) v
-sides-fit Friedman n k observed v few narrow o h = record { least_factor = lit≤ tt; observed = no-distance observed; times = no-times v; apart = no-distance v }
-sides-fit Page n k observed v few narrow o h = record {
-  least_factor = lit≤ tt;
-  observed = page-apart (n * k * squared (k + 1)) observed (centre-small n k few narrow) o;
-  times = page-times v h;
-  apart = page-apart (n * k * squared (k + 1)) v (centre-small n k few narrow) h;
-}
-sides-fit Cochran n k observed v few narrow o h = record { least_factor = lit≤ tt; observed = no-distance observed; times = no-times v; apart = no-distance v }
+value-fits : (kind : BlockKind) (n k : ℕ) (v : ℤ) → n ≤ 10000 → k ≤ 8 → IsSmall v → RuleFits (Far (factor kind) (pos (centre kind n k)) 0) v
+value-fits Friedman n k v few narrow h = no_factor-fits v
+value-fits Page n k v few narrow h = far-fits 2 (pos (n * k * squared (k + 1))) v (lit≤ tt) (omega (arith, ints, centre-small n k few narrow, h.0, h.1))
+value-fits Cochran n k v few narrow h = no_factor-fits v
 
-pub zero-fits : (kind : BlockKind) (n k : ℕ) (v : ℤ) → n ≤ 10000 → k ≤ 8 → IsSmall v → RuleFits (Far 0 (pos 0) 0) v
-zero-fits kind n k v few narrow h = record { least_factor = lit≤ tt; observed = lit≤ tt; times = no-times v; apart = no-distance v }
-
-pub page-fits : (n k : ℕ) (v : ℤ) → n ≤ 10000 → k ≤ 8 → IsSmall v → RuleFits (Far 2 (pos (n * k * squared (k + 1))) 0) v
-page-fits n k v few narrow h = record { least_factor = lit≤ tt; observed = lit≤ tt; times = page-times v h; apart = page-apart (n * k * squared (k + 1)) v (centre-small n k few narrow) h }
-
-sides-rule : (tests : BlockTests) → rule_of (block_test tests) Two ≡ far_of (sides_of tests.kind tests.blocks.blocks tests.blocks.treatments) (block_statistic tests.kind tests.blocks.blocks tests.blocks.treatments (observed_cells tests))
-sides-rule tests = by tests.kind refl
-  where
-    by : (kind : BlockKind) → tests.kind ≡ kind → rule_of (block_test tests) Two ≡ far_of (sides_of tests.kind tests.blocks.blocks tests.blocks.treatments) (block_statistic tests.kind tests.blocks.blocks tests.blocks.treatments (observed_cells tests))
-    by Friedman e = rw e refl
-    by Page e = rw e refl
-    by Cochran e = rw e refl
-
-pub measured-is : (tests : BlockTests) (tail : Tail) (r : List ℕ) → measured (block_test tests) tail r ≡ block_statistic tests.kind tests.blocks.blocks tests.blocks.treatments r
-measured-is tests Less r = refl
-measured-is tests Greater r = refl
-measured-is tests Two r = by tests.kind refl
-  where
-    by : (kind : BlockKind) → tests.kind ≡ kind → measured (block_test tests) Two r ≡ block_statistic tests.kind tests.blocks.blocks tests.blocks.treatments r
-    by Friedman e = rw e refl
-    by Page e = rw e refl
-    by Cochran e = rw e refl
+pub measured_at : (tests : BlockTests) (tail : Tail) (r : List ℕ) → measured (block_test tests) tail r ≡ block_statistic tests.kind tests.blocks.blocks tests.blocks.treatments r
+measured_at tests = measured-is (block_test tests) (sides-are tests.kind tests.blocks.blocks tests.blocks.treatments)
 
 -- ---- blocks of a file
 
@@ -220,13 +194,15 @@ module _ (tests : BlockTests) (b : AreBlocks tests) where
   statistic-of : (r : List ℕ) → AllByRecursion (λ z. z ≤ 16) r → IsSmall (block_statistic tests.kind tests.blocks.blocks tests.blocks.treatments r)
   statistic-of r small = statistic-small tests.kind tests.blocks.blocks tests.blocks.treatments r b.few_enough b.at_most_eight (all_weaker (λ z. z ≤ 16) (λ z. z ≤ 255) (λ z h. omega (arith, h)) r small)
 
-  pub rule-fits : (tail : Tail) (v : ℤ) → IsSmall v → RuleFits (rule_of (block_test tests) tail) v
-  rule-fits Less v h = record { least_factor = lit≤ tt; observed = lit≤ tt; times = no-times v; apart = no-distance v }
-  rule-fits Greater v h = record { least_factor = lit≤ tt; observed = lit≤ tt; times = no-times v; apart = no-distance v }
-  rule-fits Two v h = subst (λ rule. RuleFits rule v) (sym (sides-rule tests)) (sides-fit tests.kind tests.blocks.blocks tests.blocks.treatments (block_statistic tests.kind tests.blocks.blocks tests.blocks.treatments (observed_cells tests)) v b.few_enough b.at_most_eight (statistic-of (observed_cells tests) observed-of.small) h)
+  pub small-fits : (v : ℤ) → IsSmall v → RuleFits (Far (factor tests.kind) (pos (centre tests.kind tests.blocks.blocks tests.blocks.treatments)) 0) v
+  small-fits v h = value-fits tests.kind tests.blocks.blocks tests.blocks.treatments v b.few_enough b.at_most_eight h
 
-  pub rules-fit : RulesFit (block_test tests)
-  rules-fit = record { fits = λ tail r m. subst (RuleFits (rule_of (block_test tests) tail)) (sym (measured-is tests tail r)) (rule-fits tail (block_statistic tests.kind tests.blocks.blocks tests.blocks.treatments r) (statistic-of r (member-of r m).small)) }
+  pub centred : IsCentred (block_test tests) (factor tests.kind) (pos (centre tests.kind tests.blocks.blocks tests.blocks.treatments))
+  centred = record {
+    by = sides-are tests.kind tests.blocks.blocks tests.blocks.treatments;
+    observed = small-fits _ (statistic-of (observed_cells tests) observed-of.small);
+    each = λ r m. small-fits _ (statistic-of r (member-of r m).small);
+  }
 
   -- ---- the bound
 
@@ -309,7 +285,7 @@ module _ (tests : BlockTests) (f : AreFitting tests) where
     few = omega (arith, blocks-many tests f.blocks, f.blocks.few_enough);
     whole = whole-all;
     ways_fit = omega (arith, total-is tests, f.total_fits);
-    rule_fits = rule-fits tests f.blocks tail;
+    rule_fits = λ v h. rule-fits (block_test tests) (centred tests f.blocks) tail v (small-fits tests f.blocks v h);
   }
 
   pub bound-fits : (block_test tests).bound ≤ MAX
@@ -319,26 +295,6 @@ module _ (tests : BlockTests) (f : AreFitting tests) where
       let cells : tests.blocks.blocks * tests.blocks.treatments ≤ 10000 * 8 = mul-le-mul f.blocks.few_enough f.blocks.at_most_eight in
       let top : sum (observed_cells tests) ≤ 1280000 = omega (arith, sum_small, o.long, cells) in
       omega (arith, bound-small tests.kind tests.blocks.blocks tests.blocks.treatments (observed_cells tests) f.blocks.few_enough f.blocks.at_most_eight top)
-
-  -- ---- what is said of the test
-
-  pub shown : IsShown (block_test tests)
-  shown = by tests.kind refl
-    where
-      each-one : (rs : List (List ℕ)) → AllByRecursion (λ r. 1 ≤ unit_weight r) rs
-      each-one [] = tt
-      each-one (r ∷ rs) = (omega arith, each-one rs)
-
-      by : (kind : BlockKind) → tests.kind ≡ kind → IsShown (block_test tests)
-      by Friedman e = record { has = rw e refl; statistic_is = λ r. measured-is tests (first_tail (block_test tests)) r; weighty = each-one (rearrangements (block_counts tests)) }
-      by Page e = record { has = rw e refl; statistic_is = λ r. measured-is tests (first_tail (block_test tests)) r; weighty = each-one (rearrangements (block_counts tests)) }
-      by Cochran e = record { has = rw e refl; statistic_is = λ r. measured-is tests (first_tail (block_test tests)) r; weighty = each-one (rearrangements (block_counts tests)) }
-
-  pub total-some : 1 ≤ total (block_test tests)
-  total-some = omega (arith, total-is tests, ways-some (block_counts tests))
-
-  pub not-wide : too_wide (block_test tests) ≡ None
-  not-wide = rw (le-ltb MAX (total (block_test tests)) f.total_fits, le-ltb MAX (block_test tests).bound bound-fits) refl
 
   -- ---- the network
 
@@ -358,7 +314,7 @@ module _ (tests : BlockTests) (f : AreFitting tests) where
         stages = square-stages (block_test tests).bound k blocks tail rule whole-all;
         each = parts-arranged k blocks whole-all blocks 0 refl;
         joined = record {
-          measures = λ xs all. measured-is tests tail (concat xs) ∙ squared-is e (concat xs) ∙ ap (λ n. pos (square_sum (treatment_sums k (cut k n (concat xs))))) (sym (blocks-many tests f.blocks)) ∙ squares-measured (length blocks) k xs all;
+          measures = λ xs all. measured_at tests tail (concat xs) ∙ squared-is e (concat xs) ∙ ap (λ n. pos (square_sum (treatment_sums k (cut k n (concat xs))))) (sym (blocks-many tests f.blocks)) ∙ squares-measured (length blocks) k xs all;
           weighs = λ xs all. each-weighs 0 xs;
         };
       })
@@ -383,7 +339,7 @@ module _ (tests : BlockTests) (f : AreFitting tests) where
         stages = page-stages blocks tail rule;
         each = parts-arranged k blocks whole-all blocks 0 refl;
         joined = record {
-          measures = λ xs all. measured-is tests tail (concat xs) ∙ paged e (concat xs) ∙ ap (λ n. pos (page_sum 1 (treatment_sums k (cut k n (concat xs))))) (sym (blocks-many tests f.blocks)) ∙ page-measured (length blocks) k xs all;
+          measures = λ xs all. measured_at tests tail (concat xs) ∙ paged e (concat xs) ∙ ap (λ n. pos (page_sum 1 (treatment_sums k (cut k n (concat xs))))) (sym (blocks-many tests f.blocks)) ∙ page-measured (length blocks) k xs all;
           weighs = λ xs all. each-weighs 0 xs;
         };
       })
@@ -414,21 +370,3 @@ blocks-read kind blocks taken = record {
   one_each = blocks.one_each;
   taken = taken;
 }
-
-pub total-wide : (tests : BlockTests) → (ways_of (block_counts tests) ≤ MAX → ⊥) → too_wide (block_test tests) ≡ Some Total
-total-wide tests wide = (let past : MAX < total (block_test tests) = over (ways_of (block_counts tests)) wide (total-is tests) in rw (lt-ltb MAX (total (block_test tests)) past) refl)
-  where
-    over : (n : ℕ) → (n ≤ MAX → ⊥) → total (block_test tests) ≡ n → MAX < total (block_test tests)
-    over n cannot e = omega (arith, cannot, e)
-
-pub framed : (tests : BlockTests) (ways : ℕ) (cells : List ℕ) (frame : Frame) → cells ≡ observed_cells tests → ways ≡ ways_of (block_counts tests)
-    → frame ≡ record { statistic = block_statistic tests.kind tests.blocks.blocks tests.blocks.treatments cells; scale = scale_of tests.kind; total = ways; two = far_of (sides_of tests.kind tests.blocks.blocks tests.blocks.treatments) (block_statistic tests.kind tests.blocks.blocks tests.blocks.treatments cells) }
-    → IsFrameOf (block_test tests) frame
-framed tests ways cells frame c w e =
-    let statistic : frame.statistic ≡ block_statistic tests.kind tests.blocks.blocks tests.blocks.treatments (observed_cells tests) = ap (λ (f : Frame). f.statistic) e ∙ ap (block_statistic tests.kind tests.blocks.blocks tests.blocks.treatments) c in
-    record {
-      statistic = statistic;
-      scale = ap (λ (f : Frame). f.scale) e;
-      total = ap (λ (f : Frame). f.total) e ∙ w ∙ sym (total-is tests);
-      two = ap (λ (f : Frame). f.two) e ∙ ap (λ xs. far_of (sides_of tests.kind tests.blocks.blocks tests.blocks.treatments) (block_statistic tests.kind tests.blocks.blocks tests.blocks.treatments xs)) c ∙ sym (sides-rule tests);
-    }

@@ -1,24 +1,22 @@
 -- What holds of a test of Kruskal and Wallis whose total and bound pass no limit.
-use Rattle.std.proofs.Common.{◌≡◌, ℕ, zero, suc, ◌*◌, ◌/◌, ◌<◌, ◌≤◌, Bool, true, false, cond, List, [], ◌∷◌, length, map, Some, None, Err, refl, sym, ◌∙◌, ap, subst, arith, lit≤}
+use Rattle.std.proofs.Common.{◌≡◌, ℕ, zero, suc, ◌*◌, ◌/◌, ◌<◌, ◌≤◌, Bool, true, false, cond, List, [], ◌∷◌, length, map, Err, refl, sym, ◌∙◌, ap, subst, arith}
 use Rattle.std.specs.Prelude.{ℤ, pos, max}
 use Rattle.std.specs.List.{All, AllByRecursion}
-use Rattle.std.proofs.Math.Nat.{div-le_self, mul-le-mul}
-use Rattle.std.proofs.lemmas.Bool.{le-ltb, lt-ltb, ltb-true}
+use Rattle.std.proofs.Math.Nat.{div-le_self, mul-le-mul, mul-le-mul_left, mul-le-mul_right}
+use Rattle.std.proofs.lemmas.Bool.{ltb-true}
 use Rattle.std.proofs.lemmas.List.{length-map}
 use Rattle.std.proofs.lemmas.List.Elements.{recursion_from_All}
 use Rattle.weights.specs.declared.tails.Tail.{Tail}
-use Rattle.weights.specs.declared.tails.Tail.TheVariants.{Less, Greater, Two}
 use Rattle.weights.specs.declared.rules.Rule.{Rule}
-use Rattle.weights.specs.declared.rules.Rule.TheVariants.{Far}
 use Rattle.weights.specs.declared.TheConstants.{MAX}
 use Rattle.weights.specs.declared.wide.WideOf.TheVariants.{Total, Statistic}
 use Rattle.weights.specs.declared.wide.PrepareFault.{PrepareFault}
 use Rattle.weights.specs.declared.wide.PrepareFault.TheVariants.{TooWide, NoMemory}
-use Rattle.weights.specs.Conditional.{distance, total}
-use Rattle.weights.specs.Frames.{IsFrameOf, RulesFit}
+use Rattle.weights.specs.Conditional.{total}
 use Rattle.weights.specs.Labellings.{labellings, number_of_labellings}
 use Rattle.weights.specs.Rules.{RuleFits, measured, rule_of}
-use Rattle.weights.specs.Wide.{Prepares, too_wide}
+use Rattle.weights.specs.Wide.{Prepares}
+use Rattle.weights.proofs.Centred.{IsCentred, bound-wide, measured-is, no_factor-fits, rule-fits}
 use Rattle.weights.proofs.FirstLabel.{number_of_labellings-positive}
 use Rattle.weights.proofs.Sums.{sum_by-one}
 use Rattle.midranks.specs.Ties.{tie_groups}
@@ -33,7 +31,6 @@ use Rattle.scores.proofs.MultipleLemmas.{common_multiple-all}
 use Rattle.scores.proofs.Positive.{scale-some}
 use Rattle.sample_reader.specs.Data.{data_of}
 use Rattle.sample_reader.specs.Groups.{group_sizes}
-use Rattle.sample_reader.specs.PooledSample.{labels_of, pooled}
 use Rattle.sample_reader.specs.declared.samples.Groups.{Groups}
 use Rattle.stage_network.specs.Follows.{Follows, open_keys}
 use Rattle.stage_network.specs.Network.{Network}
@@ -46,11 +43,11 @@ use Rattle.label_network.proofs.LabelFollows.{label_follows}
 use Rattle.pooled_columns.specs.PooledColumns.{column_scores, column_sizes, pooled_values}
 use Rattle.pooled_columns.proofs.PooledValues.{pooled-rises}
 use Rattle.pooled_columns.proofs.TieColumns.{grouped}
-use Rattle.k_sample_tests.specs.KruskalWallis.{ScoredGroups, group_sums, kruskal_wallis_test, pooled_scores, size_factors, squares_statistic, squares_test}
+use Rattle.k_sample_tests.specs.KruskalWallis.{ScoredGroups, group_sums, kruskal_wallis_test, pooled_scores, size_factors, squares_statistic}
 use Rattle.k_sample_tests.specs.PackedSums.{packed_meaning}
 use Rattle.k_sample_tests.specs.RankSums.{fits_one, half_for, kruskal_wallis_meaning, kruskal_wallis_network, kruskal_wallis_runs, unpacked_meaning}
 use Rattle.k_sample_tests.specs.RankSumSteps.{AreFitting, IsMadeOf, IsScoredBy, IsSquaring}
-use Rattle.k_sample_tests.proofs.FittingUmbrella.{columns-sum, no-distance, no-times, past-limit}
+use Rattle.k_sample_tests.proofs.FittingUmbrella.{columns-sum}
 use Rattle.k_sample_tests.proofs.GroupFacts.{few_rows, few_subjects, none-empty, sizes-whole, some_rows}
 use Rattle.k_sample_tests.proofs.GroupSums.{squares-most, sums-within}
 use Rattle.stage_network.proofs.Images.{OpensImages, opened-images}
@@ -60,61 +57,30 @@ use Rattle.k_sample_tests.proofs.PackedValues.{packed-value}
 use Rattle.k_sample_tests.proofs.RankNarrows.{squares_measure}
 use Rattle.k_sample_tests.proofs.RankValues.{value-is}
 
--- ---- the rules
-
-module _ (sizes : List ℕ) (scores : List ℤ) (observed : List ℕ) (scale : ℕ) where
-  pub measured-is : (tail : Tail) (r : List ℕ) → measured (squares_test sizes scores observed scale) tail r ≡ squares_statistic sizes scores r
-  measured-is Less r = refl
-  measured-is Greater r = refl
-  measured-is Two r = refl
-
-  pub total-is : total (squares_test sizes scores observed scale) ≡ number_of_labellings sizes
-  total-is = sum_by-one (labellings sizes)
-
-  pub total-some : 1 ≤ total (squares_test sizes scores observed scale)
-  total-some = omega (arith, total-is, number_of_labellings-positive sizes)
-
-  pub rule-fits : (tail : Tail) (v : ℤ) → RuleFits (rule_of (squares_test sizes scores observed scale) tail) v
-  rule-fits Less v = record { least_factor = lit≤ tt; observed = lit≤ tt; times = no-times v; apart = no-distance v }
-  rule-fits Greater v = record { least_factor = lit≤ tt; observed = lit≤ tt; times = no-times v; apart = no-distance v }
-  rule-fits Two v = record { least_factor = lit≤ tt; observed = no-distance (squares_statistic sizes scores observed); times = no-times v; apart = no-distance v }
-
-  pub rules-fit : RulesFit (squares_test sizes scores observed scale)
-  rules-fit = record { fits = λ tail r m. rule-fits tail (measured (squares_test sizes scores observed scale) tail r) }
-
 -- ---- the bound
-
-quotient-most : (a b : ℕ) → a / b ≤ a
-quotient-most a b = div-le_self a b
 
 factors-most : (l : ℕ) (sizes : List ℕ) → AllByRecursion (λ f. f ≤ l) (map (λ n. l / n) sizes)
 factors-most l [] = tt
-factors-most l (n ∷ sizes) = (quotient-most l n, factors-most l sizes)
+factors-most l (n ∷ sizes) = (div-le_self l n, factors-most l sizes)
 
 -- sums that are no greater than all scores
 pub squares-bounded : (sizes : List ℕ) (scores : List ℤ) (scale : ℕ) (p : List ℤ) → absolute_sum p ≤ absolute_sum scores → factored_squares p (size_factors sizes) ≤ common_multiple sizes * (max (absolute_sum scores) scale * max (absolute_sum scores) scale)
 squares-bounded sizes scores scale p h =
     let part : absolute_sum p ≤ max (absolute_sum scores) scale = omega (arith, h) in
-    omega (arith, squares-most p (size_factors sizes) (common_multiple sizes) (factors-most (common_multiple sizes) sizes), mul-le-mul (same (common_multiple sizes)) (mul-le-mul part part))
-  where
-    same : (n : ℕ) → n ≤ n
-    same n = omega arith
+    omega (arith, squares-most p (size_factors sizes) (common_multiple sizes) (factors-most (common_multiple sizes) sizes), mul-le-mul_left (common_multiple sizes) (mul-le-mul part part))
 
 pub multiple-some : (sizes : List ℕ) → All (λ size. 0 < size) sizes → 1 ≤ common_multiple sizes
 multiple-some sizes some = omega (arith, (common_multiple-all sizes (recursion_from_All (λ n. 0 < n) sizes some)).some)
 
 -- of several groups
-pub measured_at : (samples : ScoredGroups) (tail : Tail) (r : List ℕ) → measured (kruskal_wallis_test samples) tail r ≡ squares_statistic (group_sizes samples.groups) (pooled_scores samples) r
-measured_at samples = measured-is (group_sizes samples.groups) (pooled_scores samples) (labels_of (pooled samples.groups)) (scale_of samples.kind (pooled_values samples.groups))
-
 pub total-of : (samples : ScoredGroups) → total (kruskal_wallis_test samples) ≡ number_of_labellings (group_sizes samples.groups)
-total-of samples = total-is (group_sizes samples.groups) (pooled_scores samples) (labels_of (pooled samples.groups)) (scale_of samples.kind (pooled_values samples.groups))
+total-of samples = sum_by-one (labellings (group_sizes samples.groups))
 
-pub rules_fit : (samples : ScoredGroups) → RulesFit (kruskal_wallis_test samples)
-rules_fit samples = rules-fit (group_sizes samples.groups) (pooled_scores samples) (labels_of (pooled samples.groups)) (scale_of samples.kind (pooled_values samples.groups))
+pub total-some : (samples : ScoredGroups) → 1 ≤ total (kruskal_wallis_test samples)
+total-some samples = omega (arith, total-of samples, number_of_labellings-positive (group_sizes samples.groups))
 
-pub some_labelling : (samples : ScoredGroups) → 1 ≤ total (kruskal_wallis_test samples)
-some_labelling samples = total-some (group_sizes samples.groups) (pooled_scores samples) (labels_of (pooled samples.groups)) (scale_of samples.kind (pooled_values samples.groups))
+pub centred : (samples : ScoredGroups) → IsCentred (kruskal_wallis_test samples) 0 (pos 0)
+centred samples = record { by = refl; observed = no_factor-fits _; each = λ r m. no_factor-fits _ }
 
 pub scores-long : (samples : ScoredGroups) → length (pooled_scores samples) ≡ length (pooled_values samples.groups)
 scores-long samples = length-map (pooled_values samples.groups) (score_of samples.kind (pooled_values samples.groups))
@@ -127,12 +93,9 @@ statistic-within samples xs = squares-bounded (group_sizes samples.groups) (pool
 square-most : (l s t : ℕ) → 1 ≤ l → s ≤ l * (max s t * max s t)
 square-most l s t some =
     let part : s ≤ max s t = omega arith in
-    let square : max s t * max s t ≤ l * (max s t * max s t) = (let one : 1 * (max s t * max s t) ≤ l * (max s t * max s t) = mul-le-mul some (same (max s t * max s t)) in omega (arith, one)) in
+    let square : max s t * max s t ≤ l * (max s t * max s t) = (let one : 1 * (max s t * max s t) ≤ l * (max s t * max s t) = mul-le-mul_right (max s t * max s t) some in omega (arith, one)) in
     omega (arith, part, square, own (max s t))
   where
-    same : (n : ℕ) → n ≤ n
-    same n = omega arith
-
     own : (n : ℕ) → n ≤ n * n
     own zero = omega arith
     own (suc n) = grind arith
@@ -143,12 +106,6 @@ module _ (samples : ScoredGroups) (f : AreFitting samples) where
 
   pub sum-fits : absolute_sum (pooled_scores samples) ≤ MAX
   sum-fits = omega (arith, square-most (common_multiple (group_sizes samples.groups)) (absolute_sum (pooled_scores samples)) (scale_of samples.kind (pooled_values samples.groups)) multiple_some, f.bound_fits)
-
-  pub sizes-fit : absolute_sum (pooled_scores samples) ≤ MAX
-  sizes-fit = omega (arith, sum-fits)
-
-  pub bounded : total (kruskal_wallis_test samples) ≤ MAX
-  bounded = omega (arith, total-of samples, f.total_fits)
 
   columns-level : length (column_scores samples.kind (pooled_values samples.groups)) ≡ length (column_sizes (pooled_values samples.groups))
   columns-level =
@@ -171,7 +128,7 @@ module _ (samples : ScoredGroups) (f : AreFitting samples) where
     sums_fit = omega (arith, column-total, sum-fits);
     bound_fits = f.bound_fits;
     bounded = λ p h. squares-bounded (group_sizes samples.groups) (pooled_scores samples) (scale_of samples.kind (pooled_values samples.groups)) p (omega (arith, h, column-total));
-    rule_fits = λ v. subst (λ x. RuleFits x v) (sym e) (rule-fits (group_sizes samples.groups) (pooled_scores samples) (labels_of (pooled samples.groups)) (scale_of samples.kind (pooled_values samples.groups)) tail v);
+    rule_fits = λ v. subst (λ x. RuleFits x v) (sym e) (rule-fits (kruskal_wallis_test samples) (centred samples) tail v (no_factor-fits v));
   }
 
   unpacked-measure : (tail : Tail) → IsMeasure (unpacked_meaning samples tail)
@@ -179,7 +136,7 @@ module _ (samples : ScoredGroups) (f : AreFitting samples) where
 
   unpacked-value : (tail : Tail) (xs : List ℕ) → measured (kruskal_wallis_test samples) tail xs ≡ labelling_value (unpacked_meaning samples tail) xs
   unpacked-value tail xs =
-      measured_at samples tail xs ∙ ap (λ s. squares_statistic (group_sizes samples.groups) s xs) (sym column-subjects)
+      measured-is (kruskal_wallis_test samples) refl tail xs ∙ ap (λ s. squares_statistic (group_sizes samples.groups) s xs) (sym column-subjects)
       ∙ sym (value-is (size_factors (group_sizes samples.groups)) (kruskal_wallis_test samples).bound (column_scores samples.kind (pooled_values samples.groups)) (column_sizes (pooled_values samples.groups)) (group_sizes samples.groups) tail (rule_of (kruskal_wallis_test samples) tail) columns-level xs)
 
   -- all scores together are less than half of the base
@@ -243,9 +200,6 @@ module _ (samples : ScoredGroups) (f : AreFitting samples) where
   pub meaning-unpacked : (tail : Tail) → fits_one samples ≡ false → unpacked_meaning samples tail ≡ kruskal_wallis_meaning samples tail
   meaning-unpacked tail e = ap (λ b. cond b (packed_meaning (half_for (length (group_sizes samples.groups))) (unpacked_meaning samples tail)) (unpacked_meaning samples tail)) (sym e)
 
-  pub not-wide : too_wide (kruskal_wallis_test samples) ≡ None
-  not-wide = rw (le-ltb MAX (total (kruskal_wallis_test samples)) bounded, le-ltb MAX (kruskal_wallis_test samples).bound f.bound_fits) refl
-
 -- ---- of the groups of a file
 
 pub fitting : (kind : ScoreKind) (groups : Groups) → number_of_labellings groups.sizes ≤ MAX → (kruskal_wallis_test (record { kind = kind; groups = data_of groups })).bound ≤ MAX → AreFitting (record { kind = kind; groups = data_of groups })
@@ -287,16 +241,6 @@ are-found kind groups values sizes scored multiple most bound v s a n x b total 
       fitting = fitting kind groups total (subst (λ n. n ≤ MAX) (sym b.1 ∙ bound_is) b.0);
     }
 
--- what is said of the test
-pub framed : (samples : ScoredGroups) (v : ℤ) (scale t : ℕ) (two : Rule) → v ≡ squares_statistic (group_sizes samples.groups) (pooled_scores samples) (labels_of (pooled samples.groups)) → scale ≡ (kruskal_wallis_test samples).scale → t ≡ number_of_labellings (group_sizes samples.groups) → two ≡ Far 0 (pos 0) (distance 0 (pos 0) v)
-    → IsFrameOf (kruskal_wallis_test samples) (record { statistic = v; scale = scale; total = t; two = two })
-framed samples v scale t two e f g h = record {
-  statistic = e;
-  scale = f;
-  total = g ∙ sym (total-of samples);
-  two = h ∙ rw e refl;
-}
-
 -- ---- refusals
 
 -- a sum of scores that passes the limit
@@ -309,11 +253,8 @@ multiple-wide kind groups wide =
     let most : ℕ = max (score_sum kind (pooled_values (data_of groups))) (scale_of kind (pooled_values (data_of groups))) in
     let some : 1 ≤ most = omega (arith, scale-some kind (pooled_values (data_of groups))) in
     let square : 1 ≤ most * most = (let one : 1 * 1 ≤ most * most = mul-le-mul some some in omega (arith, one)) in
-    let whole : common_multiple (group_sizes (data_of groups)) * 1 ≤ common_multiple (group_sizes (data_of groups)) * (most * most) = mul-le-mul (same (common_multiple (group_sizes (data_of groups)))) square in
+    let whole : common_multiple (group_sizes (data_of groups)) * 1 ≤ common_multiple (group_sizes (data_of groups)) * (most * most) = mul-le-mul_left (common_multiple (group_sizes (data_of groups))) square in
     omega (arith, wide, whole)
-  where
-    same : (n : ℕ) → n ≤ n
-    same n = omega arith
 
 pub scores-refused : (kind : ScoreKind) (groups : Groups) (e : PrepareFault) → IsScoredBy kind (pooled_values (data_of groups)) (Err e) → IsMadeOf (record { kind = kind; groups = data_of groups }) (Err e)
 scores-refused kind groups (TooWide Total) is = is
@@ -322,8 +263,5 @@ scores-refused kind groups NoMemory is = tt
 
 pub refused : (samples : ScoredGroups) (e : PrepareFault) → number_of_labellings (group_sizes samples.groups) ≤ MAX → IsMadeOf samples (Err e) → Prepares kruskal_wallis_test samples (Err e)
 refused samples (TooWide Total) fits is = absurd is
-refused samples (TooWide Statistic) fits is = rw (le-ltb MAX (total (kruskal_wallis_test samples)) (omega (arith, fits, total-of samples)), lt-ltb MAX (kruskal_wallis_test samples).bound is) refl
+refused samples (TooWide Statistic) fits is = bound-wide (kruskal_wallis_test samples) (total-of samples) fits is
 refused samples NoMemory fits is = tt
-
-pub total-wide : (samples : ScoredGroups) → (number_of_labellings (group_sizes samples.groups) ≤ MAX → ⊥) → too_wide (kruskal_wallis_test samples) ≡ Some Total
-total-wide samples wide = rw (lt-ltb MAX (total (kruskal_wallis_test samples)) (omega (arith, past-limit (number_of_labellings (group_sizes samples.groups)) wide, total-of samples))) refl

@@ -1,27 +1,22 @@
 -- What holds of a test of ordered groups whose total passes no limit.
-use Rattle.std.proofs.Common.{◌≡◌, ℕ, suc, ◌+◌, ◌*◌, ◌<◌, ◌≤◌, Bool, true, false, cond, List, [], ◌∷◌, length, map, Some, None, refl, sym, ◌∙◌, ap, subst, arith, nat_eq, lit≤, length-append}
-use Rattle.std.specs.Prelude.{ℤ, pos, ◌-◌, ◌-ℤ◌, ◌*ℤ◌, nat_abs, slice_index, int_lt, nat_lt, nat_le, Contains}
+use Rattle.std.proofs.Common.{◌≡◌, ℕ, suc, ◌+◌, ◌*◌, ◌<◌, ◌≤◌, Bool, true, false, cond, List, [], ◌∷◌, length, map, refl, sym, ◌∙◌, ap, subst, arith, nat_eq, lit≤, length-append}
+use Rattle.std.specs.Prelude.{ℤ, pos, ◌-◌, slice_index, int_lt, nat_lt, nat_le, Contains}
 use Rattle.std.specs.List.{AllByRecursion, flat_map, sum, sum_by}
 use Rattle.std.specs.Ordering.{int_eq}
-use Rattle.std.proofs.Math.IntN.{zero-*ℤ}
 use Rattle.std.proofs.Math.Nat.{mul-le-mul, mul-le-mul_left}
-use Rattle.std.proofs.lemmas.Bool.{le-ltb, lt-ltb}
-use Rattle.std.proofs.lemmas.Int.{ints}
 use Rattle.std.proofs.lemmas.List.{map-id}
 use Rattle.std.proofs.lemmas.List.Elements.{All-from_recursion}
 use Rattle.std.proofs.lemmas.List.FromFn.{length-range_with_len}
 use Rattle.std.proofs.lemmas.List.Sums.{sum-map}
 use Rattle.weights.specs.declared.tails.Tail.{Tail}
-use Rattle.weights.specs.declared.tails.Tail.TheVariants.{Less, Greater, Two}
 use Rattle.weights.specs.declared.rules.Rule.{Rule}
 use Rattle.weights.specs.declared.rules.Rule.TheVariants.{Far}
 use Rattle.weights.specs.declared.TheConstants.{MAX}
-use Rattle.weights.specs.declared.wide.WideOf.TheVariants.{Total}
-use Rattle.weights.specs.Conditional.{distance, total, unit_weight}
-use Rattle.weights.specs.Frames.{IsFrameOf, RulesFit}
+use Rattle.weights.specs.Conditional.{distance, total}
+use Rattle.weights.specs.Frames.{IsFrameOf}
 use Rattle.weights.specs.Labellings.{counts_of, labellings, labels, number_of_labellings}
-use Rattle.weights.specs.Rules.{RuleFits, measured, rule_of}
-use Rattle.weights.specs.Wide.{too_wide}
+use Rattle.weights.specs.Rules.{RuleFits, rule_of}
+use Rattle.weights.proofs.Centred.{IsCentred, far_natural-fits, measured-is, rule-fits}
 use Rattle.weights.proofs.Filters.{all_append}
 use Rattle.weights.proofs.FirstLabel.{number_of_labellings-positive}
 use Rattle.weights.proofs.Members.{labelling_from, range-below}
@@ -43,7 +38,7 @@ use Rattle.pooled_columns.proofs.TieColumns.{grouped}
 use Rattle.k_sample_tests.specs.declared.counted_samples.CountedSamples.{CountedSamples}
 use Rattle.k_sample_tests.specs.declared.used_pairs.UsedPair.{UsedPair}
 use Rattle.k_sample_tests.specs.PairCounts.{umbrella_meaning, umbrella_network}
-use Rattle.k_sample_tests.specs.Umbrella.{PeakedGroups, group_of, pair_of, pair_points, pairs_test, points, subject_pairs, umbrella_statistic, umbrella_test, used_pairs}
+use Rattle.k_sample_tests.specs.Umbrella.{PeakedGroups, group_of, pair_of, pair_points, points, subject_pairs, umbrella_test, used_pairs}
 use Rattle.k_sample_tests.specs.UmbrellaSteps.{AreCounted, ArePairs, IsCounting, IsPair, points_from}
 use Rattle.k_sample_tests.proofs.PairFits.{pairs-most, sum-within}
 use Rattle.k_sample_tests.proofs.PairPoints.{pairs_measure}
@@ -129,69 +124,13 @@ statistic-few qs values xs few h =
     let all = sum-within (pair_points (paired_subjects values xs)) ((2 * 10000) * 10000) (pair-few (paired_subjects values xs) 10000 (omega (arith, paired-few values xs, h))) qs in
     omega (arith, all, few)
 
--- ---- the rules
-
-pub no-distance : (v : ℤ) → distance 0 (pos 0) v ≤ MAX
-no-distance v = subst (λ z. nat_abs (z -ℤ pos 0) ≤ MAX) (sym (zero-*ℤ v)) (omega arith)
-
-pub no-times : (v : ℤ) → nat_abs (pos 0 *ℤ v) ≤ MAX
-no-times v = subst (λ z. nat_abs z ≤ MAX) (sym (zero-*ℤ v)) (omega arith)
-
-times-one : (n : ℕ) → pos 1 *ℤ pos n ≡ pos n
-times-one n = omega (arith, ints)
-
-apart : (n c : ℕ) → nat_abs (pos n -ℤ pos c) ≤ n + c
-apart n c = omega (arith, ints)
-
-distance-few : (n c : ℕ) → n ≤ 12800000000 → c ≤ 6400000000 → distance 1 (pos c) (pos n) ≤ MAX
-distance-few n c h l = subst (λ z. nat_abs (z -ℤ pos c) ≤ MAX) (sym (times-one n)) (omega (arith, apart n c, h, l))
-
-pub far-fits : (n c d : ℕ) → n ≤ 12800000000 → c ≤ 6400000000 → d ≤ MAX → RuleFits (Far 1 (pos c) d) (pos n)
-far-fits n c d h l m = record {
-  least_factor = lit≤ tt;
-  observed = m;
-  times = subst (λ z. nat_abs z ≤ MAX) (sym (times-one n)) (omega (arith, h));
-  apart = distance-few n c h l;
-}
-
-all-weigh : (rs : List (List ℕ)) → AllByRecursion (λ r. 1 ≤ unit_weight r) rs
-all-weigh [] = tt
-all-weigh (r ∷ rs) = (omega arith, all-weigh rs)
-
--- of a test
-module _ (peak : ℕ) (sizes : List ℕ) (values : List ℤ) (observed : List ℕ) where
-  pub measured-is : (tail : Tail) (r : List ℕ) → measured (pairs_test peak sizes values observed) tail r ≡ umbrella_statistic (used_pairs peak (length sizes)) values r
-  measured-is Less r = refl
-  measured-is Greater r = refl
-  measured-is Two r = refl
-
-  pub total-is : total (pairs_test peak sizes values observed) ≡ number_of_labellings sizes
-  total-is = sum_by-one (labellings sizes)
-
-  pub total-some : 1 ≤ total (pairs_test peak sizes values observed)
-  total-some = omega (arith, total-is, number_of_labellings-positive sizes)
-
-  module _ (few_rows : length sizes ≤ 8) (few : length values ≤ 10000) (few_sizes : sum sizes ≤ 10000) where
-    few_pairs : length (used_pairs peak (length sizes)) ≤ 64
-    few_pairs = (pairs-are peak (length sizes) few_rows).few
-
-    pub rule-fits : (tail : Tail) (n : ℕ) → n ≤ 12800000000 → RuleFits (rule_of (pairs_test peak sizes values observed) tail) (pos n)
-    rule-fits Less n h = record { least_factor = lit≤ tt; observed = lit≤ tt; times = no-times (pos n); apart = no-distance (pos n) }
-    rule-fits Greater n h = record { least_factor = lit≤ tt; observed = lit≤ tt; times = no-times (pos n); apart = no-distance (pos n) }
-    rule-fits Two n h =
-        let centre = pairs-most (used_pairs peak (length sizes)) sizes few_pairs few_sizes in
-        far-fits n (subject_pairs (used_pairs peak (length sizes)) sizes) _ h centre
-        (distance-few (sum_by (pair_points (paired_subjects values observed)) (used_pairs peak (length sizes))) (subject_pairs (used_pairs peak (length sizes)) sizes) (statistic-few (used_pairs peak (length sizes)) values observed few_pairs few) centre)
-
-    pub rules-fit : RulesFit (pairs_test peak sizes values observed)
-    rules-fit = record { fits = λ tail r m. subst (RuleFits (rule_of (pairs_test peak sizes values observed) tail)) (sym (measured-is tail r)) (rule-fits tail _ (statistic-few (used_pairs peak (length sizes)) values r few_pairs few)) }
-
--- of ordered groups
-pub measured_at : (samples : PeakedGroups) (tail : Tail) (r : List ℕ) → measured (umbrella_test samples) tail r ≡ umbrella_statistic (used_pairs samples.peak (length (group_sizes samples.groups))) (pooled_values samples.groups) r
-measured_at samples = measured-is samples.peak (group_sizes samples.groups) (pooled_values samples.groups) (labels_of (pooled samples.groups))
+-- ---- of ordered groups
 
 pub total-of : (samples : PeakedGroups) → total (umbrella_test samples) ≡ number_of_labellings (group_sizes samples.groups)
-total-of samples = total-is samples.peak (group_sizes samples.groups) (pooled_values samples.groups) (labels_of (pooled samples.groups))
+total-of samples = sum_by-one (labellings (group_sizes samples.groups))
+
+pub total-some : (samples : PeakedGroups) → 1 ≤ total (umbrella_test samples)
+total-some samples = omega (arith, total-of samples, number_of_labellings-positive (group_sizes samples.groups))
 
 pub columns-sum : (groups : GroupData) → sum (column_sizes (pooled_values groups)) ≡ length (pooled_values groups)
 columns-sum groups = sum-map (λ (t : Tie). t.count) (tie_groups (pooled_values groups)) ∙ values_in-groups (pooled_values groups)
@@ -211,6 +150,9 @@ statistic-is samples few xs long counted =
     none : (a b d : ℕ) → 2 * ((a - a) * b) + d ≡ d
     none a b d = let e : a - a ≡ 0 = omega arith in rw e (omega arith)
 
+small-square : (n : ℕ) → n ≤ 10000 → n * n ≤ MAX
+small-square n h = let most = mul-le-mul h h in omega (arith, most)
+
 -- what is said of the test
 module _ (samples : PeakedGroups) (few : length (group_sizes samples.groups) ≤ 8) (counted : counts_of (length (group_sizes samples.groups)) (labels_of (pooled samples.groups)) ≡ group_sizes samples.groups) (long : length (labels_of (pooled samples.groups)) ≡ length (pooled_values samples.groups)) where
   pub framed : (qs : List UsedPair) (sizes columns xs : List ℕ) (t : ℕ) → qs ≡ used_pairs samples.peak (length (group_sizes samples.groups)) → sizes ≡ group_sizes samples.groups → columns ≡ column_sizes (pooled_values samples.groups) → xs ≡ labels_of (pooled samples.groups) → t ≡ number_of_labellings (group_sizes samples.groups)
@@ -225,55 +167,56 @@ module _ (samples : PeakedGroups) (few : length (group_sizes samples.groups) ≤
       }
 
 module _ (samples : PeakedGroups) (made : CountedSamples) (f : AreCounted samples made) where
-  few_sizes : sum (group_sizes samples.groups) ≤ 10000
+  abbrev sizes : List ℕ
+  sizes = group_sizes samples.groups
+
+  abbrev values : List ℤ
+  values = pooled_values samples.groups
+
+  abbrev pairs : List UsedPair
+  pairs = used_pairs samples.peak (length sizes)
+
+  few_sizes : sum sizes ≤ 10000
   few_sizes = omega (arith, f.whole, f.few)
 
-  pub rules_fit : RulesFit (umbrella_test samples)
-  rules_fit = rules-fit samples.peak (group_sizes samples.groups) (pooled_values samples.groups) (labels_of (pooled samples.groups)) f.few_rows f.few few_sizes
+  pub pairs_are : ArePairs (length sizes) pairs
+  pairs_are = pairs-are samples.peak (length sizes) f.few_rows
 
-  pub bounded : total (umbrella_test samples) ≤ MAX
-  bounded = omega (arith, total-of samples, f.total_fits)
+  centre-few : subject_pairs pairs sizes ≤ 6400000000
+  centre-few = pairs-most pairs sizes pairs_are.few few_sizes
 
-  pub some_labelling : 1 ≤ total (umbrella_test samples)
-  some_labelling = total-some samples.peak (group_sizes samples.groups) (pooled_values samples.groups) (labels_of (pooled samples.groups))
+  count-fits : (n : ℕ) → n ≤ 12800000000 → RuleFits (Far 1 (pos (subject_pairs pairs sizes)) 0) (pos n)
+  count-fits n h = far_natural-fits 1 (subject_pairs pairs sizes) n (lit≤ tt) (omega (arith, centre-few)) (omega (arith, h))
 
-  pub pairs_are : ArePairs (length (group_sizes samples.groups)) (used_pairs samples.peak (length (group_sizes samples.groups)))
-  pairs_are = pairs-are samples.peak (length (group_sizes samples.groups)) f.few_rows
+  pub centred : IsCentred (umbrella_test samples) 1 (pos (subject_pairs pairs sizes))
+  centred = record {
+    by = refl;
+    observed = count-fits _ (statistic-few pairs values (labels_of (pooled samples.groups)) pairs_are.few f.few);
+    each = λ r m. count-fits _ (statistic-few pairs values r pairs_are.few f.few);
+  }
 
-  pub points-of : (xs : List ℕ) → Contains (labellings (group_sizes samples.groups)) xs → points_from (used_pairs samples.peak (length (group_sizes samples.groups))) (group_sizes samples.groups) (group_sizes samples.groups) (column_sizes (pooled_values samples.groups)) xs ≡ sum_by (pair_points (paired_subjects (pooled_values samples.groups) xs)) (used_pairs samples.peak (length (group_sizes samples.groups)))
-  points-of xs m = let labelling = labelling_from (group_sizes samples.groups) xs m in statistic-is samples f.few_rows xs (labelling.over.long ∙ f.whole) labelling.counted
+  pub bound-fits : (umbrella_test samples).bound ≤ MAX
+  bound-fits = small-square (length values) f.few
 
-  pub is-counting : (tail : Tail) (rule : Rule) → rule ≡ rule_of (umbrella_test samples) tail → IsCounting (used_pairs samples.peak (length (group_sizes samples.groups))) (group_sizes samples.groups) (column_sizes (pooled_values samples.groups)) rule
+  pub points-of : (xs : List ℕ) → Contains (labellings sizes) xs → points_from pairs sizes sizes (column_sizes values) xs ≡ sum_by (pair_points (paired_subjects values xs)) pairs
+  points-of xs m = let labelling = labelling_from sizes xs m in statistic-is samples f.few_rows xs (labelling.over.long ∙ f.whole) labelling.counted
+
+  pub is-counting : (tail : Tail) (rule : Rule) → rule ≡ rule_of (umbrella_test samples) tail → IsCounting pairs sizes (column_sizes values) rule
   is-counting tail rule e = record {
     pairs_are = pairs_are;
     level = columns-sum samples.groups ∙ sym f.whole;
     few = few_sizes;
     few_rows = f.few_rows;
-    rule_fits = λ n h. subst (λ x. RuleFits x (pos n)) (sym e) (rule-fits samples.peak (group_sizes samples.groups) (pooled_values samples.groups) (labels_of (pooled samples.groups)) f.few_rows f.few few_sizes tail n (omega (arith, h, pairs-most (used_pairs samples.peak (length (group_sizes samples.groups))) (group_sizes samples.groups) pairs_are.few few_sizes)));
+    rule_fits = λ n h. subst (λ x. RuleFits x (pos n)) (sym e) (rule-fits (umbrella_test samples) centred tail (pos n) (count-fits n (omega (arith, h, centre-few))));
   }
 
   pub follows : (tail : Tail) → Follows (umbrella_test samples) tail (umbrella_network samples tail)
   follows tail =
-      label_follows (umbrella_meaning samples tail) (pairs_measure (used_pairs samples.peak (length (group_sizes samples.groups))) (group_sizes samples.groups) (column_sizes (pooled_values samples.groups)) tail (rule_of (umbrella_test samples) tail) (is-counting tail (rule_of (umbrella_test samples) tail) refl)) (umbrella_test samples) tail (record {
+      let rule : Rule = rule_of (umbrella_test samples) tail in
+      label_follows (umbrella_meaning samples tail) (pairs_measure pairs sizes (column_sizes values) tail rule (is-counting tail rule refl)) (umbrella_test samples) tail (record {
         tail_is = refl;
         rule_is = refl;
         reference = refl;
         alike = λ xs. refl;
-        values = λ xs m.
-            measured_at samples tail xs ∙ ap pos (sym (points-of xs m))
-            ∙ sym (value-is (used_pairs samples.peak (length (group_sizes samples.groups))) (group_sizes samples.groups) (column_sizes (pooled_values samples.groups)) tail (rule_of (umbrella_test samples) tail) xs);
+        values = λ xs m. measured-is (umbrella_test samples) refl tail xs ∙ ap pos (sym (points-of xs m)) ∙ sym (value-is pairs sizes (column_sizes values) tail rule xs);
       })
-
--- ---- refusals
-
-pub past-limit : (n : ℕ) → (n ≤ MAX → ⊥) → MAX < n
-past-limit n cannot = omega (arith, cannot)
-
-pub total-wide : (samples : PeakedGroups) → (number_of_labellings (group_sizes samples.groups) ≤ MAX → ⊥) → too_wide (umbrella_test samples) ≡ Some Total
-total-wide samples wide = rw (lt-ltb MAX (total (umbrella_test samples)) (omega (arith, past-limit (number_of_labellings (group_sizes samples.groups)) wide, total-of samples))) refl
-
-small-square : (n : ℕ) → n ≤ 10000 → n * n ≤ MAX
-small-square n h = let most = mul-le-mul h h in omega (arith, most)
-
-pub not-wide : (samples : PeakedGroups) (made : CountedSamples) → AreCounted samples made → too_wide (umbrella_test samples) ≡ None
-not-wide samples made f = rw (le-ltb MAX (total (umbrella_test samples)) (bounded samples made f), le-ltb MAX (umbrella_test samples).bound (small-square (length (pooled_values samples.groups)) f.few)) refl

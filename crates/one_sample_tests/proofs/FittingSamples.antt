@@ -1,39 +1,46 @@
 -- What holds of the test of a sample: its scores are not negative, and where it is refused.
-use Rattle.std.proofs.Common.{◌≡◌, ℕ, zero, suc, ◌+◌, ◌^◌, ◌<◌, ◌≤◌, Bool, true, false, cond, not, List, [], ◌∷◌, ◌++◌, length, length-append, map, replicate, Some, None, Err, inl, inr, refl, sym, ◌∙◌, ap, arith, lit≤}
-use Rattle.std.specs.Prelude.{ℤ, pos, ◌-ℤ◌, ◌≤ℤ◌, nat_abs, slice_index, All}
+use Rattle.std.proofs.Common.{◌≡◌, ℕ, zero, suc, ◌+◌, ◌*◌, ◌^◌, ◌≤◌, Bool, true, false, cond, not, List, [], ◌∷◌, ◌++◌, length, length-append, map, replicate, Err, inl, inr, refl, sym, ◌∙◌, ap, arith, lit≤}
+use Rattle.std.specs.Prelude.{ℤ, pos, negsuc, ◌-ℤ◌, ◌≤ℤ◌, nat_abs, int_lt, slice_index, All}
 use Rattle.std.specs.List.{AllByRecursion}
 use Rattle.std.specs.Ordering.{int_eq}
 use Rattle.std.proofs.Math.Nat.{one-le-pow, pow-le-pow_right}
-use Rattle.std.proofs.lemmas.Bool.{cases_lt, le-ltb, lt-ltb}
+use Rattle.std.proofs.lemmas.Bool.{cases_lt}
 use Rattle.std.proofs.lemmas.Int.{ints}
 use Rattle.std.proofs.lemmas.List.{length-map, length-replicate}
 use Rattle.std.proofs.lemmas.List.Elements.{All-from_recursion, recursion_from_All}
 use Rattle.std.proofs.lemmas.List.Sums.{count_by-le-length, length-filter}
+use Rattle.weights.specs.declared.rules.Rule.{Rule}
 use Rattle.weights.specs.declared.rules.Rule.TheVariants.{Far}
 use Rattle.weights.specs.declared.tails.Tail.{Tail}
 use Rattle.weights.specs.declared.TheConstants.{MAX}
 use Rattle.weights.specs.declared.wide.WideOf.TheVariants.{Total, Statistic}
 use Rattle.weights.specs.declared.wide.PrepareFault.{PrepareFault}
 use Rattle.weights.specs.declared.wide.PrepareFault.TheVariants.{TooWide, NoMemory}
-use Rattle.weights.specs.Conditional.{distance, total}
-use Rattle.weights.specs.Frames.{IsFrameOf, RulesFit}
-use Rattle.weights.specs.Rules.{measured, rule_of}
-use Rattle.weights.specs.Wide.{Prepares, too_wide}
+use Rattle.weights.specs.Conditional.{ConditionalTest, total, unit_weight}
+use Rattle.weights.specs.Labellings.{sign_lists}
+use Rattle.weights.specs.Rules.{RuleFits, measured, rule_of}
+use Rattle.weights.specs.Wide.{Prepares}
+use Rattle.weights.proofs.Centred.{IsCentred, bound-wide, far_natural-fits, measured-is, rule-fits}
 use Rattle.weights.proofs.Filters.{all_append}
+use Rattle.weights.proofs.Sums.{absolute_sum-by, sum_by-filter, sum_by-one, sum_by-same}
 use Rattle.midranks.specs.Midranks.{doubled_midrank}
-use Rattle.midranks.specs.Ties.{tie_groups}
+use Rattle.midranks.specs.Ties.{tie_groups, values_in, with_one_more}
+use Rattle.midranks.specs.declared.ties.Tie.{Tie}
+use Rattle.midranks.proofs.TieLemmas.{sum_by-groups, summed}
 use Rattle.scores.specs.RawScores.{decimals, raw_score}
 use Rattle.scores.specs.Scores.{labelled_sum}
 use Rattle.weights.specs.Numbers.{absolute_sum}
-use Rattle.scores.specs.declared.kinds.Scored.{Scored}
+use Rattle.scores.proofs.LabelledSums.{labelled-least, labelled-most}
 use Rattle.stage_network.specs.Follows.{Follows}
+use Rattle.stage_network.proofs.AdditiveLaws.{additive_intervals}
 use Rattle.table_reader.specs.TableLayout.{TableData}
 use Rattle.one_sample_tests.specs.declared.kinds.SignKind.{SignKind}
 use Rattle.one_sample_tests.specs.declared.kinds.SignKind.TheVariants.{SignedRank, Sign, RawSigned}
-use Rattle.one_sample_tests.specs.SignedSamples.{SignedSample, discordant, magnitudes, nonzero, one_sample_test, sign_scale, sign_scores, signs_of, used_scores, used_sizes}
-use Rattle.one_sample_tests.specs.SignNetwork.{one_sample_network}
-use Rattle.one_sample_tests.specs.SampleSteps.{AreSignScores, AreStages, IsMadeOf}
-use Rattle.one_sample_tests.proofs.FittingMarks.{are-stages, marks-follow, measured-is, rules-fit, total-is}
+use Rattle.one_sample_tests.specs.SignedSamples.{SignedSample, discordant, magnitudes, nonzero, one_sample_test, sign_scores, signs_of, used_scores, used_sizes}
+use Rattle.one_sample_tests.specs.SignNetwork.{mark_addends, one_sample_network}
+use Rattle.one_sample_tests.specs.SampleSteps.{AreStages, IsMadeOf, sizes_in}
+use Rattle.one_sample_tests.proofs.MarkNetwork.{ends_at, sound_stages}
+use Rattle.one_sample_tests.proofs.MarkSums.{by_groups, by_marks, number_of_marks}
 
 -- ---- scores
 
@@ -68,39 +75,75 @@ used-many sample = as-many sample.kind (used_sizes sample) ∙ length-map (nonze
 -- ---- the test
 
 pub total-of : (sample : SignedSample) → total (one_sample_test sample) ≡ 2 ^ length (used_scores sample)
-total-of sample = total-is (used_scores sample) (signs_of (nonzero sample.differences)) (sign_scale sample.kind (used_sizes sample))
+total-of sample = number_of_marks (length (used_scores sample))
 
 pub total-some : (n : ℕ) → 1 ≤ 2 ^ n
 total-some n = one-le-pow n 2 (lit≤ tt)
 
-module _ (sample : SignedSample) (total : 2 ^ length (used_scores sample) ≤ MAX) (bound : (one_sample_test sample).bound ≤ MAX) where
-  pub rules_fit : RulesFit (one_sample_test sample)
-  rules_fit = rules-fit (used_scores sample) (signs_of (nonzero sample.differences)) (sign_scale sample.kind (used_sizes sample)) (used-some sample) bound
+pub value-fits : (s : ℕ) → 2 * s ≤ MAX → (v : ℤ) → pos 0 ≤ℤ v → v ≤ℤ pos s → RuleFits (Far 2 (pos s) 0) v
+value-fits s bound (pos n) l h = let small : n ≤ s = omega (arith, ints) in far_natural-fits 2 s n (lit≤ tt) (omega (arith, bound)) (omega (arith, small, bound))
+value-fits s bound (negsuc n) l h = absurd (omega (arith, ints, l))
 
-  pub follows : (tail : Tail) → Follows (one_sample_test sample) tail (one_sample_network sample tail)
-  follows = marks-follow (used_scores sample) (signs_of (nonzero sample.differences)) (sign_scale sample.kind (used_sizes sample)) (used-some sample) total bound
+-- ---- its network
+
+one_more-some : (v : ℤ) (ts : List Tie) → pos 0 ≤ℤ v → AllByRecursion (λ (t : Tie). pos 0 ≤ℤ t.value) ts → AllByRecursion (λ (t : Tie). pos 0 ≤ℤ t.value) (with_one_more v ts)
+one_more-some v [] h all = (h, tt)
+one_more-some v (t ∷ ts) h all = by (int_lt v t.value) (int_eq v t.value) (one_more-some v ts h all.1)
+  where
+    by : (b c : Bool) → AllByRecursion (λ (t : Tie). pos 0 ≤ℤ t.value) (with_one_more v ts)
+        → AllByRecursion (λ (t : Tie). pos 0 ≤ℤ t.value) (cond b (record { value = v; count = 1 } ∷ t ∷ ts) (cond c (record { value = v; count = t.count + 1 } ∷ ts) (t ∷ with_one_more v ts)))
+    by true c rest = (h, all)
+    by false true rest = (h, all.1)
+    by false false rest = (all.0, rest)
+
+groups-some : (scores : List ℤ) → AllByRecursion (λ s. pos 0 ≤ℤ s) scores → AllByRecursion (λ (t : Tie). pos 0 ≤ℤ t.value) (tie_groups scores)
+unfolding tie_groups
+groups-some [] all = tt
+groups-some (s ∷ scores) all = one_more-some s (tie_groups scores) all.0 (groups-some scores all.1)
+
+groups-count : (scores : List ℤ) → values_in (tie_groups scores) ≡ length scores
+groups-count scores = sum_by-same (λ (t : Tie). t.count) (summed (λ v. 1)) (λ t. omega arith) (tie_groups scores) ∙ sum_by-groups (λ v. 1) scores ∙ sum_by-one scores
+
+groups-size : (scores : List ℤ) → sizes_in (tie_groups scores) ≡ absolute_sum scores
+groups-size scores = sum_by-groups nat_abs scores ∙ sym (absolute_sum-by scores)
+
+module _ (sample : SignedSample) (total : 2 ^ length (used_scores sample) ≤ MAX) (bound : (one_sample_test sample).bound ≤ MAX) where
+  sum-fits : (r : List ℕ) → RuleFits (Far 2 (pos (absolute_sum (used_scores sample))) 0) (labelled_sum 1 (used_scores sample) r)
+  sum-fits r = value-fits (absolute_sum (used_scores sample)) bound (labelled_sum 1 (used_scores sample) r) (labelled-least 1 (used_scores sample) r (used-some sample)) (labelled-most 1 (used_scores sample) r)
+
+  pub centred : IsCentred (one_sample_test sample) 2 (pos (absolute_sum (used_scores sample)))
+  centred = record { by = refl; observed = sum-fits (signs_of (nonzero sample.differences)); each = λ r m. sum-fits r }
+
+  extreme-fits : (tail : Tail) (n : ℕ) → n ≤ absolute_sum (used_scores sample) → RuleFits (rule_of (one_sample_test sample) tail) (pos n)
+  extreme-fits tail n h = rule-fits (one_sample_test sample) centred tail (pos n) (value-fits (absolute_sum (used_scores sample)) bound (pos n) (omega (arith, ints)) (omega (arith, ints, h)))
 
   pub stages-fit : (tail : Tail) → AreStages (tie_groups (used_scores sample)) (rule_of (one_sample_test sample) tail)
-  stages-fit = are-stages (used_scores sample) (signs_of (nonzero sample.differences)) (sign_scale sample.kind (used_sizes sample)) (used-some sample) total bound
+  stages-fit tail = record {
+    some = All-from_recursion (λ (t : Tie). pos 0 ≤ℤ t.value) (tie_groups (used_scores sample)) (groups-some (used_scores sample) (used-some sample));
+    total_fits = rw (groups-count (used_scores sample)) total;
+    sums_fit = omega (arith, groups-size (used_scores sample), bound);
+    low_fits = extreme-fits tail 0 (omega arith);
+    high_fits = extreme-fits tail (sizes_in (tie_groups (used_scores sample))) (omega (arith, groups-size (used_scores sample)));
+  }
 
-pub measured_at : (sample : SignedSample) (tail : Tail) (r : List ℕ) → measured (one_sample_test sample) tail r ≡ labelled_sum 1 (used_scores sample) r
-measured_at sample = measured-is (used_scores sample) (signs_of (nonzero sample.differences)) (sign_scale sample.kind (used_sizes sample))
-
--- ---- refusals
-
-pub total-wide : (sample : SignedSample) → (2 ^ length (used_scores sample) ≤ MAX → ⊥) → too_wide (one_sample_test sample) ≡ Some Total
-total-wide sample wide = rw (lt-ltb MAX (total (one_sample_test sample)) (omega (arith, past (2 ^ length (used_scores sample)) wide, total-of sample))) refl
-  where
-    past : (n : ℕ) → (n ≤ MAX → ⊥) → MAX < n
-    past n cannot = omega (arith, cannot)
+  pub follows : (tail : Tail) → Follows (one_sample_test sample) tail (one_sample_network sample tail)
+  follows tail =
+      let scores : List ℤ = used_scores sample in
+      let groups : List Tie = tie_groups scores in
+      let test : ConditionalTest = one_sample_test sample in
+      let rule : Rule = rule_of test tail in
+      record {
+        intervals = additive_intervals (mark_addends groups tail rule) (sound_stages groups tail rule (stages-fit tail));
+        ends = λ p.
+            ends_at groups tail rule p ∙ sym (by_groups scores (λ u. cond (p u) 1 0)) ∙ sym (by_marks scores (λ u. cond (p u) 1 0))
+            ∙ sum_by-same (λ r. cond (p (labelled_sum 1 scores r)) 1 0) (λ r. cond (p (measured test tail r)) 1 0) (λ r. ap (λ z. cond (p z) 1 0) (sym (measured-is test refl tail r))) (sign_lists (length scores))
+            ∙ sym (sum_by-filter unit_weight (λ r. p (measured test tail r)) (sign_lists (length scores)));
+      }
 
 pub refused : (sample : SignedSample) (e : PrepareFault) → 2 ^ length (used_scores sample) ≤ MAX → IsMadeOf sample (Err e) → Prepares one_sample_test sample (Err e)
 refused sample (TooWide Total) fits is = absurd is
-refused sample (TooWide Statistic) fits is = rw (le-ltb MAX (total (one_sample_test sample)) (omega (arith, fits, total-of sample)), lt-ltb MAX (one_sample_test sample).bound is) refl
+refused sample (TooWide Statistic) fits is = bound-wide (one_sample_test sample) (total-of sample) fits is
 refused sample NoMemory fits is = tt
-
-pub not-wide : (sample : SignedSample) → 2 ^ length (used_scores sample) ≤ MAX → (one_sample_test sample).bound ≤ MAX → too_wide (one_sample_test sample) ≡ None
-not-wide sample total-fits bound-fits = rw (le-ltb MAX (total (one_sample_test sample)) (omega (arith, total-fits, total-of sample)), le-ltb MAX (one_sample_test sample).bound bound-fits) refl
 
 -- ---- what is made of differences
 
@@ -121,16 +164,6 @@ few-sizes ds =
 
 pub scored-some : (kind : SignKind) (ds scores : List ℤ) → scores ≡ sign_scores kind (magnitudes ds) → All (λ s. pos 0 ≤ℤ s) scores
 scored-some kind ds scores e = rw e (All-from_recursion (λ s. pos 0 ≤ℤ s) (sign_scores kind (magnitudes ds)) (scores-some kind ds))
-
-pub framed : (sample : SignedSample) (scored : Scored) (marks : List ℕ) (t : ℕ) → AreSignScores sample.kind (used_sizes sample) scored → marks ≡ signs_of (nonzero sample.differences) → t ≡ 2 ^ length (nonzero sample.differences)
-    → let centre = pos (absolute_sum scored.list) in
-    IsFrameOf (one_sample_test sample) (record { statistic = labelled_sum 1 scored.list marks; scale = scored.scale; total = t; two = Far 2 centre (distance 2 centre (labelled_sum 1 scored.list marks)) })
-framed sample scored marks t a e f = record {
-  statistic = rw (a.list, e) refl;
-  scale = a.scale;
-  total = f ∙ ap (λ n. 2 ^ n) (sym (used-many sample)) ∙ sym (total-of sample);
-  two = rw (a.list, e) refl;
-}
 
 -- ---- ones
 

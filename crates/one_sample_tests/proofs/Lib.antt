@@ -1,6 +1,5 @@
 mod MarkSums
 mod Different
 mod MarkNetwork
-mod FittingMarks
 mod FittingSamples
 mod Vectors

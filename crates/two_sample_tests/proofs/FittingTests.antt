@@ -1,32 +1,29 @@
 -- What holds of a test of two samples whose total and bound pass no limit.
-use Rattle.std.proofs.Common.{◌≡◌, ℕ, zero, suc, ◌+◌, ◌*◌, ◌<◌, ◌≤◌, List, [], ◌∷◌, length, cond, Some, None, Err, refl, sym, ◌∙◌, ap, subst, arith, lit≤, nat_eq}
-use Rattle.std.specs.Prelude.{ℤ, pos, ◌-ℤ◌, ◌*ℤ◌, nat_abs, unsigned_abs, slice_index}
+use Rattle.std.proofs.Common.{◌≡◌, ℕ, zero, suc, ◌+◌, ◌*◌, ◌<◌, ◌≤◌, List, [], ◌∷◌, length, cond, Err, refl, sym, ◌∙◌, ap, subst, arith, lit≤, nat_eq}
+use Rattle.std.specs.Prelude.{ℤ, pos, ◌*ℤ◌, unsigned_abs, slice_index}
 use Rattle.std.specs.List.{All, AllByRecursion, count_by, sum}
-use Rattle.std.proofs.Math.IntN.{zero-*ℤ}
 use Rattle.std.proofs.Math.Nat.{mul-le-mul, mul-le-mul_left, mul-le-mul_right}
-use Rattle.std.proofs.lemmas.Bool.{le-ltb, lt-ltb}
-use Rattle.std.proofs.lemmas.Int.{ints, unsigned_abs-mul}
+use Rattle.std.proofs.lemmas.Int.{unsigned_abs-mul}
 use Rattle.std.proofs.lemmas.List.{length-map}
 use Rattle.std.proofs.lemmas.List.Elements.{recursion_from_All}
 use Rattle.std.proofs.lemmas.List.Sums.{sum_by-cons}
 use Rattle.weights.specs.declared.tails.Tail.{Tail}
-use Rattle.weights.specs.declared.tails.Tail.TheVariants.{Less, Greater, Two}
 use Rattle.weights.specs.declared.rules.Rule.{Rule}
 use Rattle.weights.specs.declared.rules.Rule.TheVariants.{Far}
 use Rattle.weights.specs.declared.TheConstants.{MAX}
-use Rattle.weights.specs.Conditional.{distance, total, unit_weight}
-use Rattle.weights.specs.Frames.{IsFrameOf, IsShown, RulesFit}
+use Rattle.weights.specs.Conditional.{total}
 use Rattle.weights.specs.Labellings.{counts_of, labellings, number_of_labellings}
-use Rattle.weights.specs.Rules.{RuleFits, measured, rule_of}
-use Rattle.weights.specs.Wide.{Prepares, too_wide}
+use Rattle.weights.specs.Rules.{RuleFits, rule_of}
+use Rattle.weights.specs.Wide.{Prepares}
 use Rattle.weights.specs.declared.wide.WideOf.TheVariants.{Total, Statistic}
 use Rattle.weights.specs.declared.wide.PrepareFault.{PrepareFault}
 use Rattle.weights.specs.declared.wide.PrepareFault.TheVariants.{TooWide, NoMemory}
+use Rattle.weights.proofs.Centred.{IsCentred, bound-wide, far-fits, measured-is, rule-fits}
 use Rattle.weights.proofs.FirstLabel.{number_of_labellings-positive}
 use Rattle.weights.proofs.Sums.{sum_by-one}
 use Rattle.midranks.specs.Ties.{tie_groups}
 use Rattle.midranks.specs.declared.ties.Tie.{Tie}
-use Rattle.scores.specs.Scores.{labelled_sum, scale_of, score_of}
+use Rattle.scores.specs.Scores.{labelled_sum, score_of}
 use Rattle.weights.specs.Numbers.{absolute_sum}
 use Rattle.scores.proofs.LabelledSums.{labelled-within}
 use Rattle.scores.specs.declared.kinds.ScoreKind.{ScoreKind}
@@ -46,82 +43,35 @@ use Rattle.two_sample_tests.specs.Columns.{row_scores, two_sample_meaning, two_s
 use Rattle.two_sample_tests.specs.SampleSteps.{AreFitting, IsMadeOf}
 use Rattle.two_sample_tests.specs.SubjectSteps.{AreBounded, AreSubjects, IsScoredBy}
 use Rattle.two_sample_tests.specs.declared.scored_samples.ScoredSubjects.{ScoredSubjects}
-use Rattle.two_sample_tests.specs.TwoSamples.{TwoSamples, pooled_scores, score_test, two_sample_test}
+use Rattle.two_sample_tests.specs.TwoSamples.{TwoSamples, pooled_scores, two_sample_test}
 use Rattle.pooled_columns.proofs.PooledValues.{length-pooled, pooled-rises}
 use Rattle.pooled_columns.proofs.TieColumns.{grouped}
-use Rattle.two_sample_tests.proofs.ScoreSums.{by-marks, total-within}
+use Rattle.two_sample_tests.proofs.ScoreSums.{total-within}
 use Rattle.two_sample_tests.proofs.ColumnValues.{value-is}
-
-abs-minus : (a c : ℤ) → unsigned_abs (a -ℤ c) ≤ unsigned_abs a + unsigned_abs c
-abs-minus a c = grind (arith, ints)
-
-no-distance : (v : ℤ) → distance 0 (pos 0) v ≤ MAX
-no-distance v = subst (λ z. nat_abs (z -ℤ pos 0) ≤ MAX) (sym (zero-*ℤ v)) (omega arith)
-
-no-times : (v : ℤ) → nat_abs (pos 0 *ℤ v) ≤ MAX
-no-times v = subst (λ z. nat_abs z ≤ MAX) (sym (zero-*ℤ v)) (omega arith)
-
-all-weigh : (rs : List (List ℕ)) → AllByRecursion (λ r. 1 ≤ unit_weight r) rs
-all-weigh [] = tt
-all-weigh (r ∷ rs) = (omega arith, all-weigh rs)
 
 -- of scored subjects, so many of whom are in the second sample
 pub sum-within : (n s : ℕ) → 1 ≤ n → 2 * n * s ≤ MAX → s ≤ MAX
 sum-within n s some bound = omega (arith, bound, mul-le-mul_right s some)
 
 module _ (second : ℕ) (scores : List ℤ) (within : second ≤ length scores) (few : length scores ≤ 10000) (bound : 2 * length scores * absolute_sum scores ≤ MAX) where
-  times-size : (v : ℤ) → unsigned_abs v ≤ absolute_sum scores → unsigned_abs (pos (length scores) *ℤ v) ≤ length scores * absolute_sum scores
-  times-size v h = omega (arith, unsigned_abs-mul (pos (length scores)) v, mul-le-mul_left (length scores) h)
-
   centre-size : second * unsigned_abs (total_score scores) ≤ length scores * absolute_sum scores
   centre-size = mul-le-mul within (total-within scores)
 
   pub centre-fits : second * unsigned_abs (total_score scores) ≤ MAX
   centre-fits = omega (arith, centre-size, bound)
 
-  pub far-small : (v : ℤ) → unsigned_abs v ≤ absolute_sum scores → distance (length scores) (pos second *ℤ total_score scores) v ≤ MAX
-  far-small v h = omega (arith, abs-minus (pos (length scores) *ℤ v) (pos second *ℤ total_score scores), times-size v h, unsigned_abs-mul (pos second) (total_score scores), centre-size, bound)
-
-  pub far-fits : (d : ℕ) → d ≤ MAX → (v : ℤ) → unsigned_abs v ≤ absolute_sum scores → RuleFits (Far (length scores) (pos second *ℤ total_score scores) d) v
-  far-fits d l v h = record {
-    least_factor = omega (arith, few);
-    observed = l;
-    times = omega (arith, times-size v h, bound);
-    apart = far-small v h;
-  }
-
--- of a test
-module _ (sizes : List ℕ) (scores : List ℤ) (observed : List ℕ) (scale : ℕ) where
-  pub measured-is : (tail : Tail) (r : List ℕ) → measured (score_test sizes scores observed scale) tail r ≡ labelled_sum 1 scores r
-  measured-is Less r = refl
-  measured-is Greater r = refl
-  measured-is Two r = refl
-
-  pub total-is : total (score_test sizes scores observed scale) ≡ number_of_labellings sizes
-  total-is = sum_by-one (labellings sizes)
-
-  pub total-some : 1 ≤ total (score_test sizes scores observed scale)
-  total-some = omega (arith, total-is, number_of_labellings-positive sizes)
-
-  pub shown : IsShown (score_test sizes scores observed scale)
-  shown = record { has = refl; statistic_is = λ r. refl; weighty = all-weigh (labellings sizes) }
-
-  module _ (within : slice_index sizes 1 ≤ length scores) (few : length scores ≤ 10000) (bound : 2 * length scores * absolute_sum scores ≤ MAX) where
-    pub rule-fits : (tail : Tail) (v : ℤ) → unsigned_abs v ≤ absolute_sum scores → RuleFits (rule_of (score_test sizes scores observed scale) tail) v
-    rule-fits Less v h = record { least_factor = lit≤ tt; observed = lit≤ tt; times = no-times v; apart = no-distance v }
-    rule-fits Greater v h = record { least_factor = lit≤ tt; observed = lit≤ tt; times = no-times v; apart = no-distance v }
-    rule-fits Two v h =
-        far-fits (slice_index sizes 1) scores within few bound _ (far-small (slice_index sizes 1) scores within few bound (labelled_sum 1 scores observed) (labelled-within 1 scores observed)) v h
-
-    pub rules-fit : RulesFit (score_test sizes scores observed scale)
-    rules-fit = record { fits = λ tail r m. subst (RuleFits (rule_of (score_test sizes scores observed scale) tail)) (sym (measured-is tail r)) (rule-fits tail (labelled_sum 1 scores r) (labelled-within 1 scores r)) }
+  pub value-fits : (v : ℤ) → unsigned_abs v ≤ absolute_sum scores → RuleFits (Far (length scores) (pos second *ℤ total_score scores) 0) v
+  value-fits v h = far-fits (length scores) (pos second *ℤ total_score scores) v (omega (arith, few)) (omega (arith, mul-le-mul_left (length scores) h, unsigned_abs-mul (pos second) (total_score scores), centre-size, bound))
 
 -- of two samples
 sum-two : (a b : ℕ) → sum (a ∷ b ∷ []) ≡ a + b
 sum-two a b = omega (arith, sum_by-cons (λ v. v) a (b ∷ []), sum_by-cons (λ v. v) b [])
 
-pub measured_at : (samples : TwoSamples) (tail : Tail) (r : List ℕ) → measured (two_sample_test samples) tail r ≡ labelled_sum 1 (pooled_scores samples) r
-measured_at samples = measured-is (group_sizes samples.groups) (pooled_scores samples) (labels_of (pooled samples.groups)) (scale_of samples.kind (pooled_values samples.groups))
+pub total-of : (samples : TwoSamples) → total (two_sample_test samples) ≡ number_of_labellings (group_sizes samples.groups)
+total-of samples = sum_by-one (labellings (group_sizes samples.groups))
+
+pub total-some : (samples : TwoSamples) → 1 ≤ total (two_sample_test samples)
+total-some samples = omega (arith, total-of samples, number_of_labellings-positive (group_sizes samples.groups))
 
 pub as-many : (samples : TwoSamples) → length (pooled_scores samples) ≡ length (pooled_values samples.groups)
 as-many samples = length-map (pooled_values samples.groups) (score_of samples.kind (pooled_values samples.groups))
@@ -145,14 +95,15 @@ module _ (samples : TwoSamples) (f : AreFitting samples) where
   pub are-bounded : AreBounded (slice_index (group_sizes samples.groups) 1) (pooled_scores samples)
   are-bounded = record { within = within; some = omega (arith, whole, f.first_some); few = few; bound = f.bound_fits }
 
-  pub rules_fit : RulesFit (two_sample_test samples)
-  rules_fit = rules-fit (group_sizes samples.groups) (pooled_scores samples) (labels_of (pooled samples.groups)) (scale_of samples.kind (pooled_values samples.groups)) within few f.bound_fits
+  sum_fits : (v : ℤ) → unsigned_abs v ≤ absolute_sum (pooled_scores samples) → RuleFits (Far (length (pooled_scores samples)) (pos (slice_index (group_sizes samples.groups) 1) *ℤ total_score (pooled_scores samples)) 0) v
+  sum_fits = value-fits (slice_index (group_sizes samples.groups) 1) (pooled_scores samples) within few f.bound_fits
 
-  pub bounded : total (two_sample_test samples) ≤ MAX
-  bounded = omega (arith, total-is (group_sizes samples.groups) (pooled_scores samples) (labels_of (pooled samples.groups)) (scale_of samples.kind (pooled_values samples.groups)), f.total_fits)
-
-  pub some_labelling : 1 ≤ total (two_sample_test samples)
-  some_labelling = total-some (group_sizes samples.groups) (pooled_scores samples) (labels_of (pooled samples.groups)) (scale_of samples.kind (pooled_values samples.groups))
+  pub centred : IsCentred (two_sample_test samples) (length (pooled_scores samples)) (pos (slice_index (group_sizes samples.groups) 1) *ℤ total_score (pooled_scores samples))
+  centred = record {
+    by = refl;
+    observed = sum_fits _ (labelled-within 1 (pooled_scores samples) (labels_of (pooled samples.groups)));
+    each = λ r m. sum_fits _ (labelled-within 1 (pooled_scores samples) r);
+  }
 
   pub columns-level : length (column_scores samples.kind (pooled_values samples.groups)) ≡ length (column_sizes (pooled_values samples.groups))
   columns-level =
@@ -184,7 +135,7 @@ module _ (samples : TwoSamples) (f : AreFitting samples) where
     columns_fit = omega (arith, column-total, sum-fits);
     rows_fit = omega (arith, f.whole, f.few);
     sums_fit = omega (arith, column-total, double, f.bound_fits);
-    rule_fits = λ v h. subst (λ x. RuleFits x v) (sym e) (rule-fits (group_sizes samples.groups) (pooled_scores samples) (labels_of (pooled samples.groups)) (scale_of samples.kind (pooled_values samples.groups)) within few f.bound_fits tail v (omega (arith, h, column-total)));
+    rule_fits = λ v h. subst (λ x. RuleFits x v) (sym e) (rule-fits (two_sample_test samples) centred tail v (sum_fits v (omega (arith, h, column-total))));
   }
 
   pub follows : (tail : Tail) → Follows (two_sample_test samples) tail (two_sample_network samples tail)
@@ -195,12 +146,9 @@ module _ (samples : TwoSamples) (f : AreFitting samples) where
         reference = refl;
         alike = λ xs. refl;
         values = λ xs m.
-            measured-is (group_sizes samples.groups) (pooled_scores samples) (labels_of (pooled samples.groups)) (scale_of samples.kind (pooled_values samples.groups)) tail xs ∙ ap (λ s. labelled_sum 1 s xs) (sym column-subjects)
+            measured-is (two_sample_test samples) refl tail xs ∙ ap (λ s. labelled_sum 1 s xs) (sym column-subjects)
             ∙ sym (value-is (group_sizes samples.groups) (column_scores samples.kind (pooled_values samples.groups)) (column_sizes (pooled_values samples.groups)) tail (rule_of (two_sample_test samples) tail) columns-level two-sizes xs);
       })
-
-pub total-of : (samples : TwoSamples) → total (two_sample_test samples) ≡ number_of_labellings (group_sizes samples.groups)
-total-of samples = total-is (group_sizes samples.groups) (pooled_scores samples) (labels_of (pooled samples.groups)) (scale_of samples.kind (pooled_values samples.groups))
 
 -- ---- of groups with two labels
 
@@ -241,52 +189,28 @@ few-pooled groups = omega (arith, few-subjects groups, length-map (pooled (data_
 pub some-scores : (kind : ScoreKind) (groups : Groups) → length groups.labels ≡ 2 → 1 ≤ length (pooled_scores (record { kind = kind; groups = data_of groups }))
 some-scores kind groups two = omega (arith, as-many (record { kind = kind; groups = data_of groups }), some-subjects groups two)
 
-fitting : (kind : ScoreKind) (groups : Groups) → length groups.labels ≡ 2 → number_of_labellings groups.sizes ≤ MAX → (two_sample_test (record { kind = kind; groups = data_of groups })).bound ≤ MAX → AreFitting (record { kind = kind; groups = data_of groups })
-fitting kind groups two total bound = record {
+pub fitting-of : (kind : ScoreKind) (groups : Groups) → length groups.labels ≡ 2 → number_of_labellings groups.sizes ≤ MAX → (made : ScoredSubjects) → AreSubjects kind (pooled (data_of groups)) made → 2 * length made.scored.list * made.scored.sum ≤ MAX → AreFitting (record { kind = kind; groups = data_of groups })
+fitting-of kind groups two total made a bound = record {
   sizes_are = sizes-two (length groups.labels) groups.members two;
   first_some = size-some (length groups.labels) groups.members 0 two (omega arith) (subst (All (λ size. 1 ≤ size)) groups.counted groups.none_empty);
   second_some = size-some (length groups.labels) groups.members 1 two (omega arith) (subst (All (λ size. 1 ≤ size)) groups.counted groups.none_empty);
   whole = sizes-whole (length groups.labels) groups.members two groups.groups_exist ∙ groups.one_group_each ∙ sym (length-pooled (data_of groups) groups.one_group_each);
   few = omega (arith, length-pooled (data_of groups) groups.one_group_each, groups.few_enough);
   total_fits = subst (λ sizes. number_of_labellings sizes ≤ MAX) groups.counted total;
-  bound_fits = bound;
+  bound_fits = rw (a.scored.list, a.scored.sum) at bound;
 }
-
-pub fitting-of : (kind : ScoreKind) (groups : Groups) → length groups.labels ≡ 2 → number_of_labellings groups.sizes ≤ MAX → (made : ScoredSubjects) → AreSubjects kind (pooled (data_of groups)) made → 2 * length made.scored.list * made.scored.sum ≤ MAX → AreFitting (record { kind = kind; groups = data_of groups })
-fitting-of kind groups two total made a bound = fitting kind groups two total (rw (a.scored.list, a.scored.sum) at bound)
-
--- what is said of the test of scored subjects
-pub framed : (samples : TwoSamples) (made : ScoredSubjects) (second t : ℕ) → AreSubjects samples.kind (pooled samples.groups) made → second ≡ slice_index (group_sizes samples.groups) 1 → t ≡ number_of_labellings (group_sizes samples.groups)
-    → IsFrameOf (two_sample_test samples) (record { statistic = labelled_sum 1 made.scored.list made.marks; scale = made.scored.scale; total = t; two = Far (length made.scored.list) (pos second *ℤ total_score made.scored.list) (distance (length made.scored.list) (pos second *ℤ total_score made.scored.list) (labelled_sum 1 made.scored.list made.marks)) })
-framed samples made second t a e f =
-    let statistic : labelled_sum 1 made.scored.list made.marks ≡ labelled_sum 1 (pooled_scores samples) (labels_of (pooled samples.groups)) = ap (λ ss. labelled_sum 1 ss made.marks) a.scored.list ∙ ap (labelled_sum 1 (pooled_scores samples)) a.marks ∙ by-marks (pooled_scores samples) (pooled samples.groups) in
-    record {
-      statistic = statistic;
-      scale = a.scored.scale;
-      total = f ∙ sym (total-of samples);
-      two = rw (statistic, a.scored.list, e) refl;
-    }
 
 -- ---- refusals
 
-pub past-limit : (n : ℕ) → (n ≤ MAX → ⊥) → MAX < n
-past-limit n cannot = omega (arith, cannot)
-
-bound-wide : (n s : ℕ) → 1 ≤ n → MAX < s → MAX < 2 * n * s
-bound-wide n s some wide = omega (arith, wide, mul-le-mul_right s some)
+scores-wide : (n s : ℕ) → 1 ≤ n → MAX < s → MAX < 2 * n * s
+scores-wide n s some wide = omega (arith, wide, mul-le-mul_right s some)
 
 pub made-refused : (samples : TwoSamples) (e : PrepareFault) → 1 ≤ length (pooled_scores samples) → IsScoredBy samples.kind (pooled samples.groups) (Err e) → IsMadeOf samples (Err e)
 made-refused samples (TooWide Total) some is = is
-made-refused samples (TooWide Statistic) some is = bound-wide (length (pooled_scores samples)) (absolute_sum (pooled_scores samples)) some is
+made-refused samples (TooWide Statistic) some is = scores-wide (length (pooled_scores samples)) (absolute_sum (pooled_scores samples)) some is
 made-refused samples NoMemory some is = tt
 
 pub refused : (samples : TwoSamples) (e : PrepareFault) → number_of_labellings (group_sizes samples.groups) ≤ MAX → IsMadeOf samples (Err e) → Prepares two_sample_test samples (Err e)
 refused samples (TooWide Total) fits is = absurd is
-refused samples (TooWide Statistic) fits is = rw (le-ltb MAX (total (two_sample_test samples)) (omega (arith, fits, total-of samples)), lt-ltb MAX (two_sample_test samples).bound is) refl
+refused samples (TooWide Statistic) fits is = bound-wide (two_sample_test samples) (total-of samples) fits is
 refused samples NoMemory fits is = tt
-
-pub total-wide : (samples : TwoSamples) → (number_of_labellings (group_sizes samples.groups) ≤ MAX → ⊥) → too_wide (two_sample_test samples) ≡ Some Total
-total-wide samples wide = rw (lt-ltb MAX (total (two_sample_test samples)) (omega (arith, past-limit (number_of_labellings (group_sizes samples.groups)) wide, total-of samples))) refl
-
-pub not-wide : (samples : TwoSamples) → AreFitting samples → too_wide (two_sample_test samples) ≡ None
-not-wide samples f = rw (le-ltb MAX (total (two_sample_test samples)) (bounded samples f), le-ltb MAX (two_sample_test samples).bound f.bound_fits) refl

@@ -1,6 +1,7 @@
 -- What a test owes whose tails all go by its statistic, both sides by its distance from a centre; and what of any test is too wide.
-use Rattle.std.proofs.Common.{◌≡◌, ℕ, ◌+◌, ◌*◌, ◌<◌, ◌≤◌, List, Some, None, refl, sym, ◌∙◌, ap, subst, arith, lit≤}
+use Rattle.std.proofs.Common.{◌≡◌, true, ℕ, ◌+◌, ◌*◌, ◌<◌, ◌≤◌, List, Some, None, refl, sym, ◌∙◌, ap, subst, arith, lit≤}
 use Rattle.std.specs.Prelude.{ℤ, pos, ◌-ℤ◌, ◌*ℤ◌, nat_abs, unsigned_abs, Contains}
+use Rattle.std.specs.List.{AllByRecursion}
 use Rattle.std.proofs.Math.IntN.{zero-*ℤ}
 use Rattle.std.proofs.lemmas.Bool.{le-ltb, lt-ltb}
 use Rattle.std.proofs.lemmas.Int.{ints, unsigned_abs-mul}
@@ -11,7 +12,7 @@ use Rattle.weights.specs.declared.tails.Tail.TheVariants.{Less, Greater, Two}
 use Rattle.weights.specs.declared.wide.WideOf.TheVariants.{Total, Statistic}
 use Rattle.weights.specs.declared.TheConstants.{MAX}
 use Rattle.weights.specs.Conditional.{ConditionalTest, by_distance, distance, observed_statistic, total}
-use Rattle.weights.specs.Frames.{IsFrameOf, RulesFit}
+use Rattle.weights.specs.Frames.{IsFrameOf, IsShown, RulesFit, first_tail}
 use Rattle.weights.specs.Rules.{RuleFits, measured, measured_on_both, rule_of, rule_on_both}
 use Rattle.weights.specs.Wide.{too_wide}
 
@@ -61,6 +62,10 @@ measured-is test e Two r = ap (λ two. measured_on_both two test r) e
 
 pub rule-is : {q : ℕ} {c : ℤ} (test : ConditionalTest) → test.two_sided ≡ by_distance q c → rule_of test Two ≡ Far q c (distance q c (observed_statistic test))
 rule-is test e = ap (λ two. rule_on_both two test) e
+
+-- and of a test whose rearrangements weigh at least 1 each, its first tail tells the distribution
+pub shown : {q : ℕ} {c : ℤ} (test : ConditionalTest) → test.two_sided ≡ by_distance q c → test.has_tail (first_tail test) ≡ true → AllByRecursion (λ r. 1 ≤ test.weight r) test.reference → IsShown test
+shown test e has weighty = record { has = has; statistic_is = measured-is test e (first_tail test); weighty = weighty }
 
 -- both sides go by how far q times the statistic is from c, and no number of this that is computed passes the limit
 pub record IsCentred (test : ConditionalTest) (q : ℕ) (c : ℤ) : Type 0 where

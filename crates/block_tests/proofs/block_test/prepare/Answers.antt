@@ -3,11 +3,12 @@ use Rattle.std.specs.List.{concat}
 use Rattle.std.specs.Prelude.{ℕ, List, ℤ}
 use Rattle.sample_reader.specs.Data.{block_data_of}
 use Rattle.weights.specs.declared.TheConstants.{MAX}
-use Rattle.block_tests.specs.BlockTests.{BlockTests, block_counts, blocks_for, bound_of, cells_in, counts_in, cut, observed_cells}
+use Rattle.weights.proofs.Centred.{framed, not-wide, total-wide}
+use Rattle.block_tests.specs.BlockTests.{BlockTests, block_counts, block_statistic, block_test, blocks_for, bound_of, cells_in, counts_in, cut, observed_cells}
 use Rattle.block_tests.specs.BlockSteps.{ways_of}
-use Rattle.block_tests.specs.PreparedSteps.{AreBlocks, AreFitting, IsPrepared, tests_of}
+use Rattle.block_tests.specs.PreparedSteps.{AreBlocks, AreFitting, IsPrepared, far_of, tests_of}
 use Rattle.block_tests.specs.declared.kinds.BlockKind.{BlockKind}
-use Rattle.block_tests.proofs.Fitting.{blocks-read, framed, not-wide, observed-of, total-is, total-wide}
+use Rattle.block_tests.proofs.Fitting.{blocks-read, bound-fits, observed-of, sides-are, total-is}
 use Rattle.block_tests.proofs.block_test.prepare.Goals as goal
 
 fitting : (tests : BlockTests) → AreBlocks tests → ways_of (block_counts tests) ≤ MAX → AreFitting tests
@@ -24,7 +25,7 @@ pub returns-in_default : goal.returns-in_default
 returns-in_default c =
     let tests : BlockTests = blocks_for c.args.kind (block_data_of c.args.blocks.now) in
     let blocks = ranked-blocks c.args.kind c.args.blocks.now.blocks c.args.blocks.now.treatments c.as_slice.result.now c.args.blocks.now.cells c.in_ok-ranked.ranked.blocks.items c.as_slice.ensures c.in_ok-ranked.ensures.blocks in
-    total-wide tests (rw (c.deref.ensures.value ∙ blocks) at c.in_default.ensures)
+    total-wide (block_test tests) (total-is tests) (rw (c.deref.ensures.value ∙ blocks) at c.in_default.ensures)
 
 pub bound_of-bound-requires-clause-whole : goal.bound_of-bound-requires-clause-whole
 bound_of-bound-requires-clause-whole c =
@@ -43,12 +44,13 @@ invariant_of-result c =
     let ways = rw (c.deref.ensures.value ∙ blocks) at c.in-Some.ensures in
     let cells = c.as_slice-cells.ensures ∙ ranked-cells c.args.kind c.args.blocks.now.blocks c.args.blocks.now.treatments c.as_slice.result.now c.args.blocks.now.cells c.in_ok-ranked.ranked.cells c.as_slice.ensures c.in_ok-ranked.ensures.cells in
     let fit : AreFitting tests = fitting tests (blocks-read c.args.kind c.args.blocks.now c.requires) ways.0 in
+    let sides = sides-are tests.kind tests.blocks.blocks tests.blocks.treatments in
     subst (λ (values : List ℤ). IsPrepared (tests_of c.args.kind c.args.blocks.now.blocks c.args.blocks.now.treatments values) c.in_ok-ranked.ranked.blocks.items c.bound_of-bound.result c.frame_of-frame.result) (sym c.in_ok-copy.ensures)
     (record {
       fitting = fit;
       blocks_are = blocks;
       bound_is = c.bound_of-bound.ensures ∙ ap (bound_of c.args.kind c.args.blocks.now.blocks c.args.blocks.now.treatments) cells;
-      frame_is = framed tests c.in-Some.total c.as_slice-cells.result.now c.frame_of-frame.result cells ways.1 c.frame_of-frame.ensures;
+      frame_is = rw (c.frame_of-frame.ensures, cells) (framed _ _ (block_test tests) _ sides refl refl (ways.1 ∙ sym (total-is tests)) (ap (λ s. far_of s (block_statistic tests.kind tests.blocks.blocks tests.blocks.treatments (observed_cells tests))) sides));
     })
 
 pub returns : goal.returns
@@ -56,4 +58,5 @@ returns c =
     let tests : BlockTests = blocks_for c.args.kind (block_data_of c.args.blocks.now) in
     let blocks = ranked-blocks c.args.kind c.args.blocks.now.blocks c.args.blocks.now.treatments c.as_slice.result.now c.args.blocks.now.cells c.in_ok-ranked.ranked.blocks.items c.as_slice.ensures c.in_ok-ranked.ensures.blocks in
     let ways = rw (c.deref.ensures.value ∙ blocks) at c.in-Some.ensures in
-    (rw c.in_ok-copy.ensures refl, not-wide tests (fitting tests (blocks-read c.args.kind c.args.blocks.now c.requires) ways.0))
+    let fit : AreFitting tests = fitting tests (blocks-read c.args.kind c.args.blocks.now c.requires) ways.0 in
+    (rw c.in_ok-copy.ensures refl, not-wide (block_test tests) refl fit.total_fits (bound-fits tests fit))

@@ -1,9 +1,11 @@
-use Rattle.std.proofs.Common.{◌≡◌, ◌≤◌, ◌*◌, ◌∙◌, Err, ap, subst, arith, refl, rules, FitsSigned}
+use Rattle.std.proofs.Common.{◌≡◌, ◌≤◌, ◌*◌, ◌∙◌, Err, ap, sym, subst, arith, refl, rules, FitsSigned}
+use Rattle.std.specs.Prelude.{pos}
 use mir.Syntax.{w128}
 use Rattle.std.proofs.lemmas.Int.{to_z-of_z}
 use Rattle.std.proofs.lemmas.Result.{err_from_is_err_and}
 use Rattle.weights.specs.Labellings.{number_of_labellings}
 use Rattle.weights.specs.declared.TheConstants.{MAX}
+use Rattle.weights.proofs.Centred.{framed, past-limit}
 use Rattle.midranks.specs.Ties.{tie_groups}
 use Rattle.scores.specs.PlaceScores.{common_multiple}
 use Rattle.scores.specs.Scores.{score_of}
@@ -14,10 +16,9 @@ use Rattle.pooled_columns.specs.ColumnSteps.{first_scores}
 use Rattle.pooled_columns.specs.PooledColumns.{column_sizes, pooled_values}
 use Rattle.pooled_columns.proofs.PooledValues.{pooled-rises}
 use Rattle.pooled_columns.proofs.TieColumns.{first_scores-are}
-use Rattle.k_sample_tests.specs.KruskalWallis.{ScoredGroups, size_factors}
+use Rattle.k_sample_tests.specs.KruskalWallis.{ScoredGroups, kruskal_wallis_test, size_factors}
 use Rattle.k_sample_tests.specs.RankSumSteps.{IsScoredBy}
-use Rattle.k_sample_tests.proofs.FittingKruskalWallis.{are-found, framed, multiple-some, multiple-wide, scale-fits, scores-refused, sizes-fit, statistic-within}
-use Rattle.k_sample_tests.proofs.FittingUmbrella.{past-limit}
+use Rattle.k_sample_tests.proofs.FittingKruskalWallis.{are-found, multiple-some, multiple-wide, scale-fits, scores-refused, statistic-within, sum-fits, total-of}
 use Rattle.k_sample_tests.proofs.GroupFacts.{few_subjects, labels-small, none-empty}
 use Rattle.k_sample_tests.proofs.group_scores.made_of.Goals as goal
 
@@ -57,7 +58,7 @@ squares_statistic-statistic-requires-clause-sums_fit c =
     let samples : ScoredGroups = record { kind = c.args.kind; groups = data_of c.args.groups.now } in
     let values : c.as_slice.result.now ≡ pooled_values (data_of c.args.groups.now) = c.as_slice.ensures ∙ c.in_ok-values.ensures ∙ ap values_of (c.deref.ensures.value ∙ c.in_ok-pooled.ensures) in
     let found = are-found c.args.kind c.args.groups.now _ _ _ _ _ c.in-Some-times_square.bound values (c.as_slice-2.ensures ∙ c.in_ok-sizes.ensures ∙ c.args.groups.now.counted) c.in_ok-scored.ensures c.in-Some.ensures.least.1 c.max.ensures c.in-Some-times_square.ensures (omega (arith, c.requires.total, c.requires.fits)) in
-    rw (c.as_slice-6.ensures ∙ found.scores.list) (sizes-fit samples found.fitting)
+    rw (c.as_slice-6.ensures ∙ found.scores.list) (sum-fits samples found.fitting)
 
 pub squares_statistic-statistic-requires-clause-within : goal.squares_statistic-statistic-requires-clause-within
 squares_statistic-statistic-requires-clause-within c =
@@ -94,6 +95,6 @@ returns c =
           c.in_ok-columns.ensures.scores ∙ ap (λ vs. first_scores (tie_groups vs) c.as_slice-5.result.now) held
           ∙ ap (first_scores (tie_groups (pooled_values samples.groups))) (c.as_slice-5.ensures ∙ found.scores.list)
           ∙ first_scores-are (score_of c.args.kind (pooled_values samples.groups)) (pooled_values samples.groups) (pooled-rises samples.groups);
-      frame = framed samples _ _ _ _ (to_z-of_z w128 c.squares_statistic-statistic.result v ∙ statistic) (rw (found.multiple_is, found.scores.scale) refl) (c.requires.total ∙ ap number_of_labellings c.args.groups.now.counted) c.far.ensures;
+      frame = framed 0 (pos 0) (kruskal_wallis_test samples) _ refl (to_z-of_z w128 c.squares_statistic-statistic.result v ∙ statistic) (rw (found.multiple_is, found.scores.scale) refl) (c.requires.total ∙ ap number_of_labellings c.args.groups.now.counted ∙ sym (total-of samples)) c.far.ensures;
       fitting = found.fitting;
     }

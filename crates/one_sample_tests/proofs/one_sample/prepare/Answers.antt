@@ -1,16 +1,17 @@
 use Rattle.std.proofs.Common.{◌≡◌, ◌∙◌, ◌^◌, ◌≤◌, length, Err, refl, sym, ap, subst}
 use Rattle.std.proofs.lemmas.Result.{err_from_is_err_and}
 use Rattle.weights.specs.declared.TheConstants.{MAX}
-use Rattle.one_sample_tests.specs.SignedSamples.{SignedSample, nonzero, sample_of, used_scores}
+use Rattle.weights.proofs.Centred.{not-wide, total-wide}
+use Rattle.one_sample_tests.specs.SignedSamples.{SignedSample, nonzero, one_sample_test, sample_of, used_scores}
 use Rattle.one_sample_tests.specs.SampleSteps.{IsMadeOf}
-use Rattle.one_sample_tests.proofs.FittingSamples.{not-wide, refused, total-wide, used-many}
+use Rattle.one_sample_tests.proofs.FittingSamples.{refused, total-of, used-many}
 use Rattle.one_sample_tests.proofs.one_sample.prepare.Goals as goal
 
 pub returns-in_default : goal.returns-in_default
 returns-in_default c =
     let sample : SignedSample = sample_of c.args.kind c.args.differences in
     let many : c.number_used.result ≡ length (used_scores sample) = c.number_used.ensures ∙ ap (λ ds. length (nonzero ds)) c.as_slice.ensures ∙ sym (used-many sample) in
-    total-wide sample (rw many at c.in_default.ensures)
+    total-wide (one_sample_test sample) (total-of sample) (rw many at c.in_default.ensures)
 
 pub returns-in_err-made : goal.returns-in_err-made
 returns-in_err-made c =
@@ -24,4 +25,4 @@ pub returns : goal.returns
 returns c =
     let sample : SignedSample = sample_of c.args.kind c.args.differences in
     let made = rw c.as_slice-2.ensures at c.in_ok-made.ensures in
-    (refl, not-wide sample made.total_fits made.bound_fits)
+    (refl, not-wide (one_sample_test sample) (total-of sample) made.total_fits made.bound_fits)

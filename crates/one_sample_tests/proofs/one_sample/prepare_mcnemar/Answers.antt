@@ -1,14 +1,15 @@
 use Rattle.std.proofs.Common.{◌≡◌, ◌∙◌, ℕ, ◌++◌, get_or, sym, ap}
 use Rattle.std.specs.Prelude.{pos, ◌-ℤ◌, replicate}
+use Rattle.weights.proofs.Centred.{total-wide}
 use Rattle.table_reader.specs.Data.{table_data_of}
-use Rattle.one_sample_tests.proofs.FittingSamples.{discordant-few, discordant-many, discordant-small, total-wide}
-use Rattle.one_sample_tests.specs.SignedSamples.{discordant}
+use Rattle.one_sample_tests.specs.SignedSamples.{discordant, one_sample_test}
+use Rattle.one_sample_tests.proofs.FittingSamples.{discordant-few, discordant-many, discordant-small, total-of}
 use Rattle.one_sample_tests.proofs.one_sample.prepare_mcnemar.Goals as goal
 
 pub returns-in_default : goal.returns-in_default
 returns-in_default c =
     let cells = rw c.as_slice-cells.ensures at c.in_default.ensures in
-    total-wide (discordant (table_data_of c.args.table.now)) (rw (sym (discordant-many (table_data_of c.args.table.now))) at cells)
+    total-wide (one_sample_test (discordant (table_data_of c.args.table.now))) (total-of (discordant (table_data_of c.args.table.now))) (rw (sym (discordant-many (table_data_of c.args.table.now))) at cells)
 
 pub prepare-requires-clause-few : goal.prepare-requires-clause-few
 prepare-requires-clause-few c =

@@ -1,10 +1,9 @@
-use Rattle.std.proofs.Common.{◌≡◌, ◌∙◌, ◌*◌, ◌≤◌, sym, ap, subst, arith}
+use Rattle.std.proofs.Common.{◌≡◌, ◌∙◌, ◌*◌, ◌^◌, ◌≤◌, refl, sym, ap, subst, arith}
 use Rattle.weights.specs.declared.TheConstants.{MAX}
-use Rattle.weights.specs.Frames.{IsFrameOf}
 use Rattle.midranks.specs.Ties.{tie_groups}
-use Rattle.one_sample_tests.specs.SignedSamples.{SignedSample, magnitudes, nonzero, one_sample_test, sample_of, signs_of, used_sizes}
+use Rattle.one_sample_tests.specs.SignedSamples.{SignedSample, magnitudes, nonzero, sample_of, signs_of, used_sizes}
 use Rattle.one_sample_tests.specs.SampleSteps.{AreSignScores}
-use Rattle.one_sample_tests.proofs.FittingSamples.{few-sizes, framed, scored-some, used-many, used-small}
+use Rattle.one_sample_tests.proofs.FittingSamples.{few-sizes, scored-some, total-of, used-many, used-small}
 use Rattle.one_sample_tests.proofs.scored_marks.made_of.Goals as goal
 
 pub magnitudes-requires : goal.magnitudes-requires
@@ -31,7 +30,7 @@ returns c =
     record {
       scores = are.list;
       groups = c.in_ok-groups.ensures ∙ ap tie_groups (c.as_slice-4.ensures ∙ are.list);
-      frame = subst (IsFrameOf (one_sample_test sample)) (sym c.frame_of-frame.ensures) (framed sample c.in-Ok.scored c.as_slice-5.result.now c.args.total are marks c.requires.total);
+      frame = rw (c.frame_of-frame.ensures, are.list, marks) (record { statistic = refl; scale = are.scale; total = c.requires.total ∙ ap (λ n. 2 ^ n) (sym (used-many sample)) ∙ sym (total-of sample); two = refl });
       total_fits = rw (used-many sample) (omega (arith, c.requires.total, c.requires.fits));
       bound_fits = omega (arith, bound, are.sum);
     }

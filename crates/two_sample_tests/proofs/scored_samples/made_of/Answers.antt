@@ -1,10 +1,10 @@
-use Rattle.std.proofs.Common.{◌≡◌, ◌∙◌, Err, sym, ap, subst, arith}
+use Rattle.std.proofs.Common.{◌≡◌, ◌∙◌, Err, refl, sym, ap, subst, arith}
 use Rattle.std.specs.Prelude.{slice_index}
 use Rattle.std.proofs.lemmas.Result.{err_from_is_err_and}
 use Rattle.weights.specs.Labellings.{number_of_labellings}
-use Rattle.weights.specs.Frames.{IsFrameOf}
+use Rattle.weights.proofs.Centred.{framed}
 use Rattle.midranks.specs.Ties.{tie_groups}
-use Rattle.scores.specs.Scores.{score_of}
+use Rattle.scores.specs.Scores.{labelled_sum, score_of}
 use Rattle.sample_reader.specs.Data.{data_of}
 use Rattle.sample_reader.specs.Groups.{group_sizes}
 use Rattle.sample_reader.specs.PooledSample.{pooled}
@@ -12,8 +12,9 @@ use Rattle.two_sample_tests.specs.SampleSteps.{AreFitting}
 use Rattle.pooled_columns.specs.ColumnSteps.{first_scores}
 use Rattle.pooled_columns.specs.PooledColumns.{column_sizes, pooled_values}
 use Rattle.two_sample_tests.specs.SubjectSteps.{AreSubjects, IsScoredBy}
-use Rattle.two_sample_tests.specs.TwoSamples.{TwoSamples, two_sample_test}
-use Rattle.two_sample_tests.proofs.FittingTests.{are-bounded, few-pooled, fitting-of, framed, made-refused, some-scores}
+use Rattle.two_sample_tests.specs.TwoSamples.{TwoSamples, pooled_scores, two_sample_test}
+use Rattle.two_sample_tests.proofs.FittingTests.{are-bounded, few-pooled, fitting-of, made-refused, some-scores, total-of}
+use Rattle.two_sample_tests.proofs.ScoreSums.{by-marks}
 use Rattle.pooled_columns.proofs.PooledValues.{pooled-rises}
 use Rattle.pooled_columns.proofs.TieColumns.{first_scores-are}
 use Rattle.two_sample_tests.proofs.scored_samples.made_of.Goals as goal
@@ -50,7 +51,7 @@ returns c =
           c.in_ok-columns.ensures.scores ∙ ap (λ vs. first_scores (tie_groups vs) c.as_slice-scores.result.now) values
           ∙ ap (first_scores (tie_groups (pooled_values samples.groups))) (c.as_slice-scores.ensures ∙ are.scored.list)
           ∙ first_scores-are (score_of c.args.kind (pooled_values samples.groups)) (pooled_values samples.groups) (pooled-rises samples.groups);
-      frame = subst (IsFrameOf (two_sample_test samples)) (sym c.frame_of-frame.ensures)
-          (framed samples c.in_ok-subjects.subjects (slice_index c.as_slice-2.result.now 1) c.args.total are second (c.requires.total ∙ ap number_of_labellings c.args.groups.now.counted));
+      frame = rw (c.frame_of-frame.ensures, are.scored.list, second)
+          (framed _ _ (two_sample_test samples) _ refl (ap (labelled_sum 1 (pooled_scores samples)) are.marks ∙ by-marks (pooled_scores samples) (pooled samples.groups)) are.scored.scale (c.requires.total ∙ ap number_of_labellings c.args.groups.now.counted ∙ sym (total-of samples)) refl);
       fitting = fit;
     }

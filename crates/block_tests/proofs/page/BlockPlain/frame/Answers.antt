@@ -1,8 +1,11 @@
-use Rattle.std.proofs.Common.{◌≡◌, ◌≤◌, ◌∙◌, ap, arith, length, pos, refl, rules, to_z}
+use Rattle.std.proofs.Common.{◌≡◌, ◌∙◌, ap, arith, length, pos, refl, rules, sym, to_z}
 use mir.Syntax.{w128}
 use Rattle.std.specs.List.{sum}
+use Rattle.weights.proofs.Centred.{framed, rules-fit}
+use Rattle.block_tests.specs.BlockNetworks.{arrangement_test}
+use Rattle.block_tests.specs.BlockTests.{page_sum}
 use Rattle.block_tests.proofs.Arranged.{length-first}
-use Rattle.block_tests.proofs.OneBlock.{arrangements-fit, arrangements-some, one-framed}
+use Rattle.block_tests.proofs.OneBlock.{arrangements-centred, arrangements-some, arrangements-total}
 use Rattle.block_tests.proofs.page.BlockPlain.frame.Goals as goal
 
 pub page_sum-statistic-requires : goal.page_sum-statistic-requires
@@ -13,10 +16,10 @@ page_sum-statistic-requires c =
 pub returns-clause-frame : goal.returns-clause-frame
 returns-clause-frame c =
     let observed : to_z w128 c.page_sum-statistic.result ≡ pos c.page_sum-statistic.result = search rules in
-    one-framed c.args.self.now c.first-cells.result.now _ c.page_sum-statistic.result c.first-cells.ensures.first c.page_sum-statistic.ensures.is observed refl c.number.ensures c.far.ensures
+    framed 0 (pos 0) (arrangement_test c.args.self.now) _ refl (observed ∙ ap pos (c.page_sum-statistic.ensures.is ∙ ap (page_sum 1) c.first-cells.ensures.first)) refl (c.number.ensures ∙ sym (arrangements-total c.args.self.now)) c.far.ensures
 
 pub returns-clause-fits : goal.returns-clause-fits
-returns-clause-fits c = arrangements-fit c.args.self.now
+returns-clause-fits c = rules-fit (arrangement_test c.args.self.now) (arrangements-centred c.args.self.now)
 
 pub returns-clause-some : goal.returns-clause-some
 returns-clause-some c = arrangements-some c.args.self.now

@@ -1,8 +1,9 @@
 use Rattle.std.proofs.Common.{◌∙◌, refl, arith}
 use Rattle.std.proofs.lemmas.Result.{err_from_is_err_and}
+use Rattle.weights.proofs.Centred.{not-wide, total-wide}
 use Rattle.sample_reader.specs.Data.{data_of}
-use Rattle.k_sample_tests.specs.KruskalWallis.{ScoredGroups}
-use Rattle.k_sample_tests.proofs.FittingKruskalWallis.{not-wide, refused, total-wide}
+use Rattle.k_sample_tests.specs.KruskalWallis.{ScoredGroups, kruskal_wallis_test}
+use Rattle.k_sample_tests.proofs.FittingKruskalWallis.{refused, total-of}
 use Rattle.k_sample_tests.proofs.GroupFacts.{few_subjects, sizes-whole}
 use Rattle.k_sample_tests.proofs.kruskal_wallis.KruskalWallis.prepare.Goals as goal
 
@@ -13,7 +14,7 @@ pub returns-in_default : goal.returns-in_default
 returns-in_default c =
     let samples : ScoredGroups = record { kind = c.args.kind; groups = data_of c.args.groups.now } in
     let none = rw (c.as_slice.ensures ∙ c.args.groups.now.counted) at c.in_default.ensures in
-    total-wide samples none
+    total-wide (kruskal_wallis_test samples) (total-of samples) none
 
 pub returns-in_err-made : goal.returns-in_err-made
 returns-in_err-made c =
@@ -25,4 +26,4 @@ returns-in_err-made c =
 pub returns : goal.returns
 returns c =
     let samples : ScoredGroups = record { kind = c.args.kind; groups = data_of c.args.groups.now } in
-    (rw (c.in_ok-copy.ensures, c.in_ok-copy-2.ensures, c.in_ok-copy-3.ensures) refl, not-wide samples c.in_ok-made.ensures.fitting)
+    (rw (c.in_ok-copy.ensures, c.in_ok-copy-2.ensures, c.in_ok-copy-3.ensures) refl, not-wide (kruskal_wallis_test samples) (total-of samples) c.in_ok-made.ensures.fitting.total_fits c.in_ok-made.ensures.fitting.bound_fits)

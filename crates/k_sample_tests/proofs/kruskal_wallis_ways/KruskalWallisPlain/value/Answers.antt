@@ -1,7 +1,7 @@
 use Rattle.std.proofs.Common.{rules, ◌∙◌, FitsSigned}
 use mir.Syntax.{w128}
 use Rattle.std.proofs.lemmas.Int.{to_z-of_z}
-use Rattle.k_sample_tests.proofs.FittingKruskalWallis.{sizes-fit, statistic-within}
+use Rattle.k_sample_tests.proofs.FittingKruskalWallis.{sum-fits, statistic-within}
 use Rattle.k_sample_tests.proofs.kruskal_wallis_ways.KruskalWallisPlain.value.Goals as goal
 
 pub squares_statistic-requires-clause-few_rows : goal.squares_statistic-requires-clause-few_rows
@@ -11,7 +11,7 @@ pub squares_statistic-requires-clause-factors : goal.squares_statistic-requires-
 squares_statistic-requires-clause-factors c = rw (c.as_slice-2.ensures ∙ c.made-made.ensures.sizes) (c.as_slice-3.ensures.value ∙ c.made-made.ensures.factors)
 
 pub squares_statistic-requires-clause-sums_fit : goal.squares_statistic-requires-clause-sums_fit
-squares_statistic-requires-clause-sums_fit c = rw (c.as_slice.ensures ∙ c.made-made.ensures.scores) (sizes-fit c.args.self.now c.made-made.ensures.fitting)
+squares_statistic-requires-clause-sums_fit c = rw (c.as_slice.ensures ∙ c.made-made.ensures.scores) (sum-fits c.args.self.now c.made-made.ensures.fitting)
 
 pub squares_statistic-requires-clause-within : goal.squares_statistic-requires-clause-within
 squares_statistic-requires-clause-within c =

@@ -1,5 +1,6 @@
-use Rattle.k_sample_tests.proofs.FittingUmbrella.{bounded}
+use Rattle.std.proofs.Common.{arith}
+use Rattle.k_sample_tests.proofs.FittingUmbrella.{total-of}
 use Rattle.k_sample_tests.proofs.umbrella_ways.UmbrellaPlain.first.Goals as goal
 
 pub returns-clause-bounded : goal.returns-clause-bounded
-returns-clause-bounded c = bounded c.args.self.now c.made.result.now c.made.ensures
+returns-clause-bounded c = omega (arith, total-of c.args.self.now, c.made.ensures.total_fits)
