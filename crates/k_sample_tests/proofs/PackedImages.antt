@@ -1,12 +1,12 @@
 -- The network of a measure whose partials are packed opens as many keys as that of the measure itself, since packing loses nothing: each key has one image.
-use Rattle.std.proofs.Common.{◌≡◌, ℕ, List, [], ◌∷◌, ◌++◌, length, map, take, refl, sym, ◌∙◌, ap, subst, cond}
+use Rattle.std.proofs.Common.{◌≡◌, ℕ, List, [], ◌∷◌, ◌++◌, length, map, refl, sym, ◌∙◌, ap, subst, cond}
 use Rattle.std.specs.Prelude.{ℤ, pos, nat_lt}
 use Rattle.std.proofs.lemmas.List.{take-append-drop}
 use Rattle.std.specs.List.{Contains}
 use Rattle.weights.specs.Grouped.{minus}
 use Rattle.weights.specs.declared.tails.Tail.{Tail}
 use Rattle.stage_network.specs.Judged.{judged}
-use Rattle.stage_network.specs.Network.{Network}
+use Rattle.stage_network.specs.Network.{Network, IsReached}
 use Rattle.stage_network.proofs.Images.{OpensImages}
 use Rattle.room_network.specs.RoomNetworks.{partial_of, room_of}
 use Rattle.room_network.proofs.RoomKeys.{IsKey, back_is, front_is, is_key, partial-next, room-next}
