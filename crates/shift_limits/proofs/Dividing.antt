@@ -1,6 +1,6 @@
 -- In an ascending list, a place's number is below another one exactly where that many are, and above
 -- it exactly where as many as stand from the place on are.
-use Rattle.std.proofs.Common.{◌≡◌, ℕ, zero, suc, ◌+◌, ◌-◌, ◌<◌, ◌≤◌, Bool, true, false, cond, List, [], ◌∷◌, length, get_or, inl, inr, ◌⊎◌, refl, sym, ap, ◌∙◌, arith}
+use Rattle.std.proofs.Common.{◌≡◌, ℕ, zero, suc, ◌+◌, ◌<◌, ◌≤◌, Bool, true, false, cond, List, [], ◌∷◌, length, get_or, inl, inr, ◌⊎◌, refl, arith}
 use Rattle.std.specs.Prelude.{◌↔◌, ℤ, pos, ◌<ℤ◌, int_le, int_lt}
 use Rattle.std.specs.List.{AllByRecursion, count_by}
 use Rattle.std.proofs.lemmas.Int.{ints}

@@ -1,5 +1,5 @@
 -- What is promised of limits.
-use Rattle.std.proofs.Common.{◌≡◌, ℕ, zero, suc, ◌+◌, ◌-◌, ◌*◌, ◌^◌, ◌<◌, ◌≤◌, List, length, get_or, Some, None, ne_eqb, refl, sym, ap, ◌∙◌, subst, arith}
+use Rattle.std.proofs.Common.{◌≡◌, ℕ, zero, suc, ◌+◌, ◌-◌, ◌≤◌, List, length, get_or, Some, None, ne_eqb, refl, sym, ap, ◌∙◌, subst, arith}
 use Rattle.std.specs.Prelude.{◌↔◌, ℤ, pos, ◌<ℤ◌, int_le, Option}
 use Rattle.std.proofs.Math.Nat.{one-le-pow, pow-le-pow_right}
 use Rattle.weights.specs.Labellings.{number_of_labellings}
@@ -10,7 +10,7 @@ use Rattle.weights.proofs.FirstLabel.{number_of_labellings-positive}
 use Rattle.weights.proofs.OneOrder.{IsInOrder, int-order, ordered-in_order}
 use Rattle.scores.specs.RawScores.{decimals}
 use Rattle.sample_reader.specs.Groups.{GroupData, group_sizes}
-use Rattle.shift_limits.specs.Differences.{difference_at, differences, differences_between, places_of, sample}
+use Rattle.shift_limits.specs.Differences.{difference_at, differences, differences_between, sample}
 use Rattle.shift_limits.specs.LaterPairs.{misses_at_most}
 use Rattle.weights.specs.Odds.{IsMiss}
 use Rattle.shift_limits.specs.Limits.{AreShown, HasEitherSide, LimitsDivide, limit_at, limits_of, place_of_limits}
@@ -36,9 +36,10 @@ divided list (suc k) order within lower upper z e f =
     let low : lower ≡ get_or list k (pos 0) = sym (some-is (difference_at list (suc k)) lower (sym (some (difference_at list (suc k))) ∙ e)) ∙ ap (λ i. get_or list i (pos 0)) first in
     let high : upper ≡ get_or list (length list - suc k) (pos 0) = sym (some-is (difference_at list (length list + 1 - suc k)) upper (sym (some (difference_at list (length list + 1 - suc k))) ∙ f)) ∙ ap (λ i. get_or list i (pos 0)) last in
     let down = downs-at list z k order (omega (arith, within)) in
-    let up = ups-at list z (length list - suc k) order (omega (arith, within)) in
-    (λ h. (omega (arith, down.0 (subst (λ x. x <ℤ z) low h.0)), omega (arith, within, up.0 (subst (λ x. z <ℤ x) high h.1))),
-    λ h. (subst (λ x. x <ℤ z) (sym low) (down.1 (omega (arith, h.0))), subst (λ x. z <ℤ x) (sym high) (up.1 (omega (arith, within, h.1)))))
+    let up = ups-at list z (length list - suc k) order (omega (arith, within)) in (
+      λ h. (omega (arith, down.0 (subst (λ x. x <ℤ z) low h.0)), omega (arith, within, up.0 (subst (λ x. z <ℤ x) high h.1))),
+      λ h. (subst (λ x. x <ℤ z) (sym low) (down.1 (omega (arith, h.0))), subst (λ x. z <ℤ x) (sym high) (up.1 (omega (arith, within, h.1)))),
+    )
 
 pub limits-divide : (groups : GroupData) (miss : Odds) → LimitsDivide groups miss (limits_of groups miss)
 limits-divide groups miss lower upper z =

@@ -1,14 +1,14 @@
 -- The lines of the rank sum of groups without ties.
-use Rattle.std.proofs.Common.{◌≡◌, ℕ, zero, suc, ◌+◌, ◌-◌, ◌*◌, ◌<◌, ◌≤◌, Bool, true, false, cond, nat_eq, List, [], ◌∷◌, length, map, Some, None, refl, sym, ap, ◌∙◌, subst, arith}
+use Rattle.std.proofs.Common.{◌≡◌, ℕ, zero, suc, ◌+◌, ◌*◌, ◌<◌, ◌≤◌, Bool, false, cond, nat_eq, List, [], ◌∷◌, length, Some, None, refl, sym, ap, ◌∙◌, subst, arith}
 use Rattle.std.specs.Prelude.{ℤ, pos, int_le, nat_lt, slice_index, Contains, IfOk, Result, Ok, Err}
-use Rattle.std.specs.List.{All, AllByRecursion, count_by, filter, sum, sum_by, range_with_len}
+use Rattle.std.specs.List.{AllByRecursion, count_by, filter, sum}
 use Rattle.std.proofs.lemmas.Bool.Decides.{nat_tests}
 use Rattle.std.proofs.lemmas.Int.{ints}
 use Rattle.std.proofs.lemmas.List.Elements.{All-contains_itself, recursion_from_All}
 use Rattle.std.proofs.lemmas.List.FromFn.{length-map-range_with_len}
 use Rattle.std.proofs.lemmas.List.Sums.{sum_by-cons}
 use Rattle.weights.specs.Conditional.{distribution, total}
-use Rattle.weights.specs.Labellings.{counts_of, labellings, number_of_labellings}
+use Rattle.weights.specs.Labellings.{labellings, number_of_labellings}
 use Rattle.weights.specs.Numbers.{absolute_sum}
 use Rattle.weights.specs.Wide.{Prepares, too_wide}
 use Rattle.weights.specs.declared.wide.WideOf.{WideOf}
@@ -24,7 +24,6 @@ use Rattle.scores.specs.Scores.{labelled_sum, score_list}
 use Rattle.scores.specs.declared.kinds.ScoreKind.TheVariants.{Wilcoxon}
 use Rattle.sample_reader.specs.Data.{data_of}
 use Rattle.sample_reader.specs.Groups.{GroupData, group_sizes}
-use Rattle.sample_reader.specs.PooledSample.{may_precede, paired_subjects, values_of}
 use Rattle.sample_reader.specs.declared.samples.Groups.{Groups}
 use Rattle.stage_network.specs.Lines.{WeightsFit, line_sum}
 use Rattle.pooled_columns.specs.PooledColumns.{pooled_values}

@@ -1,15 +1,14 @@
 -- The values 0, 1, 2 and so on: in order they are as they stand, and their doubled midranks are 2, 4,
 -- 6 and so on.
-use Rattle.std.proofs.Common.{◌≡◌, ℕ, zero, suc, ◌+◌, ◌*◌, ◌<◌, ◌≤◌, Bool, true, false, cond, nat_eq, List, [], ◌∷◌, length, map, ◌⊎◌, inl, inr, refl, sym, ap, ◌∙◌, subst, arith, lit≤}
-use Rattle.std.specs.Prelude.{ℤ, pos, int_lt, unsigned_abs}
-use Rattle.std.specs.List.{AllByRecursion, count_by, range_with_len, zip}
-use Rattle.std.specs.Ordering.{int_cmp, int_eq, is_le}
-use Rattle.std.specs.declared.cmp.Ordering.TheVariants.{Less}
-use Rattle.std.proofs.Math.Nat.{mul-le-mul, mul-le-mul_left}
-use Rattle.std.proofs.lemmas.Bool.{cases_eq, cases_lt}
+use Rattle.std.proofs.Common.{◌≡◌, ℕ, zero, suc, ◌+◌, ◌*◌, ◌<◌, ◌≤◌, Bool, true, false, cond, List, [], ◌∷◌, length, map, ◌⊎◌, inl, inr, refl, sym, ap, ◌∙◌, subst, arith}
+use Rattle.std.specs.Prelude.{ℤ, pos, int_lt}
+use Rattle.std.specs.List.{range_with_len}
+use Rattle.std.specs.Ordering.{int_eq}
+use Rattle.std.proofs.Math.Nat.{mul-le-mul}
+use Rattle.std.proofs.lemmas.Bool.{cases_eq}
 use Rattle.std.proofs.lemmas.Int.{ints}
 use Rattle.std.proofs.lemmas.List.Sums.{sum_by-cons}
-use Rattle.weights.specs.InOrder.{in_order, put_in}
+use Rattle.weights.specs.InOrder.{in_order}
 use Rattle.weights.specs.Numbers.{absolute_sum}
 use Rattle.weights.specs.declared.TheConstants.{MAX}
 use Rattle.weights.proofs.Filters.{map-same_where}
@@ -17,8 +16,7 @@ use Rattle.weights.proofs.Members.{range-below}
 use Rattle.midranks.specs.Midranks.{doubled_midrank, number_below, number_equal}
 use Rattle.scores.specs.Scores.{score_list}
 use Rattle.scores.specs.declared.kinds.ScoreKind.TheVariants.{Wilcoxon}
-use Rattle.sample_reader.specs.PooledSample.{may_precede, paired_subjects, subject_cmp, values_of}
-use Rattle.sample_reader.specs.declared.subjects.Subject.{Subject}
+use Rattle.sample_reader.specs.PooledSample.{may_precede, paired_subjects, values_of}
 use Rattle.shift_limits.proofs.RankSums.{doubled_ranks}
 
 -- so many values from one on

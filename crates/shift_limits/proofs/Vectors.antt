@@ -1,11 +1,11 @@
 -- Worked rows of the definitions, by computation.
-use Rattle.std.specs.Prelude.{◌≡◌, ℕ, ℤ, pos, negsuc, List, [], ◌∷◌, ◌*◌, ◌^◌, Some, None, codes}
+use Rattle.std.specs.Prelude.{◌≡◌, pos, [], ◌∷◌, ◌*◌, ◌^◌, Some, None, codes}
 use Rattle.std.proofs.Common.{refl}
 use Rattle.scores.specs.RawScores.{decimals, is_whole, raw_score}
 use Rattle.sample_reader.specs.Groups.{GroupData}
 use Rattle.sample_reader.specs.PooledSample.{paired_subjects}
 use Rattle.shift_limits.specs.Differences.{differences, differences_between, labelled_values}
-use Rattle.shift_limits.specs.LaterPairs.{labellings_below, later_pairs}
+use Rattle.shift_limits.specs.LaterPairs.{later_pairs}
 use Rattle.shift_limits.specs.Limits.{limits_of}
 
 -- 1 2 3 in the first sample and 4 5 6 in the second

@@ -1,5 +1,5 @@
 -- What is made on the way to limits.
-use Rattle.std.specs.Prelude.{◌≡◌, ℕ, ◌+◌, ◌-◌, ◌*◌, ◌≤◌, ℤ, pos, int_le, Bool, nat_le, List, length, map, slice_index}
+use Rattle.std.specs.Prelude.{◌≡◌, ℕ, ◌+◌, ◌*◌, ◌≤◌, ℤ, pos, int_le, Bool, nat_le, List, length, map, slice_index}
 use Rattle.std.specs.List.{range_with_len}
 use Rattle.weights.specs.declared.lines.Line.{Line}
 use Rattle.record_reader.specs.declared.TheConstants.{MOST_ROWS}

@@ -1,5 +1,5 @@
--- The estimate of the shift between two samples, and its exact limits (Hodges and Lehmann, Annals of
--- Mathematical Statistics 34, 1963; Hollander and Wolfe, Nonparametric Statistical Methods,
+-- The estimate of the shift between two samples, and its exact limits (Hodges and Lehmann, Annals
+-- of Mathematical Statistics 34, 1963; Hollander and Wolfe, Nonparametric Statistical Methods,
 -- chapter 4).
 use Rattle.std.specs.Prelude.{◌≡◌, ⊤, ◌↔◌, ℕ, ◌+◌, ◌-◌, ◌*◌, ◌^◌, ◌<◌, ◌≤◌, ℤ, ◌<ℤ◌, int_lt, nat_eq, Bool, nat_lt, List, length, Option, Some, None, Result, Ok, Err, if◌then◌else◌}
 use Rattle.std.specs.List.{count_by}
@@ -59,7 +59,7 @@ abbrev pub LimitsDivide : GroupData → Odds → Limits → Type 0
 LimitsDivide groups miss limits =
     (lower upper z : ℤ) → limits.lower ≡ Some lower → limits.upper ≡ Some upper
     → (lower <ℤ z) × (z <ℤ upper)
-        ↔ HasEitherSide (place_of_limits groups miss) (differences groups) z
+    ↔ HasEitherSide (place_of_limits groups miss) (differences groups) z
 
 -- what a report of limits rests on
 pub record AreShown (limits : Limits) : Type 0 where

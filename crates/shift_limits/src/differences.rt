@@ -1,5 +1,6 @@
 // The differences between two samples.
-ghost use Rattle.std.specs.Prelude.{◌≡◌, ◌+◌, ◌-◌, ◌^◌, ◌<◌, ◌≤◌, ◌-ℤ◌, ◌++◌, int_le, nat_abs, length, map, IfOk, OnOk};
+ghost use Rattle.std.specs.Prelude.{◌≡◌, ◌+◌, ◌-◌, ◌^◌, ◌<◌, ◌≤◌, ◌-ℤ◌, int_le, nat_abs};
+ghost use Rattle.std.specs.Prelude.{◌++◌, length, map, IfOk, OnOk};
 ghost use Rattle.sample_reader.specs.Data.{data_of};
 ghost use Rattle.sample_reader.specs.Kept.{AreDifferences, AreInRange};
 ghost use Rattle.weights.specs.InOrder.{in_order};
@@ -22,11 +23,7 @@ pub(crate) struct Differences {
 }
 
 // Adds what each of the later values is less this earlier one.
-fn push_differences(
-    list: &mut Vec<i128>,
-    earlier: i128,
-    later: &[i128],
-) -> Result<(), NoMemory>
+fn push_differences(list: &mut Vec<i128>, earlier: i128, later: &[i128]) -> Result<(), NoMemory>
     requires earlier { nat_abs earlier < 10 ^ 36 }
     requires later { AreInRange later.now }
     ensures { OnOk result (list.new.items ≡ list.old.items ++ map (λ y. y -ℤ earlier) later.now) }
@@ -55,11 +52,7 @@ fn differences_between(
 }
 
 // The same, ascending: one sort in place.
-fn ascending_between(
-    alloc: Global,
-    earlier: &[i128],
-    later: &[i128],
-) -> Result<Vec<i128>, NoMemory>
+fn ascending_between(alloc: Global, earlier: &[i128], later: &[i128]) -> Result<Vec<i128>, NoMemory>
     requires earlier { AreInRange earlier.now }
     requires later { AreInRange later.now }
     ensures { let between = differences_between earlier.now later.now in

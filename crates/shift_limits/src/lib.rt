@@ -47,10 +47,13 @@ fn told(alloc: Global, groups: &Groups, miss: Odds, total: u128) -> Result<Limit
     })
 }
 
-/// The estimate of the shift of the second sample from the first, half the sum of the two middle
-/// differences, and its exact limits that miss at most this part of the labellings: the difference
-/// at the greatest such place from below and from above (Hodges and Lehmann, Annals of Mathematical
-/// Statistics 34, 1963; Hollander and Wolfe, Nonparametric Statistical Methods, chapter 4).
+/// The estimate of the shift of the second sample from the first, and its exact limits (Hodges and
+/// Lehmann, Annals of Mathematical Statistics 34, 1963; Hollander and Wolfe, Nonparametric
+/// Statistical Methods, chapter 4). The estimate is half the sum of the two middle differences. The
+/// limits stand at the same place from either end of the ascending differences, the greatest at
+/// which they miss at most this part of the labellings, on both sides together. There are none where
+/// no place is so far out. A labelling is an assignment of the subjects' places, without ties, to
+/// the two samples.
 ///
 /// # Errors
 /// `TooWide` exactly where there are more labellings than [`weights::MAX`]; `NoMemory` where memory

@@ -1,8 +1,5 @@
-use Rattle.std.proofs.Common.{◌≡◌, ◌<◌, ◌≤◌, ◌^◌, ◌-◌, ◌/◌, ◌*◌, ◌∙◌, ℕ, ℤ, List, length, map, nat_abs, refl, sym, ap, subst, arith}
-use Rattle.std.specs.List.{All, AllByRecursion}
-use Rattle.sample_reader.specs.Data.{data_of}
+use Rattle.std.proofs.Common.{◌^◌, ◌-◌, ◌/◌, ◌∙◌, refl, ap}
 use Rattle.scores.specs.RawScores.{decimals}
-use Rattle.shift_limits.specs.Differences.{differences, sample}
 use Rattle.shift_limits.proofs.Sampled.{differences-range, differences-some, sample-range}
 use Rattle.shift_limits.proofs.WholeValues.{decimals-most, one-over, power-some}
 use Rattle.shift_limits.proofs.differences.differences_of.Goals as goal

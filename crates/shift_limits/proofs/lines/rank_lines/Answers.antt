@@ -1,7 +1,6 @@
 use Rattle.std.proofs.Common.{◌∙◌, ap, Err}
 use Rattle.sample_reader.specs.Groups.{GroupData}
 use Rattle.scores.specs.declared.kinds.ScoreKind.TheVariants.{Wilcoxon}
-use Rattle.two_sample_tests.specs.TwoSamples.{TwoSamples}
 use Rattle.shift_limits.proofs.RankLines.{are-rank-lines, refused}
 use Rattle.shift_limits.proofs.lines.rank_lines.Goals as goal
 

@@ -1,5 +1,5 @@
-use Rattle.std.proofs.Common.{◌≡◌, ◌<◌, ◌≤◌, ◌-◌, ◌/◌, ◌∙◌, ℕ, true, false, refl, sym, ap, arith}
-use Rattle.shift_limits.specs.LaterPairs.{greatest_to, labellings_below}
+use Rattle.std.proofs.Common.{◌≡◌, ◌<◌, ◌≤◌, ◌-◌, ◌/◌, ◌∙◌, ℕ, false, refl, sym, arith}
+use Rattle.shift_limits.specs.LaterPairs.{labellings_below}
 use Rattle.shift_limits.specs.LimitSteps.{is_within}
 use Rattle.shift_limits.proofs.Halving.{greatest-above, not-within, within-none}
 use Rattle.shift_limits.proofs.places.greatest_place.Goals as goal

@@ -1,4 +1,4 @@
-use Rattle.std.proofs.Common.{◌-◌, ◌≡◌, ◌≤◌, ℕ}
+use Rattle.std.proofs.Common.{◌-◌, ◌≡◌, ◌≤◌}
 use Rattle.shift_limits.specs.LaterPairs.{greatest_to}
 use Rattle.shift_limits.specs.LimitSteps.{is_within}
 use Rattle.shift_limits.proofs.places.greatest_place.Given as goal

@@ -1,8 +1,6 @@
 use Rattle.std.proofs.Common.{◌≡◌, ◌+◌, ◌-◌, ◌∙◌, FitsSigned, ap, sym, arith, rules}
 use Rattle.std.specs.Int.{w128}
-use Rattle.std.specs.Prelude.{int_le, slice_index}
 use Rattle.std.proofs.lemmas.Int.{to_z-of_z}
-use Rattle.stage_network.specs.Lines.{line_sum}
 use Rattle.shift_limits.specs.LaterPairs.{labellings_below}
 use Rattle.shift_limits.proofs.Halving.{labellings-none}
 use Rattle.shift_limits.proofs.places.labellings_below.Goals as goal

@@ -1,4 +1,4 @@
-use Rattle.std.proofs.Common.{◌∙◌, ◌<◌, ◌*◌, ◌/◌, ℕ, ap, sym, arith}
+use Rattle.std.proofs.Common.{◌∙◌, ◌<◌, ◌*◌, ◌/◌, ap, sym, arith}
 use Rattle.shift_limits.specs.LaterPairs.{greatest_to, misses_at_most}
 use Rattle.shift_limits.specs.LimitSteps.{is_within}
 use Rattle.shift_limits.proofs.Halving.{greatest-same, missed-within}
