@@ -25,7 +25,7 @@ use Rattle.stratified_tests.specs.Strata.{first_column, first_row, greatest_cell
 use Rattle.stratified_tests.specs.StrataTests.{centre_by, first_cell, first_cells, multiple_of, own_labels, stratified_test}
 use Rattle.stratified_tests.specs.StrataNetwork.{stratified_network, stratum_at}
 use Rattle.stratified_tests.specs.StrataSteps.{AreFitting, AreStages, IsSmall, greatest_sum, labelled_in_all}
-use Rattle.stratified_tests.proofs.CellSums.{zeros_in}
+use Rattle.weights.proofs.CellSums.{zeros_in}
 use Rattle.stratified_tests.proofs.Multiples.{multiple-many}
 use Rattle.stratified_tests.proofs.StrataLaws.{all-some, cells-joined, measured-is, strata-follow, total-is}
 

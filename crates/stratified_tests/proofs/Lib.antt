@@ -1,4 +1,3 @@
-mod CellSums
 mod Multiples
 mod Different
 mod StrataLaws

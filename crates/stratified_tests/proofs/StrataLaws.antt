@@ -33,7 +33,7 @@ use Rattle.stratified_tests.specs.StrataTests.{first_cell, first_cells, row_labe
 use Rattle.stratified_tests.specs.StrataNetwork.{cell_weight, cells_from, strata_addends, stratified_network, stratum_at}
 use Rattle.stratified_tests.specs.StrataSteps.{AreStages, IsSmall, greatest_sum, labelled, labelled_in_all}
 use Rattle.stratified_tests.proofs.Different.{cells-different}
-use Rattle.stratified_tests.proofs.CellSums.{allowed_cells, by_cells, divided}
+use Rattle.weights.proofs.CellSums.{allowed_cells, by_cells, divided}
 
 pub drop-head : (g : ℕ) (strata : List Stratum) (t : Stratum) (ts : List Stratum) → drop g strata ≡ t ∷ ts → (stratum_at strata g ≡ t) × (drop (g + 1) strata ≡ ts)
 drop-head zero [] t ts d = absurd (cc d)

@@ -28,7 +28,7 @@ use Rattle.weights.proofs.Tables as tables
 use Rattle.completion_bounds.proofs.TableWeights.{table-all}
 use Rattle.stage_network.specs.Follows.{Follows}
 use Rattle.label_network.specs.Endings.{labelling_value, partial_after}
-use Rattle.label_network.specs.Linear.{IsLinear, row_sum, so_far}
+use Rattle.label_network.specs.Linear.{IsLinear, linear_meaning, row_sum, so_far}
 use Rattle.label_network.proofs.LabelFollows.{label_follows}
 use Rattle.label_network.proofs.LinearNarrows.{linear_measure}
 use Rattle.table_reader.specs.TableLayout.{TableData}
@@ -248,11 +248,13 @@ module _ (t : TableData) (i : IsTable t) where
     rule_fits = λ v h. subst (λ x. RuleFits x v) (sym e) (rule-fits t Two v);
   }
 
-  pub linear-of : (tail : Tail) (rule : Rule) → is_two_by_two t ≡ true → rule ≡ rule_of (fisher_test t) tail → IsLinear first_scores (row_sums t) first_scores (column_sums t) rule
-  linear-of tail rule two e =
+  pub linear-by : (rule : Rule) → is_two_by_two t ≡ true → ((v : ℤ) → RuleFits rule v) → IsLinear first_scores (row_sums t) first_scores (column_sums t) rule
+  linear-by rule two fits =
       is-linear (row_sums t) (column_sums t) first_scores first_scores (observed_labels t) even (subjects-few t i) (omega arith) (omega arith)
-      (omega (arith, length-rows t, (square t two).0)) (omega (arith, length-columns t, (square t two).1)) few-labels rule
-      (λ v h. subst (λ x. RuleFits x v) (sym e) (rule-fits t tail v))
+      (omega (arith, length-rows t, (square t two).0)) (omega (arith, length-columns t, (square t two).1)) few-labels rule (λ v h. fits v)
+
+  pub linear-of : (tail : Tail) (rule : Rule) → is_two_by_two t ≡ true → rule ≡ rule_of (fisher_test t) tail → IsLinear first_scores (row_sums t) first_scores (column_sums t) rule
+  linear-of tail rule two e = linear-by rule two (λ v. subst (λ x. RuleFits x v) (sym e) (rule-fits t tail v))
 
   follows-weight : Follows (fisher_test t) Two (fisher_network t Two)
   follows-weight =
@@ -264,12 +266,12 @@ module _ (t : TableData) (i : IsTable t) where
         values = λ xs m. ap pos (rarity-is t xs m) ∙ ap (λ k. pos (table_weight (columns_of k (column_sums t) xs))) (sym (length-rows t)) ∙ sym (weight-value (row_sums t) (column_sums t) Two (rule_of (fisher_test t) Two) xs);
       })
 
-  first-value : (tail : Tail) → is_two_by_two t ≡ true → (xs : List ℕ) → pos (first_cell (column_sums t) xs) ≡ labelling_value (first_cell_meaning t tail) xs
-  first-value tail two xs =
+  pub first-value : (tail : Tail) (rule : Rule) → is_two_by_two t ≡ true → (xs : List ℕ) → pos (first_cell (column_sums t) xs) ≡ labelling_value (linear_meaning first_scores (row_sums t) first_scores (column_sums t) tail rule) xs
+  first-value tail rule two xs =
       sym (product-table first_scores first_scores (column_sums t) xs ∙ first-two (column_sums t) xs (length-columns t ∙ (square t two).1))
-      ∙ product-value first_scores (row_sums t) first_scores (column_sums t) tail (rule_of (fisher_test t) tail) (omega (arith, length-rows t, (square t two).0)) (omega (arith, length-columns t, (square t two).1)) xs
+      ∙ product-value first_scores (row_sums t) first_scores (column_sums t) tail rule (omega (arith, length-rows t, (square t two).0)) (omega (arith, length-columns t, (square t two).1)) xs
 
-  statistic-first : is_two_by_two t ≡ true → (xs : List ℕ) → (fisher_test t).statistic xs ≡ pos (first_cell (column_sums t) xs)
+  pub statistic-first : is_two_by_two t ≡ true → (xs : List ℕ) → (fisher_test t).statistic xs ≡ pos (first_cell (column_sums t) xs)
   statistic-first two xs = rw two refl
 
   pub follows : (tail : Tail) → has_fisher_tail (is_two_by_two t) tail ≡ true → Follows (fisher_test t) tail (fisher_network t tail)
@@ -279,7 +281,7 @@ module _ (t : TableData) (i : IsTable t) where
         rule_is = refl;
         reference = refl;
         alike = λ xs. refl;
-        values = λ xs m. statistic-first two xs ∙ first-value Less two xs;
+        values = λ xs m. statistic-first two xs ∙ first-value Less (rule_of (fisher_test t) Less) two xs;
       })
   follows Greater two =
       label_follows (first_cell_meaning t Greater) (linear_measure first_scores (row_sums t) first_scores (column_sums t) Greater (rule_of (fisher_test t) Greater) (linear-of Greater (rule_of (fisher_test t) Greater) two refl)) (fisher_test t) Greater (record {
@@ -287,6 +289,6 @@ module _ (t : TableData) (i : IsTable t) where
         rule_is = refl;
         reference = refl;
         alike = λ xs. refl;
-        values = λ xs m. statistic-first two xs ∙ first-value Greater two xs;
+        values = λ xs m. statistic-first two xs ∙ first-value Greater (rule_of (fisher_test t) Greater) two xs;
       })
   follows Two two = follows-weight

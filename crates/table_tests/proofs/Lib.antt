@@ -8,4 +8,6 @@ mod FilledColumns
 mod FisherTests
 mod ColumnSums
 mod Built
+mod OddsLaws
+mod OddsTests
 mod Vectors

@@ -43,10 +43,10 @@ abs-minus : (a c : ℤ) → unsigned_abs (a -ℤ c) ≤ unsigned_abs a + unsigne
 abs-minus a c = grind (arith, ints)
 
 -- a rule with no distance computes no great number
-no-distance : (v : ℤ) → distance 0 (pos 0) v ≤ MAX
+pub no-distance : (v : ℤ) → distance 0 (pos 0) v ≤ MAX
 no-distance v = subst (λ z. nat_abs (z -ℤ pos 0) ≤ MAX) (sym (zero-*ℤ v)) (omega arith)
 
-no-times : (v : ℤ) → nat_abs (pos 0 *ℤ v) ≤ MAX
+pub no-times : (v : ℤ) → nat_abs (pos 0 *ℤ v) ≤ MAX
 no-times v = subst (λ z. nat_abs z ≤ MAX) (sym (zero-*ℤ v)) (omega arith)
 
 pub at_most-fits : (t v : ℤ) → RuleFits (AtMost t) v

@@ -1,8 +1,11 @@
 pub mod Tables
 pub mod LinearByLinear
 pub mod FisherExact
+pub mod FisherOdds
 pub mod Weighing
 pub mod TableNetworks
+pub mod OddsNetworks
 pub mod TableTests
 pub mod TableSteps
 pub mod WeightSteps
+pub mod OddsSteps

@@ -1,5 +1,5 @@
 // A table that is prepared for Fisher's test.
-ghost use Rattle.std.specs.Prelude.{◌≡◌, ◌≤◌, pos, if◌then◌else◌};
+ghost use Rattle.std.specs.Prelude.{◌≡◌, ◌≤◌, pos, slice_index, if◌then◌else◌};
 ghost use Rattle.weights.specs.declared.TheConstants.{MAX};
 ghost use Rattle.weights.specs.declared.tails.Tail.{Tail};
 ghost use Rattle.weights.specs.Frames.{IsFrameOf};
@@ -137,6 +137,13 @@ impl FisherTable {
                 frame,
             },
         })
+    }
+
+    /// How many subjects the first row has.
+    pub(crate) fn first_row(&self) -> u64
+        ensures { result ≡ slice_index (row_sums self.now) 0 }
+    {
+        self.made.margins.rows.as_slice()[0]
     }
 
     /// What was made of the table.

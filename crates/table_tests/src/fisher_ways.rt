@@ -29,13 +29,13 @@ impl FisherTable {
         held(labelled_weight(made.margins.rows.len(), columns, labels))
     }
 
-    // Its first cell.
-    fn first_cell(&self, labels: &[u8]) -> i128
+    /// Its first cell.
+    pub(crate) fn first_cell(&self, labels: &[u8]) -> u64
         requires { Contains (labellings (row_sums self.now)) labels.now }
-        ensures { result ≡ pos (first_cell (column_sums self.now) labels.now) }
+        ensures { result ≡ first_cell (column_sums self.now) labels.now }
     {
         let columns = self.made().margins.columns.as_slice();
-        count_label(front(labels, columns[0]), 0) as i128
+        count_label(front(labels, columns[0]), 0)
     }
 
     // The network of the first cell.
@@ -99,7 +99,7 @@ impl Plain for FisherTable {
 
     fn value(&self, labels: &[u8]) -> i128 {
         if self.made().two_by_two {
-            self.first_cell(labels)
+            self.first_cell(labels) as i128
         } else {
             self.rarity(labels)
         }

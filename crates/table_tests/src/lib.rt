@@ -1,6 +1,6 @@
 //! Tests of a table of counts, given the sums of its rows and of its columns: `fisher`, which
-//! measures how probable the table is, and the first cell of a table of 2 by 2; and `linear`, which
-//! measures how scores of the rows go with scores of the columns.
+//! measures how probable the table is, and the first cell of a table of 2 by 2, also with odds; and
+//! `linear`, which measures how scores of the rows go with scores of the columns.
 #![tactic(auto)]
 
 ghost use Rattle.std.specs.Prelude.{◌≡◌, ◌≤◌, IfOk};
@@ -15,15 +15,21 @@ mod fisher_ways;
 mod linear_table;
 mod linear_ways;
 mod margins;
+mod odds_rooms;
+mod odds_table;
+mod odds_ways;
+mod odds_weights;
 mod sums;
 mod table_test;
 mod weight_measure;
 
 pub use fisher_table::{FisherTable, fisher_tails};
 pub use linear_table::LinearTable;
+pub use odds_rooms::OddsRooms;
+pub use odds_table::OddsTable;
 use stage_network::{Answer, Spread, Way};
 use std::alloc::Global;
-pub use table_test::{TableTest, prepare_fisher, prepare_linear};
+pub use table_test::{TableTest, prepare_fisher, prepare_linear, prepare_odds};
 pub use weight_measure::WeightMeasure;
 use weights::{NoMemory, Tails};
 
@@ -32,8 +38,9 @@ pub const MOST_SCORE: u64 = 1_000_000_000;
 
 /// The answer of a test of a table for tails that it has, by either way: the observed statistic,
 /// its scale, the number of labellings, and of each asked tail how many labellings are at least as
-/// extreme. All tests have all tails, but `fisher` of a table that is not 2 by 2 has the tail on
-/// both sides alone.
+/// extreme; with odds, their weights instead of their numbers. All tests have all tails, but
+/// `fisher` of a table that is not 2 by 2 has the tail on both sides alone, and with odds a table has
+/// the tails of one side alone.
 pub fn answer(
     alloc: Global,
     problem: &TableTest,
@@ -49,7 +56,7 @@ pub fn answer(
 }
 
 /// The distribution of the statistic of a test of a table: each value that it takes, ascending,
-/// with the number of labellings that have it, by either way.
+/// with the number of labellings that have it, or with odds their weight, by either way.
 pub fn distribution(alloc: Global, problem: &TableTest, way: Way) -> Result<Spread, NoMemory>
     ensures lines { IfOk result (λ spread. spread ≡ distribution (table_test problem.now)) }
     ensures weights { IfOk result WeightsFit }

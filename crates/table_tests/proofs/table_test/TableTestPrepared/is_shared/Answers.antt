@@ -5,3 +5,6 @@ returns-in-Fisher c = rw c.in-Fisher.is c.is_shared.ensures
 
 pub returns-in-Linear : goal.returns-in-Linear
 returns-in-Linear c = rw c.in-Linear.is c.is_shared-in-Linear.ensures
+
+pub returns-in-Odds : goal.returns-in-Odds
+returns-in-Odds c = rw c.in-Odds.is c.is_shared-in-Odds.ensures

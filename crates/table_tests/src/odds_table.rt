@@ -1,0 +1,93 @@
+// A table that is prepared for Fisher's test with odds.
+ghost use Rattle.std.specs.Prelude.{◌≡◌, ◌≤◌, true, SomeIff};
+ghost use Rattle.weights.specs.declared.TheConstants.{MAX};
+ghost use Rattle.weights.specs.Wide.{Prepares};
+ghost use Rattle.table_reader.specs.Data.{table_data_of};
+ghost use Rattle.table_tests.specs.FisherOdds.{odds_test};
+ghost use Rattle.weights.specs.Odds.{IsOdds};
+ghost use Rattle.table_tests.specs.OddsSteps.{IsWeightedTable, odds_total, weighted_of};
+ghost use Rattle.table_tests.specs.Tables.{column_sums, is_two_by_two, row_sums};
+
+use crate::fisher_table::FisherTable;
+use crate::odds_weights::weigh_cells;
+use std::alloc::Global;
+use std::marker::Model;
+use table_reader::Table;
+use weights::{Odds, PrepareFault, WideOf};
+
+/// Fisher's exact test of a table of two rows and two columns with odds. It is seen as the table
+/// and the odds that it was prepared of.
+#[derive(Drop)]
+pub struct OddsTable {
+    fisher: FisherTable,
+    odds: Odds,
+    // What all labellings weigh.
+    total: u128,
+}
+
+impl Model for OddsTable {
+    ghost use Rattle.table_tests.specs.FisherOdds.{WeightedTable};
+    ghost use Rattle.table_tests.specs.OddsSteps.{IsWeightedTable, weighted_of};
+
+    ghost Value = { WeightedTable };
+
+    ghost view = { λ t. weighted_of t.fisher t.odds };
+
+    ghost invariant = { λ t. IsWeightedTable (weighted_of t.fisher t.odds) t.total };
+}
+
+// What all labellings of a table weigh, or None exactly where that passes the greatest weight.
+fn weigh_all(odds: Odds, fisher: &FisherTable) -> Option<u128>
+    requires square { is_two_by_two fisher.now ≡ true }
+    requires odds { IsOdds odds }
+    ensures { let all = odds_total odds (column_sums fisher.now) (row_sums fisher.now) in
+        SomeIff result (all ≤ MAX) all }
+{
+    let made = fisher.made();
+    let columns = made.margins.columns.as_slice();
+    weigh_cells(odds, columns[0], columns[1], fisher.first_row())
+}
+
+impl OddsTable {
+    /// Prepares a table with odds.
+    pub(crate) fn prepare(
+        alloc: Global,
+        odds: Odds,
+        table: &Table,
+    ) -> Result<OddsTable, PrepareFault>
+        requires square { is_two_by_two (table_data_of table.now) ≡ true }
+        requires odds { IsOdds odds }
+        ensures { Prepares odds_test (weighted_of (table_data_of table.now) odds) result }
+    {
+        let fisher = FisherTable::prepare(alloc, table)?;
+        let Some(total) = weigh_all(odds, &fisher) else {
+            return Err(PrepareFault::TooWide(WideOf::Total));
+        };
+        Ok(OddsTable {
+            fisher,
+            odds,
+            total,
+        })
+    }
+
+    /// The test without odds.
+    pub(crate) fn fisher(&self) -> &FisherTable
+        ensures { result.now ≡ self.now.table }
+    {
+        &self.fisher
+    }
+
+    /// The odds.
+    pub(crate) fn odds(&self) -> Odds
+        ensures { result ≡ self.now.odds }
+    {
+        self.odds
+    }
+
+    /// What all labellings weigh.
+    pub(crate) fn total(&self) -> u128
+        ensures { IsWeightedTable self.now result }
+    {
+        self.total
+    }
+}
