@@ -1,6 +1,6 @@
 -- What holds of a test of strata whose total and bound pass no limit, and where it is refused.
 use Rattle.std.proofs.Common.{◌≡◌, ℕ, zero, suc, ◌+◌, ◌*◌, ◌/◌, ◌<◌, ◌≤◌, cond, List, [], ◌∷◌, ◌++◌, length, length-append, length-take, take, drop, get_or, map, replicate, nat_eq, Some, None, refl, sym, ◌∙◌, ap, subst, arith, lit≤, inl, inr, add-one, drop-cons}
-use Rattle.std.specs.Prelude.{ℤ, pos, ◌-ℤ◌, ◌*ℤ◌, nat_abs, All}
+use Rattle.std.specs.Prelude.{ℤ, pos, ◌-ℤ◌, ◌*ℤ◌, nat_abs, All, Contains, Option}
 use Rattle.std.specs.List.{AllByRecursion, concat, sum_by}
 use Rattle.std.proofs.Math.IntN.{zero-*ℤ}
 use Rattle.std.proofs.Math.Nat.{div-mul-le_self, mul-le-mul, mul-le-mul_left, mul-le-mul_right}
@@ -10,23 +10,26 @@ use Rattle.std.proofs.lemmas.Int.{ints}
 use Rattle.std.proofs.lemmas.List.{get_or-drop, get_or-take, length-replicate}
 use Rattle.std.proofs.lemmas.List.Elements.{All-from_recursion, recursion_from_All}
 use Rattle.std.proofs.lemmas.List.Sums.{count_by-le-length, sum_by-append, sum_by-cons}
+use Rattle.weights.specs.declared.odds.Odds.{Odds}
 use Rattle.weights.specs.declared.rules.Rule.TheVariants.{Far}
 use Rattle.weights.specs.declared.tails.Tail.{Tail}
 use Rattle.weights.specs.declared.tails.Tail.TheVariants.{Less, Greater, Two}
 use Rattle.weights.specs.declared.TheConstants.{MAX}
 use Rattle.weights.specs.declared.wide.WideOf.TheVariants.{Total, Statistic}
-use Rattle.weights.specs.Conditional.{distance, total, unit_weight}
+use Rattle.weights.specs.Conditional.{distance, total}
 use Rattle.weights.specs.Frames.{IsFrameOf, IsShown, RulesFit}
 use Rattle.weights.specs.Rules.{RuleFits, rule_of}
 use Rattle.weights.specs.Wide.{too_wide}
 use Rattle.stage_network.specs.Follows.{Follows}
+use Rattle.stage_network.proofs.Bounds.{term-le-sum_by}
 use Rattle.stratified_tests.specs.declared.stratum.Stratum.{Stratum}
 use Rattle.stratified_tests.specs.Strata.{first_column, first_row, greatest_cell, least_cell, size, strata_in, strata_of}
-use Rattle.stratified_tests.specs.StrataTests.{centre_by, first_cell, first_cells, multiple_of, own_labels, stratified_test}
+use Rattle.stratified_tests.specs.StrataTests.{centre_by, first_cell, first_cells, multiple_of, own_labels, strata_labellings, stratified_test, weight_by}
 use Rattle.stratified_tests.specs.StrataNetwork.{stratified_network, stratum_at}
-use Rattle.stratified_tests.specs.StrataSteps.{AreFitting, AreStages, IsSmall, greatest_sum, labelled_in_all}
+use Rattle.stratified_tests.specs.StrataSteps.{AreFitting, AreOdds, AreStages, IsSmall, greatest_sum, strata_total}
 use Rattle.weights.proofs.CellSums.{zeros_in}
 use Rattle.stratified_tests.proofs.Multiples.{multiple-many}
+use Rattle.stratified_tests.proofs.OddsLaws.{weight-least}
 use Rattle.stratified_tests.proofs.StrataLaws.{all-some, cells-joined, measured-is, strata-follow, total-is}
 
 -- ---- sums
@@ -145,21 +148,22 @@ module _ (q n : ℕ) (least : q ≤ MAX) (bound : q * n ≤ MAX) (c : ℕ) (cent
     apart = far-small v h;
   }
 
-all-weigh : (rs : List (List ℕ)) → AllByRecursion (λ r. 1 ≤ unit_weight r) rs
-all-weigh [] = tt
-all-weigh (r ∷ rs) = (omega arith, all-weigh rs)
+all-weigh : (odds : Option Odds) → AreOdds odds → (strata : List Stratum) (rs : List (List ℕ)) → AllByRecursion (λ r. 1 ≤ (stratified_test odds strata).weight r) rs
+all-weigh odds o strata [] = tt
+all-weigh odds o strata (r ∷ rs) = (weight-least odds o (sum_by first_row strata) (first_cells strata r), all-weigh odds o strata rs)
 
-pub shown : (strata : List Stratum) → IsShown (stratified_test strata)
-shown strata = record { has = refl; statistic_is = λ r. refl; weighty = all-weigh (stratified_test strata).reference }
+pub shown : (odds : Option Odds) → AreOdds odds → (strata : List Stratum) → IsShown (stratified_test odds strata)
+shown None o strata = record { has = refl; statistic_is = λ r. refl; weighty = all-weigh None o strata (strata_labellings strata) }
+shown (Some given) o strata = record { has = refl; statistic_is = λ r. refl; weighty = all-weigh (Some given) o strata (strata_labellings strata) }
 
-multiple-fits : (strata : List Stratum) → (stratified_test strata).bound ≤ MAX → multiple_of strata ≤ MAX
+multiple-fits : (strata : List Stratum) → multiple_of strata * sum_by size strata ≤ MAX → multiple_of strata ≤ MAX
 multiple-fits strata bound = elim (cases_lt 1 (multiple_of strata)) [
   | inl l ↦ (let many = multiple-many strata l in let more : multiple_of strata * 1 ≤ multiple_of strata * sum_by size strata = mul-le-mul_left (multiple_of strata) many in omega (arith, more, bound))
   | inr m ↦ omega (arith, m)
 ]
 
-module _ (strata : List Stratum) (f : AreFitting strata) where
-  pub rule-fits : (tail : Tail) (v : ℕ) → v ≤ sum_by size strata → RuleFits (rule_of (stratified_test strata) tail) (pos v)
+module _ (odds : Option Odds) (strata : List Stratum) (f : AreFitting odds strata) where
+  pub rule-fits : (tail : Tail) (v : ℕ) → v ≤ sum_by size strata → RuleFits (rule_of (stratified_test odds strata) tail) (pos v)
   rule-fits Less v h = record { least_factor = lit≤ tt; observed = lit≤ tt; times = no-times (pos v); apart = no-distance (pos v) }
   rule-fits Greater v h = record { least_factor = lit≤ tt; observed = lit≤ tt; times = no-times (pos v); apart = no-distance (pos v) }
   rule-fits Two v h =
@@ -167,14 +171,15 @@ module _ (strata : List Stratum) (f : AreFitting strata) where
       far-fits q (sum_by size strata) (multiple-fits strata f.bound_fits) f.bound_fits (centre_by q strata) (centre-within q strata) _
       (far-small q (sum_by size strata) (multiple-fits strata f.bound_fits) f.bound_fits (centre_by q strata) (centre-within q strata) (first_cells strata (concat (map own_labels strata))) (cells-within strata (concat (map own_labels strata)))) v h
 
-  pub rules_fit : RulesFit (stratified_test strata)
-  rules_fit = record { fits = λ tail r m. subst (RuleFits (rule_of (stratified_test strata) tail)) (sym (measured-is strata tail r)) (rule-fits tail (first_cells strata r) (cells-within strata r)) }
+  pub rules_fit : RulesFit (stratified_test odds strata)
+  rules_fit = record { fits = λ tail r m. subst (RuleFits (rule_of (stratified_test odds strata) tail)) (sym (measured-is odds strata tail r)) (rule-fits tail (first_cells strata r) (cells-within strata r)) }
 
-  pub stages-fit : (tail : Tail) → AreStages strata (rule_of (stratified_test strata) tail)
+  pub stages-fit : (tail : Tail) → AreStages odds strata (rule_of (stratified_test odds strata) tail)
   stages-fit tail =
       let high : greatest_sum strata ≤ sum_by size strata = sums-within greatest_cell size (λ s. omega arith) strata in
       let low : sum_by least_cell strata ≤ sum_by size strata = sums-within least_cell size (λ s. omega arith) strata in
       record {
+        odds_are = f.odds_are;
         small = f.small;
         total_fits = f.total_fits;
         sums_fit = omega (arith, high, subjects-few strata (recursion_from_All IsSmall strata f.small) f.few);
@@ -182,31 +187,33 @@ module _ (strata : List Stratum) (f : AreFitting strata) where
         high_fits = rule-fits tail (greatest_sum strata) high;
       }
 
-  pub follows : (tail : Tail) → Follows (stratified_test strata) tail (stratified_network strata tail)
-  follows tail = strata-follow strata tail (stages-fit tail)
+  pub follows : (tail : Tail) → Follows (stratified_test odds strata) tail (stratified_network odds strata tail)
+  follows tail = strata-follow odds strata tail (stages-fit tail)
 
-  pub bounded : total (stratified_test strata) ≤ MAX
-  bounded = omega (arith, total-is strata, f.total_fits)
+  pub bounded : total (stratified_test odds strata) ≤ MAX
+  bounded = omega (arith, total-is odds strata, f.total_fits)
 
-  pub not-wide : too_wide (stratified_test strata) ≡ None
-  not-wide = rw (le-ltb MAX (total (stratified_test strata)) bounded, le-ltb MAX (stratified_test strata).bound f.bound_fits) refl
+  pub not-wide : too_wide (stratified_test odds strata) ≡ None
+  not-wide = rw (le-ltb MAX (total (stratified_test odds strata)) bounded, le-ltb MAX (stratified_test odds strata).bound f.bound_fits) refl
 
-pub some-labelling : (strata : List Stratum) → 1 ≤ total (stratified_test strata)
-some-labelling strata = omega (arith, total-is strata, all-some strata)
+  pub some-labelling : 1 ≤ total (stratified_test odds strata)
+  some-labelling = omega (arith, total-is odds strata, all-some odds f.odds_are strata)
+
+  -- a member weighs no more than all
+  pub member-fits : (r : List ℕ) → Contains (strata_labellings strata) r → weight_by odds (sum_by first_row strata) (first_cells strata r) ≤ MAX
+  member-fits r m = omega (arith, bounded, term-le-sum_by (stratified_test odds strata).weight (strata_labellings strata) r m)
 
 -- ---- refusals
 
-pub total-wide : (strata : List Stratum) → (labelled_in_all strata ≤ MAX → ⊥) → too_wide (stratified_test strata) ≡ Some Total
-total-wide strata wide = rw (lt-ltb MAX (total (stratified_test strata)) (omega (arith, past (labelled_in_all strata) wide, total-is strata))) refl
-  where
-    past : (n : ℕ) → (n ≤ MAX → ⊥) → MAX < n
-    past n cannot = omega (arith, cannot)
+past : (n : ℕ) → (n ≤ MAX → ⊥) → MAX < n
+past n cannot = omega (arith, cannot)
 
-pub bound-wide : (strata : List Stratum) → labelled_in_all strata ≤ MAX → (multiple_of strata * sum_by size strata ≤ MAX → ⊥) → too_wide (stratified_test strata) ≡ Some Statistic
-bound-wide strata fits wide = rw (le-ltb MAX (total (stratified_test strata)) (omega (arith, fits, total-is strata)), lt-ltb MAX (stratified_test strata).bound (past (multiple_of strata * sum_by size strata) wide)) refl
-  where
-    past : (n : ℕ) → (n ≤ MAX → ⊥) → MAX < n
-    past n cannot = omega (arith, cannot)
+module _ (odds : Option Odds) (strata : List Stratum) where
+  pub total-wide : (strata_total odds strata ≤ MAX → ⊥) → too_wide (stratified_test odds strata) ≡ Some Total
+  total-wide wide = rw (lt-ltb MAX (total (stratified_test odds strata)) (omega (arith, past (strata_total odds strata) wide, total-is odds strata))) refl
+
+  pub bound-wide : strata_total odds strata ≤ MAX → (multiple_of strata * sum_by size strata ≤ MAX → ⊥) → too_wide (stratified_test odds strata) ≡ Some Statistic
+  bound-wide fits wide = rw (le-ltb MAX (total (stratified_test odds strata)) (omega (arith, fits, total-is odds strata)), lt-ltb MAX (stratified_test odds strata).bound (past (multiple_of strata * sum_by size strata) wide)) refl
 
 pub multiple-wide : (strata : List Stratum) → (multiple_of strata ≤ MAX → ⊥) → multiple_of strata * sum_by size strata ≤ MAX → ⊥
 multiple-wide strata wide h = wide (multiple-fits strata h)
@@ -237,20 +244,20 @@ strata-small cells h = All-from_recursion IsSmall (strata_of cells) (small-in (l
     each (c ∷ cs) a zero = a.0
     each (c ∷ cs) a (suc i) = each cs a.1 i
 
-framed : (strata : List Stratum) (t : ℕ) → t ≡ labelled_in_all strata
+framed : (odds : Option Odds) (strata : List Stratum) (t : ℕ) → t ≡ strata_total odds strata
     → let q = multiple_of strata in let centre = pos (centre_by q strata) in let statistic = pos (sum_by (λ (s : Stratum). s.a) strata) in
-    IsFrameOf (stratified_test strata) (record { statistic = statistic; scale = 1; total = t; two = Far q centre (distance q centre statistic) })
-framed strata t e = record {
+    IsFrameOf (stratified_test odds strata) (record { statistic = statistic; scale = 1; total = t; two = Far q centre (distance q centre statistic) })
+framed odds strata t e = record {
   statistic = ap pos (sym (own-cells strata));
   scale = refl;
-  total = e ∙ sym (total-is strata);
+  total = e ∙ sym (total-is odds strata);
   two = ap (λ n. Far (multiple_of strata) (pos (centre_by (multiple_of strata) strata)) (distance (multiple_of strata) (pos (centre_by (multiple_of strata) strata)) (pos n))) (sym (own-cells strata));
 }
 
 -- the same of the list and the numbers that are at hand
-pub framed-at : (strata tables : List Stratum) (q t : ℕ) → tables ≡ strata → q ≡ multiple_of strata → t ≡ labelled_in_all strata
+pub framed-at : (odds : Option Odds) (strata tables : List Stratum) (q t : ℕ) → tables ≡ strata → q ≡ multiple_of strata → t ≡ strata_total odds strata
     → let centre = pos (centre_by q tables) in let statistic = pos (sum_by (λ (s : Stratum). s.a) tables) in
-    IsFrameOf (stratified_test strata) (record { statistic = statistic; scale = 1; total = t; two = Far q centre (distance q centre statistic) })
-framed-at strata tables q t same e f =
-    subst (λ ts. IsFrameOf (stratified_test strata) (record { statistic = pos (sum_by (λ (s : Stratum). s.a) ts); scale = 1; total = t; two = Far q (pos (centre_by q ts)) (distance q (pos (centre_by q ts)) (pos (sum_by (λ (s : Stratum). s.a) ts))) })) (sym same)
-    (subst (λ m. IsFrameOf (stratified_test strata) (record { statistic = pos (sum_by (λ (s : Stratum). s.a) strata); scale = 1; total = t; two = Far m (pos (centre_by m strata)) (distance m (pos (centre_by m strata)) (pos (sum_by (λ (s : Stratum). s.a) strata))) })) (sym e) (framed strata t f))
+    IsFrameOf (stratified_test odds strata) (record { statistic = statistic; scale = 1; total = t; two = Far q centre (distance q centre statistic) })
+framed-at odds strata tables q t same e f =
+    subst (λ ts. IsFrameOf (stratified_test odds strata) (record { statistic = pos (sum_by (λ (s : Stratum). s.a) ts); scale = 1; total = t; two = Far q (pos (centre_by q ts)) (distance q (pos (centre_by q ts)) (pos (sum_by (λ (s : Stratum). s.a) ts))) })) (sym same)
+    (subst (λ m. IsFrameOf (stratified_test odds strata) (record { statistic = pos (sum_by (λ (s : Stratum). s.a) strata); scale = 1; total = t; two = Far m (pos (centre_by m strata)) (distance m (pos (centre_by m strata)) (pos (sum_by (λ (s : Stratum). s.a) strata))) })) (sym e) (framed odds strata t f))

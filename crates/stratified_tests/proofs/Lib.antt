@@ -1,7 +1,8 @@
+mod OddsLaws
 mod Multiples
 mod Different
+mod StrataWalk
 mod StrataLaws
 mod FittingStrata
-mod StrataWalk
 mod Loops
 mod Vectors

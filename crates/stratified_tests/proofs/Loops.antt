@@ -1,17 +1,21 @@
 -- Steps of the loops over strata.
 use Rattle.std.proofs.Common.{◌≡◌, ℕ, zero, suc, ◌+◌, ◌-◌, ◌*◌, ◌/◌, ◌<◌, ◌≤◌, List, [], ◌∷◌, ◌++◌, append_assoc, append-nil, length, take, drop, get_or, nat_eq, cond, refl, sym, ◌∙◌, ap, arith, add-one, drop-cons}
-use Rattle.std.specs.Prelude.{min}
-use Rattle.std.specs.List.{sum_by}
-use Rattle.std.proofs.Math.Nat.{mul-le-mul, mul-le-mul_left, mul-le-mul_right}
+use Rattle.std.specs.Prelude.{min, Option}
+use Rattle.std.specs.List.{range_with_len, sum_by}
+use Rattle.std.proofs.Math.Nat.{mul-le-mul_left, mul-le-mul_right}
 use Rattle.std.proofs.lemmas.List.{drop_min, get_or-drop, get_or-take}
+use Rattle.std.proofs.lemmas.List.Sums.{sum_by-cons}
 use Rattle.weights.specs.Numbers.{lcm}
+use Rattle.weights.specs.declared.odds.Odds.{Odds}
 use Rattle.weights.specs.declared.TheConstants.{MAX}
 use Rattle.stratified_tests.specs.declared.stratum.Stratum.{Stratum}
 use Rattle.stratified_tests.specs.Strata.{size, strata_in, strata_of, stratum_of}
 use Rattle.stratified_tests.specs.StrataTests.{first_cell, first_cells, multiple_of}
 use Rattle.stratified_tests.specs.StrataNetwork.{stratum_at}
-use Rattle.stratified_tests.specs.StrataSteps.{first_labels, labelled, labelled_in_all}
-use Rattle.stratified_tests.proofs.StrataLaws.{all-some, labelled-some}
+use Rattle.stratified_tests.specs.StrataSteps.{AreOdds, first_labels, strata_total, stratum_total}
+use Rattle.weights.proofs.CellSums.{divided}
+use Rattle.stratified_tests.proofs.OddsLaws.{product-some}
+use Rattle.stratified_tests.proofs.StrataLaws.{all-some, stratum-some}
 use Rattle.stratified_tests.proofs.FittingStrata.{cells-within, sum-end, sum-step}
 use Rattle.stratified_tests.proofs.Multiples.{last-within}
 use Rattle.stratified_tests.proofs.StrataWalk.{own_first}
@@ -71,44 +75,78 @@ module _ (strata : List Stratum) (labels : List ℕ) where
       let over : first_cells (drop i strata) later ≡ 0 = rw (past-drop strata i h) refl in
       omega (arith, s.counting, over)
 
--- labellings so far
-pub record IsLabelled (strata : List Stratum) (i all : ℕ) : Type 0 where
-  pub product : all * labelled_in_all (drop i strata) ≡ labelled_in_all strata
+-- first cells of a stratum that are weighed
+pub record IsWeighing (f : ℕ → ℕ) (least most cell all : ℕ) : Type 0 where
+  pub from : least ≤ cell
+  pub within : cell ≤ most + 1
+  pub weighing : all ≡ sum_by f (range_with_len least (cell - least))
+  pub fits : all ≤ MAX
+
+module _ (f : ℕ → ℕ) (least most : ℕ) where
+  pub weighing-first : least ≤ most → IsWeighing f least most least 0
+  weighing-first h = record { from = omega arith; within = omega (arith, h); weighing = ap (λ n. sum_by f (range_with_len least n)) (let e : 0 ≡ least - least = omega arith in e); fits = omega arith }
+
+  module _ (cell all : ℕ) (h : cell < most + 1) (w : IsWeighing f least most cell all) where
+    weighing-on : sum_by f (range_with_len least (cell + 1 - least)) ≡ all + f cell
+    weighing-on =
+        let long : cell + 1 - least ≡ cell - least + 1 = omega (arith, w.from) in
+        let here : least + (cell - least) ≡ cell = omega (arith, w.from) in
+        ap (λ n. sum_by f (range_with_len least n)) long ∙ divided f least (cell - least) 1
+        ∙ ap (λ n. sum_by f (range_with_len least (cell - least)) + sum_by f (range_with_len n 1)) here
+        ∙ omega (arith, sum_by-cons f cell [], w.weighing)
+
+    -- the sum with the next one is within that of all
+    pub weighing-within : all + f cell ≤ sum_by f (range_with_len least (most + 1 - least))
+    weighing-within =
+        let long : most + 1 - least ≡ (cell + 1 - least) + (most - cell) = omega (arith, w.from, h) in
+        rw long (omega (arith, divided f least (cell + 1 - least) (most - cell), weighing-on))
+
+    pub weighing-next : all + f cell ≤ MAX → IsWeighing f least most (cell + 1) (all + f cell)
+    weighing-next fit = record { from = omega (arith, w.from); within = omega (arith, h); weighing = sym weighing-on; fits = fit }
+
+  pub weighing-whole : (cell all : ℕ) → most + 1 ≤ cell → IsWeighing f least most cell all → all ≡ sum_by f (range_with_len least (most + 1 - least))
+  weighing-whole cell all h w =
+      let end : cell - least ≡ most + 1 - least = omega (arith, w.within, h) in
+      w.weighing ∙ ap (λ n. sum_by f (range_with_len least n)) end
+
+-- strata that are weighed
+pub record IsTotalled (odds : Option Odds) (strata : List Stratum) (i all : ℕ) : Type 0 where
+  pub product : all * strata_total odds (drop i strata) ≡ strata_total odds strata
   pub some : 1 ≤ all
   pub fits : all ≤ MAX
 
-module _ (strata : List Stratum) where
-  pub product-first : IsLabelled strata 0 1
+module _ (odds : Option Odds) (strata : List Stratum) where
+  pub product-first : IsTotalled odds strata 0 1
   product-first = record { product = omega arith; some = omega arith; fits = omega arith }
 
-  module _ (i all : ℕ) (h : i < length strata) (s : IsLabelled strata i all) where
-    next : labelled_in_all (drop i strata) ≡ labelled (stratum_at strata i) * labelled_in_all (drop (i + 1) strata)
+  module _ (o : AreOdds odds) (i all : ℕ) (h : i < length strata) (s : IsTotalled odds strata i all) where
+    next : strata_total odds (drop i strata) ≡ stratum_total odds (stratum_at strata i) * strata_total odds (drop (i + 1) strata)
     next = rw (next-drop strata i h) refl
 
     -- the product with the next one is within that of all, and so is the next one
-    pub product-within : all * labelled (stratum_at strata i) ≤ labelled_in_all strata
-    product-within = by (labelled (stratum_at strata i)) (labelled_in_all (drop (i + 1) strata)) next (all-some (drop (i + 1) strata))
+    pub product-within : all * stratum_total odds (stratum_at strata i) ≤ strata_total odds strata
+    product-within = by (stratum_total odds (stratum_at strata i)) (strata_total odds (drop (i + 1) strata)) next (all-some odds o (drop (i + 1) strata))
       where
-        by : (m n : ℕ) → labelled_in_all (drop i strata) ≡ m * n → 1 ≤ n → all * m ≤ labelled_in_all strata
-        by m n e k = (let more : all * m * 1 ≤ all * m * n = mul-le-mul_left (all * m) k in let whole : all * (m * n) ≡ labelled_in_all strata = rw e at s.product in omega (arith, more, whole))
+        by : (m n : ℕ) → strata_total odds (drop i strata) ≡ m * n → 1 ≤ n → all * m ≤ strata_total odds strata
+        by m n e k = (let more : all * m * 1 ≤ all * m * n = mul-le-mul_left (all * m) k in let whole : all * (m * n) ≡ strata_total odds strata = rw e at s.product in omega (arith, more, whole))
 
-    pub one-within : labelled (stratum_at strata i) ≤ labelled_in_all strata
-    one-within = let more : 1 * labelled (stratum_at strata i) ≤ all * labelled (stratum_at strata i) = mul-le-mul_right (labelled (stratum_at strata i)) s.some in omega (arith, more, product-within)
+    pub one-within : stratum_total odds (stratum_at strata i) ≤ strata_total odds strata
+    one-within = let more : 1 * stratum_total odds (stratum_at strata i) ≤ all * stratum_total odds (stratum_at strata i) = mul-le-mul_right (stratum_total odds (stratum_at strata i)) s.some in omega (arith, more, product-within)
 
-    pub product-next : all * labelled (stratum_at strata i) ≤ MAX → IsLabelled strata (i + 1) (all * labelled (stratum_at strata i))
+    pub product-next : all * stratum_total odds (stratum_at strata i) ≤ MAX → IsTotalled odds strata (i + 1) (all * stratum_total odds (stratum_at strata i))
     product-next fit = record {
-      product = by (labelled (stratum_at strata i)) (labelled_in_all (drop (i + 1) strata)) next;
-      some = (let more : 1 * 1 ≤ all * labelled (stratum_at strata i) = mul-le-mul s.some (labelled-some (stratum_at strata i)) in more);
+      product = by (stratum_total odds (stratum_at strata i)) (strata_total odds (drop (i + 1) strata)) next;
+      some = product-some all (stratum_total odds (stratum_at strata i)) s.some (stratum-some odds o (stratum_at strata i));
       fits = fit;
     }
       where
-        by : (m n : ℕ) → labelled_in_all (drop i strata) ≡ m * n → all * m * n ≡ labelled_in_all strata
-        by m n e = (let whole : all * (m * n) ≡ labelled_in_all strata = rw e at s.product in omega (arith, whole))
+        by : (m n : ℕ) → strata_total odds (drop i strata) ≡ m * n → all * m * n ≡ strata_total odds strata
+        by m n e = (let whole : all * (m * n) ≡ strata_total odds strata = rw e at s.product in omega (arith, whole))
 
-  pub product-whole : (i all : ℕ) → length strata ≤ i → IsLabelled strata i all → all ≡ labelled_in_all strata
+  pub product-whole : (i all : ℕ) → length strata ≤ i → IsTotalled odds strata i all → all ≡ strata_total odds strata
   product-whole i all h s =
-      let over : labelled_in_all (drop i strata) ≡ 1 = rw (past-drop strata i h) refl in
-      let whole : all * 1 ≡ labelled_in_all strata = rw over at s.product in
+      let over : strata_total odds (drop i strata) ≡ 1 = rw (past-drop strata i h) refl in
+      let whole : all * 1 ≡ strata_total odds strata = rw over at s.product in
       omega (arith, whole)
 
 -- the multiple of the last strata

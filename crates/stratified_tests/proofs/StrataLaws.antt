@@ -1,39 +1,41 @@
 -- The network of strata keeps the laws, and its stages are the labellings of the strata, grouped by their first cells.
-use Rattle.std.proofs.Common.{◌≡◌, ℕ, zero, suc, ◌+◌, ◌-◌, ◌*◌, ◌<◌, ◌≤◌, List, [], ◌∷◌, ◌++◌, length, drop, take, map, get_or, set, refl, sym, ◌∙◌, ap, subst, arith, add-one, suc-add}
-use Rattle.std.specs.Prelude.{ℤ, pos, ◌+ℤ◌, slice_index, Contains}
-use Rattle.std.specs.List.{AllByRecursion, concat, range_with_len, sum, sum_by}
-use Rattle.std.proofs.Math.Nat.{mul-le-mul, mul-le-mul_left, mul-le-mul_right}
+use Rattle.std.proofs.Common.{◌≡◌, ℕ, zero, suc, ◌+◌, ◌-◌, ◌*◌, ◌<◌, ◌≤◌, cond, nat_eq, Bool, List, [], ◌∷◌, ◌++◌, length, drop, take, map, get_or, set, refl, sym, ◌∙◌, ap, subst, arith, add-one, suc-add}
+use Rattle.std.specs.Prelude.{ℤ, pos, ◌+ℤ◌, slice_index, Contains, Option, Some, None}
+use Rattle.std.specs.List.{AllByRecursion, concat, filter, range_with_len, sum_by}
+use Rattle.std.proofs.Math.Nat.{mul-le-mul}
 use Rattle.std.proofs.Math.Seq.{drop-append_seam}
 use Rattle.std.proofs.lemmas.Int.{ints}
 use Rattle.std.proofs.lemmas.List.{length-map, take-append-le}
-use Rattle.std.proofs.lemmas.List.Elements.{All-contains, All-contains_itself, All-from_recursion, recursion_from_All}
-use Rattle.std.proofs.lemmas.List.Sums.{sum_by-cons}
+use Rattle.std.proofs.lemmas.List.Elements.{All-contains, All-from_recursion}
+use Rattle.std.proofs.lemmas.List.Sums.{sum_by-append, sum_by-cons, sum_by-take-le}
+use Rattle.weights.specs.declared.odds.Odds.{Odds}
 use Rattle.weights.specs.declared.rules.Rule.{Rule}
 use Rattle.weights.specs.declared.rules.Rule.TheVariants.{AtMost}
 use Rattle.weights.specs.declared.tails.Tail.{Tail}
 use Rattle.weights.specs.declared.tails.Tail.TheVariants.{Less, Greater, Two}
 use Rattle.weights.specs.declared.TheConstants.{MAX}
-use Rattle.weights.specs.Conditional.{total, unit_weight}
+use Rattle.weights.specs.Conditional.{total}
 use Rattle.weights.specs.Numbers.{binomial}
 use Rattle.weights.specs.Rules.{RuleFits, measured, rule_of}
 use Rattle.weights.proofs.Binomials.{binomial-positive}
 use Rattle.weights.proofs.Filters.{all_map, all_weaker}
-use Rattle.weights.proofs.FirstLabel.{number_of_labellings-positive}
-use Rattle.weights.proofs.Members.{labelling_from, range-below}
-use Rattle.weights.proofs.Sums.{sum_by-map, sum_by-one, sum_by-same}
+use Rattle.weights.proofs.Members.{range-below}
+use Rattle.weights.proofs.Sums.{sum_by-filter, sum_by-map, sum_by-one, sum_by-same, sum_by-same_where}
 use Rattle.stage_network.specs.Addends.{Addends, first_sum, high, low, over_earlier, over_stages, reach, stage_total, stride, totals, zeros}
 use Rattle.stage_network.specs.Follows.{Follows}
 use Rattle.stage_network.specs.SoundAddends.{AddsBetween, IsAdditive}
-use Rattle.stage_network.proofs.AdditiveFollows.{additive_follows}
-use Rattle.stage_network.proofs.Flat.{AllAt, AllParts, IsJoined, total_flat}
+use Rattle.stage_network.proofs.AdditiveLaws.{additive_intervals, value_even}
+use Rattle.stage_network.proofs.Flat.{AllAt, AllParts, IsJoined, ends_flat, total_flat}
 use Rattle.stage_network.proofs.Parts.{AreStages as AreParts, IsStage, Pieces, product_weight, summed}
 use Rattle.stratified_tests.specs.declared.stratum.Stratum.{Stratum}
 use Rattle.stratified_tests.specs.Strata.{first_column, first_row, greatest_cell, least_cell, second_row, size}
-use Rattle.stratified_tests.specs.StrataTests.{first_cell, first_cells, row_labellings, stratified_test}
-use Rattle.stratified_tests.specs.StrataNetwork.{cell_weight, cells_from, strata_addends, stratified_network, stratum_at}
-use Rattle.stratified_tests.specs.StrataSteps.{AreStages, IsSmall, greatest_sum, labelled, labelled_in_all}
+use Rattle.stratified_tests.specs.StrataTests.{first_cell, first_cells, row_labellings, strata_labellings, stratified_test, weight_by}
+use Rattle.stratified_tests.specs.StrataNetwork.{cell_weight, cells_from, strata_addends, stratified_network, stratum_at, weighed_cell}
+use Rattle.stratified_tests.specs.StrataSteps.{AreOdds, AreStages, IsSmall, greatest_sum, strata_total, stratum_total}
 use Rattle.stratified_tests.proofs.Different.{cells-different}
-use Rattle.weights.proofs.CellSums.{allowed_cells, by_cells, divided}
+use Rattle.weights.proofs.CellSums.{allowed_cells, by_cells, divided, zeros_in}
+use Rattle.stratified_tests.proofs.OddsLaws.{cell-is, left-within, product-some, right-within, weight-joined, weight-least, weight-none}
+use Rattle.stratified_tests.proofs.StrataWalk.{IsRowed, each-rowed, member-zeros, own}
 
 pub drop-head : (g : ℕ) (strata : List Stratum) (t : Stratum) (ts : List Stratum) → drop g strata ≡ t ∷ ts → (stratum_at strata g ≡ t) × (drop (g + 1) strata ≡ ts)
 drop-head zero [] t ts d = absurd (cc d)
@@ -62,31 +64,37 @@ cells-same s f =
     by_cells c k n (second_row s) f all ∙ allowed_cells c k n f within
     ∙ ap (λ l. sum_by (λ x. cell_weight s x * f x) (range_with_len l (greatest_cell s + 1 - l))) low
 
-stage-same : (s : Stratum) (f : List ℤ → ℕ) → sum_by (λ x. 1 * f (pos (first_cell s x) ∷ [])) (row_labellings s) ≡ sum_by (λ c. cell_weight s (slice_index c 0) * f (pos (slice_index c 0) ∷ [])) (cells_from (least_cell s) (greatest_cell s + 1 - least_cell s))
-stage-same s f =
-    sum_by-same (λ x. 1 * f (pos (first_cell s x) ∷ [])) (λ x. f (pos (first_cell s x) ∷ [])) (λ x. omega arith) (row_labellings s)
-    ∙ cells-same s (λ x. f (pos x ∷ []))
-    ∙ sym (sum_by-map (λ c. cell_weight s (slice_index c 0) * f (pos (slice_index c 0) ∷ [])) (λ x. x ∷ []) (range_with_len (least_cell s) (greatest_cell s + 1 - least_cell s)))
+module _ (odds : Option Odds) where
+  stage-same : (s : Stratum) (f : List ℤ → ℕ) → sum_by (λ x. weight_by odds (first_row s) (first_cell s x) * f (pos (first_cell s x) ∷ [])) (row_labellings s) ≡ sum_by (λ c. weighed_cell odds s (slice_index c 0) * f (pos (slice_index c 0) ∷ [])) (cells_from (least_cell s) (greatest_cell s + 1 - least_cell s))
+  stage-same s f =
+      let cells : List ℕ = range_with_len (least_cell s) (greatest_cell s + 1 - least_cell s) in
+      cells-same s (λ x. weight_by odds (first_row s) x * f (pos x ∷ []))
+      ∙ sum_by-same (λ x. cell_weight s x * (weight_by odds (first_row s) x * f (pos x ∷ []))) (λ x. weighed_cell odds s x * f (pos x ∷ [])) (λ x. each (cell_weight s x) (weight_by odds (first_row s) x) (weighed_cell odds s x) (f (pos x ∷ [])) (cell-is odds s x)) cells
+      ∙ sym (sum_by-map (λ c. weighed_cell odds s (slice_index c 0) * f (pos (slice_index c 0) ∷ [])) (λ x. x ∷ []) cells)
+    where
+      each : (m n w k : ℕ) → w ≡ m * n → m * (n * k) ≡ w * k
+      each m n w k e = rw e (omega arith)
 
--- so many labellings in all
-cells-total : (s : Stratum) → sum_by (λ c. cell_weight s (slice_index c 0)) (cells_from (least_cell s) (greatest_cell s + 1 - least_cell s)) ≡ labelled s
-cells-total s =
-    sum_by-map (λ c. cell_weight s (slice_index c 0)) (λ x. x ∷ []) (range_with_len (least_cell s) (greatest_cell s + 1 - least_cell s))
-    ∙ sum_by-same (cell_weight s) (λ x. cell_weight s x * 1) (λ x. omega arith) (range_with_len (least_cell s) (greatest_cell s + 1 - least_cell s))
+range-total : (odds : Option Odds) (s : Stratum) → sum_by (weighed_cell odds s) (range_with_len (least_cell s) (greatest_cell s + 1 - least_cell s)) ≡ stratum_total odds s
+range-total None s =
+    sum_by-same (cell_weight s) (λ x. cell_weight s x * 1) (λ x. omega arith) (range_with_len (least_cell s) (greatest_cell s + 1 - least_cell s))
     ∙ sym (cells-same s (λ x. 1)) ∙ sum_by-one (row_labellings s)
+range-total (Some o) s = refl
 
-two-sum : (n m : ℕ) → sum (n ∷ m ∷ []) ≡ n + m
-two-sum n m = omega (arith, sum_by-cons (λ v. v) n (m ∷ []), sum_by-cons (λ v. v) m [])
-
--- where there are no subjects there is one labelling
-no-subjects : labelled (record { a = 0; b = 0; c = 0; d = 0 }) ≡ 1
-no-subjects = refl
+-- so much in all
+cells-total : (odds : Option Odds) (s : Stratum) → sum_by (λ c. weighed_cell odds s (slice_index c 0)) (cells_from (least_cell s) (greatest_cell s + 1 - least_cell s)) ≡ stratum_total odds s
+cells-total odds s =
+    sum_by-map (λ c. weighed_cell odds s (slice_index c 0)) (λ x. x ∷ []) (range_with_len (least_cell s) (greatest_cell s + 1 - least_cell s))
+    ∙ range-total odds s
 
 pub weight-some : (s : Stratum) (x : ℕ) → least_cell s ≤ x → x ≤ greatest_cell s → 1 ≤ cell_weight s x
 weight-some s x l h =
     let one : 1 ≤ binomial (first_column s) x = binomial-positive (first_column s) x (omega (arith, h)) in
     let two : 1 ≤ binomial (size s - first_column s) (first_row s - x) = binomial-positive (size s - first_column s) (first_row s - x) (omega (arith, l)) in
     mul-le-mul one two
+
+pub weighed-some : (odds : Option Odds) → AreOdds odds → (s : Stratum) (x : ℕ) → least_cell s ≤ x → x ≤ greatest_cell s → 1 ≤ weighed_cell odds s x
+weighed-some odds o s x l h = omega (arith, cell-is odds s x, product-some (cell_weight s x) (weight_by odds (first_row s) x) (weight-some s x l h) (weight-least odds o (first_row s) x))
 
 -- ---- choices
 
@@ -116,7 +124,7 @@ all-cells s = both (cells_from (least_cell s) n) (choice-low (least_cell s) n) (
 -- a part is a labelling of its stage's stratum
 pub record IsPart (strata : List Stratum) (g : ℕ) (x : List ℕ) : Type 0 where
   pub early : g < length strata
-  pub long : length x ≡ size (stratum_at strata g)
+  pub rowed : IsRowed (stratum_at strata g) x
 
 take-none : (n : ℕ) → take {A = ℕ} n [] ≡ []
 take-none zero = refl
@@ -137,25 +145,32 @@ cells-joined t ts x ys long =
     let rest : drop (size t) (x ++ ys) ≡ ys = ap (λ n. drop n (x ++ ys)) (sym long) ∙ drop-append_seam x ys in
     rw (column, rest) refl
 
-module _ (strata : List Stratum) (tail : Tail) (rule : Rule) where
+-- a first cell has at most the first row's labels
+cell-zeros : (t : Stratum) (x : List ℕ) → first_cell t x ≤ zeros_in x
+cell-zeros t x = sum_by-take-le (λ l. cond (nat_eq l 0) 1 0) x (first_column t)
+
+zeros-joined : (x ys : List ℕ) → zeros_in (x ++ ys) ≡ zeros_in x + zeros_in ys
+zeros-joined x ys = sum_by-append (λ l. cond (nat_eq l 0) 1 0) x ys
+
+module _ (odds : Option Odds) (strata : List Stratum) (tail : Tail) (rule : Rule) where
   abbrev a : Addends
-  a = strata_addends strata tail rule
+  a = strata_addends odds strata tail rule
 
   pub choice-cell : (g : ℕ) (c : List ℕ) → Contains (a.choices g) c → IsCell (stratum_at strata g) c
   choice-cell g c m =
       let s = stratum_at strata g in
       All-contains (IsCell s) (cells_from (least_cell s) (greatest_cell s + 1 - least_cell s)) c (All-from_recursion (IsCell s) (cells_from (least_cell s) (greatest_cell s + 1 - least_cell s)) (all-cells s)) m
 
-  pub stage-total : (g : ℕ) → stage_total a g ≡ labelled (stratum_at strata g)
-  stage-total g = cells-total (stratum_at strata g)
+  pub stage-total : (g : ℕ) → stage_total a g ≡ stratum_total odds (stratum_at strata g)
+  stage-total g = cells-total odds (stratum_at strata g)
 
-  total-from : (ts : List Stratum) (g : ℕ) → drop g strata ≡ ts → totals a (length ts) g ≡ labelled_in_all ts
+  total-from : (ts : List Stratum) (g : ℕ) → drop g strata ≡ ts → totals a (length ts) g ≡ strata_total odds ts
   total-from [] g d = refl
   total-from (t ∷ ts) g d =
       let here = drop-head g strata t ts d in
-      let own : stage_total a g ≡ labelled t = stage-total g ∙ ap labelled here.0 in
-      let rest : totals a (length ts) (g + 1) ≡ labelled_in_all ts = total-from ts (g + 1) here.1 in
-      rw (own, rest) refl
+      let first : stage_total a g ≡ stratum_total odds t = stage-total g ∙ ap (stratum_total odds) here.0 in
+      let rest : totals a (length ts) (g + 1) ≡ strata_total odds ts = total-from ts (g + 1) here.1 in
+      rw (first, rest) refl
 
   adds-between : (g : ℕ) (c : List ℕ) → IsCell (stratum_at strata g) c → AddsBetween a g c
   adds-between g c i = record { wide = refl; between = ((omega (arith, ints, i.low), omega (arith, ints, i.high)), tt) }
@@ -195,13 +210,13 @@ module _ (strata : List Stratum) (tail : Tail) (rule : Rule) where
   low-is : low a 0 (zeros a) ≡ pos (sum_by least_cell strata)
   low-is = ends-at least_cell
 
-  pub sound_stages : AreStages strata rule → IsAdditive a
+  pub sound_stages : AreStages odds strata rule → IsAdditive a
   sound_stages s = record {
     slots_some = omega arith;
     slots_few = omega arith;
     some_choice = λ g h e. no-choice (stratum_at strata g) e;
     different = λ g h. cells-different (least_cell (stratum_at strata g)) (greatest_cell (stratum_at strata g) + 1 - least_cell (stratum_at strata g));
-    weighty = λ g c h m. (let i = choice-cell g c m in weight-some (stratum_at strata g) (slice_index c 0) i.low i.high);
+    weighty = λ g c h m. (let i = choice-cell g c m in weighed-some odds s.odds_are (stratum_at strata g) (slice_index c 0) i.low i.high);
     fits = omega (arith, total-from strata 0 refl, s.total_fits);
     between = λ g h. all_weaker (IsCell (stratum_at strata g)) (AddsBetween a g) (λ c i. adds-between g c i) (a.choices g) (all-cells (stratum_at strata g));
     sums_fit = omega (arith, reach-is, s.sums_fit);
@@ -216,13 +231,10 @@ module _ (strata : List Stratum) (tail : Tail) (rule : Rule) where
   -- ---- its parts
 
   pieces : Pieces
-  pieces = record { mass = λ g x. 1; added = λ g x. pos (first_cell (stratum_at strata g) x) ∷ [] }
-
-  each-long : (s : Stratum) → AllByRecursion (λ x. length x ≡ size s) (row_labellings s)
-  each-long s = recursion_from_All (λ x. length x ≡ size s) (row_labellings s) (λ i d h. long-one (get_or (row_labellings s) i d) (All-contains_itself (row_labellings s) i d h))
-    where
-      long-one : (x : List ℕ) → Contains (row_labellings s) x → length x ≡ size s
-      long-one x m = (labelling_from (first_row s ∷ second_row s ∷ []) x m).over.long ∙ two-sum (first_row s) (second_row s) ∙ omega arith
+  pieces = record {
+    mass = λ g x. weight_by odds (first_row (stratum_at strata g)) (first_cell (stratum_at strata g) x);
+    added = λ g x. pos (first_cell (stratum_at strata g) x) ∷ [];
+  }
 
   all-one : (g : ℕ) (xs : List (List ℕ)) → AllByRecursion (λ x. length (pieces.added g x) ≡ 1) xs
   unfolding pieces
@@ -235,7 +247,7 @@ module _ (strata : List Stratum) (tail : Tail) (rule : Rule) where
   stages-from (t ∷ ts) g d =
       let here = drop-head g strata t ts d in (
         subst (λ s. IsStage a pieces g (row_labellings s)) here.0 (record {
-          same = stage-same (stratum_at strata g);
+          same = stage-same odds (stratum_at strata g);
           closed = λ s i f. absurd (cc s);
           wide = all-one g (row_labellings (stratum_at strata g));
         }),
@@ -246,7 +258,7 @@ module _ (strata : List Stratum) (tail : Tail) (rule : Rule) where
   parts-from [] g d e = tt
   parts-from (t ∷ ts) g d e =
       let here = drop-head g strata t ts d in
-      (all_weaker (λ x. length x ≡ size t) (IsPart strata g) (λ x l. record { early = omega (arith, e); long = l ∙ ap size (sym here.0) }) (row_labellings t) (each-long t), parts-from ts (g + 1) here.1 (omega (arith, e)))
+      (all_weaker (IsRowed t) (IsPart strata g) (λ x r. record { early = omega (arith, e); rowed = subst (λ s. IsRowed s x) (sym here.0) r }) (row_labellings t) (each-rowed t), parts-from ts (g + 1) here.1 (omega (arith, e)))
 
   plus-none : (t : ℤ) → t +ℤ pos 0 ≡ t
   plus-none t = omega (arith, ints)
@@ -260,51 +272,90 @@ module _ (strata : List Stratum) (tail : Tail) (rule : Rule) where
   measures-from [] g k (x ∷ xs) d h = absurd (omega (arith, h.0.early, past-end g strata d))
   measures-from (t ∷ ts) g k (x ∷ xs) d h =
       let here = drop-head g strata t ts d in
-      let long : length x ≡ size t = h.0.long ∙ ap size here.0 in
+      let long : length x ≡ size t = h.0.rowed.long ∙ ap size here.0 in
       ap (λ n. k +ℤ pos n) (cells-joined t ts x (concat xs) long) ∙ grouped-plus k (first_cell t x) (first_cells ts (concat xs))
       ∙ ap (λ (s : Stratum). (k +ℤ pos (first_cell s x)) +ℤ pos (first_cells ts (concat xs))) (sym here.0)
       ∙ measures-from ts (g + 1) (k +ℤ pos (first_cell (stratum_at strata g) x)) xs here.1 h.1
 
-  weighs : (g : ℕ) (xs : List (List ℕ)) → 1 ≡ product_weight pieces.mass g xs
-  unfolding pieces
-  weighs g [] = refl
-  weighs g (x ∷ xs) = omega (arith, weighs (g + 1) xs)
+  -- what a list of labels weighs, also where it is cut off after some strata
+  abbrev own_weight : List ℕ → ℕ
+  own_weight labels = weight_by odds (zeros_in labels) (first_cells strata labels)
 
-  joined : (measure : List ℕ → ℤ) → ((r : List ℕ) → measure r ≡ pos (first_cells strata r)) → IsJoined a pieces (IsPart strata) measure unit_weight
+  within-from : (ts : List Stratum) (g : ℕ) (xs : List (List ℕ)) → drop g strata ≡ ts → AllAt (IsPart strata) g xs → first_cells ts (concat xs) ≤ zeros_in (concat xs)
+  within-from ts g [] d h = omega (arith, no-labels ts)
+  within-from [] g (x ∷ xs) d h = absurd (omega (arith, h.0.early, past-end g strata d))
+  within-from (t ∷ ts) g (x ∷ xs) d h =
+      let here = drop-head g strata t ts d in
+      let long : length x ≡ size t = h.0.rowed.long ∙ ap size here.0 in
+      omega (arith, cells-joined t ts x (concat xs) long, zeros-joined x (concat xs), cell-zeros t x, within-from ts (g + 1) xs here.1 h.1)
+
+  weighs-from : (ts : List Stratum) (g : ℕ) (xs : List (List ℕ)) → drop g strata ≡ ts → AllAt (IsPart strata) g xs → weight_by odds (zeros_in (concat xs)) (first_cells ts (concat xs)) ≡ product_weight pieces.mass g xs
+  unfolding pieces
+  weighs-from ts g [] d h = ap (weight_by odds 0) (no-labels ts) ∙ weight-none odds
+  weighs-from [] g (x ∷ xs) d h = absurd (omega (arith, h.0.early, past-end g strata d))
+  weighs-from (t ∷ ts) g (x ∷ xs) d h =
+      let here = drop-head g strata t ts d in
+      let ys : List ℕ = concat xs in
+      let long : length x ≡ size t = h.0.rowed.long ∙ ap size here.0 in
+      let zeros : zeros_in x ≡ first_row t = h.0.rowed.zeros ∙ ap first_row here.0 in
+      ap (λ n. weight_by odds n (first_cells (t ∷ ts) (x ++ ys))) (zeros-joined x ys ∙ ap (λ n. n + zeros_in ys) zeros)
+      ∙ ap (weight_by odds (first_row t + zeros_in ys)) (cells-joined t ts x ys long)
+      ∙ weight-joined odds (first_row t) (zeros_in ys) (first_cell t x) (first_cells ts ys) (omega (arith, cell-zeros t x, zeros)) (within-from ts (g + 1) xs here.1 h.1)
+      ∙ ap (λ (s : Stratum). weight_by odds (first_row s) (first_cell s x) * weight_by odds (zeros_in ys) (first_cells ts ys)) (sym here.0)
+      ∙ ap (λ n. weight_by odds (first_row (stratum_at strata g)) (first_cell (stratum_at strata g) x) * n) (weighs-from ts (g + 1) xs here.1 h.1)
+
+  joined : (measure : List ℕ → ℤ) → ((r : List ℕ) → measure r ≡ pos (first_cells strata r)) → IsJoined a pieces (IsPart strata) measure own_weight
   joined measure is = record {
     measures = λ xs h. is (concat xs) ∙ sym (zero-plus (pos (first_cells strata (concat xs)))) ∙ measures-from strata 0 (pos 0) xs refl h;
-    weighs = λ xs h. weighs 0 xs;
+    weighs = λ xs h. weighs-from strata 0 xs refl h;
   }
 
-  pub all-labelled : totals a (length strata) 0 ≡ labelled_in_all strata
-  all-labelled = total-from strata 0 refl
+  pub all-weighed : totals a (length strata) 0 ≡ strata_total odds strata
+  all-weighed = total-from strata 0 refl
 
   pub all-parts : AllParts (IsPart strata) 0 (map row_labellings strata)
   all-parts = parts-from strata 0 refl (omega arith)
 
-pub measured-is : (strata : List Stratum) (tail : Tail) (r : List ℕ) → measured (stratified_test strata) tail r ≡ pos (first_cells strata r)
-measured-is strata Less r = refl
-measured-is strata Greater r = refl
-measured-is strata Two r = refl
+pub measured-is : (odds : Option Odds) (strata : List Stratum) (tail : Tail) (r : List ℕ) → measured (stratified_test odds strata) tail r ≡ pos (first_cells strata r)
+measured-is odds strata Less r = refl
+measured-is odds strata Greater r = refl
+measured-is odds strata Two r = refl
 
-pub total-is : (strata : List Stratum) → total (stratified_test strata) ≡ labelled_in_all strata
-total-is strata =
-    let rule : Rule = AtMost (pos 0) in
-    sym (total_flat (a strata Less rule) (pieces strata Less rule) (IsPart strata) (λ r. pos (first_cells strata r)) unit_weight (joined strata Less rule (λ r. pos (first_cells strata r)) (λ r. refl)) (map row_labellings strata) (length-map strata row_labellings) (stages-from strata Less rule strata 0 refl) (all-parts strata Less rule))
-    ∙ all-labelled strata Less rule
+module _ (odds : Option Odds) (strata : List Stratum) where
+  -- a member has all its labels, and so weighs what the test says
+  abbrev WeighsSame : List ℕ → Type 0
+  WeighsSame r = weight_by odds (zeros_in r) (first_cells strata r) ≡ weight_by odds (sum_by first_row strata) (first_cells strata r)
 
-pub strata-follow : (strata : List Stratum) (tail : Tail) → AreStages strata (rule_of (stratified_test strata) tail) → Follows (stratified_test strata) tail (stratified_network strata tail)
-strata-follow strata tail s =
-    let rule : Rule = rule_of (stratified_test strata) tail in
-    additive_follows (stratified_test strata) tail (a strata tail rule) (pieces strata tail rule) (IsPart strata) (map row_labellings strata) (sound_stages strata tail rule s) (record {
-      reference = refl;
-      tail_is = refl;
-      rule_is = refl;
-      counted = length-map strata row_labellings;
-      stages = stages-from strata tail rule strata 0 refl;
-      each = all-parts strata tail rule;
-      joined = joined strata tail rule (measured (stratified_test strata) tail) (measured-is strata tail);
-    })
+  all-same : AllByRecursion WeighsSame (strata_labellings strata)
+  all-same = all_weaker (Contains (strata_labellings strata)) WeighsSame (λ r m. ap (λ n. weight_by odds n (first_cells strata r)) (member-zeros strata r m)) (strata_labellings strata) (own (strata_labellings strata))
+
+  pub total-is : total (stratified_test odds strata) ≡ strata_total odds strata
+  total-is =
+      let rule : Rule = AtMost (pos 0) in
+      let whole : totals (a odds strata Less rule) (length strata) 0 ≡ sum_by (own_weight odds strata Less rule) (strata_labellings strata) =
+      total_flat (a odds strata Less rule) (pieces odds strata Less rule) (IsPart strata) (λ r. pos (first_cells strata r)) (own_weight odds strata Less rule) (joined odds strata Less rule (λ r. pos (first_cells strata r)) (λ r. refl)) (map row_labellings strata) (length-map strata row_labellings) (stages-from odds strata Less rule strata 0 refl) (all-parts odds strata Less rule) in
+      sym (sum_by-same_where WeighsSame (own_weight odds strata Less rule) (stratified_test odds strata).weight (λ r e. e) (strata_labellings strata) all-same)
+      ∙ sym whole ∙ all-weighed odds strata Less rule
+
+  filtered : (q : List ℕ → Bool) (rs : List (List ℕ)) → AllByRecursion WeighsSame rs → sum_by (λ r. weight_by odds (zeros_in r) (first_cells strata r)) (filter q rs) ≡ sum_by (stratified_test odds strata).weight (filter q rs)
+  filtered q rs all =
+      let w : List ℕ → ℕ = λ r. weight_by odds (zeros_in r) (first_cells strata r) in
+      let v : List ℕ → ℕ = (stratified_test odds strata).weight in
+      sum_by-filter w q rs
+      ∙ sum_by-same_where WeighsSame (λ r. cond (q r) (w r) 0) (λ r. cond (q r) (v r) 0) (λ r e. ap (λ n. cond (q r) n 0) e) rs all
+      ∙ sym (sum_by-filter v q rs)
+
+  pub strata-follow : (tail : Tail) → AreStages odds strata (rule_of (stratified_test odds strata) tail) → Follows (stratified_test odds strata) tail (stratified_network odds strata tail)
+  strata-follow tail s =
+      let rule : Rule = rule_of (stratified_test odds strata) tail in
+      let sound : IsAdditive (a odds strata tail rule) = sound_stages odds strata tail rule s in
+      let measure : List ℕ → ℤ = measured (stratified_test odds strata) tail in
+      record {
+        intervals = additive_intervals (a odds strata tail rule) sound;
+        ends = λ p.
+            ends_flat (a odds strata tail rule) (pieces odds strata tail rule) (IsPart strata) measure (own_weight odds strata tail rule) (joined odds strata tail rule measure (measured-is odds strata tail)) (map row_labellings strata) (length-map strata row_labellings) (stages-from odds strata tail rule strata 0 refl) (λ sorted. value_even (a odds strata tail rule) sound) (all-parts odds strata tail rule) p
+            ∙ filtered (λ r. p (measure r)) (strata_labellings strata) all-same;
+      }
 
 -- ---- what its functions compute
 
@@ -315,24 +366,30 @@ at-most f e [] (suc g) = omega (arith, e)
 at-most f e (t ∷ ts) zero = omega (arith, sum_by-cons f t ts)
 at-most f e (t ∷ ts) (suc g) = omega (arith, sum_by-cons f t ts, at-most f e ts g)
 
-pub labelled-some : (s : Stratum) → 1 ≤ labelled s
-labelled-some s = number_of_labellings-positive (first_row s ∷ second_row s ∷ [])
+range-some : (f : ℕ → ℕ) (l n k : ℕ) → n ≡ suc k → 1 ≤ f l → 1 ≤ sum_by f (range_with_len l n)
+range-some f l n k e h = subst (λ m. 1 ≤ sum_by f (range_with_len l m)) (sym e) (omega (arith, sum_by-cons f l (range_with_len (l + 1) k), h))
 
-pub all-some : (ts : List Stratum) → 1 ≤ labelled_in_all ts
-all-some [] = omega arith
-all-some (t ∷ ts) = mul-le-mul (labelled-some t) (all-some ts)
+module _ (odds : Option Odds) (o : AreOdds odds) where
+  pub stratum-some : (s : Stratum) → 1 ≤ stratum_total odds s
+  stratum-some s =
+      let meet : least_cell s ≤ greatest_cell s = cells-meet s in
+      let long : greatest_cell s + 1 - least_cell s ≡ suc (greatest_cell s - least_cell s) = omega (arith, meet) in
+      let some : 1 ≤ sum_by (weighed_cell odds s) (range_with_len (least_cell s) (greatest_cell s + 1 - least_cell s)) = range-some (weighed_cell odds s) (least_cell s) (greatest_cell s + 1 - least_cell s) (greatest_cell s - least_cell s) long (weighed-some odds o s (least_cell s) (omega arith) meet) in
+      omega (arith, some, range-total odds s)
 
-pub one-within : (ts : List Stratum) (g : ℕ) → labelled (stratum_at ts g) ≤ labelled_in_all ts
-one-within [] zero = omega (arith, no-subjects)
-one-within [] (suc g) = omega (arith, no-subjects)
-one-within (t ∷ ts) zero = first (labelled t) (labelled_in_all ts) (all-some ts)
-  where
-    first : (m n : ℕ) → 1 ≤ n → m ≤ m * n
-    first m n h = let more : m * 1 ≤ m * n = mul-le-mul_left m h in omega (arith, more)
-one-within (t ∷ ts) (suc g) = later (labelled t) (labelled_in_all ts) (labelled (stratum_at ts g)) (labelled-some t) (one-within ts g)
-  where
-    later : (m n l : ℕ) → 1 ≤ m → l ≤ n → l ≤ m * n
-    later m n l h k = let more : 1 * n ≤ m * n = mul-le-mul_right n h in omega (arith, more, k)
+  pub all-some : (ts : List Stratum) → 1 ≤ strata_total odds ts
+  all-some [] = omega arith
+  all-some (t ∷ ts) = product-some (stratum_total odds t) (strata_total odds ts) (stratum-some t) (all-some ts)
+
+  pub one-within : (ts : List Stratum) (g : ℕ) → g < length ts → stratum_total odds (stratum_at ts g) ≤ strata_total odds ts
+  one-within [] g h = absurd (omega (arith, h))
+  one-within (t ∷ ts) zero h = left-within (stratum_total odds t) (strata_total odds ts) (all-some ts)
+  one-within (t ∷ ts) (suc g) h =
+      let more : strata_total odds ts ≤ stratum_total odds t * strata_total odds ts = right-within (stratum_total odds t) (strata_total odds ts) (stratum-some t) in
+      omega (arith, more, one-within ts g (omega (arith, h)))
+
+  pub cell-fits : (strata : List Stratum) (g : ℕ) → g < length strata → strata_total odds strata ≤ MAX → stratum_total odds (stratum_at strata g) ≤ MAX
+  cell-fits strata g h m = omega (arith, one-within strata g h, m)
 
 pub small-at : (ts : List Stratum) (g : ℕ) → AllByRecursion IsSmall ts → IsSmall (stratum_at ts g)
 small-at [] zero h = (omega arith, omega arith, omega arith, omega arith)
@@ -340,36 +397,34 @@ small-at [] (suc g) h = (omega arith, omega arith, omega arith, omega arith)
 small-at (t ∷ ts) zero h = h.0
 small-at (t ∷ ts) (suc g) h = small-at ts g h.1
 
--- one of the weights is within them all
-weight-within : (s : Stratum) (x : ℕ) → IsCell s (x ∷ []) → cell_weight s x ≤ labelled s
-weight-within s x i =
-    let low : ℕ = least_cell s in
-    let n : ℕ = greatest_cell s + 1 - low in
+-- one of a range's terms is within their sum
+pub term-within : (f : ℕ → ℕ) (low high x : ℕ) → low ≤ x → x ≤ high → f x ≤ sum_by f (range_with_len low (high + 1 - low))
+term-within f low high x l h =
     let before : ℕ = x - low in
-    let after : ℕ = greatest_cell s - x in
-    let long : n ≡ before + (1 + after) = omega (arith, i.low, i.high) in
-    let at : low + before ≡ x = omega (arith, i.low) in
-    let all : sum_by (cell_weight s) (range_with_len low n) ≡ labelled s = sum_by-same (cell_weight s) (λ x. cell_weight s x * 1) (λ x. omega arith) (range_with_len low n) ∙ sym (cells-same s (λ x. 1)) ∙ sum_by-one (row_labellings s) in
-    let cut : sum_by (cell_weight s) (range_with_len low (before + (1 + after))) ≡ sum_by (cell_weight s) (range_with_len low before) + sum_by (cell_weight s) (range_with_len (low + before) (1 + after)) = divided (cell_weight s) low before (1 + after) in
-    let here : sum_by (cell_weight s) (range_with_len x (1 + after)) ≡ sum_by (cell_weight s) (range_with_len x 1) + sum_by (cell_weight s) (range_with_len (x + 1) after) = divided (cell_weight s) x 1 after in
-    let one : sum_by (cell_weight s) (range_with_len x 1) ≡ cell_weight s x = sum_by-cons (cell_weight s) x [] ∙ omega arith in
-    omega (arith, rw long at all, rw at at cut, here, one)
+    let after : ℕ = high - x in
+    let long : high + 1 - low ≡ before + (1 + after) = omega (arith, l, h) in
+    let at : low + before ≡ x = omega (arith, l) in
+    let cut : sum_by f (range_with_len low (before + (1 + after))) ≡ sum_by f (range_with_len low before) + sum_by f (range_with_len (low + before) (1 + after)) = divided f low before (1 + after) in
+    let here : sum_by f (range_with_len x (1 + after)) ≡ sum_by f (range_with_len x 1) + sum_by f (range_with_len (x + 1) after) = divided f x 1 after in
+    let one : sum_by f (range_with_len x 1) ≡ f x = sum_by-cons f x [] ∙ omega arith in
+    rw long (omega (arith, rw at at cut, here, one))
+
+-- one of the weights is within them all
+pub weight-within : (odds : Option Odds) (s : Stratum) (x : ℕ) → least_cell s ≤ x → x ≤ greatest_cell s → weighed_cell odds s x ≤ stratum_total odds s
+weight-within odds s x l h = omega (arith, term-within (weighed_cell odds s) (least_cell s) (greatest_cell s) x l h, range-total odds s)
 
 pub record AreWays (s : Stratum) (x : ℕ) : Type 0 where
   pub cell : x ≤ first_row s
-  pub column : binomial (first_column s) x ≤ MAX
-  pub others : binomial (size s - first_column s) (first_row s - x) ≤ MAX
-  pub fits : cell_weight s x ≤ MAX
+  pub column : 1 ≤ binomial (first_column s) x
+  pub others : 1 ≤ binomial (size s - first_column s) (first_row s - x)
 
-pub are-ways : (s : Stratum) (c : List ℕ) → labelled s ≤ MAX → IsCell s c → AreWays s (slice_index c 0)
-are-ways s c h i =
-    let x : ℕ = slice_index c 0 in
-    let all : cell_weight s x ≤ labelled s = weight-within s x (record { low = i.low; high = i.high }) in
-    let one : 1 ≤ binomial (first_column s) x = binomial-positive (first_column s) x (omega (arith, i.high)) in
-    let two : 1 ≤ binomial (size s - first_column s) (first_row s - x) = binomial-positive (size s - first_column s) (first_row s - x) (omega (arith, i.low)) in
-    let left : binomial (first_column s) x * 1 ≤ cell_weight s x = mul-le-mul_left (binomial (first_column s) x) two in
-    let right : 1 * binomial (size s - first_column s) (first_row s - x) ≤ cell_weight s x = mul-le-mul_right (binomial (size s - first_column s) (first_row s - x)) one in
-    record { cell = omega (arith, i.high); column = omega (arith, left, all, h); others = omega (arith, right, all, h); fits = omega (arith, all, h) }
+-- there are ways to fill a stratum with a first cell
+pub are-ways : (s : Stratum) (x : ℕ) → least_cell s ≤ x → x ≤ greatest_cell s → AreWays s x
+are-ways s x l h = record {
+  cell = omega (arith, h);
+  column = binomial-positive (first_column s) x (omega (arith, h));
+  others = binomial-positive (size s - first_column s) (first_row s - x) (omega (arith, l));
+}
 
 pub next-cells : (n : ℕ) (choice : List ℕ) → length choice ≡ 1 → get_or choice 0 0 < n
     → let next = set choice 0 (get_or choice 0 0 + 1) in cells_from (get_or choice 0 0 + 1) (n - get_or choice 0 0) ≡ next ∷ cells_from (slice_index next 0 + 1) (n - slice_index next 0)
@@ -381,6 +436,3 @@ pub one-number : (xs : List ℤ) (x : ℤ) → length xs ≡ 1 → set xs 0 x �
 one-number [] x e = absurd (omega arith)
 one-number (y ∷ []) x e = refl
 one-number (y ∷ z ∷ ys) x e = absurd (omega arith)
-
-pub cell-fits : (strata : List Stratum) (g : ℕ) → labelled_in_all strata ≤ MAX → labelled (stratum_at strata g) ≤ MAX
-cell-fits strata g h = omega (arith, one-within strata g, h)

@@ -1,11 +1,11 @@
 -- The walk through the labellings of strata, stratum by stratum.
-use Rattle.std.proofs.Common.{◌≡◌, ℕ, suc, ◌-◌, ◌≤◌, List, [], ◌∷◌, ◌++◌, append-nil, length, take, drop, map, replicate, Bool, true, false, refl, sym, ◌∙◌, ap, subst, arith, length-append, length-drop}
-use Rattle.std.specs.Prelude.{Contains, Result, Ok, Err, IfOk}
+use Rattle.std.proofs.Common.{◌≡◌, ℕ, suc, ◌+◌, ◌-◌, ◌≤◌, cond, nat_eq, List, [], ◌∷◌, ◌++◌, append-nil, length, take, drop, map, replicate, Bool, true, false, refl, sym, ◌∙◌, ap, subst, arith, length-append, length-drop}
+use Rattle.std.specs.Prelude.{Contains, Result, Ok, Err, IfOk, slice_index}
 use Rattle.std.specs.List.{AllByRecursion, sum_by}
 use Rattle.std.proofs.Math.Seq.{drop-append_seam, take-append_seam, take-length}
 use Rattle.std.proofs.lemmas.List.{take-append-drop}
 use Rattle.std.proofs.lemmas.List.Elements.{All-contains, All-contains_itself, All-from_recursion, recursion_from_All}
-use Rattle.std.proofs.lemmas.List.Sums.{sum_by-cons}
+use Rattle.std.proofs.lemmas.List.Sums.{count_by-le-length, sum_by-cons, sum_by-take-drop}
 use Rattle.weights.proofs.Filters.{all_append, all_map, all_weaker}
 use Rattle.weights.proofs.Members.{labelling_from}
 use Rattle.enumerate.specs.Walk.{BeginsWith, StepsThrough, members_after}
@@ -16,16 +16,36 @@ use Rattle.stratified_tests.specs.Strata.{first_row, second_row, size}
 use Rattle.stratified_tests.specs.StrataTests.{row_labellings, strata_labellings}
 use Rattle.stratified_tests.specs.StrataNetwork.{stratum_at}
 use Rattle.stratified_tests.specs.StrataSteps.{first_labels}
+use Rattle.weights.proofs.CellSums.{zeros_in}
 
 -- with a stratum in front
 labelled-front : (s : Stratum) (strata : List Stratum) → strata_labellings (s ∷ strata) ≡ joined (row_labellings s) (strata_labellings strata)
 labelled-front s strata = map-concat-product (row_labellings s) (map row_labellings strata)
 
+-- a labelling has a label for each subject, and the first row's is as frequent as that row is long
+pub record IsRowed (s : Stratum) (x : List ℕ) : Type 0 where
+  pub long : length x ≡ size s
+  pub zeros : zeros_in x ≡ first_row s
+
+rowed : (s : Stratum) (x : List ℕ) → Contains (row_labellings s) x → IsRowed s x
+rowed s x m =
+    let l = labelling_from (first_row s ∷ second_row s ∷ []) x m in
+    record {
+      long = l.over.long ∙ omega (arith, sum_by-cons (λ v. v) (first_row s) (second_row s ∷ []), sum_by-cons (λ v. v) (second_row s) []);
+      zeros = ap (λ ys. slice_index ys 0) l.counted;
+    }
+
+pub own : (xs : List (List ℕ)) → AllByRecursion (Contains xs) xs
+own xs = recursion_from_All (Contains xs) xs (All-contains_itself xs)
+
+pub each-rowed : (s : Stratum) → AllByRecursion (IsRowed s) (row_labellings s)
+each-rowed s = all_weaker (Contains (row_labellings s)) (IsRowed s) (rowed s) (row_labellings s) (own (row_labellings s))
+
 long-one : (s : Stratum) (x : List ℕ) → Contains (row_labellings s) x → length x ≡ size s
-long-one s x m = (labelling_from (first_row s ∷ second_row s ∷ []) x m).over.long ∙ omega (arith, sum_by-cons (λ v. v) (first_row s) (second_row s ∷ []), sum_by-cons (λ v. v) (second_row s) [])
+long-one s x m = (rowed s x m).long
 
 each-long : (s : Stratum) → AllByRecursion (λ x. length x ≡ size s) (row_labellings s)
-each-long s = recursion_from_All (λ x. length x ≡ size s) (row_labellings s) (λ i d h. long-one s _ (All-contains_itself (row_labellings s) i d h))
+each-long s = all_weaker (IsRowed s) (λ x. length x ≡ size s) (λ x r. r.long) (row_labellings s) (each-rowed s)
 
 -- the first labels of a stratum
 abbrev pub own_first : Stratum → List ℕ
@@ -62,9 +82,6 @@ all-joined P Q R f [] rests a b = tt
 all-joined P Q R f (x ∷ parts) rests a b =
     all_append R (map (λ rest. x ++ rest) rests) (joined parts rests) (all_map R (λ rest. x ++ rest) rests (all_weaker Q (λ y. R (x ++ y)) (λ y q. f x y a.0 q) rests b)) (all-joined P Q R f parts rests a.1 b)
 
-own : (xs : List (List ℕ)) → AllByRecursion (Contains xs) xs
-own xs = recursion_from_All (Contains xs) xs (All-contains_itself xs)
-
 parted : (s : Stratum) (strata : List Stratum) → AllByRecursion (Parted s strata) (joined (row_labellings s) (strata_labellings strata))
 parted s strata =
     all-joined (Contains (row_labellings s)) (Contains (strata_labellings strata)) (Parted s strata)
@@ -90,6 +107,14 @@ member-long [] (x ∷ r) m = absurd (none x r m)
 member-long (s ∷ strata) r m =
     let p = parts-of s strata r m in
     omega (arith, p.long, member-long strata (drop (size s) r) p.rest, length-drop (size s) r, sum_by-cons size s strata)
+
+-- how many labels of a member are those of first rows
+pub member-zeros : (strata : List Stratum) (r : List ℕ) → Contains (strata_labellings strata) r → zeros_in r ≡ sum_by first_row strata
+member-zeros [] r m = omega (arith, count_by-le-length (λ l. nat_eq l 0) r, member-long [] r m)
+member-zeros (s ∷ strata) r m =
+    let p = parts-of s strata r m in
+    let split : zeros_in (take (size s) r) + zeros_in (drop (size s) r) ≡ zeros_in r = sum_by-take-drop (λ l. cond (nat_eq l 0) 1 0) r (size s) in
+    omega (arith, split, (rowed s (take (size s) r) p.front).zeros, member-zeros strata (drop (size s) r) p.rest, sum_by-cons first_row s strata)
 
 -- ---- steps of the walk
 

@@ -1,8 +1,9 @@
 -- The network of a test of strata: a stage is a stratum, in the order of the file, and its choice
 -- is the first cell.
-use Rattle.std.specs.Prelude.{ℕ, pos, ◌+◌, ◌-◌, ◌*◌, List, [], ◌∷◌, length, map, slice_index, slice_index_or, false}
+use Rattle.std.specs.Prelude.{ℕ, pos, ◌+◌, ◌-◌, ◌*◌, List, [], ◌∷◌, length, map, slice_index, slice_index_or, false, Option, Some, None}
 use Rattle.std.specs.List.{range_with_len}
 use Rattle.weights.specs.Numbers.{binomial}
+use Rattle.weights.specs.declared.odds.Odds.{Odds}
 use Rattle.weights.specs.Rules.{rule_of}
 use Rattle.weights.specs.declared.rules.Rule.{Rule}
 use Rattle.weights.specs.declared.tails.Tail.{Tail}
@@ -10,8 +11,9 @@ use Rattle.stage_network.specs.declared.additive.SumValue.TheVariants.{First}
 use Rattle.stage_network.specs.Addends.{Addends, additive_network}
 use Rattle.stage_network.specs.Network.{Network}
 use Rattle.stratified_tests.specs.declared.stratum.Stratum.{Stratum}
+use Rattle.weights.specs.Odds.{odds_weight}
 use Rattle.stratified_tests.specs.Strata.{first_column, first_row, greatest_cell, least_cell, size, strata_of}
-use Rattle.stratified_tests.specs.StrataTests.{stratified_test}
+use Rattle.stratified_tests.specs.StrataTests.{StrataData, stratified_test}
 
 abbrev pub stratum_at : List Stratum → ℕ → Stratum
 stratum_at strata stage = slice_index_or strata stage (record { a = 0; b = 0; c = 0; d = 0 })
@@ -22,12 +24,17 @@ abbrev pub cell_weight : Stratum → ℕ → ℕ
 cell_weight s x =
     binomial (first_column s) x * binomial (size s - first_column s) (first_row s - x)
 
+-- what a first cell weighs: so many labellings, each by the odds where they are given
+abbrev pub weighed_cell : Option Odds → Stratum → ℕ → ℕ
+weighed_cell None s x = cell_weight s x
+weighed_cell (Some odds) s x = cell_weight s x * odds_weight odds (first_row s) x
+
 -- the choices of n cells from one on
 abbrev pub cells_from : ℕ → ℕ → List (List ℕ)
 cells_from least n = map (λ x. x ∷ []) (range_with_len least n)
 
-abbrev pub strata_addends : List Stratum → Tail → Rule → Addends
-strata_addends strata tail rule = record {
+abbrev pub strata_addends : Option Odds → List Stratum → Tail → Rule → Addends
+strata_addends odds strata tail rule = record {
   count = length strata;
   slots = 1;
   choice_width = 1;
@@ -35,7 +42,7 @@ strata_addends strata tail rule = record {
       cells_from (least_cell s) (greatest_cell s + 1 - least_cell s);
   later = λ g c. let s = stratum_at strata g in
       cells_from (slice_index c 0 + 1) (greatest_cell s - slice_index c 0);
-  weight = λ g c. cell_weight (stratum_at strata g) (slice_index c 0);
+  weight = λ g c. weighed_cell odds (stratum_at strata g) (slice_index c 0);
   adds = λ g c. pos (slice_index c 0) ∷ [];
   least = λ g. pos (least_cell (stratum_at strata g));
   most = λ g. pos (greatest_cell (stratum_at strata g));
@@ -45,9 +52,9 @@ strata_addends strata tail rule = record {
   rule = rule;
 }
 
-abbrev pub stratified_network : List Stratum → Tail → Network
-stratified_network strata tail =
-    additive_network (strata_addends strata tail (rule_of (stratified_test strata) tail))
+abbrev pub stratified_network : Option Odds → List Stratum → Tail → Network
+stratified_network odds strata tail =
+    additive_network (strata_addends odds strata tail (rule_of (stratified_test odds strata) tail))
 
-abbrev pub strata_network : List ℕ → Tail → Network
-strata_network cells tail = stratified_network (strata_of cells) tail
+abbrev pub strata_network : StrataData → Tail → Network
+strata_network strata tail = stratified_network strata.odds (strata_of strata.cells) tail

@@ -1,23 +1,24 @@
 // The stages of a network of strata.
-ghost use Rattle.std.specs.Prelude.{◌≡◌, ◌≤◌, ◌-◌, pos};
+ghost use Rattle.std.specs.Prelude.{◌≡◌, ◌≤◌, pos};
 ghost use Rattle.weights.specs.Numbers.{binomial};
-ghost use Rattle.weights.specs.Rules.{RuleFits};
 ghost use Rattle.weights.specs.declared.TheConstants.{MAX};
-ghost use Rattle.stratified_tests.specs.Strata.{first_column, first_row, size};
-ghost use Rattle.stratified_tests.specs.StrataNetwork.{cell_weight};
-ghost use Rattle.stratified_tests.specs.StrataSteps.{AreStages, IsSmall};
+ghost use Rattle.stratified_tests.specs.Strata.{greatest_cell, least_cell};
+ghost use Rattle.stratified_tests.specs.StrataNetwork.{cell_weight, weighed_cell};
+ghost use Rattle.stratified_tests.specs.StrataSteps.{AreOdds, AreStages, IsSmall};
 
+use crate::odds::weighed_cell;
 use crate::stratum::Stratum;
-use crate::sums::labelled;
+use crate::totals::stratum_total;
 use stage_network::{Additive, Interval, Judge, SumValue};
-use weights::{List, binomial};
+use weights::{List, Odds, binomial};
 
 /// Each stratum is a stage, and its first cell the choice.
 #[derive(Drop)]
 pub struct StrataStages {
+    pub(crate) odds: Option<Odds>,
     pub(crate) strata: List<Stratum>,
     pub(crate) judge: Judge,
-    ghost sound: { AreStages strata judge.rule },
+    ghost sound: { AreStages odds strata judge.rule },
 }
 
 // How many ways there are to choose.
@@ -32,12 +33,10 @@ fn ways(subjects: u64, chosen: u64) -> u128
 }
 
 // How many labellings give a first cell.
-fn weight(stratum: Stratum, cell: u64) -> u128
+fn labellings(stratum: Stratum, cell: u64) -> u128
     requires small { IsSmall stratum }
-    requires cell { cell ≤ first_row stratum }
-    requires column { binomial (first_column stratum) cell ≤ MAX }
-    requires others { let left = first_row stratum - cell in
-        binomial (size stratum - first_column stratum) left ≤ MAX }
+    requires least { least_cell stratum ≤ cell }
+    requires greatest { cell ≤ greatest_cell stratum }
     requires fits { cell_weight stratum cell ≤ MAX }
     ensures { result ≡ cell_weight stratum cell }
 {
@@ -45,10 +44,28 @@ fn weight(stratum: Stratum, cell: u64) -> u128
     ways(column, cell) * ways(stratum.size() - column, stratum.first_row() - cell)
 }
 
+// What a first cell weighs.
+fn weight(odds: Option<Odds>, stratum: Stratum, cell: u64) -> u128
+    requires odds { AreOdds odds }
+    requires small { IsSmall stratum }
+    requires least { least_cell stratum ≤ cell }
+    requires greatest { cell ≤ greatest_cell stratum }
+    requires fits { weighed_cell odds stratum cell ≤ MAX }
+    ensures { result ≡ weighed_cell odds stratum cell }
+{
+    let Some(odds) = odds else {
+        return labellings(stratum, cell);
+    };
+    match weighed_cell(odds, stratum, cell) {
+        Some(weight) => weight,
+        None => unreachable!(),
+    }
+}
+
 impl Additive for StrataStages {
     ghost use Rattle.stratified_tests.specs.StrataNetwork.{strata_addends};
 
-    ghost addends = { λ s. strata_addends s.strata s.judge.tail s.judge.rule };
+    ghost addends = { λ s. strata_addends s.odds s.strata s.judge.tail s.judge.rule };
 
     fn stages(&self) -> usize {
         self.strata.len()
@@ -77,11 +94,11 @@ impl Additive for StrataStages {
 
     fn adds(&self, stage: usize, choice: &[u64], added: &mut [i128]) -> u128 {
         added[0] = choice[0] as i128;
-        weight(self.strata.as_slice()[stage], choice[0])
+        weight(self.odds, self.strata.as_slice()[stage], choice[0])
     }
 
     fn total(&self, stage: usize) -> u128 {
-        match labelled(self.strata.as_slice()[stage]) {
+        match stratum_total(self.odds, self.strata.as_slice()[stage]) {
             Some(all) => all,
             None => unreachable!(),
         }

@@ -1,20 +1,22 @@
 // Strata that are prepared for their test.
-ghost use Rattle.std.specs.Prelude.{◌≡◌, ◌≤◌, ◌*◌, length, pos};
+ghost use Rattle.std.specs.Prelude.{◌≡◌, ◌≤◌, ◌*◌, length, pos, None, Some};
 ghost use Rattle.std.specs.List.{sum_by};
 ghost use Rattle.weights.specs.Conditional.{distance};
 ghost use Rattle.weights.specs.Wide.{Prepares};
 ghost use Rattle.weights.specs.declared.TheConstants.{MAX};
 ghost use Rattle.record_reader.specs.declared.TheConstants.{MOST_ROWS};
+ghost use Rattle.weights.specs.Odds.{IsOdds};
 ghost use Rattle.stratified_tests.specs.Strata.{size, strata_of};
-ghost use Rattle.stratified_tests.specs.StrataTests.{centre_by, multiple_of, strata_test};
-ghost use Rattle.stratified_tests.specs.StrataSteps.{AreMade, AreSmall};
+ghost use Rattle.stratified_tests.specs.StrataTests.{centre_by, data_of, multiple_of, strata_test};
+ghost use Rattle.stratified_tests.specs.StrataSteps.{AreMade, AreOdds, AreSmall};
 
 use crate::stratum::{Stratum, strata_of};
-use crate::sums::{centre_by, labelled_in_all, multiple_of, own_sum, subjects};
+use crate::sums::{centre_by, multiple_of, own_sum, subjects};
+use crate::totals::strata_total;
 use std::alloc::Global;
 use std::marker::Model;
 use table_reader::Strata;
-use weights::{Frame, List, Nums, PrepareFault, Rule, WideOf, bounded_product};
+use weights::{Frame, List, Nums, Odds, PrepareFault, Rule, WideOf, bounded_product};
 
 /// What is made of strata.
 #[derive(Drop)]
@@ -24,25 +26,26 @@ pub(crate) struct MadeStrata {
     pub frame: Frame,
 }
 
-/// A test of strata whose data are checked. It is seen as the cells that it was prepared of, four
-/// for each stratum.
+/// A test of strata whose data are checked. It is seen as what it was prepared of: the cells, four
+/// for each stratum, and the odds, where they are given.
 #[derive(Drop)]
 pub struct StrataTest {
     // What it was prepared of, by which contracts name it.
     cells: Nums,
+    odds: Option<Odds>,
     made: MadeStrata,
 }
 
 impl Model for StrataTest {
-    ghost use Rattle.std.specs.Prelude.{ℕ, List};
     ghost use Rattle.stratified_tests.specs.Strata.{strata_of};
+    ghost use Rattle.stratified_tests.specs.StrataTests.{StrataData, data_of};
     ghost use Rattle.stratified_tests.specs.StrataSteps.{AreMade};
 
-    ghost Value = { List ℕ };
+    ghost Value = { StrataData };
 
-    ghost view = { λ t. t.cells };
+    ghost view = { λ t. data_of t.odds t.cells };
 
-    ghost invariant = { λ t. AreMade (strata_of t.cells) t.made };
+    ghost invariant = { λ t. AreMade t.odds (strata_of t.cells) t.made };
 }
 
 // What is said of the test, with a multiple of the strata's sizes and so many labellings.
@@ -70,18 +73,13 @@ fn frame_of(strata: &[Stratum], multiple: u128, total: u128) -> Frame
     }
 }
 
-/// Prepares the exact test of strata: the sum of the first cells, over all labellings of each
-/// stratum's subjects with the sums of its rows.
-///
-/// # Errors
-/// `TooWide(Total)` where there are more labellings than `weights::MAX`. Or else
-/// `TooWide(Statistic)` where the number of subjects times the least common multiple of the
-/// strata's sizes passes it. Or else `NoMemory` where memory runs out.
-pub fn prepare(alloc: Global, strata: &Strata) -> Result<StrataTest, PrepareFault>
-    ensures { Prepares strata_test strata.now.cells result }
+// Prepares strata without odds, or with given ones.
+fn prepared(alloc: Global, odds: Option<Odds>, strata: &Strata) -> Result<StrataTest, PrepareFault>
+    requires { AreOdds odds }
+    ensures { Prepares strata_test (data_of odds strata.now.cells) result }
 {
     let tables = strata_of(alloc, strata.cells.as_slice())?;
-    let Some(total) = labelled_in_all(tables.as_slice()) else {
+    let Some(total) = strata_total(odds, tables.as_slice()) else {
         return Err(PrepareFault::TooWide(WideOf::Total));
     };
     let Some(multiple) = multiple_of(tables.as_slice()) else {
@@ -94,6 +92,7 @@ pub fn prepare(alloc: Global, strata: &Strata) -> Result<StrataTest, PrepareFaul
     let cells = strata.cells.copy()?;
     Ok(StrataTest {
         cells,
+        odds,
         made: MadeStrata {
             strata: tables,
             frame,
@@ -101,10 +100,47 @@ pub fn prepare(alloc: Global, strata: &Strata) -> Result<StrataTest, PrepareFaul
     })
 }
 
+/// Prepares the exact test of strata: the sum of the first cells, over all labellings of each
+/// stratum's subjects with the sums of its rows.
+///
+/// # Errors
+/// `TooWide(Total)` where there are more labellings than `weights::MAX`. Or else
+/// `TooWide(Statistic)` where the number of subjects times the least common multiple of the
+/// strata's sizes passes it. Or else `NoMemory` where memory runs out.
+pub fn prepare(alloc: Global, strata: &Strata) -> Result<StrataTest, PrepareFault>
+    ensures { Prepares strata_test (data_of None strata.now.cells) result }
+{
+    prepared(alloc, None, strata)
+}
+
+/// Prepares the exact test of strata with given odds, the same in each stratum and of two numbers
+/// from 1 to 1000: a labelling weighs the product of `odds.above` for each subject of the first
+/// rows who is in the first column, and `odds.below` for each other subject of the first rows
+/// (Fisher, The Logic of Inductive Inference, Journal of the Royal Statistical Society 98, 1935).
+/// It has the tails `less` and `greater` alone.
+///
+/// # Errors
+/// `TooWide(Total)` where the labellings weigh more than `weights::MAX` together. Or else
+/// `TooWide(Statistic)` as without odds. Or else `NoMemory` where memory runs out.
+pub fn prepare_odds(alloc: Global, odds: Odds, strata: &Strata) -> Result<StrataTest, PrepareFault>
+    requires { IsOdds odds }
+    ensures { Prepares strata_test (data_of (Some odds) strata.now.cells) result }
+{
+    prepared(alloc, Some(odds), strata)
+}
+
 impl StrataTest {
+    /// The odds, where they are given.
+    pub(crate) fn odds(&self) -> Option<Odds>
+        ensures given { result ≡ self.now.odds }
+        ensures odds { AreOdds self.now.odds }
+    {
+        self.odds
+    }
+
     /// What was made of the strata.
     pub(crate) fn made(&self) -> &MadeStrata
-        ensures { AreMade (strata_of self.now) result.now }
+        ensures { AreMade self.now.odds (strata_of self.now.cells) result.now }
     {
         &self.made
     }

@@ -1,4 +1,4 @@
-// Sums, products and multiples over strata.
+// Sums and multiples over strata.
 ghost use Rattle.std.specs.Prelude.{◌≡◌, ◌<◌, ◌≤◌, ◌*◌, ◌/◌, length, nat_eq, if◌then◌else◌, SomeIff};
 ghost use Rattle.std.specs.List.{sum_by};
 ghost use Rattle.weights.specs.Numbers.{lcm};
@@ -6,30 +6,10 @@ ghost use Rattle.weights.specs.declared.TheConstants.{MAX};
 ghost use Rattle.record_reader.specs.declared.TheConstants.{MOST_ROWS};
 ghost use Rattle.stratified_tests.specs.Strata.{first_column, first_row, size};
 ghost use Rattle.stratified_tests.specs.StrataTests.{centre_by, first_cell, first_cells, multiple_of};
-ghost use Rattle.stratified_tests.specs.StrataSteps.{AreSmall, IsSmall, labelled, labelled_in_all};
+ghost use Rattle.stratified_tests.specs.StrataSteps.{AreSmall, IsSmall};
 
 use crate::stratum::Stratum;
-use weights::{bounded_product, lcm, multinomial};
-
-/// How many labellings a stratum has, or None exactly where they pass the greatest weight.
-pub(crate) fn labelled(stratum: Stratum) -> Option<u128>
-    requires { IsSmall stratum }
-    ensures { SomeIff result (labelled stratum ≤ MAX) (labelled stratum) }
-{
-    multinomial(&[stratum.first_row(), stratum.second_row()])
-}
-
-/// How many labellings all strata have, or None exactly where they pass the greatest weight.
-pub(crate) fn labelled_in_all(strata: &[Stratum]) -> Option<u128>
-    requires { AreSmall strata.now }
-    ensures { let all = labelled_in_all strata.now in SomeIff result (all ≤ MAX) all }
-{
-    let mut all = 1;
-    for stratum in strata {
-        all = bounded_product(all, labelled(*stratum)?)?;
-    }
-    Some(all)
-}
+use weights::lcm;
 
 // A multiple with that of one more size, where it is not 0.
 fn with_size(size: u64, multiple: u128) -> Option<u128>
@@ -66,6 +46,19 @@ pub(crate) fn subjects(strata: &[Stratum]) -> u64
     let mut all = 0;
     for stratum in strata {
         all += stratum.size();
+    }
+    all
+}
+
+/// How many subjects the first rows have.
+pub(crate) fn first_rows(strata: &[Stratum]) -> u64
+    requires small { AreSmall strata.now }
+    requires few { length strata.now ≤ MOST_ROWS }
+    ensures { result ≡ sum_by first_row strata.now }
+{
+    let mut all = 0;
+    for stratum in strata {
+        all += stratum.first_row();
     }
     all
 }

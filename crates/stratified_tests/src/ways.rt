@@ -1,4 +1,8 @@
 // Both ways to the answer of a test of strata.
+ghost use Rattle.std.specs.Prelude.{◌≡◌};
+ghost use Rattle.stratified_tests.specs.StrataTests.{is_one_sided, tails_with};
+
+use crate::odds::labelling_weight;
 use crate::strata_stages::StrataStages;
 use crate::strata_test::StrataTest;
 use crate::sums::first_cells;
@@ -6,7 +10,26 @@ use crate::walk::{first_member, next_member};
 use enumerate::Plain;
 use stage_network::{AdditiveStages, Judge, Prepared};
 use std::alloc::Global;
-use weights::{Bytes, Frame, NoMemory, Tail};
+use weights::{Bytes, Frame, NoMemory, Odds, Tail};
+
+fn is_one_sided(tail: Tail) -> bool
+    ensures { result ≡ is_one_sided tail }
+{
+    match tail {
+        Tail::Less | Tail::Greater => true,
+        Tail::Two => false,
+    }
+}
+
+// Whether a test has a tail: with odds, whether the tail is on one side.
+fn has_tail(odds: Option<Odds>, tail: Tail) -> bool
+    ensures { result ≡ tails_with odds tail }
+{
+    match odds {
+        None => true,
+        Some(_odds) => is_one_sided(tail),
+    }
+}
 
 impl Plain for StrataTest {
     ghost use Rattle.stratified_tests.specs.StrataTests.{strata_test};
@@ -21,8 +44,9 @@ impl Plain for StrataTest {
         next_member(self.made().strata.as_slice(), labels.as_mut_slice())
     }
 
-    fn weight(&self, _labels: &[u8]) -> u128 {
-        1
+    fn weight(&self, labels: &[u8]) -> u128 {
+        let odds = self.odds();
+        labelling_weight(odds, self.made().strata.as_slice(), labels)
     }
 
     fn value(&self, labels: &[u8]) -> i128 {
@@ -50,8 +74,8 @@ impl Prepared for StrataTest {
 
     ghost shape = { λ _ _. additive_shape };
 
-    fn has_tail(&self, _tail: Tail) -> bool {
-        true
+    fn has_tail(&self, tail: Tail) -> bool {
+        has_tail(self.odds(), tail)
     }
 
     fn is_shared(&self) -> bool {
@@ -64,7 +88,13 @@ impl Prepared for StrataTest {
             tail,
             rule: made.frame.rule(tail),
         };
+        let odds = self.odds();
         let strata = made.strata.copy()?;
-        AdditiveStages::new(alloc, StrataStages { strata, judge })
+        let stages = StrataStages {
+            odds,
+            strata,
+            judge,
+        };
+        AdditiveStages::new(alloc, stages)
     }
 }

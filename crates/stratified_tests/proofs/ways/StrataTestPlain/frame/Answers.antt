@@ -3,7 +3,7 @@ use Rattle.stratified_tests.proofs.FittingStrata.{rules_fit, some-labelling}
 use Rattle.stratified_tests.proofs.ways.StrataTestPlain.frame.Goals as goal
 
 pub returns-clause-fits : goal.returns-clause-fits
-returns-clause-fits c = rules_fit (strata_of c.args.self.now) c.made.ensures.fitting
+returns-clause-fits c = rules_fit c.args.self.now.odds (strata_of c.args.self.now.cells) c.made.ensures.fitting
 
 pub returns-clause-some : goal.returns-clause-some
-returns-clause-some c = some-labelling (strata_of c.args.self.now)
+returns-clause-some c = some-labelling c.args.self.now.odds (strata_of c.args.self.now.cells) c.made.ensures.fitting

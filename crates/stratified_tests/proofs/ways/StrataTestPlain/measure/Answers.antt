@@ -6,4 +6,4 @@ use Rattle.stratified_tests.proofs.StrataLaws.{measured-is}
 use Rattle.stratified_tests.proofs.ways.StrataTestPlain.measure.Goals as goal
 
 pub returns : goal.returns
-returns c = to_z-of_z w128 c.value.result (record { sfits = c.value.type_inv }) ∙ c.value.ensures ∙ sym (measured-is (strata_of c.args.self.now) c.args._tail c.args.labels.now)
+returns c = to_z-of_z w128 c.value.result (record { sfits = c.value.type_inv }) ∙ c.value.ensures ∙ sym (measured-is c.args.self.now.odds (strata_of c.args.self.now.cells) c.args._tail c.args.labels.now)

@@ -1,0 +1,69 @@
+// What the labellings of strata weigh together, with odds or without.
+ghost use Rattle.std.specs.Prelude.{◌≡◌, ◌+◌, ◌≤◌, SomeIff};
+ghost use Rattle.weights.specs.declared.TheConstants.{MAX};
+ghost use Rattle.weights.specs.Odds.{IsOdds};
+ghost use Rattle.stratified_tests.specs.StrataSteps.{AreOdds, AreSmall, IsSmall, labelled};
+ghost use Rattle.stratified_tests.specs.StrataSteps.{strata_total, stratum_total, weighed};
+
+use crate::odds::weighed_cell;
+use crate::stratum::Stratum;
+use weights::{MAX, Odds, bounded_product, multinomial};
+
+// How many labellings a stratum has, or None exactly where they pass the greatest weight.
+fn labelled(stratum: Stratum) -> Option<u128>
+    requires { IsSmall stratum }
+    ensures { SomeIff result (labelled stratum ≤ MAX) (labelled stratum) }
+{
+    multinomial(&[stratum.first_row(), stratum.second_row()])
+}
+
+// The sum, or None exactly where it passes the greatest weight.
+fn bounded_sum(a: u128, b: u128) -> Option<u128>
+    requires a { a ≤ MAX }
+    requires b { b ≤ MAX }
+    ensures { SomeIff result (a + b ≤ MAX) (a + b) }
+{
+    let sum = a + b;
+    if sum <= MAX { Some(sum) } else { None }
+}
+
+// What the first cells of a stratum weigh by odds, or None exactly where that passes the greatest
+// weight. Of many first cells the sum of a few passes it, so the loop is short.
+fn weighed(odds: Odds, stratum: Stratum) -> Option<u128>
+    requires odds { IsOdds odds }
+    requires small { IsSmall stratum }
+    ensures { SomeIff result (weighed odds stratum ≤ MAX) (weighed odds stratum) }
+{
+    let least = stratum.least_cell();
+    let most = stratum.greatest_cell();
+    let mut all = 0;
+    for cell in least..most + 1 {
+        all = bounded_sum(all, weighed_cell(odds, stratum, cell)?)?;
+    }
+    Some(all)
+}
+
+/// What the labellings of a stratum weigh, or None exactly where that passes the greatest weight.
+pub(crate) fn stratum_total(odds: Option<Odds>, stratum: Stratum) -> Option<u128>
+    requires odds { AreOdds odds }
+    requires small { IsSmall stratum }
+    ensures { let all = stratum_total odds stratum in SomeIff result (all ≤ MAX) all }
+{
+    match odds {
+        None => labelled(stratum),
+        Some(odds) => weighed(odds, stratum),
+    }
+}
+
+/// What the labellings of all strata weigh, or None exactly where that passes the greatest weight.
+pub(crate) fn strata_total(odds: Option<Odds>, strata: &[Stratum]) -> Option<u128>
+    requires odds { AreOdds odds }
+    requires small { AreSmall strata.now }
+    ensures { let all = strata_total odds strata.now in SomeIff result (all ≤ MAX) all }
+{
+    let mut all = 1;
+    for stratum in strata {
+        all = bounded_product(all, stratum_total(odds, *stratum)?)?;
+    }
+    Some(all)
+}
