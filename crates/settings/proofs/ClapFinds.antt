@@ -11,7 +11,7 @@ use Rattle.clap.specs.declared.parser.matches.ArgMatches.{ArgMatches}
 use Rattle.clap.proofs.WalkLemmas.{first_value-rows}
 use Rattle.weights.specs.Results.{and_then}
 use Rattle.settings.specs.declared.names.OptionName.{OptionName}
-use Rattle.settings.specs.declared.names.OptionName.TheVariants.{Tail, Scores, Order, Peak, RowScores, ColumnScores, Columns, Separator, Number, Missing, Miss, Distribution, Plain, Nodes}
+use Rattle.settings.specs.declared.names.OptionName.TheVariants.{Tail, Scores, Order, Peak, RowScores, ColumnScores, Columns, Separator, Number, Odds, Missing, Miss, Distribution, Plain, Nodes}
 use Rattle.settings.specs.declared.names.UsageFault.{UsageFault}
 use Rattle.settings.specs.declared.settings.Settings.{Settings}
 use Rattle.settings.specs.ClapLine.{clap_line, exact_app, value_found}
@@ -37,6 +37,7 @@ apart ColumnScores listed = record { test = (refl, refl); file = (refl, refl) }
 apart Columns listed = record { test = (refl, refl); file = (refl, refl) }
 apart Separator listed = record { test = (refl, refl); file = (refl, refl) }
 apart Number listed = record { test = (refl, refl); file = (refl, refl) }
+apart Odds listed = record { test = (refl, refl); file = (refl, refl) }
 apart Missing listed = record { test = (refl, refl); file = (refl, refl) }
 apart Miss listed = record { test = (refl, refl); file = (refl, refl) }
 apart Distribution listed = record { test = (refl, refl); file = (refl, refl) }

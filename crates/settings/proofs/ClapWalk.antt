@@ -16,7 +16,7 @@ use Rattle.clap.specs.declared.builder.value_parser.Reading.TheVariants.{AsWritt
 use Rattle.clap.specs.declared.parser.matches.ValueSource.TheVariants.{CommandLine}
 use Rattle.clap.proofs.OnLiterals.{clap_on_literals}
 use Rattle.settings.specs.declared.names.OptionName.{OptionName}
-use Rattle.settings.specs.declared.names.OptionName.TheVariants.{Tail, Scores, Order, Peak, RowScores, ColumnScores, Columns, Separator, Number, Missing, Miss, Distribution, Plain, Nodes}
+use Rattle.settings.specs.declared.names.OptionName.TheVariants.{Tail, Scores, Order, Peak, RowScores, ColumnScores, Columns, Separator, Number, Odds, Missing, Miss, Distribution, Plain, Nodes}
 use Rattle.settings.specs.ClapLine.{clap_line, exact_app, spelled}
 use Rattle.settings.specs.Names.{is_same, option_word}
 use Rattle.settings.specs.Words.{value_in}
@@ -67,6 +67,7 @@ step ColumnScores text rows listed = refl
 step Columns text rows listed = refl
 step Separator text rows listed = refl
 step Number text rows listed = refl
+step Odds text rows listed = refl
 step Missing text rows listed = refl
 step Miss text rows listed = refl
 step Distribution text rows listed = refl
@@ -85,6 +86,7 @@ pass ColumnScores text rows listed = rw or_true refl
 pass Columns text rows listed = rw or_true refl
 pass Separator text rows listed = rw or_true refl
 pass Number text rows listed = rw or_true refl
+pass Odds text rows listed = rw or_true refl
 pass Missing text rows listed = rw or_true refl
 pass Miss text rows listed = rw or_true refl
 pass Distribution text rows listed = rw or_true refl

@@ -21,13 +21,14 @@ use Rattle.record_reader.specs.Records.{IsSeparator, comma, semicolon, tab}
 use Rattle.record_reader.specs.declared.layouts.Shape.{Shape}
 use Rattle.record_reader.specs.declared.missing.Missing.{Missing}
 use Rattle.record_reader.specs.declared.picks.Picks.TheVariants.{Listed}
+use Rattle.weights.specs.Odds.{IsMiss, IsOdds}
+use Rattle.weights.specs.declared.odds.Odds.{Odds}
 use Rattle.settings.specs.Faults.{Meets}
-use Rattle.settings.specs.Meaning.{command_for, command_of, is_complete, meaning_for, meaning_of_given, meaning_of_test, settings_of}
+use Rattle.settings.specs.Meaning.{command_for, command_of, is_complete, is_two_sided_by_odds, paired, meaning_for, meaning_of_given, meaning_of_test, settings_of}
 use Rattle.settings.specs.Options.{form_of, listed_names, setting, settings_without_options, suited, with_option, with_options}
 use Rattle.settings.specs.Tests.{shape_of, test_named}
-use Rattle.weights.specs.Odds.{IsMiss}
 use Rattle.settings.specs.Usable.{AreLabels, AreUsable, AreWithin, IsDrillNumber, IsUsable}
-use Rattle.settings.specs.Values.{are_distinct, are_labels, at_least, column_scores_form, below_one, columns_of, distinct_fields, fields_form, is_empty, is_slash, labels_in, miss_of, missing_of, number_form, number_of, numbers_of, odds_with, order_of, part_of, peak_form, positive, row_scores_form, scores_of, separator_of, tail_of}
+use Rattle.settings.specs.Values.{are_distinct, are_labels, at_least, column_scores_form, below_one, columns_of, distinct_fields, fields_form, is_empty, is_slash, labels_in, miss_of, missing_of, number_form, number_of, numbers_of, odds_of, odds_with, order_of, part_of, peak_form, positive, row_scores_form, scores_of, separator_of, tail_of}
 use Rattle.settings.specs.Words.{Given, none_given, value_in, with_words}
 use Rattle.settings.specs.declared.command_line.CommandLine.{CommandLine}
 use Rattle.settings.specs.declared.lists.ListForm.{ListForm}
@@ -233,20 +234,27 @@ part_of-small text part found = by_digits (all_digits text) found
     by_digits true found = by_count (is_numeral (trimmed text) && nat_le (decimal_value (trimmed text)) 1000) (decimal_value (trimmed text)) (few (trimmed text)) found
     by_digits false found = absurd cc
 
-miss_of-IsMiss : (text : List ℕ) → IfSome (miss_of text) IsMiss
-miss_of-IsMiss text = by_below (part_of (after_first is_slash text)) (part_of-small (after_first is_slash text))
+odds_of-IsOdds : (text : List ℕ) → IfSome (odds_of text) IsOdds
+odds_of-IsOdds text = by_below (part_of (after_first is_slash text)) (part_of-small (after_first is_slash text))
   where
-    by_test : (above below : ℕ) → 1 ≤ above → below ≤ 1000 → (less : Bool) → nat_lt above below ≡ less → IfSome (cond less (Some (odds_with below above)) None) IsMiss
-    by_test above below some small true less = record { some = some; part = grind (arith, nat_tests); small = small }
-    by_test above below some small false less = tt
+    by_above : (below : ℕ) → (1 ≤ below) × (below ≤ 1000) → (above : Option ℕ) → ((part : ℕ) → above ≡ Some part → (1 ≤ part) × (part ≤ 1000)) → IfSome (option_map (odds_with below) above) IsOdds
+    by_above below fits None parts = tt
+    by_above below fits (Some above) parts = record { above_some = (parts above refl).0; below_some = fits.0; above_few = (parts above refl).1; below_few = fits.1 }
 
-    by_above : (below : ℕ) → below ≤ 1000 → (above : Option ℕ) → ((part : ℕ) → above ≡ Some part → (1 ≤ part) × (part ≤ 1000)) → IfSome (option_and_then below_one (option_map (odds_with below) above)) IsMiss
-    by_above below small None parts = tt
-    by_above below small (Some above) parts = by_test above below (parts above refl).0 small (nat_lt above below) refl
-
-    by_below : (below : Option ℕ) → ((part : ℕ) → below ≡ Some part → (1 ≤ part) × (part ≤ 1000)) → IfSome (option_and_then below_one (option_and_then (λ below. option_map (odds_with below) (part_of (before_first is_slash text))) below)) IsMiss
+    by_below : (below : Option ℕ) → ((part : ℕ) → below ≡ Some part → (1 ≤ part) × (part ≤ 1000)) → IfSome (option_and_then (λ below. option_map (odds_with below) (part_of (before_first is_slash text))) below) IsOdds
     by_below None parts = tt
-    by_below (Some below) parts = by_above below (parts below refl).1 (part_of (before_first is_slash text)) (part_of-small (before_first is_slash text))
+    by_below (Some below) parts = by_above below (parts below refl) (part_of (before_first is_slash text)) (part_of-small (before_first is_slash text))
+
+miss_of-IsMiss : (text : List ℕ) → IfSome (miss_of text) IsMiss
+miss_of-IsMiss text = by_odds (odds_of text) (odds_of-IsOdds text)
+  where
+    by_test : (odds : Odds) → IsOdds odds → (less : Bool) → nat_lt odds.above odds.below ≡ less → IfSome (cond less (Some odds) None) IsMiss
+    by_test odds fits true less = record { some = fits.above_some; part = grind (arith, nat_tests); small = fits.below_few }
+    by_test odds fits false less = tt
+
+    by_odds : (found : Option Odds) → IfSome found IsOdds → IfSome (option_and_then below_one found) IsMiss
+    by_odds None fits = tt
+    by_odds (Some odds) fits = by_test odds fits (nat_lt odds.above odds.below) refl
 
 -- ---- options
 
@@ -278,7 +286,7 @@ flag_keeps raised more usable found =
 plainly : (settings : Settings) (tail : TailChoice) (scores : ScoreKind) (peak : ℕ) (missing : Missing) (distribution plain nodes : Bool) → AreUsable settings
     → AreUsable (record settings { tail = tail; scores = scores; peak = peak; missing = missing; distribution = distribution; plain = plain; nodes = nodes })
 plainly settings tail scores peak missing distribution plain nodes usable =
-    record { order = usable.order; row_scores = usable.row_scores; column_scores = usable.column_scores; picks = usable.picks; separator = usable.separator; number = usable.number; miss = usable.miss }
+    record { order = usable.order; row_scores = usable.row_scores; column_scores = usable.column_scores; picks = usable.picks; separator = usable.separator; number = usable.number; odds = usable.odds; miss = usable.miss }
 
 each_keeps : (name : OptionName) → Keeps name
 unfolding Keeps
@@ -291,32 +299,35 @@ each_keeps option.Scores text settings more usable found =
     (λ kind fit. plainly settings settings.tail kind settings.peak settings.missing settings.distribution settings.plain settings.nodes usable) found
 each_keeps option.Order text settings more usable found =
     setting_keeps order_of (λ order s. record s { order = order }) AreLabels text settings more (order_of-AreLabels text)
-    (λ order fit. record { order = inr fit; row_scores = usable.row_scores; column_scores = usable.column_scores; picks = usable.picks; separator = usable.separator; number = usable.number; miss = usable.miss }) found
+    (λ order fit. record { order = inr fit; row_scores = usable.row_scores; column_scores = usable.column_scores; picks = usable.picks; separator = usable.separator; number = usable.number; odds = usable.odds; miss = usable.miss }) found
 each_keeps option.Peak text settings more usable found =
     setting_keeps (number_of peak_form) (λ peak s. record s { peak = peak }) (λ _. Unit {0}) text settings more (any_value (number_of peak_form text))
     (λ peak fit. plainly settings settings.tail settings.scores peak settings.missing settings.distribution settings.plain settings.nodes usable) found
 each_keeps option.RowScores text settings more usable found =
     setting_keeps (numbers_of row_scores_form) (λ scores s. record s { row_scores = scores }) (AreWithin row_scores_form) text settings more (numbers_of-AreWithin row_scores_form text)
-    (λ scores fit. record { order = usable.order; row_scores = fit; column_scores = usable.column_scores; picks = usable.picks; separator = usable.separator; number = usable.number; miss = usable.miss }) found
+    (λ scores fit. record { order = usable.order; row_scores = fit; column_scores = usable.column_scores; picks = usable.picks; separator = usable.separator; number = usable.number; odds = usable.odds; miss = usable.miss }) found
 each_keeps option.ColumnScores text settings more usable found =
     setting_keeps (numbers_of column_scores_form) (λ scores s. record s { column_scores = scores }) (AreWithin column_scores_form) text settings more (numbers_of-AreWithin column_scores_form text)
-    (λ scores fit. record { order = usable.order; row_scores = usable.row_scores; column_scores = fit; picks = usable.picks; separator = usable.separator; number = usable.number; miss = usable.miss }) found
+    (λ scores fit. record { order = usable.order; row_scores = usable.row_scores; column_scores = fit; picks = usable.picks; separator = usable.separator; number = usable.number; odds = usable.odds; miss = usable.miss }) found
 each_keeps option.Columns text settings more usable found =
     let shape = shape_of settings.test in
     setting_keeps (columns_of shape) (λ columns s. record s { picks = Listed columns }) (MayList shape.narrowest shape.widest) text settings more (columns_of-MayList shape text)
-    (λ columns fit. record { order = usable.order; row_scores = usable.row_scores; column_scores = usable.column_scores; picks = fit; separator = usable.separator; number = usable.number; miss = usable.miss }) found
+    (λ columns fit. record { order = usable.order; row_scores = usable.row_scores; column_scores = usable.column_scores; picks = fit; separator = usable.separator; number = usable.number; odds = usable.odds; miss = usable.miss }) found
 each_keeps option.Separator text settings more usable found =
     setting_keeps separator_of (λ separator s. record s { separator = separator }) IsSeparator text settings more (separator_of-IsSeparator text)
-    (λ separator fit. record { order = usable.order; row_scores = usable.row_scores; column_scores = usable.column_scores; picks = usable.picks; separator = fit; number = usable.number; miss = usable.miss }) found
+    (λ separator fit. record { order = usable.order; row_scores = usable.row_scores; column_scores = usable.column_scores; picks = usable.picks; separator = fit; number = usable.number; odds = usable.odds; miss = usable.miss }) found
 each_keeps option.Number text settings more usable found =
     setting_keeps (number_of number_form) (λ number s. record s { number = number }) IsDrillNumber text settings more (number_of-IsDrillNumber text)
-    (λ number fit. record { order = usable.order; row_scores = usable.row_scores; column_scores = usable.column_scores; picks = usable.picks; separator = usable.separator; number = fit; miss = usable.miss }) found
+    (λ number fit. record { order = usable.order; row_scores = usable.row_scores; column_scores = usable.column_scores; picks = usable.picks; separator = usable.separator; number = fit; odds = usable.odds; miss = usable.miss }) found
 each_keeps option.Missing text settings more usable found =
     setting_keeps missing_of (λ missing s. record s { missing = missing }) (λ _. Unit {0}) text settings more (any_value (missing_of text))
     (λ missing fit. plainly settings settings.tail settings.scores settings.peak missing settings.distribution settings.plain settings.nodes usable) found
+each_keeps option.Odds text settings more usable found =
+    setting_keeps odds_of (λ odds s. record s { odds = Some odds }) IsOdds text settings more (odds_of-IsOdds text)
+    (λ odds fit. record { order = usable.order; row_scores = usable.row_scores; column_scores = usable.column_scores; picks = usable.picks; separator = usable.separator; number = usable.number; odds = fit; miss = usable.miss }) found
 each_keeps option.Miss text settings more usable found =
     setting_keeps miss_of (λ miss s. record s { miss = miss }) IsMiss text settings more (miss_of-IsMiss text)
-    (λ miss fit. record { order = usable.order; row_scores = usable.row_scores; column_scores = usable.column_scores; picks = usable.picks; separator = usable.separator; number = usable.number; miss = fit }) found
+    (λ miss fit. record { order = usable.order; row_scores = usable.row_scores; column_scores = usable.column_scores; picks = usable.picks; separator = usable.separator; number = usable.number; odds = usable.odds; miss = fit }) found
 each_keeps option.Distribution text settings more usable found =
     flag_keeps (record settings { distribution = true }) more (plainly settings settings.tail settings.scores settings.peak settings.missing true settings.plain settings.nodes usable) found
 each_keeps option.Plain text settings more usable found =
@@ -364,6 +375,7 @@ start-AreUsable test file = record {
   picks = tt;
   separator = inl refl;
   number = omega arith;
+  odds = tt;
   miss = record { some = omega arith; part = omega arith; small = omega arith };
 }
 
@@ -380,13 +392,17 @@ command_of-IsUsable settings usable = by_test settings.test
 meaning_for-IsUsable : (given : Given) (test : TestName) (line : CommandLine) → meaning_for given test ≡ Ok line → IsUsable line
 meaning_for-IsUsable given test line found = by_test (is_complete test given) found
   where
-    by_settings : (all : Result Settings UsageFault) → ((last : Settings) → all ≡ Ok last → AreUsable last) → with_value command_of all ≡ Ok line → IsUsable line
-    by_settings (Err fault) usable found = absurd cc
-    by_settings (Ok last) usable found =
+    by_pair : (odd : Bool) (last : Settings) → AreUsable last → with_value command_of (cond odd (Err (Pairing option.Tail last.test)) (Ok last)) ≡ Ok line → IsUsable line
+    by_pair true last usable found = absurd cc
+    by_pair false last usable found =
         let same : command_of last ≡ line = cc in
-        subst IsUsable same (command_of-IsUsable last (usable last refl))
+        subst IsUsable same (command_of-IsUsable last usable)
 
-    by_test : (complete : Bool) → cond complete (with_value command_of (settings_of given test)) (Err Form) ≡ Ok line → IsUsable line
+    by_settings : (all : Result Settings UsageFault) → ((last : Settings) → all ≡ Ok last → AreUsable last) → with_value command_of (and_then paired all) ≡ Ok line → IsUsable line
+    by_settings (Err fault) usable found = absurd cc
+    by_settings (Ok last) usable found = by_pair (is_two_sided_by_odds last) last (usable last refl) found
+
+    by_test : (complete : Bool) → cond complete (with_value command_of (and_then paired (settings_of given test))) (Err Form) ≡ Ok line → IsUsable line
     by_test true found =
         let start = settings_without_options test (unwrap_or given.file []) in
         by_settings (settings_of given test) (λ last. with_options-AreUsable listed_names (value_in given.uses) start last (start-AreUsable test (unwrap_or given.file []))) found

@@ -1,5 +1,5 @@
 -- A limit that definitions cite, and worked command lines, at which the definitions compute.
-use Rattle.std.proofs.Common.{◌≡◌, ◌∷◌, [], Ok, Err, codes, negsuc, pos, refl, true}
+use Rattle.std.proofs.Common.{◌≡◌, ◌∷◌, [], Ok, Err, Some, codes, negsuc, pos, refl, true}
 use Rattle.number_text.specs.CountTexts.{count_of}
 use Rattle.number_text.specs.ListTexts.{list_of}
 use Rattle.record_reader.specs.declared.missing.Missing.TheVariants.{Drop}
@@ -12,7 +12,7 @@ use Rattle.settings.specs.declared.names.OptionName.TheVariants as option
 use Rattle.settings.specs.declared.names.TestName.TheVariants as test
 use Rattle.settings.specs.declared.names.UsageFault.TheVariants.{Form, Value, Pairing}
 use Rattle.settings.specs.declared.settings.TheConstants.{GREATEST_NUMBER}
-use Rattle.settings.specs.declared.tails.TailChoice.TheVariants.{Less, Greater}
+use Rattle.settings.specs.declared.tails.TailChoice.TheVariants.{Less, Greater, Two}
 
 greatest_number : GREATEST_NUMBER ≡ 2147483647
 greatest_number = refl
@@ -192,3 +192,40 @@ shift_without_file = refl
 
 miss_with_a_test : meaning_of (codes "ranksum" ∷ codes "f.csv" ∷ codes "--miss=1/5" ∷ []) ≡ Err (Pairing option.Miss test.RankSum)
 miss_with_a_test = refl
+
+odds_of_a_table : meaning_of (codes "fisher" ∷ codes "f.csv" ∷ codes "--odds" ∷ codes "3/2" ∷ codes "--tail=less" ∷ [])
+    ≡ Ok (Test (record (settings_without_options test.Fisher (codes "f.csv")) { odds = Some (record { above = 3; below = 2 }); tail = Less }))
+unfolding count_of
+odds_of_a_table = refl
+
+greatest_odds_of_strata : meaning_of (codes "strata" ∷ codes "f.csv" ∷ codes "--odds=1000/0001" ∷ [])
+    ≡ Ok (Test (record (settings_without_options test.Strata (codes "f.csv")) { odds = Some (record { above = 1000; below = 1 }) }))
+unfolding count_of
+greatest_odds_of_strata = refl
+
+odds_of_nothing : meaning_of (codes "fisher" ∷ codes "f.csv" ∷ codes "--odds" ∷ codes "0/1" ∷ []) ≡ Err (Value option.Odds)
+unfolding count_of
+odds_of_nothing = refl
+
+odds_without_a_slash : meaning_of (codes "fisher" ∷ codes "f.csv" ∷ codes "--odds" ∷ codes "2" ∷ []) ≡ Err (Value option.Odds)
+unfolding count_of
+odds_without_a_slash = refl
+
+odds_past_a_thousand : meaning_of (codes "fisher" ∷ codes "f.csv" ∷ codes "--odds" ∷ codes "1001/1" ∷ []) ≡ Err (Value option.Odds)
+unfolding count_of
+odds_past_a_thousand = refl
+
+odds_of_ranks : meaning_of (codes "ranksum" ∷ codes "f.csv" ∷ codes "--odds" ∷ codes "2/1" ∷ []) ≡ Err (Pairing option.Odds test.RankSum)
+odds_of_ranks = refl
+
+two_sided_by_odds : meaning_of (codes "fisher" ∷ codes "f.csv" ∷ codes "--odds" ∷ codes "2/1" ∷ codes "--tail" ∷ codes "two" ∷ []) ≡ Err (Pairing option.Tail test.Fisher)
+unfolding count_of
+two_sided_by_odds = refl
+
+separator_before_odds_of_two : meaning_of (codes "fisher" ∷ codes "f.csv" ∷ codes "--odds=2/1" ∷ codes "--tail=two" ∷ codes "--separator=" ∷ []) ≡ Err (Value option.Separator)
+unfolding count_of
+separator_before_odds_of_two = refl
+
+two_sided_without_odds : meaning_of (codes "fisher" ∷ codes "f.csv" ∷ codes "--tail=two" ∷ [])
+    ≡ Ok (Test (record (settings_without_options test.Fisher (codes "f.csv")) { tail = Two }))
+two_sided_without_odds = refl

@@ -28,4 +28,4 @@ help =
     ++ codes "         --row-scores LIST --column-scores LIST" ++ line_feed
     ++ codes "         --columns LIST --separator comma|semicolon|tab" ++ line_feed
     ++ codes "         --distribution --plain --nodes" ++ line_feed
-    ++ codes "         --missing refuse|drop" ++ line_feed
+    ++ codes "         --odds P/Q --missing refuse|drop" ++ line_feed

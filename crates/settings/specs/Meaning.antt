@@ -14,8 +14,10 @@ use Rattle.settings.specs.declared.names.OptionName.TheVariants as option
 use Rattle.settings.specs.declared.names.TestName.{TestName}
 use Rattle.settings.specs.declared.names.TestName.TheVariants as test
 use Rattle.settings.specs.declared.names.UsageFault.{UsageFault}
-use Rattle.settings.specs.declared.names.UsageFault.TheVariants.{Form, Value}
+use Rattle.settings.specs.declared.names.UsageFault.TheVariants.{Form, Value, Pairing}
 use Rattle.settings.specs.declared.settings.Settings.{Settings}
+use Rattle.settings.specs.declared.tails.TailChoice.{TailChoice}
+use Rattle.settings.specs.declared.tails.TailChoice.TheVariants.{Two}
 
 -- the one word `--help`
 abbrev pub is_help : List (List ℕ) → Bool
@@ -43,6 +45,20 @@ settings_of given test =
     with_options listed_names (value_in given.uses)
     (settings_without_options test (unwrap_or given.file []))
 
+abbrev pub is_two : TailChoice → Bool
+is_two Two = true
+is_two _ = false
+
+-- odds are asked for, which have no two-sided test, and such a test
+abbrev pub is_two_sided_by_odds : Settings → Bool
+is_two_sided_by_odds settings = is_some settings.odds && is_two settings.tail
+
+-- the settings, where the options go together
+abbrev pub paired : Settings → Result Settings UsageFault
+paired settings =
+    if is_two_sided_by_odds settings then Err (Pairing option.Tail settings.test)
+    else Ok settings
+
 -- the command that settings stand for: a test of the data of a file, or of made data, or a shift
 abbrev pub command_for : TestName → Settings → CommandLine
 command_for test.Drill settings = Drill settings.number
@@ -54,7 +70,8 @@ command_of settings = command_for settings.test settings
 
 abbrev pub meaning_for : Given → TestName → Result CommandLine UsageFault
 meaning_for given test =
-    if is_complete test given then with_value command_of (settings_of given test) else Err Form
+    if is_complete test given
+    then with_value command_of (and_then paired (settings_of given test)) else Err Form
 
 -- the test is listed
 abbrev pub meaning_of_test : Given → List ℕ → Result CommandLine UsageFault

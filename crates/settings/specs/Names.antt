@@ -5,7 +5,7 @@ use Rattle.scores.specs.declared.kinds.ScoreKind.{ScoreKind}
 use Rattle.scores.specs.declared.kinds.ScoreKind.TheVariants as scores
 use Rattle.settings.specs.Tests.{form}
 use Rattle.settings.specs.declared.names.OptionName.{OptionName}
-use Rattle.settings.specs.declared.names.OptionName.TheVariants.{Test, Tail, Scores, Order, Peak, RowScores, ColumnScores, Columns, Separator, Number, Missing, Miss, Distribution, Plain, Nodes}
+use Rattle.settings.specs.declared.names.OptionName.TheVariants.{Test, Tail, Scores, Order, Peak, RowScores, ColumnScores, Columns, Separator, Number, Odds, Missing, Miss, Distribution, Plain, Nodes}
 use Rattle.settings.specs.declared.names.TestName.{TestName}
 
 -- the bytes of the word that names the test
@@ -24,6 +24,7 @@ option_word ColumnScores = codes "column-scores"
 option_word Columns = codes "columns"
 option_word Separator = codes "separator"
 option_word Number = codes "number"
+option_word Odds = codes "odds"
 option_word Missing = codes "missing"
 option_word Miss = codes "miss"
 option_word Distribution = codes "distribution"

@@ -9,7 +9,7 @@ use Rattle.record_reader.specs.declared.picks.Picks.TheVariants.{Natural, Listed
 use Rattle.scores.specs.declared.kinds.ScoreKind.TheVariants.{Wilcoxon}
 use Rattle.settings.specs.Names.{is_same}
 use Rattle.settings.specs.Tests.{form, has_tail, is_test, orders_groups, reads_file, reads_samples, shape_of}
-use Rattle.settings.specs.Values.{column_scores_form, columns_of, miss_of, missing_of, number_form, number_of, numbers_of, order_of, peak_form, row_scores_form, scores_of, separator_of, tail_of}
+use Rattle.settings.specs.Values.{column_scores_form, columns_of, miss_of, missing_of, number_form, number_of, numbers_of, odds_of, order_of, peak_form, row_scores_form, scores_of, separator_of, tail_of}
 use Rattle.settings.specs.declared.names.OptionName.{OptionName}
 use Rattle.settings.specs.declared.names.OptionName.TheVariants as option
 use Rattle.settings.specs.declared.names.TestName.{TestName}
@@ -32,6 +32,7 @@ settings_without_options test file = record {
   picks = Natural;
   separator = comma;
   number = 0;
+  odds = None;
   missing = Refuse;
   miss = record { above = 1; below = 20 };
   distribution = false;
@@ -117,6 +118,9 @@ form_of option.Separator =
 form_of option.Number =
     value_option (has_own option.Number)
     (setting (number_of number_form) (λ number settings. record settings { number = number }))
+form_of option.Odds =
+    value_option (has_own option.Odds)
+    (setting odds_of (λ odds settings. record settings { odds = Some odds }))
 form_of option.Missing =
     value_option reads_samples
     (setting missing_of (λ missing settings. record settings { missing = missing }))
@@ -131,7 +135,7 @@ form_of option.Nodes = flag option.Nodes
 abbrev pub listed_names : List OptionName
 listed_names =
     option.Tail ∷ option.Scores ∷ option.Order ∷ option.Peak ∷ option.RowScores
-    ∷ option.ColumnScores ∷ option.Columns ∷ option.Separator ∷ option.Number
+    ∷ option.ColumnScores ∷ option.Columns ∷ option.Separator ∷ option.Number ∷ option.Odds
     ∷ option.Missing ∷ option.Miss ∷ option.Distribution ∷ option.Plain ∷ option.Nodes ∷ []
 
 -- the settings, where the test goes with what the option asks for

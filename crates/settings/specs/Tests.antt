@@ -79,11 +79,11 @@ form test.Friedman = record (plain_test (codes "friedman") kind.Blocks) { tails 
 form test.Page = plain_test (codes "page") kind.Blocks
 form test.Cochran =
     record (plain_test (codes "cochran") kind.BinaryBlocks) { tails = greater_alone }
-form test.Fisher = plain_test (codes "fisher") kind.Table
+form test.Fisher = record (plain_test (codes "fisher") kind.Table) { own = option.Odds ∷ [] }
 form test.Linear = record (plain_test (codes "linear") kind.Table) {
   own = option.RowScores ∷ option.ColumnScores ∷ [];
 }
-form test.Strata = plain_test (codes "strata") kind.Strata
+form test.Strata = record (plain_test (codes "strata") kind.Strata) { own = option.Odds ∷ [] }
 form test.Drill = record (plain_test (codes "drill") kind.Made) {
   tails = no_tails;
   own = option.Number ∷ [];

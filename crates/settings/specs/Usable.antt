@@ -1,7 +1,7 @@
 -- What settings keep to, so that they can be used.
-use Rattle.std.specs.Prelude.{◌≡◌, ◌≢◌, ◌≤◌, ◌⊎◌, ⊤, ℕ, ℤ, All, AllPairs, List, [], length}
+use Rattle.std.specs.Prelude.{◌≡◌, ◌≢◌, ◌≤◌, ◌⊎◌, ⊤, ℕ, ℤ, All, AllPairs, IfSome, List, [], length}
 use Rattle.number_text.specs.ListTexts.{IsWithin}
-use Rattle.weights.specs.Odds.{IsMiss}
+use Rattle.weights.specs.Odds.{IsMiss, IsOdds}
 use Rattle.record_reader.specs.Layouts.{MayPick}
 use Rattle.record_reader.specs.Records.{IsSeparator}
 use Rattle.settings.specs.Tests.{shape_of}
@@ -28,7 +28,8 @@ abbrev pub IsDrillNumber : ℕ → Type 0
 IsDrillNumber number = number ≤ GREATEST_NUMBER
 
 -- Settings that can be used: no order of the groups or one, scores that are not too great, as many
--- fields as the layout has where they are listed, a separator, and how often limits may miss.
+-- fields as the layout has where they are listed, a separator, odds or none, and how often limits
+-- may miss.
 pub record AreUsable (settings : Settings) : Type 0 where
   pub order : (settings.order ≡ []) ⊎ AreLabels settings.order
   pub row_scores : AreWithin row_scores_form settings.row_scores
@@ -37,6 +38,7 @@ pub record AreUsable (settings : Settings) : Type 0 where
       let shape = shape_of settings.test in MayPick shape.narrowest shape.widest settings.picks
   pub separator : IsSeparator settings.separator
   pub number : IsDrillNumber settings.number
+  pub odds : IfSome settings.odds IsOdds
   pub miss : IsMiss settings.miss
 
 -- the settings of a command line can be used

@@ -48,7 +48,7 @@ pub fn help_text() -> &'static str
         "         --row-scores LIST --column-scores LIST\n",
         "         --columns LIST --separator comma|semicolon|tab\n",
         "         --distribution --plain --nodes\n",
-        "         --missing refuse|drop\n",
+        "         --odds P/Q --missing refuse|drop\n",
     )
 }
 
@@ -65,8 +65,8 @@ pub fn help_text() -> &'static str
 /// is there with `drill`, where an option is missing that the test cannot do without, and where
 /// both `--plain` and `--nodes` are there; and then for each option, in the order of the help
 /// text, `Pairing` where the test does not take it, `Value` where its value is not of its form,
-/// and for `--tail` `Pairing` where the test never has the tail. Or else `NoMemory` where memory
-/// runs out.
+/// and for `--tail` `Pairing` where the test never has the tail; and last `Pairing` of `--tail`
+/// where it is `two` and `--odds` is there. Or else `NoMemory` where memory runs out.
 pub fn read(alloc: Global, words: &[String]) -> Result<CommandLine, UsageFault>
     ensures meaning { Meets (meaning_of (map string_bytes words.now)) result }
     ensures help { is_help (map string_bytes words.now) ≡ true → result ≡ Ok CommandLine.Help }
@@ -89,7 +89,7 @@ fn read_given(alloc: Global, words: &[String]) -> Result<CommandLine, UsageFault
     if !given.is_complete(test) {
         return Err(UsageFault::Form);
     }
-    let settings = settings_of(alloc, &given, test, word)?;
+    let settings = settings_of(alloc, &given, test, word)?.paired()?;
     Ok(command_of(settings))
 }
 

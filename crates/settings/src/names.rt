@@ -82,6 +82,8 @@ pub enum OptionName {
     Separator,
     /// `--number`: the number of made data.
     Number,
+    /// `--odds`: the odds ratio that rearrangements are weighed by.
+    Odds,
     /// `--missing`: what becomes of a row with a missing field.
     Missing,
     /// `--miss`: how often the limits of a shift may miss it.
@@ -112,7 +114,7 @@ pub enum UsageFault {
 }
 
 // The options and flags that can be given, in the order in which their faults are told.
-pub(crate) const OPTIONS: [OptionName; 14] = [
+pub(crate) const OPTIONS: [OptionName; 15] = [
     OptionName::Tail,
     OptionName::Scores,
     OptionName::Order,
@@ -122,6 +124,7 @@ pub(crate) const OPTIONS: [OptionName; 14] = [
     OptionName::Columns,
     OptionName::Separator,
     OptionName::Number,
+    OptionName::Odds,
     OptionName::Missing,
     OptionName::Miss,
     OptionName::Distribution,
@@ -152,6 +155,7 @@ impl OptionName {
             OptionName::Columns => "columns",
             OptionName::Separator => "separator",
             OptionName::Number => "number",
+            OptionName::Odds => "odds",
             OptionName::Missing => "missing",
             OptionName::Miss => "miss",
             OptionName::Distribution => "distribution",

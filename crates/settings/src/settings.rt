@@ -2,6 +2,7 @@
 ghost use Rattle.std.specs.Prelude.{◌≡◌, IfOk, Ok, Err, if◌then◌else◌};
 ghost use Rattle.std.specs.Option.{ok_or};
 ghost use Rattle.settings.specs.Faults.{Meets, MeetsAs};
+ghost use Rattle.settings.specs.Meaning.{paired};
 ghost use Rattle.settings.specs.Options.{form_of, raised, settings_without_options, suited, with_option};
 ghost use Rattle.settings.specs.Values.{column_scores_form, number_form, peak_form, row_scores_form};
 ghost use Rattle.settings.specs.WordSteps.{text_of};
@@ -9,7 +10,7 @@ ghost use Rattle.settings.specs.WordSteps.{text_of};
 use crate::lists::{ListForm, columns_in, number_of, numbers_of};
 use crate::names::{OptionName, TestName, UsageFault};
 use crate::tails::TailChoice;
-use crate::values::{miss_of, missing_of, order_of, scores_of, separator_of};
+use crate::values::{miss_of, missing_of, odds_of, order_of, scores_of, separator_of};
 use record_reader::{Missing, Picks};
 use sample_reader::Labels;
 use scores::ScoreKind;
@@ -78,6 +79,8 @@ pub struct Settings {
     pub separator: u8,
     /// The number of made data, where the test is of such data; else 0.
     pub number: u64,
+    /// The odds ratio that rearrangements are weighed by; none by default, which weighs all alike.
+    pub odds: Option<Odds>,
     /// What becomes of a row with a missing field; by default it is a fault.
     pub missing: Missing,
     /// How often the limits of a shift may miss it; a twentieth by default.
@@ -146,6 +149,7 @@ impl Settings {
             picks: Picks::Natural,
             separator: b',',
             number: 0,
+            odds: None,
             missing: Missing::Refuse,
             miss: DEFAULT_MISS,
             distribution: false,
@@ -188,7 +192,17 @@ impl Settings {
         }
     }
 
-    // Takes over the value of this text. After a fault they are the same as before.
+    // Where its options go together: by odds no two-sided test is made.
+    pub(crate) fn paired(self) -> Result<Settings, UsageFault>
+        ensures { result ≡ paired self }
+    {
+        if self.odds.is_some() && matches!(self.tail, TailChoice::Two) {
+            return Err(UsageFault::Pairing(OptionName::Tail, self.test));
+        }
+        Ok(self)
+    }
+
+    // Takes over the value of this text.
     fn set_text(&mut self, alloc: Global, name: OptionName, text: &str) -> Result<(), UsageFault>
         ensures { let more = (form_of name).set text.now self.old in
             MeetsAs (λ unit. self.new) (ok_or more (UsageFault.Value name)) result }
@@ -212,6 +226,7 @@ impl Settings {
             }
             OptionName::Separator => self.separator = separator_of(text).ok_or(fault)?,
             OptionName::Number => self.number = number_of(name, NUMBER, text)?,
+            OptionName::Odds => self.odds = Some(odds_of(text).ok_or(fault)?),
             OptionName::Missing => self.missing = missing_of(text).ok_or(fault)?,
             OptionName::Miss => self.miss = miss_of(text).ok_or(fault)?,
             OptionName::Distribution | OptionName::Plain | OptionName::Nodes => self.raise(name),

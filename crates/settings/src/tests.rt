@@ -216,12 +216,16 @@ impl TestName {
             TestName::Cochran => {
                 TestForm::plain("cochran", TestData::BinaryBlocks).with_tails(GREATER_ALONE)
             }
-            TestName::Fisher => TestForm::plain("fisher", TestData::Table),
+            TestName::Fisher => {
+                TestForm::plain("fisher", TestData::Table).with_own(&[OptionName::Odds])
+            }
             TestName::Linear => TestForm::plain("linear", TestData::Table).with_own(&[
                 OptionName::RowScores,
                 OptionName::ColumnScores,
             ]),
-            TestName::Strata => TestForm::plain("strata", TestData::Strata),
+            TestName::Strata => {
+                TestForm::plain("strata", TestData::Strata).with_own(&[OptionName::Odds])
+            }
             TestName::Drill => TestForm::plain("drill", TestData::Made)
                 .with_tails(NO_TAILS)
                 .with_own(&[OptionName::Number])
@@ -270,6 +274,7 @@ impl TestName {
             | OptionName::RowScores
             | OptionName::ColumnScores
             | OptionName::Number
+            | OptionName::Odds
             | OptionName::Miss => self.has_own(option),
             OptionName::Tail | OptionName::Distribution | OptionName::Plain | OptionName::Nodes =>
                 self.has_tail(TailChoice::All),
