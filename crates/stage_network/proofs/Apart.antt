@@ -1,5 +1,5 @@
 -- Short lists whose elements are all different.
-use Rattle.std.proofs.Common.{◌≢◌, List, [], ◌∷◌, All, AllPairs, arith}
+use Rattle.std.proofs.Common.{◌≢◌, [], ◌∷◌, AllPairs, arith}
 use Rattle.std.proofs.lemmas.List.Elements.{All-cons, All-nil}
 use Rattle.std.proofs.lemmas.List.Kept.{AllPairs-cons}
 

@@ -52,12 +52,6 @@ by_verdict false Inside w e total u i o = rw (i refl) (omega arith)
 by_verdict false Outside w e total u i o = rw (o refl) (omega arith)
 by_verdict false Undecided w e total u i o = (let no : false ≡ true = u refl in cc)
 
-at_most : (some : Bool) (v : Verdict) (m : ℕ) → cond (cond some false (is_inside v)) m 0 + cond some m 0 ≤ m
-at_most true v m = omega arith
-at_most false Inside m = omega arith
-at_most false Outside m = omega arith
-at_most false Undecided m = omega arith
-
 pub split-extreme : (n : Network) → IsLawful n → (t : Tail) (g : ℕ) → g ≤ n.count → (nodes : List Node) → AllReached n g nodes → weighted (extreme_weight n t g) nodes ≡ closed_weight n t g nodes + sum_by (open_part n g (extreme_weight n t g)) nodes
 split-extreme n l t g h [] r = omega arith
 split-extreme n l t g h (a ∷ nodes) r =
@@ -65,13 +59,6 @@ split-extreme n l t g h (a ∷ nodes) r =
     by_verdict (is_open_for_some n g a.key) (n.verdict t g a.key) a.weight (extreme_weight n t g a.key) (total_weight n g a.key) (open-for n t g a.key) (inside-sum n l t g a.key r.0 h) (outside-sum n l t g a.key r.0 h) in
     rw (sum_by-cons (λ a. a.weight * extreme_weight n t g a.key) a nodes, sum_by-cons (closed_part n t g) a nodes, sum_by-cons (open_part n g (extreme_weight n t g)) a nodes)
     (omega (arith, here, split-extreme n l t g h nodes r.1))
-
-pub split-total : (n : Network) (t : Tail) (g : ℕ) (nodes : List Node) → closed_weight n t g nodes + sum_by (open_part n g (total_weight n g)) nodes ≤ weighted (total_weight n g) nodes
-split-total n t g [] = omega arith
-split-total n t g (a ∷ nodes) =
-    let here : closed_part n t g a + open_part n g (total_weight n g) a ≤ a.weight * total_weight n g a.key = at_most (is_open_for_some n g a.key) (n.verdict t g a.key) (a.weight * total_weight n g a.key) in
-    rw (sum_by-cons (λ a. a.weight * total_weight n g a.key) a nodes, sum_by-cons (closed_part n t g) a nodes, sum_by-cons (open_part n g (total_weight n g)) a nodes)
-    (omega (arith, here, split-total n t g nodes))
 
 -- the next stage's keys are reached
 pub all_append : {X : Type 0} (P : X → Type 0) (xs ys : List X) → AllByRecursion P xs → AllByRecursion P ys → AllByRecursion P (xs ++ ys)

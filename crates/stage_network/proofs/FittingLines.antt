@@ -1,12 +1,11 @@
 -- The weights of the lines of a distribution fit, and so do the rules of its test.
-use Rattle.std.proofs.Common.{◌≡◌, ℕ, ◌≤◌, zero, suc, List, [], ◌∷◌, map, refl, sym, ◌∙◌, ap, subst, arith, lit≤, nat_abs, ◌-ℤ◌, ◌*ℤ◌}
+use Rattle.std.proofs.Common.{◌≡◌, ℕ, ◌≤◌, List, map, sym, ◌∙◌, ap, subst, arith, lit≤, nat_abs, ◌-ℤ◌, ◌*ℤ◌}
 use Rattle.std.specs.Prelude.{ℤ, pos, Contains}
 use Rattle.std.specs.List.{All, AllByRecursion, sum_by}
 use Rattle.std.proofs.Math.IntN.{zero-*ℤ}
 use Rattle.std.proofs.lemmas.List.Elements.{All-contains_itself, All-from_recursion, recursion_from_All}
 use Rattle.weights.specs.declared.lines.Line.{Line}
 use Rattle.weights.specs.declared.rules.Rule.TheVariants.{AtLeast, AtMost}
-use Rattle.weights.specs.declared.tails.Tail.{Tail}
 use Rattle.weights.specs.declared.tails.Tail.TheVariants.{Less, Greater, Two}
 use Rattle.weights.specs.declared.TheConstants.{MAX}
 use Rattle.weights.specs.Conditional.{ConditionalTest, TwoSided, ascending_values, by_distance, by_rarity, distance, distribution, observed_statistic, total, value_weight}

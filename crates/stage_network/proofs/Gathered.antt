@@ -1,23 +1,19 @@
 -- Rooms filled one after another: the nodes of the next stage.
-use Rattle.std.proofs.Common.{◌≡◌, ℕ, zero, suc, ◌+◌, ◌*◌, ◌<◌, ◌≤◌, List, [], ◌∷◌, ◌++◌, length, take, get_or, Bool, true, false, cond, ◌&&◌, ◌||◌, refl, sym, ◌∙◌, ap, arith, subst, nat_eq, nat_lt}
+use Rattle.std.proofs.Common.{◌≡◌, ℕ, zero, suc, ◌+◌, ◌*◌, ◌<◌, ◌≤◌, List, [], ◌∷◌, ◌++◌, length, take, get_or, Bool, true, false, cond, ◌||◌, refl, sym, ◌∙◌, ap, arith, subst, nat_eq, nat_lt}
 use Rattle.std.specs.Prelude.{ℤ}
 use Rattle.std.specs.List.{sum_by, filter, IsDistinct, AllByRecursion}
 use Rattle.std.specs.Set.{is_member}
-use Rattle.std.proofs.lemmas.List.Sums.{sum_by-cons, sum_by-append}
-use Rattle.std.proofs.lemmas.Map.Made.{is_member-filter}
+use Rattle.std.proofs.lemmas.List.Sums.{sum_by-cons}
 use Rattle.std.proofs.lemmas.Map.Keys.{IsDistinct-head, IsDistinct-tail, IsDistinct-cons}
-use Rattle.weights.specs.declared.tails.Tail.{Tail}
 use Rattle.node_pool.specs.Nodes.{Node, key_eq, keys, weighted}
-use Rattle.stage_network.specs.Completions.{total_weight, extreme_weight}
-use Rattle.stage_network.specs.Laws.{IsLawful}
+use Rattle.stage_network.specs.Completions.{total_weight}
 use Rattle.stage_network.specs.Network.{Network, IsReached}
-use Rattle.stage_network.specs.NodeSteps.{successor, closed_weight, AllReached, AllHeavy, AreNodes}
-use Rattle.stage_network.specs.Opened.{is_open_for_some}
+use Rattle.stage_network.specs.NodeSteps.{successor, AllReached, AllHeavy, AreNodes}
 use Rattle.stage_network.proofs.Steps.{sum_by-flat_map, sum_by-same, reached-next}
 use Rattle.stage_network.specs.ArcSteps.{Arc, segment, arc_nodes, spread_out, bucket, firsts, IsFine, AllFine}
-use Rattle.node_pool.proofs.Puts.{same_key, key_equiv, unlike, alike}
-use Rattle.stage_network.proofs.Conserved.{sum_by-filter, split-extreme, split-total, all_append, all_map}
-use Rattle.stage_network.proofs.OpenKeys.{list_any-append, map-append, distinct_filter, keys-filter, member-holds, all_of_members, all_filter, same-holds}
+use Rattle.node_pool.proofs.Puts.{unlike, alike}
+use Rattle.stage_network.proofs.Conserved.{sum_by-filter, all_append, all_map}
+use Rattle.stage_network.proofs.OpenKeys.{map-append, distinct_filter, keys-filter, all_filter, same-holds}
 use Rattle.stage_network.proofs.Bounds.{weights-le-weighted}
 use Rattle.stage_network.proofs.Stepping.{reached_at}
 use Rattle.stage_network.proofs.Roomwise.{sum_by-add, all_segment, heavy_at, heavy-arc}
@@ -89,15 +85,6 @@ member-weighs q (b ∷ nodes) a =
 pub same-members : (xs ys : List Node) → AllHeavy xs → AllHeavy ys → ((f : List ℤ → ℕ) → weighted f xs ≡ weighted f ys) → (q : List ℤ) → is_member key_eq (keys xs) q ≡ is_member key_eq (keys ys) q
 same-members xs ys a b told q = member-weighs q xs a ∙ ap (nat_lt 0) (told (ind q)) ∙ sym (member-weighs q ys b)
 
-some_of : (a b : ℕ) → nat_lt 0 (a + b) ≡ (nat_lt 0 a || nat_lt 0 b)
-some_of zero b = ap (nat_lt 0) (let e : 0 + b ≡ b = omega arith in e)
-some_of (suc a) b = rw (some_is (suc a + b) (omega arith), some_is (suc a) (omega arith)) refl
-
-pub members-add : (xs ys zs : List Node) → AllHeavy xs → AllHeavy ys → AllHeavy zs → ((f : List ℤ → ℕ) → weighted f zs ≡ weighted f xs + weighted f ys) → (q : List ℤ) → is_member key_eq (keys zs) q ≡ (is_member key_eq (keys xs) q || is_member key_eq (keys ys) q)
-members-add xs ys zs a b c told q =
-    member-weighs q zs c ∙ ap (nat_lt 0) (told (ind q)) ∙ some_of (weighted (ind q) xs) (weighted (ind q) ys)
-    ∙ ap (λ t. t || nat_lt 0 (weighted (ind q) ys)) (sym (member-weighs q xs a)) ∙ ap (λ t. is_member key_eq (keys xs) q || t) (sym (member-weighs q ys b))
-
 -- what holds of each node that fine arcs lead to
 module _ (n : Network) (g width : ℕ) (nodes rooms : List Node) where
   pub fine_filter : (p : Arc → Bool) (arcs : List Arc) → AllFine n g width nodes rooms arcs → AllByRecursion (λ a. IsFine n g width nodes rooms a × (p a ≡ true)) (filter p arcs)
@@ -123,13 +110,6 @@ module _ (n : Network) (g width : ℕ) (nodes rooms : List Node) (here : AreNode
   spread-reached p arcs a = spread-all n g width nodes rooms (λ (b : Node). IsReached n (g + 1) b.key) (λ a. IsFine n g width nodes rooms a × (p a ≡ true))
       (λ w f i d h k. reached-next n g (get_or nodes i d).key w.choice (reached_at n g nodes i d here.reached (omega (arith, k, f.0.chosen.last))) here.before (f.0.chosen.allowed i d h k))
       (filter p arcs) (fine_filter n g width nodes rooms p arcs a)
-
-  -- all arcs together
-  pub every-heavy : (arcs : List Arc) → AllFine n g width nodes rooms arcs → AllHeavy (spread_out n g nodes arcs)
-  every-heavy arcs fine = subst (λ ws. AllHeavy (spread_out n g nodes ws)) (firsts-all n g width nodes rooms arcs fine) (spread-heavy (λ a. nat_lt a.target (length rooms)) arcs fine)
-
-  pub every-reached : (arcs : List Arc) → AllFine n g width nodes rooms arcs → AllReached n (g + 1) (spread_out n g nodes arcs)
-  every-reached arcs fine = subst (λ ws. AllReached n (g + 1) (spread_out n g nodes ws)) (firsts-all n g width nodes rooms arcs fine) (spread-reached (λ a. nat_lt a.target (length rooms)) arcs fine)
 
   pub spread-here : (e : Node) (t : ℕ) (arcs : List Arc) → AllFine n g width nodes rooms arcs → AllByRecursion (λ (b : Node). take width b.key ≡ (get_or rooms t e).key) (spread_out n g nodes (bucket t arcs))
   spread-here e t arcs a = spread-all n g width nodes rooms (λ (b : Node). take width b.key ≡ (get_or rooms t e).key) (λ a. IsFine n g width nodes rooms a × (nat_eq a.target t ≡ true))
@@ -183,34 +163,6 @@ distinct-append : (xs ys : List (List ℤ)) → IsDistinct key_eq xs → IsDisti
 distinct-append [] ys a b c = b
 distinct-append (x ∷ xs) ys a b c = IsDistinct-cons key_eq x (xs ++ ys) (all_append_keys (λ y. key_eq x y ≡ false) xs ys (IsDistinct-head key_eq x xs a) c.0) (distinct-append xs ys (IsDistinct-tail key_eq x xs a) b c.1)
 
-and_or : (a b c : Bool) → ((a && c) || (b && c)) ≡ ((a || b) && c)
-and_or true true true = refl
-and_or true true false = refl
-and_or true false true = refl
-and_or true false false = refl
-and_or false true c = refl
-and_or false false c = refl
-
-pub kept-members : (p : List ℤ → Bool) (kept work before more : List Node) → ((q : List ℤ) → is_member key_eq (keys kept) q ≡ (is_member key_eq (keys before) q && p q)) → ((q : List ℤ) → is_member key_eq (keys more) q ≡ (is_member key_eq (keys before) q || is_member key_eq (keys work) q)) → (q : List ℤ) → is_member key_eq (keys (kept ++ filter (λ a. p a.key) work)) q ≡ (is_member key_eq (keys more) q && p q)
-kept-members p kept work before more was now q =
-    ap (λ ks. is_member key_eq ks q) (map-append (λ (b : Node). b.key) kept (filter (λ a. p a.key) work) ∙ ap (λ ks. keys kept ++ ks) (keys-filter p work))
-    ∙ list_any-append (key_eq q) (keys kept) (filter p (keys work))
-    ∙ ap (λ b. b || is_member key_eq (filter p (keys work)) q) (was q)
-    ∙ ap (λ b. (is_member key_eq (keys before) q && p q) || b) (is_member-filter key_equiv p q (λ x e. ap p (same_key q x e)) (keys work))
-    ∙ and_or (is_member key_eq (keys before) q) (is_member key_eq (keys work) q) (p q)
-    ∙ ap (λ b. b && p q) (sym (now q))
-
--- what is open and what is closed of a room
-pub kept-extreme : (n : Network) → IsLawful n → (t : Tail) (g : ℕ) → g ≤ n.count → (kept work : List Node) → AllReached n g work → closed_weight n t g work + weighted (extreme_weight n t g) (kept ++ filter (λ a. is_open_for_some n g a.key) work) ≡ weighted (extreme_weight n t g) kept + weighted (extreme_weight n t g) work
-kept-extreme n l t g h kept work r =
-    let f = λ (a : Node). a.weight * extreme_weight n t g a.key in
-    omega (arith, sum_by-append f kept (filter (λ a. is_open_for_some n g a.key) work), sum_by-filter f (λ a. is_open_for_some n g a.key) work, split-extreme n l t g h work r)
-
-pub kept-total : (n : Network) (t : Tail) (g : ℕ) (kept work : List Node) → closed_weight n t g work + weighted (total_weight n g) (kept ++ filter (λ a. is_open_for_some n g a.key) work) ≤ weighted (total_weight n g) kept + weighted (total_weight n g) work
-kept-total n t g kept work =
-    let f = λ (a : Node). a.weight * total_weight n g a.key in
-    omega (arith, sum_by-append f kept (filter (λ a. is_open_for_some n g a.key) work), sum_by-filter f (λ a. is_open_for_some n g a.key) work, split-total n t g work)
-
 all_keys : (A : List ℤ → Type 0) (nodes : List Node) → AllByRecursion (λ (a : Node). A a.key) nodes → AllByRecursion A (keys nodes)
 all_keys A [] h = tt
 all_keys A (b ∷ nodes) h = (h.0, all_keys A nodes h.1)
@@ -227,13 +179,6 @@ pub kept-apart : (p : List ℤ → Bool) (kept work : List Node) (A B : List ℤ
 kept-apart p kept work A B h d e a b =
     let is : keys (kept ++ filter (λ a. p a.key) work) ≡ keys kept ++ filter p (keys work) = map-append (λ (b : Node). b.key) kept (filter (λ a. p a.key) work) ∙ ap (λ ks. keys kept ++ ks) (keys-filter p work) in
     subst (IsDistinct key_eq) (sym is) (distinct-append (keys kept) (filter p (keys work)) d (distinct_filter p (keys work) e) (all_pairs A B h (keys kept) (filter p (keys work)) (all_keys A kept a) (all_filter B p (keys work) (all_keys B work b))))
-
-and_left : (a b : Bool) → (a && b) ≡ true → a ≡ true
-and_left true b e = refl
-and_left false b e = e
-
-pub kept-from : (A : List ℤ → Type 0) (p : List ℤ → Bool) (kept before : List Node) → AllByRecursion (λ (a : Node). A a.key) before → ((q : List ℤ) → is_member key_eq (keys kept) q ≡ (is_member key_eq (keys before) q && p q)) → AllByRecursion (λ (a : Node). A a.key) kept
-kept-from A p kept before a was = all_of_members A kept (λ q m. member-holds A before q a (and_left (is_member key_eq (keys before) q) (p q) (sym (was q) ∙ m)))
 
 pub clash : (width : ℕ) (rooms : List Node) (t : ℕ) (e : Node) → IsDistinct key_eq (keys rooms) → t < length rooms → (x y : List ℤ) → (j : ℕ) × (j < t) × (take width x ≡ (get_or rooms j e).key) → take width y ≡ (get_or rooms t e).key → key_eq x y ≡ false
 clash width rooms t e d low x y a b = unlike x y (λ same.

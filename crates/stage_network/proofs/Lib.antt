@@ -20,7 +20,9 @@ pub mod Housing
 pub mod Gathered
 pub mod Carried
 pub mod ToCome
+pub mod Listing
 pub mod Sweeps
+pub mod Courses
 pub mod NodeLines
 pub mod Swaps
 pub mod Parts

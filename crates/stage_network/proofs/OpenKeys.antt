@@ -1,19 +1,15 @@
 -- Nodes whose keys are those reached through open keys, each once: how many are open, and where they lead.
-use Rattle.std.proofs.Common.{◌≡◌, ℕ, ◌+◌, List, [], ◌∷◌, ◌++◌, map, Bool, true, false, cond, ◌&&◌, ◌||◌, refl, sym, ◌∙◌, ap, subst, add-one, length}
+use Rattle.std.proofs.Common.{◌≡◌, ℕ, List, [], ◌∷◌, ◌++◌, map, Bool, true, false, cond, ◌&&◌, ◌||◌, refl, sym, ◌∙◌, ap, subst, length}
 use Rattle.std.specs.Prelude.{ℤ}
-use Rattle.std.specs.List.{flat_map, filter, list_any, IsDistinct, AllByRecursion, Contains, Any}
+use Rattle.std.specs.List.{flat_map, filter, IsDistinct, AllByRecursion}
 use Rattle.std.specs.Set.{is_member, distinct_count}
 use Rattle.std.proofs.lemmas.List.{length-map}
-use Rattle.std.proofs.lemmas.List.Folds.{Any-from_list_any, list_any-from_Any}
 use Rattle.std.proofs.lemmas.Map.Made.{is_member-filter, length-from_keys}
 use Rattle.std.proofs.lemmas.Map.Keys.{IsDistinct-head, IsDistinct-tail, IsDistinct-cons}
-use Rattle.std.proofs.lemmas.Map.Views.{Contains-from_any, list_any-from_Contains}
-use Rattle.weights.specs.declared.tails.Tail.{Tail}
 use Rattle.node_pool.specs.Nodes.{Node, key_eq, keys}
 use Rattle.stage_network.specs.Network.{Network}
 use Rattle.stage_network.specs.NodeSteps.{successor, successors}
 use Rattle.stage_network.proofs.NodeSums.{opened_to}
-use Rattle.stage_network.specs.Opened.{is_open, reached_through, reached_by_some, opened_by_some}
 use Rattle.node_pool.proofs.Puts.{same_key, key_equiv}
 
 -- a filter keeps keys apart
@@ -29,33 +25,6 @@ distinct_filter p (k ∷ ks) d =
       | false ↦ distinct_filter p ks (IsDistinct-tail key_eq k ks d)
     ]
 
--- lists with the same members lead to the same members
-same_bool : (a b : Bool) → (a ≡ true → b ≡ true) → (b ≡ true → a ≡ true) → a ≡ b
-same_bool true b f h = sym (f refl)
-same_bool false true f h = h refl
-same_bool false false f h = refl
-
-any_member : (p : List ℤ → Bool) (ks js : List (List ℤ)) → ((q : List ℤ) → is_member key_eq ks q ≡ is_member key_eq js q) → list_any p ks ≡ true → list_any p js ≡ true
-any_member p ks js same h =
-    let found : Any (λ k. p k ≡ true) ks = Any-from_list_any p ks h in
-    let here : is_member key_eq ks found.1 ≡ true = list_any-from_Contains key_equiv found.1 ks (found.0, found.2, found.3) in
-    let there : Contains js found.1 = Contains-from_any same_key found.1 js (sym (same found.1) ∙ here) in
-    list_any-from_Any p js (there.0, found.1, there.1, there.2, found.4)
-
-pub list_any-append : {X : Type 0} (p : X → Bool) (xs ys : List X) → list_any p (xs ++ ys) ≡ (list_any p xs || list_any p ys)
-list_any-append p [] ys = refl
-list_any-append p (x ∷ xs) ys = elim (p x) as (λ b. (b || list_any p (xs ++ ys)) ≡ ((b || list_any p xs) || list_any p ys)) [ true ↦ refl | false ↦ list_any-append p xs ys ]
-
-list_any-flat_map : {X Y : Type 0} (p : Y → Bool) (f : X → List Y) (xs : List X) → list_any p (flat_map f xs) ≡ list_any (λ x. list_any p (f x)) xs
-list_any-flat_map p f [] = refl
-list_any-flat_map p f (x ∷ xs) = list_any-append p (f x) (flat_map f xs) ∙ ap (λ b. list_any p (f x) || b) (list_any-flat_map p f xs)
-
-flat_map-members : (f : List ℤ → List (List ℤ)) (ks js : List (List ℤ)) → ((q : List ℤ) → is_member key_eq ks q ≡ is_member key_eq js q) → (q : List ℤ) → is_member key_eq (flat_map f ks) q ≡ is_member key_eq (flat_map f js) q
-flat_map-members f ks js same q =
-    list_any-flat_map (key_eq q) f ks
-    ∙ same_bool _ _ (any_member (λ k. list_any (key_eq q) (f k)) ks js same) (any_member (λ k. list_any (key_eq q) (f k)) js ks (λ r. sym (same r)))
-    ∙ sym (list_any-flat_map (key_eq q) f js)
-
 pub map-append : {X Y : Type 0} (f : X → Y) (xs ys : List X) → map f (xs ++ ys) ≡ map f xs ++ map f ys
 map-append f [] ys = refl
 map-append f (x ∷ xs) ys = ap (λ zs. f x ∷ zs) (map-append f xs ys)
@@ -64,7 +33,7 @@ map-map : {X Y Z : Type 0} (f : Y → Z) (h : X → Y) (xs : List X) → map f (
 map-map f h [] = refl
 map-map f h (x ∷ xs) = ap (λ zs. f (h x) ∷ zs) (map-map f h xs)
 
-keys-opened_to : (n : Network) (p : ℕ → List ℤ → Bool) (g : ℕ) (nodes : List Node) → keys (opened_to n p g nodes) ≡ flat_map (λ k. map (n.next g k) (n.choices g k)) (filter (p g) (keys nodes))
+pub keys-opened_to : (n : Network) (p : ℕ → List ℤ → Bool) (g : ℕ) (nodes : List Node) → keys (opened_to n p g nodes) ≡ flat_map (λ k. map (n.next g k) (n.choices g k)) (filter (p g) (keys nodes))
 keys-opened_to n p g [] = refl
 keys-opened_to n p g (a ∷ nodes) =
     elim (p g a.key) as (λ b. keys (flat_map (successors n g) (cond b (a ∷ filter (λ a. p g a.key) nodes) (filter (λ a. p g a.key) nodes))) ≡ flat_map (λ k. map (n.next g k) (n.choices g k)) (cond b (a.key ∷ filter (p g) (keys nodes)) (filter (p g) (keys nodes)))) [
@@ -73,9 +42,6 @@ keys-opened_to n p g (a ∷ nodes) =
           ∙ ap (λ ks. map (n.next g a.key) (n.choices g a.key) ++ ks) (keys-opened_to n p g nodes)
       | false ↦ keys-opened_to n p g nodes
     ]
-
-pub opened-next : (n : Network) (t : Tail) (g : ℕ) → opened_by_some n t (g + 1) ≡ opened_by_some n t g + distinct_count key_eq (filter (is_open n t g) (reached_by_some n g))
-opened-next n t g = rw add-one refl
 
 -- what holds of the nodes' keys holds of keys that are among them
 or_true : (b : Bool) → (b || true) ≡ true
@@ -104,24 +70,6 @@ pub one_distinct : (k : List ℤ) → IsDistinct key_eq (k ∷ [])
 unfolding IsDistinct
 one_distinct k = (tt, tt)
 
--- the same of the open nodes alone
-and_twice : (a b : Bool) → ((a && b) && b) ≡ (a && b)
-and_twice true true = refl
-and_twice true false = refl
-and_twice false b = refl
-
-pub and_right : (a b : Bool) → (a && b) ≡ true → b ≡ true
-and_right true b e = e
-and_right false true e = refl
-and_right false false e = e
-
-pub openly-members : (n : Network) (p : ℕ → List ℤ → Bool) (g : ℕ) (nodes : List Node) → ((q : List ℤ) → is_member key_eq (keys nodes) q ≡ (is_member key_eq (reached_through n p g) q && p g q)) → (q : List ℤ) → is_member key_eq (keys (opened_to n p g nodes)) q ≡ is_member key_eq (reached_through n p (g + 1)) q
-openly-members n p g nodes was q =
-    rw add-one (ap (λ ks. is_member key_eq ks q) (keys-opened_to n p g nodes)
-    ∙ flat_map-members (λ k. map (n.next g k) (n.choices g k)) (filter (p g) (keys nodes)) (filter (p g) (reached_through n p g))
-    (λ q. is_member-filter key_equiv (p g) q (λ x e. ap (p g) (same_key q x e)) (keys nodes) ∙ ap (λ b. b && p g q) (was q) ∙ and_twice (is_member key_eq (reached_through n p g) q) (p g q)
-    ∙ sym (is_member-filter key_equiv (p g) q (λ x e. ap (p g) (same_key q x e)) (reached_through n p g))) q)
-
 -- how many pass another test, which only keys that pass meet
 and_skip : (a b c : Bool) → (c ≡ true → b ≡ true) → ((a && b) && c) ≡ (a && c)
 and_skip false b c h = refl
@@ -133,10 +81,10 @@ pub keys-filter : (p : List ℤ → Bool) (nodes : List Node) → keys (filter (
 keys-filter p [] = refl
 keys-filter p (a ∷ nodes) = elim (p a.key) as (λ b. keys (cond b (a ∷ filter (λ a. p a.key) nodes) (filter (λ a. p a.key) nodes)) ≡ cond b (a.key ∷ filter p (keys nodes)) (filter p (keys nodes))) [ true ↦ ap (λ ks. a.key ∷ ks) (keys-filter p nodes) | false ↦ keys-filter p nodes ]
 
-pub openly-counted : (n : Network) (p : ℕ → List ℤ → Bool) (g : ℕ) (f : List ℤ → Bool) (nodes : List Node) → IsDistinct key_eq (keys nodes) → ((k : List ℤ) → f k ≡ true → p g k ≡ true) → ((q : List ℤ) → is_member key_eq (keys nodes) q ≡ (is_member key_eq (reached_through n p g) q && p g q)) → length (filter (λ (a : Node). f a.key) nodes) ≡ distinct_count key_eq (filter f (reached_through n p g))
-openly-counted n p g f nodes apart pass was =
+pub counted-once : (p f : List ℤ → Bool) (nodes : List Node) (ks : List (List ℤ)) → IsDistinct key_eq (keys nodes) → ((k : List ℤ) → f k ≡ true → p k ≡ true) → ((q : List ℤ) → is_member key_eq (keys nodes) q ≡ (is_member key_eq ks q && p q)) → length (filter (λ (a : Node). f a.key) nodes) ≡ distinct_count key_eq (filter f ks)
+counted-once p f nodes ks apart pass was =
     let same : (q : List ℤ) (x : List ℤ) → key_eq q x ≡ true → f q ≡ f x = λ q x e. ap f (same_key q x e) in
     sym (length-map (filter (λ (a : Node). f a.key) nodes) (λ (a : Node). a.key))
     ∙ ap length (keys-filter f nodes)
-    ∙ length-from_keys key_equiv (filter f (keys nodes)) (filter f (reached_through n p g)) (distinct_filter f (keys nodes) apart)
-    (λ q. is_member-filter key_equiv f q (same q) (keys nodes) ∙ ap (λ b. b && f q) (was q) ∙ and_skip (is_member key_eq (reached_through n p g) q) (p g q) (f q) (pass q) ∙ sym (is_member-filter key_equiv f q (same q) (reached_through n p g)))
+    ∙ length-from_keys key_equiv (filter f (keys nodes)) (filter f ks) (distinct_filter f (keys nodes) apart)
+    (λ q. is_member-filter key_equiv f q (same q) (keys nodes) ∙ ap (λ b. b && f q) (was q) ∙ and_skip (is_member key_eq ks q) (p q) (f q) (pass q) ∙ sym (is_member-filter key_equiv f q (same q) ks))

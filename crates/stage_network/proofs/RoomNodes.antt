@@ -1,5 +1,5 @@
 -- The nodes of one room, one after another: what is kept and closed of them.
-use Rattle.std.proofs.Common.{◌≡◌, ◌<◌, ◌≤◌, ◌+◌, ◌*◌, ◌++◌, ◌∷◌, ℕ, List, [], length, get_or, take, cond, ap, sym, subst, ◌∙◌, arith, refl}
+use Rattle.std.proofs.Common.{◌≡◌, ◌<◌, ◌≤◌, ◌+◌, ◌*◌, ◌++◌, ◌∷◌, ℕ, List, [], length, get_or, take, cond, ap, sym, subst, ◌∙◌, arith}
 use Rattle.std.specs.Prelude.{ℤ}
 use Rattle.std.proofs.lemmas.List.{take_all, length-take-le}
 use Rattle.std.proofs.lemmas.List.Filters.{length-filter_more}
@@ -81,8 +81,3 @@ closed_is n t width g r partials i inside p roomed long h reached some last was 
 
 pub closed-fits : (n : Network) (t : Tail) (g : ℕ) (nodes : List Node) (sum closed : ℕ) → sum + weighted (total_weight n g) nodes ≤ MAX → closed_weight n t g nodes ≡ closed → sum + closed ≤ MAX
 closed-fits n t g nodes sum closed fits is = omega (arith, is, closed-le-weighted n t g nodes, fits)
-
--- a room of no node
-pub no-nodes : (r : List ℤ) (partials : List Node) → length partials ≡ 0 → lift r partials ≡ []
-no-nodes r [] e = refl
-no-nodes r (a ∷ partials) e = absurd (omega (arith, e))

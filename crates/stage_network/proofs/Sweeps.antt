@@ -1,7 +1,7 @@
 -- A sweep from stage to stage: what stays of the nodes, and what is closed of them.
 use Rattle.std.proofs.Common.{◌≡◌, ℕ, zero, suc, ◌+◌, ◌*◌, ◌<◌, ◌≤◌, ◌&&◌, List, [], ◌∷◌, ◌++◌, length, Bool, true, false, cond, refl, sym, ◌∙◌, ap, arith}
 use Rattle.std.specs.Prelude.{ℤ}
-use Rattle.std.specs.List.{filter, AllByRecursion, IsDistinct}
+use Rattle.std.specs.List.{filter, AllByRecursion}
 use Rattle.std.specs.Set.{is_member}
 use Rattle.std.proofs.lemmas.List.{length-append}
 use Rattle.std.proofs.lemmas.List.Elements.{filter-append}
@@ -9,25 +9,22 @@ use Rattle.std.proofs.lemmas.List.Sums.{sum_by-cons, sum_by-append}
 use Rattle.std.proofs.lemmas.Map.Made.{is_member-filter}
 use Rattle.weights.specs.declared.tails.Tail.{Tail}
 use Rattle.node_pool.specs.Nodes.{Node, node, key_eq, keys, is_held, weighted}
-use Rattle.node_pool.proofs.Puts.{same_key, key_equiv, none_distinct}
+use Rattle.node_pool.proofs.Puts.{same_key, key_equiv}
 use Rattle.stage_network.specs.Network.{Network}
 use Rattle.stage_network.specs.declared.stages.Verdict.{Verdict}
 use Rattle.stage_network.specs.declared.stages.Verdict.TheVariants.{Inside, Outside, Undecided}
-use Rattle.stage_network.specs.declared.tail_sums.TailSums.{TailSums}
 use Rattle.stage_network.specs.declared.tail_sums.Kept.{Kept}
 use Rattle.stage_network.specs.declared.tail_sums.Kept.TheVariants.{Open, All}
-use Rattle.stage_network.specs.Completions.{is_inside, total_weight, extreme_weight, ending_weight}
-use Rattle.stage_network.specs.Laws.{IsLawful}
-use Rattle.stage_network.specs.Opened.{is_open, is_open_for_some, reached_by_some, opened_by_some}
-use Rattle.stage_network.specs.NodeSteps.{all_successors, closes_inside, closed_part, closed_weight, AllReached, AllHeavy, AreNodes}
-use Rattle.stage_network.specs.SweepSteps.{sum_for, stays, staying, closed_at, counted, IsSwept}
+use Rattle.stage_network.specs.Completions.{is_inside, total_weight}
+use Rattle.stage_network.specs.Opened.{is_open, is_open_for_some}
+use Rattle.stage_network.specs.NodeSteps.{all_successors, closes_inside, closed_part, closed_weight, AllHeavy}
+use Rattle.stage_network.specs.SweepSteps.{stays, staying, closed_at, counted}
 use Rattle.stage_network.proofs.NodeSums.{open-for, length-filter-le, filter-both}
-use Rattle.stage_network.proofs.Steps.{sum_by-same, total_weight-step, extreme_weight-step}
+use Rattle.stage_network.proofs.Steps.{sum_by-same, total_weight-step}
 use Rattle.stage_network.proofs.Conserved.{sum_by-filter}
-use Rattle.stage_network.proofs.OpenKeys.{all_filter, keys-filter, openly-counted, opened-next, same-holds}
-use Rattle.stage_network.proofs.Gathered.{same-members, kept-extreme}
-use Rattle.stage_network.proofs.Carried.{carried, successors-heavy, lead-members, left-none}
-use Rattle.stage_network.proofs.ToCome.{to_come, to_come-kept, to_come-last, to_come-first}
+use Rattle.stage_network.proofs.OpenKeys.{all_filter, keys-filter, same-holds}
+use Rattle.stage_network.proofs.Gathered.{same-members}
+use Rattle.stage_network.proofs.Carried.{carried}
 
 -- filters and sums
 when : (b : Bool) (w m : ℕ) → cond b (w * m) 0 ≡ w * cond b m 0
@@ -129,92 +126,17 @@ pub counted-le : (n : Network) (keep : Kept) (t : Tail) (g : ℕ) (nodes : List 
 counted-le n All t g nodes = omega arith
 counted-le n Open t g nodes = length-filter-le (λ (a : Node). is_open n t g a.key) nodes
 
--- where a sweep stands at stage g: what is known of all nodes that were led to, and of those that
--- stayed of them
-abbrev pub IsArriving : Network → Kept → ℕ → TailSums → List Node → Type 0
-IsArriving n Open g sums all =
-    ((t : Tail) → (sum_for sums t).sum + weighted (extreme_weight n t g) all ≡ extreme_weight n t 0 n.first)
-    × ((q : List ℤ) → is_held all q ≡ is_member key_eq (reached_by_some n g) q)
-    × ((t : Tail) → (sum_for sums t).opened ≡ opened_by_some n t g)
-IsArriving n All g sums all = (p : List ℤ → Bool) → weighted (to_come n p g) all ≡ ending_weight n p
-
-abbrev pub IsSweeping : Network → Kept → ℕ → TailSums → List Node → Type 0
-IsSweeping n Open g sums nodes =
-    ((t : Tail) → (sum_for sums t).sum + weighted (extreme_weight n t g) nodes ≡ extreme_weight n t 0 n.first)
-    × ((q : List ℤ) → is_held nodes q ≡ (is_member key_eq (reached_by_some n g) q && is_open_for_some n g q))
-    × ((t : Tail) → (sum_for sums t).opened ≡ opened_by_some n t (g + 1))
-IsSweeping n All g sums nodes = (p : List ℤ → Bool) → weighted (to_come n p g) nodes ≡ ending_weight n p
-
 -- the members of what is left of nodes
-stay-members : (n : Network) (g : ℕ) (kept all : List Node) → AllHeavy kept → AllHeavy all → ((f : List ℤ → ℕ) → weighted f kept ≡ weighted f (staying n Open g all)) → (q : List ℤ) → is_held kept q ≡ (is_held all q && is_open_for_some n g q)
+pub stay-members : (n : Network) (g : ℕ) (kept all : List Node) → AllHeavy kept → AllHeavy all → ((f : List ℤ → ℕ) → weighted f kept ≡ weighted f (staying n Open g all)) → (q : List ℤ) → is_held kept q ≡ (is_held all q && is_open_for_some n g q)
 stay-members n g kept all heavy solid told q =
     same-members kept (staying n Open g all) heavy (all_filter (λ (a : Node). 1 ≤ a.weight) (λ a. is_open_for_some n g a.key) all solid) told q
     ∙ ap (λ ks. is_member key_eq ks q) (keys-filter (is_open_for_some n g) all)
     ∙ is_member-filter key_equiv (is_open_for_some n g) q (λ x e. ap (is_open_for_some n g) (same_key q x e)) (keys all)
 
--- how many of the nodes that stay are open for a tail
-counted-is : (n : Network) (t : Tail) (g : ℕ) (kept : List Node) → IsDistinct key_eq (keys kept) → ((q : List ℤ) → is_held kept q ≡ (is_member key_eq (reached_by_some n g) q && is_open_for_some n g q)) → counted n Open t g kept + opened_by_some n t g ≡ opened_by_some n t (g + 1)
-counted-is n t g kept distinct members = omega (arith, openly-counted n (is_open_for_some n) g (is_open n t g) kept distinct (open-for n t g) members, opened-next n t g)
-
--- from all nodes to those that stay
-module _ (n : Network) (lawful : IsLawful n) (g : ℕ) (h : g ≤ n.count) (all kept : List Node) (solid : AllHeavy all) (heavy : AllHeavy kept) (distinct : IsDistinct key_eq (keys kept)) (reached : AllReached n g all) where
-  settled-extreme : (t : Tail) → ((f : List ℤ → ℕ) → weighted f kept ≡ weighted f (staying n Open g all)) → weighted (closed_at n Open t g) all + weighted (extreme_weight n t g) kept ≡ weighted (extreme_weight n t g) all
-  settled-extreme t told =
-      omega (arith, sym (closed-weighted n t g all), told (extreme_weight n t g), kept-extreme n lawful t g h [] all reached)
-
-  pub sweeping_from : (keep : Kept) (sums more : TailSums) → ((f : List ℤ → ℕ) → weighted f kept ≡ weighted f (staying n keep g all)) → ((t : Tail) → (sum_for more t).sum ≡ (sum_for sums t).sum + weighted (closed_at n keep t g) all) → ((t : Tail) → (sum_for more t).opened ≡ (sum_for sums t).opened + counted n keep t g kept) → IsArriving n keep g sums all → IsSweeping n keep g more kept
-  sweeping_from Open sums more told is count about =
-      let members : (q : List ℤ) → is_held kept q ≡ (is_member key_eq (reached_by_some n g) q && is_open_for_some n g q) = λ q. stay-members n g kept all heavy solid told q ∙ ap (λ b. b && is_open_for_some n g q) (about.1 q) in (
-        λ t. omega (arith, settled-extreme t told, is t, about.0 t),
-        members,
-        λ t. omega (arith, count t, counted-is n t g kept distinct members, about.2 t),
-      )
-  sweeping_from All sums more told is count about = λ p.
-      told (to_come n p g) ∙ ap (weighted (to_come n p g)) (staying-none n g all) ∙ about p
-
--- from the nodes of a stage to all that they lead to
-pub arriving_from : (n : Network) (keep : Kept) (g : ℕ) (sums : TailSums) (here all : List Node) → AreNodes n g here → AllHeavy all → ((f : List ℤ → ℕ) → weighted f all ≡ weighted f (all_successors n g here)) → IsSweeping n keep g sums here → IsArriving n keep (g + 1) sums all
-arriving_from n Open g sums here all are solid told about = (
-  λ t. omega (arith, told (extreme_weight n t (g + 1)), carried n g (extreme_weight n t g) (extreme_weight n t (g + 1)) (λ k. extreme_weight-step n t g k are.before) here, about.0 t),
-  λ q. same-members all (all_successors n g here) solid (successors-heavy n are.lawful g here are.reached are.heavy) told q ∙ lead-members n (is_open_for_some n) g here about.1 q,
-  about.2,
-)
-arriving_from n All g sums here all are solid told about = λ p. told (to_come n p (g + 1)) ∙ to_come-kept n p g are.before here ∙ about p
-
 -- the first node
 pub one : (f : List ℤ → ℕ) (k : List ℤ) → weighted f (node k 1 ∷ []) ≡ f k
 one f k = omega (arith, sum_by-cons (λ (a : Node). a.weight * f a.key) (node k 1) [])
 
-pub arriving-first : (n : Network) (keep : Kept) (none : TailSums) → ((t : Tail) → sum_for none t ≡ record { sum = 0; opened = 0 }) → IsArriving n keep 0 none (node n.first 1 ∷ [])
-arriving-first n Open none empty = (
-  λ t. rw (empty t) (omega (arith, one (extreme_weight n t 0) n.first)),
-  λ q. refl,
-  λ t. rw (empty t) refl,
-)
-arriving-first n All none empty = λ p. one (to_come n p 0) n.first ∙ to_come-first n p
-
--- the end
-pub swept_at : (n : Network) → IsLawful n → (keep : Kept) (g : ℕ) (sums : TailSums) (nodes : List Node) → g ≡ n.count → AllReached n g nodes → IsSweeping n keep g sums nodes → IsSwept n keep sums nodes
-swept_at n lawful Open g sums nodes e reached about =
-    let none : nodes ≡ [] = left-none n lawful g e nodes reached about.1 in
-    let apart : IsDistinct key_eq (keys nodes) = rw none none_distinct in
-    λ t.
-    let empty : weighted (extreme_weight n t g) nodes ≡ 0 = rw none refl in
-    let no : counted n Open t g nodes ≡ 0 = rw none refl in (
-      omega (arith, empty, about.0 t),
-      omega (arith, no, counted-is n t g nodes apart about.1, about.2 t) ∙ ap (opened_by_some n t) e,
-    )
-swept_at n lawful All g sums nodes e reached about = λ p.
-    sym (to_come-last n p nodes) ∙ ap (λ m. weighted (to_come n p m) nodes) (sym e) ∙ about p
-
 -- the totals that are left
-pub fits-next : (n : Network) (keep : Kept) (t : Tail) (g : ℕ) (all kept : List Node) (sum more most : ℕ) → ((f : List ℤ → ℕ) → weighted f kept ≡ weighted f (staying n keep g all)) → more ≡ sum + weighted (closed_at n keep t g) all → sum + weighted (total_weight n g) all ≤ most → more + weighted (total_weight n g) kept ≤ most
-fits-next n keep t g all kept sum more most told is fits =
-    omega (arith, told (total_weight n g), weighted-filter (total_weight n g) (stays n keep g) all, parted n keep t g all, is, fits)
-
 pub all-total : (n : Network) (g : ℕ) → g < n.count → (here all : List Node) → ((f : List ℤ → ℕ) → weighted f all ≡ weighted f (all_successors n g here)) → weighted (total_weight n (g + 1)) all ≡ weighted (total_weight n g) here
 all-total n g before here all told = told (total_weight n (g + 1)) ∙ carried n g (total_weight n g) (total_weight n (g + 1)) (λ k. total_weight-step n g k before) here
-
--- the nodes of a stage before the last
-pub are_nodes : (n : Network) (g count : ℕ) (nodes : List Node) → IsLawful n → g < count → count ≡ n.count → AllReached n g nodes → AllHeavy nodes → AreNodes n g nodes
-are_nodes n g count nodes lawful before end reached heavy = record { lawful = lawful; before = omega (arith, before, end); reached = reached; heavy = heavy }

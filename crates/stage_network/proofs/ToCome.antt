@@ -4,21 +4,17 @@ use Rattle.std.specs.Prelude.{ℤ}
 use Rattle.std.specs.List.{sum_by, flat_map}
 use Rattle.node_pool.specs.Nodes.{Node, weighted}
 use Rattle.stage_network.specs.Network.{Network}
-use Rattle.stage_network.specs.Completions.{total_weight, ending_weight, path_weight}
+use Rattle.stage_network.specs.Completions.{ending_weight, path_weight}
 use Rattle.stage_network.specs.NodeSteps.{successors, AllReached}
-use Rattle.stage_network.proofs.Steps.{sum_by-same, passing, passing-step, total_weight-step, left}
+use Rattle.stage_network.proofs.Steps.{sum_by-same, passing, passing-step, left}
 use Rattle.stage_network.proofs.Conserved.{successors-reached, all_append}
-use Rattle.stage_network.proofs.Carried.{carried}
 
 -- what is still to come, for keys that pass at the end
 abbrev pub to_come : Network → (List ℤ → Bool) → ℕ → List ℤ → ℕ
 to_come n p g k = passing n p (n.count - g) g k
 
-pub to_come-kept : (n : Network) (p : List ℤ → Bool) (g : ℕ) → g < n.count → (nodes : List Node) → weighted (to_come n p (g + 1)) (flat_map (successors n g) nodes) ≡ weighted (to_come n p g) nodes
-to_come-kept n p g h nodes = carried n g (to_come n p g) (to_come n p (g + 1)) (λ k. ap (λ m. passing n p m g k) (left n g h) ∙ passing-step n p (n.count - (g + 1)) g k) nodes
-
-pub total-kept : (n : Network) (g : ℕ) → g < n.count → (nodes : List Node) → weighted (total_weight n (g + 1)) (flat_map (successors n g) nodes) ≡ weighted (total_weight n g) nodes
-total-kept n g h nodes = carried n g (total_weight n g) (total_weight n (g + 1)) (λ k. total_weight-step n g k h) nodes
+pub to_come-step : (n : Network) (p : List ℤ → Bool) (g : ℕ) → g < n.count → (k : List ℤ) → to_come n p g k ≡ sum_by (λ c. n.weight g k c * to_come n p (g + 1) (n.next g k c)) (n.choices g k)
+to_come-step n p g h k = ap (λ m. passing n p m g k) (left n g h) ∙ passing-step n p (n.count - (g + 1)) g k
 
 pub all-reached : (n : Network) (g : ℕ) → g < n.count → (nodes : List Node) → AllReached n g nodes → AllReached n (g + 1) (flat_map (successors n g) nodes)
 all-reached n g h [] r = tt

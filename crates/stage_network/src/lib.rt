@@ -15,6 +15,7 @@ mod prepared;
 mod rooms;
 mod settling;
 mod spreads;
+mod stage_arcs;
 mod stages;
 mod sums;
 mod sweep;

@@ -1,14 +1,13 @@
 // What is decided in a room, and which of its nodes stay open.
-ghost use Rattle.std.specs.Prelude.{◌≡◌, ◌+◌, ◌*◌, ◌<◌, ◌≤◌, [], ◌∷◌, ◌++◌, false, cond, length, take};
+ghost use Rattle.std.specs.Prelude.{◌≡◌, ◌+◌, ◌*◌, ◌<◌, ◌≤◌, [], ◌∷◌, ◌++◌, false, cond, length};
 ghost use Rattle.std.specs.Prelude.{OnOk, IfOk};
 ghost use Rattle.weights.specs.declared.tails.Tail.{Tail};
 ghost use Rattle.weights.specs.declared.TheConstants.{MAX};
 ghost use Rattle.node_pool.specs.Nodes.{node, weighted};
 ghost use Rattle.stage_network.specs.Network.{IsReached};
 ghost use Rattle.stage_network.specs.Completions.{is_inside, total_weight};
-ghost use Rattle.stage_network.specs.Laws.{IsLawful};
 ghost use Rattle.stage_network.specs.Opened.{is_undecided};
-ghost use Rattle.stage_network.specs.NodeSteps.{AllReached, closed_weight, open_nodes, opened_in};
+ghost use Rattle.stage_network.specs.NodeSteps.{closed_weight, open_nodes, opened_in};
 ghost use Rattle.stage_network.specs.ArcSteps.{lift};
 ghost use Rattle.stage_network.specs.SweepSteps.{IsRoomful, closed_at, counted, staying};
 ghost use Rattle.stage_network.specs.SweepSteps.{some_undecided, sum_for, verdict_for};

@@ -11,7 +11,7 @@ use crate::lines::Spread;
 use crate::nodes::StageNodes;
 use crate::stages::{Roomed, Stages};
 use crate::sums::total_of;
-use crate::sweep::sweep;
+use crate::sweep::sweep_through;
 use crate::tail_sums::Kept;
 use crate::whole::Whole;
 use crate::widths::{Width, width_of};
@@ -81,8 +81,9 @@ fn spread_in<C: Count, S: Roomed>(alloc: Global, stages: &S) -> Result<Spread, N
     requires limit { let n = S.Stages.network stages.now in total_weight n 0 n.first ≤ C.LIMIT }
     ensures { IfOk result (IsSpreadOf (value_weights (S.Stages.network stages.now))) }
 {
-    let swept = sweep::<C, S>(alloc, stages, Kept::All)?;
-    node_values(alloc, stages, &swept.nodes)
+    let swept = sweep_through::<C, S>(alloc, stages, Kept::All)?;
+    let spread = node_values(alloc, stages, &swept.nodes)?;
+    Ok(spread)
 }
 
 /// The spread, room by room: what a room decides is asked once per room.

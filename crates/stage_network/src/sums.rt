@@ -8,7 +8,7 @@ ghost use Rattle.stage_network.specs.SweepSteps.{sum_for};
 ghost use Rattle.weights.specs.declared.tails.Tail.{Tail};
 
 use crate::stages::{Roomed, Stages};
-use crate::sweep::sweep;
+use crate::sweep::sweep_through;
 use crate::tail_sums::{Kept, TailSum, TailSums};
 use crate::together::Together;
 use crate::whole::Whole;
@@ -24,7 +24,7 @@ fn tail_sums_in<C: Count, S: Roomed>(alloc: Global, stages: &S) -> Result<TailSu
     ensures opened { let n = S.Stages.network stages.now in
         IfOk result (λ all. (t : Tail) → (sum_for all t).opened ≡ opened_by_some n t n.count) }
 {
-    let swept = sweep::<C, S>(alloc, stages, Kept::Open)?;
+    let swept = sweep_through::<C, S>(alloc, stages, Kept::Open)?;
     Ok(swept.sums)
 }
 

@@ -1,133 +1,136 @@
-// One sweep through the stages, room by room, for all tails at once: the keys are kept that are
-// open for some tail, or every key is.
-ghost use Rattle.std.specs.Prelude.{◌≡◌, ℕ, ℤ, ◌+◌, ◌^◌, ◌<◌, ◌≤◌, List, [], ◌∷◌, length, drop, OnOk, IfOk};
-ghost use Rattle.std.specs.List.{IsDistinct};
+// A sweep through the stages, room by room, for all tails at once: the keys are kept that are open
+// for some tail, or every key is.
+ghost use Rattle.std.specs.Prelude.{◌≡◌, ◌+◌, ◌<◌, ◌≤◌, [], ◌∷◌, length, OnOk, IfOk};
 ghost use Rattle.weights.specs.declared.TheConstants.{MAX};
-ghost use Rattle.weights.specs.declared.tails.Tail.{Tail};
-ghost use Rattle.node_pool.specs.Nodes.{key_eq, keys, node, weighted};
+ghost use Rattle.node_pool.specs.Nodes.{node, weighted};
 ghost use Rattle.stage_network.specs.Completions.{total_weight};
-ghost use Rattle.stage_network.specs.Rooms.{IsRoomed};
-ghost use Rattle.stage_network.specs.NodeSteps.{AreNodes, AllHeavy, AllReached};
-ghost use Rattle.stage_network.specs.ArcSteps.{AreArcs, spread_out};
-ghost use Rattle.stage_network.specs.SweepSteps.{IsSwept, closed_at, counted, staying, sum_for};
+ghost use Rattle.stage_network.specs.NodeSteps.{AllReached};
+ghost use Rattle.stage_network.specs.SweepSteps.{Course, IsSweeping, IsSwept, first_course};
 
-use crate::arcs::Arcs;
 use crate::keys::{behind, front};
 use crate::nodes::StageNodes;
-use crate::rooms::{fill, list_arcs};
+use crate::rooms::RoomPool;
 use crate::settling::settle;
+use crate::stage_arcs::StageArcs;
 use crate::stages::{Roomed, Stages};
 use crate::tail_sums::{Kept, TailSums};
 use node_pool::NodePool;
 use std::alloc::Global;
 use std::mem;
-use weights::{Count, Narrow, NoMemory};
+use weights::{Count, NoMemory};
 
-/// The nodes of the last stage that are kept, and of each tail the weight that was closed on the
-/// way and how many keys were open.
+/// A sweep that stands at a stage: the nodes there that are kept, and of each tail the weight that
+/// was closed on the way and how many keys were open. Its stores serve every stage.
 #[derive(Drop)]
-pub struct Swept<C: Count> {
-    pub nodes: StageNodes<C>,
+pub struct Sweep<C: Count> {
+    pub keep: Kept,
+    pub stage: usize,
     pub sums: TailSums,
+    pub nodes: StageNodes<C>,
+    pub ahead: StageNodes<C>,
+    pub arcs: StageArcs,
+    pub pool: RoomPool<C>,
 }
 
-// Fills the rooms of the next stage, one after another, and settles each.
-fn gather<C: Count, S: Roomed>(
-    stages: &S,
-    stage: usize,
-    keep: Kept,
-    nodes: &StageNodes<C>,
-    rooms: &NodePool<Narrow>,
-    arcs: &Arcs,
-    step: &mut [i128],
-    next: &mut [i128],
-    sums: TailSums,
-    work: &mut NodePool<C>,
-    kept: &mut StageNodes<C>,
-) -> Result<TailSums, NoMemory>
-    requires nodes { AreNodes (S.Stages.network stages.now) stage nodes.now.nodes }
-    requires here { nodes.now.room_width ≡ S.room_width stages.now }
-    requires small { rooms.now.width ≡ S.room_width stages.now }
-    requires arcs { let n = S.Stages.network stages.now in
-        let width = S.room_width stages.now in
-        AreArcs n stage width nodes.now.nodes rooms.now.nodes arcs.now }
-    requires step { length step.old ≡ S.step_width stages.now }
-    requires next { length next.old ≡ work.old.width }
-    requires wide { S.room_width stages.now + work.old.width ≡ (S.Stages.network stages.now).width }
-    requires there { kept.old.room_width ≡ S.room_width stages.now }
-    requires deep { kept.old.width ≡ (S.Stages.network stages.now).width }
-    requires empty { kept.old.nodes ≡ [] }
-    requires limit { let n = S.Stages.network stages.now in
-        let all = spread_out n stage nodes.now.nodes arcs.now.arcs in
-        weighted (total_weight n (stage + 1)) all ≤ C.LIMIT }
-    requires fits { let n = S.Stages.network stages.now in
-        let all = spread_out n stage nodes.now.nodes arcs.now.arcs in
-        (t : Tail) → (sum_for sums t).sum + weighted (total_weight n (stage + 1)) all ≤ MAX }
-    requires few { (t : Tail) → (sum_for sums t).opened + 2 ^ 64 ≤ 2 ^ 128 }
-    ensures step { OnOk result (length step.new ≡ length step.old) }
-    ensures next { OnOk result (length next.new ≡ length next.old) }
-    ensures work { OnOk result (work.new.width ≡ work.old.width) }
-    ensures there { OnOk result (kept.new.room_width ≡ S.room_width stages.now) }
-    ensures deep { OnOk result (kept.new.width ≡ kept.old.width) }
-    ensures heavy { OnOk result (AllHeavy kept.new.nodes) }
-    ensures distinct { OnOk result (IsDistinct key_eq (keys kept.new.nodes)) }
-    ensures told { let n = S.Stages.network stages.now in
-        let all = spread_out n stage nodes.now.nodes arcs.now.arcs in
-        OnOk result ((f : List ℤ → ℕ)
-        → weighted f kept.new.nodes ≡ weighted f (staying n keep (stage + 1) all)) }
-    ensures sum { let n = S.Stages.network stages.now in
-        let all = spread_out n stage nodes.now.nodes arcs.now.arcs in
-        IfOk result (λ more. (t : Tail) → (sum_for more t).sum
-        ≡ (sum_for sums t).sum + weighted (closed_at n keep t (stage + 1)) all) }
-    ensures opened { let n = S.Stages.network stages.now in
-        IfOk result (λ more. (t : Tail) → (sum_for more t).opened
-        ≡ (sum_for sums t).opened + counted n keep t (stage + 1) kept.new.nodes) }
+// Puts one partial into an empty pool.
+fn put_one<C: Count>(partial: &[i128], pool: &mut NodePool<C>) -> Result<(), NoMemory>
+    requires wide { length partial.now ≡ pool.old.width }
+    requires empty { pool.old.nodes ≡ [] }
+    requires limit { 1 ≤ C.LIMIT }
+    ensures width { OnOk result (pool.new.width ≡ pool.old.width) }
+    ensures nodes { OnOk result (pool.new.nodes ≡ node partial.now 1 ∷ []) }
 {
-    let _count = stages.stages();
-    let _width = stages.room_width();
-    let mut more = sums;
-    for target in 0..rooms.len() {
-        work.clear();
-        fill(stages, stage, nodes, rooms, arcs, target, step, next, work)?;
-        let _apart = work.len();
-        more = settle(stages, stage + 1, keep, work, rooms.key(target), more, kept)?;
-    }
-    Ok(more)
-}
-
-// The pool of the one partial of stage 0, behind its room.
-fn start<C: Count, S: Roomed>(
-    alloc: Global,
-    stages: &S,
-    width: usize,
-    key: &mut [i128],
-) -> Result<NodePool<C>, NoMemory>
-    requires roomed { IsRoomed (S.Stages.network stages.now) width }
-    requires key { length key.old ≡ (S.Stages.network stages.now).width }
-    requires limit { let n = S.Stages.network stages.now in total_weight n 0 n.first ≤ C.LIMIT }
-    ensures wide { let n = S.Stages.network stages.now in
-        IfOk result (λ pool. width + pool.width ≡ n.width) }
-    ensures nodes { let n = S.Stages.network stages.now in
-        IfOk result (λ pool. pool.nodes ≡ node (drop width n.first) 1 ∷ []) }
-    ensures key { OnOk result (key.new ≡ (S.Stages.network stages.now).first) }
-{
-    let _stages = stages.stages();
-    let mut nodes = NodePool::new(alloc, stages.width() - width)?;
-    stages.first_key(key);
-    nodes.reserve(1)?;
+    pool.reserve(1)?;
     match C::of(1) {
-        Some(one) => nodes.add(behind(key, width), one),
+        Some(one) => pool.add(partial, one),
         None => unreachable!(),
     }
-    Ok(nodes)
+    Ok(())
 }
 
-/// Sweeps through the stages.
-pub fn sweep<C: Count, S: Roomed>(
+impl<C: Count> Sweep<C> {
+    /// A sweep that stands at the first key.
+    pub fn new<S: Roomed>(alloc: Global, stages: &S, keep: Kept) -> Result<Sweep<C>, NoMemory>
+        requires limit { let n = S.Stages.network stages.now in
+            total_weight n 0 n.first ≤ C.LIMIT }
+        ensures sweeping { let n = S.Stages.network stages.now in
+            IfOk result (IsSweeping n (S.room_width stages.now) (S.step_width stages.now) C.LIMIT
+            (first_course n keep)) }
+        ensures stage { IfOk result (λ sweep. sweep.stage ≡ 0) }
+    {
+        let _count = stages.stages();
+        let width = stages.room_width();
+        let partial_width = stages.width() - width;
+        let mut numbers = [0i128; 16];
+        let key = &mut numbers[..stages.width()];
+        stages.first_key(key);
+        let mut pool = RoomPool::<C>::new(alloc, stages)?;
+        put_one(behind(key, width), &mut pool.partials)?;
+        let arcs = StageArcs::new(alloc, stages)?;
+        let mut nodes = StageNodes::<C>::new(alloc, width, partial_width);
+        let sums = settle(
+            stages,
+            0,
+            keep,
+            &pool.partials,
+            front(key, width),
+            TailSums::none(),
+            &mut nodes,
+        )?;
+        Ok(Sweep {
+            keep,
+            stage: 0,
+            sums,
+            nodes,
+            ahead: StageNodes::new(alloc, width, partial_width),
+            arcs,
+            pool,
+        })
+    }
+
+    /// Takes the sweep one stage on: the rooms of the next stage are filled, one after another, and
+    /// each is settled.
+    pub fn advance<S: Roomed>(&mut self, stages: &S) -> Result<(), NoMemory>
+        ghost course: { Course }
+        requires before { self.old.stage < (S.Stages.network stages.now).count }
+        requires sweeping { let n = S.Stages.network stages.now in
+            IsSweeping n (S.room_width stages.now) (S.step_width stages.now) C.LIMIT course
+            self.old }
+        ensures sweeping { let n = S.Stages.network stages.now in
+            OnOk result (IsSweeping n (S.room_width stages.now) (S.step_width stages.now) C.LIMIT
+            course self.new) }
+        ensures stage { OnOk result (self.new.stage ≡ self.old.stage + 1) }
+    {
+        let _count = stages.stages();
+        self.arcs.list(stages, self.stage, &self.nodes)?;
+        self.ahead.clear();
+        for target in 0..self.arcs.rooms.len() {
+            self.pool
+                .fill(stages, self.stage, &self.nodes, &self.arcs, target)?;
+            let _apart = self.pool.partials.len();
+            self.sums = settle(
+                stages,
+                self.stage + 1,
+                self.keep,
+                &self.pool.partials,
+                self.arcs.rooms.key(target),
+                self.sums,
+                &mut self.ahead,
+            )?;
+        }
+        mem::swap(&mut self.nodes, &mut self.ahead);
+        self.stage += 1;
+        let _held = self.nodes.len();
+        Ok(())
+    }
+}
+
+/// Sweeps from the first key to the last stage.
+pub fn sweep_through<C: Count, S: Roomed>(
     alloc: Global,
     stages: &S,
     keep: Kept,
-) -> Result<Swept<C>, NoMemory>
+) -> Result<Sweep<C>, NoMemory>
     requires limit { let n = S.Stages.network stages.now in total_weight n 0 n.first ≤ C.LIMIT }
     ensures swept { let n = S.Stages.network stages.now in
         IfOk result (λ all. IsSwept n keep all.sums all.nodes.nodes) }
@@ -137,44 +140,9 @@ pub fn sweep<C: Count, S: Roomed>(
     ensures fits { IfOk result (λ all. weighted (λ k. 1) all.nodes.nodes ≤ MAX) }
 {
     let count = stages.stages();
-    let width = stages.room_width();
-    let partial_width = stages.width() - width;
-    let mut choices = vec![in alloc; 0u64; stages.choice_width()]?;
-    let choice = choices.as_mut_slice();
-    let mut keys = vec![in alloc; 0i128; stages.width()]?;
-    let key = keys.as_mut_slice();
-    let mut target_rooms = vec![in alloc; 0i128; width]?;
-    let target_room = target_rooms.as_mut_slice();
-    let mut steps = vec![in alloc; 0i128; stages.step_width()]?;
-    let step = steps.as_mut_slice();
-    let mut partials = vec![in alloc; 0i128; partial_width]?;
-    let next = partials.as_mut_slice();
-    let mut work = start::<C, S>(alloc, stages, width, key)?;
-    let mut here = StageNodes::<C>::new(alloc, width, partial_width);
-    let mut ahead = StageNodes::<C>::new(alloc, width, partial_width);
-    let mut rooms = NodePool::<Narrow>::new(alloc, width)?;
-    let mut arcs = Arcs::new(alloc, stages.choice_width());
-    let none = TailSums::none();
-    let mut sums = settle(stages, 0, keep, &work, front(key, width), none, &mut here)?;
-    for stage in 0..count {
-        rooms.clear();
-        arcs.clear();
-        list_arcs(
-            stages,
-            stage,
-            &here,
-            key,
-            choice,
-            target_room,
-            &mut rooms,
-            &mut arcs,
-        )?;
-        ahead.clear();
-        sums = gather(
-            stages, stage, keep, &here, &rooms, &arcs, step, next, sums, &mut work, &mut ahead,
-        )?;
-        mem::swap(&mut here, &mut ahead);
-        let _held = here.len();
+    let mut sweep = Sweep::<C>::new(alloc, stages, keep)?;
+    while sweep.stage < count {
+        sweep.advance(stages)?;
     }
-    Ok(Swept { nodes: here, sums })
+    Ok(sweep)
 }

@@ -1,5 +1,5 @@
 // The distribution of a test by a walk through its reference set, member by member.
-ghost use Rattle.std.specs.Prelude.{◌≡◌, IfOk};
+ghost use Rattle.std.specs.Prelude.{IfOk};
 ghost use Rattle.stage_network.specs.Lines.{IsSpreadOf, WeightsFit};
 ghost use Rattle.stage_network.specs.Follows.{statistic_sums};
 

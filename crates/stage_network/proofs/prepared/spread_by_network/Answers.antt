@@ -1,8 +1,6 @@
-use Rattle.std.proofs.Common.{◌≡◌, ◌≤◌, ◌∙◌, subst, sym}
-use Rattle.weights.specs.declared.TheConstants.{MAX}
+use Rattle.std.proofs.Common.{◌≡◌, subst, sym}
 use Rattle.weights.specs.Conditional.{ConditionalTest, distribution}
 use Rattle.stage_network.specs.Network.{Network}
-use Rattle.stage_network.specs.Completions.{total_weight}
 use Rattle.weights.specs.Frames.{first_tail}
 use Rattle.stage_network.specs.Follows.{Follows}
 use Rattle.stage_network.specs.Lines.{TailsFit}

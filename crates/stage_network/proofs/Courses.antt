@@ -1,0 +1,244 @@
+-- A sweep along its course, stage by stage: what comes there, what stays and what is closed.
+use Rattle.std.proofs.Common.{◌≡◌, ℕ, zero, suc, ◌+◌, ◌*◌, ◌<◌, ◌≤◌, List, [], ◌∷◌, Bool, false, cond, refl, sym, ◌∙◌, ap, subst, arith, take, length}
+use Rattle.std.specs.Prelude.{ℤ, map}
+use Rattle.std.specs.List.{filter, sum_by, flat_map, IsDistinct}
+use Rattle.std.specs.Set.{distinct_count}
+use Rattle.std.proofs.lemmas.List.{take_all}
+use Rattle.weights.specs.declared.tails.Tail.{Tail}
+use Rattle.weights.specs.declared.tails.Tail.TheVariants.{Less}
+use Rattle.weights.specs.declared.TheConstants.{MAX}
+use Rattle.node_pool.specs.Nodes.{Node, key_eq, keys, weighted}
+use Rattle.stage_network.specs.declared.tail_sums.TailSums.{TailSums}
+use Rattle.stage_network.specs.declared.tail_sums.Kept.{Kept}
+use Rattle.stage_network.specs.declared.tail_sums.Kept.TheVariants.{Open, All}
+use Rattle.stage_network.specs.declared.sweep.Sweep.{Sweep}
+use Rattle.stage_network.specs.Network.{Network, IsReached}
+use Rattle.stage_network.specs.Completions.{total_weight, extreme_weight}
+use Rattle.stage_network.specs.Laws.{IsLawful}
+use Rattle.stage_network.specs.Opened.{is_open, is_open_for_some, reached_by_some, opened_by_some}
+use Rattle.stage_network.specs.NodeSteps.{all_successors, AllReached, AllHeavy}
+use Rattle.stage_network.specs.SweepSteps.{sum_for, stays, staying, closed_at, counted, counted_keys, Course, first_course, arriving, on_the_way, HasSwept, IsCourse, IsSweeping, IsSwept, AreHere}
+use Rattle.stage_network.proofs.Steps.{filter_none, total_weight-step, extreme_weight-step}
+use Rattle.stage_network.proofs.Bounds.{weights-le-weighted}
+use Rattle.stage_network.proofs.NodeSums.{open-for}
+use Rattle.stage_network.proofs.OpenKeys.{all_filter, counted-once, keys-opened_to}
+use Rattle.stage_network.proofs.Conserved.{all_weaker, not_undecided, split-extreme, sum_by-filter}
+use Rattle.stage_network.proofs.Carried.{carried, successors-heavy, shut}
+use Rattle.stage_network.proofs.ToCome.{to_come, to_come-last, to_come-first, to_come-step, all-reached}
+use Rattle.stage_network.proofs.Sweeps.{weighted-filter, told-filtered, kept-holds, parted, closed-weighted, staying-none, stay-members, all-total, one}
+
+next-stage : (g m : ℕ) → (g + m) + 1 ≡ g + suc m
+next-stage g m = omega arith
+
+-- what nodes lead to is told as they are
+led : (n : Network) (g : ℕ) (xs ys : List Node) → ((f : List ℤ → ℕ) → weighted f xs ≡ weighted f ys) → (f : List ℤ → ℕ) → weighted f (all_successors n g xs) ≡ weighted f (all_successors n g ys)
+led n g xs ys told f =
+    let here : List ℤ → ℕ = λ k. sum_by (λ c. n.weight g k c * f (n.next g k c)) (n.choices g k) in
+    carried n g here f (λ k. refl) xs ∙ told here ∙ sym (carried n g here f (λ k. refl) ys)
+
+-- the nodes that stay, each once, are counted as all keys that came are
+counted-is : (n : Network) (keep : Kept) (t : Tail) (g : ℕ) (kept all : List Node) → AllHeavy kept → AllHeavy all → IsDistinct key_eq (keys kept) → ((f : List ℤ → ℕ) → weighted f kept ≡ weighted f (staying n keep g all)) → counted n keep t g kept ≡ counted_keys n keep t g all
+counted-is n All t g kept all heavy solid distinct told = refl
+counted-is n Open t g kept all heavy solid distinct told =
+    counted-once (is_open_for_some n g) (is_open n t g) kept (keys all) distinct (open-for n t g) (stay-members n g kept all heavy solid told)
+
+-- the start
+pub swept-first : (n : Network) (course : Course) (sums : TailSums) (kept : List Node) → kept ≡ staying n course.keep course.stage course.nodes → AllHeavy course.nodes → AllHeavy kept → IsDistinct key_eq (keys kept) → ((t : Tail) → (sum_for sums t).sum ≡ weighted (closed_at n course.keep t course.stage) course.nodes) → ((t : Tail) → (sum_for sums t).opened ≡ counted n course.keep t course.stage kept) → HasSwept n course 0 sums kept
+swept-first n course sums kept is solid heavy distinct sum opened =
+    let e : course.stage ≡ course.stage + 0 = omega arith in
+    let told : (f : List ℤ → ℕ) → weighted f kept ≡ weighted f (staying n course.keep course.stage course.nodes) = λ f. ap (weighted f) is in
+    record {
+      told = λ f. told f ∙ ap (λ g. weighted f (staying n course.keep g course.nodes)) e;
+      sum = sum;
+      opened = λ t. opened t ∙ counted-is n course.keep t course.stage kept course.nodes heavy solid distinct told;
+      distinct = distinct;
+      heavy = heavy;
+    }
+
+module _ (n : Network) (lawful : IsLawful n) (limit : ℕ) (course : Course) (starts : IsCourse n limit course) where
+  -- the keys that come to a stage are reached, with weights of at least 1
+  pub arriving-reached : (m : ℕ) → course.stage + m ≤ n.count → AllReached n (course.stage + m) (arriving n course m)
+  arriving-reached zero h =
+      let e : course.stage ≡ course.stage + 0 = omega arith in
+      subst (λ g. AllReached n g course.nodes) e starts.reached
+  arriving-reached (suc m) h =
+      let g : ℕ = course.stage + m in
+      let before : g < n.count = omega (arith, h, next-stage course.stage m) in
+      let here : AllReached n g (arriving n course m) = arriving-reached m (omega (arith, before)) in
+      subst (λ j. AllReached n j (arriving n course (suc m))) (next-stage course.stage m)
+      (all-reached n g before (staying n course.keep g (arriving n course m)) (all_filter (λ (a : Node). IsReached n g a.key) (λ a. stays n course.keep g a.key) (arriving n course m) here))
+
+  pub arriving-heavy : (m : ℕ) → course.stage + m ≤ n.count → AllHeavy (arriving n course m)
+  arriving-heavy zero h = starts.heavy
+  arriving-heavy (suc m) h =
+      let g : ℕ = course.stage + m in
+      let before : g < n.count = omega (arith, h, next-stage course.stage m) in
+      let some : (a : Node) → Bool = λ a. stays n course.keep g a.key in
+      successors-heavy n lawful g (staying n course.keep g (arriving n course m))
+      (all_filter (λ (a : Node). IsReached n g a.key) some (arriving n course m) (arriving-reached m (omega (arith, before))))
+      (all_filter (λ (a : Node). 1 ≤ a.weight) some (arriving n course m) (arriving-heavy m (omega (arith, before))))
+
+  -- a number that nodes hand on to those they lead to is that of the starts: what was closed, and
+  -- what is left
+  conserved : (v : ℕ → List ℤ → ℕ) (closed : ℕ → List Node → ℕ) → ((g : ℕ) (k : List ℤ) → g < n.count → v g k ≡ sum_by (λ c. n.weight g k c * v (g + 1) (n.next g k c)) (n.choices g k)) → ((g : ℕ) (all : List Node) → g ≤ n.count → AllReached n g all → closed g all + weighted (v g) (staying n course.keep g all) ≡ weighted (v g) all) → (m : ℕ) → course.stage + m ≤ n.count → on_the_way closed n course m + weighted (v (course.stage + m)) (staying n course.keep (course.stage + m) (arriving n course m)) ≡ weighted (v course.stage) course.nodes
+  conserved v closed step split zero h =
+      let e : course.stage + 0 ≡ course.stage = omega arith in
+      ap (λ g. closed course.stage course.nodes + weighted (v g) (staying n course.keep g course.nodes)) e ∙ split course.stage course.nodes starts.within starts.reached
+  conserved v closed step split (suc m) h =
+      let g : ℕ = course.stage + m in
+      let before : g < n.count = omega (arith, h, next-stage course.stage m) in
+      let all : List Node = arriving n course (suc m) in
+      let here = split (course.stage + suc m) all h (arriving-reached (suc m) h) in
+      let on : weighted (v (course.stage + suc m)) all ≡ weighted (v (g + 1)) all = ap (λ j. weighted (v j) all) (sym (next-stage course.stage m)) in
+      omega (arith, here, on, carried n g (v g) (v (g + 1)) (λ k. step g k before) (staying n course.keep g (arriving n course m)), conserved v closed step split m (omega (arith, before)))
+
+  bounded : (t : Tail) (m : ℕ) → course.stage + m ≤ n.count → on_the_way (λ g all. weighted (closed_at n course.keep t g) all) n course m + weighted (total_weight n (course.stage + m)) (staying n course.keep (course.stage + m) (arriving n course m)) ≤ weighted (total_weight n course.stage) course.nodes
+  bounded t zero h =
+      let e : course.stage + 0 ≡ course.stage = omega arith in
+      rw e (omega (arith, split-le course.stage course.nodes))
+    where
+      split-le : (g : ℕ) (all : List Node) → weighted (closed_at n course.keep t g) all + weighted (total_weight n g) (staying n course.keep g all) ≤ weighted (total_weight n g) all
+      split-le g all = omega (arith, weighted-filter (total_weight n g) (stays n course.keep g) all, parted n course.keep t g all)
+  bounded t (suc m) h =
+      let g : ℕ = course.stage + m in
+      let before : g < n.count = omega (arith, h, next-stage course.stage m) in
+      let all : List Node = arriving n course (suc m) in
+      let j : ℕ = course.stage + suc m in
+      let on : weighted (total_weight n j) all ≡ weighted (total_weight n (g + 1)) all = ap (λ j. weighted (total_weight n j) all) (sym (next-stage course.stage m)) in
+      omega (
+        arith,
+        weighted-filter (total_weight n j) (stays n course.keep j) all,
+        parted n course.keep t j all,
+        on,
+        carried n g (total_weight n g) (total_weight n (g + 1)) (λ k. total_weight-step n g k before) (staying n course.keep g (arriving n course m)),
+        bounded t m (omega (arith, before)),
+      )
+
+  -- where a sweep stands
+  module _ (m : ℕ) (sums : TailSums) (nodes : List Node) (h : course.stage + m ≤ n.count) (swept : HasSwept n course m sums nodes) where
+    pub swept-reached : AllReached n (course.stage + m) nodes
+    swept-reached = kept-holds (IsReached n (course.stage + m)) (stays n course.keep (course.stage + m)) nodes (arriving n course m) swept.heavy (arriving-heavy m h) (arriving-reached m h) swept.told
+
+    pub swept-light : (t : Tail) → (sum_for sums t).sum + weighted (total_weight n (course.stage + m)) nodes ≤ weighted (total_weight n course.stage) course.nodes
+    swept-light t = omega (arith, swept.sum t, swept.told (total_weight n (course.stage + m)), bounded t m h)
+
+  -- one stage on
+  module _ (m g : ℕ) (keep : Kept) (at : g ≡ course.stage + m) (before : g < n.count) (keeps : keep ≡ course.keep) (sums : TailSums) (nodes all : List Node) (swept : HasSwept n course m sums nodes) (told : (f : List ℤ → ℕ) → weighted f all ≡ weighted f (all_successors n g (take (length nodes) nodes))) where
+    on : g + 1 ≡ course.stage + suc m
+    on = omega (arith, at)
+
+    within : course.stage + suc m ≤ n.count
+    within = omega (arith, at, before)
+
+    led-to : (f : List ℤ → ℕ) → weighted f all ≡ weighted f (all_successors n g nodes)
+    led-to f = told f ∙ ap (λ ns. weighted f (all_successors n g ns)) (take_all (length nodes) nodes (omega arith))
+
+    came : (f : List ℤ → ℕ) → weighted f all ≡ weighted f (arriving n course (suc m))
+    came f =
+        let here : ℕ = course.stage + m in
+        led-to f ∙ ap (λ j. weighted f (all_successors n j nodes)) at
+        ∙ led n here nodes (staying n course.keep here (arriving n course m)) swept.told f
+
+    pub next-light : (t : Tail) → (sum_for sums t).sum + weighted (total_weight n (g + 1)) all ≤ weighted (total_weight n course.stage) course.nodes
+    next-light t =
+        let total : weighted (total_weight n (g + 1)) all ≡ weighted (total_weight n g) nodes = all-total n g before nodes all led-to in
+        let same : weighted (total_weight n g) nodes ≡ weighted (total_weight n (course.stage + m)) nodes = ap (λ j. weighted (total_weight n j) nodes) at in
+        omega (arith, total, same, swept-light m sums nodes (omega (arith, at, before)) swept t)
+
+    pub swept-next : (more : TailSums) (kept : List Node) → ((f : List ℤ → ℕ) → weighted f kept ≡ weighted f (staying n keep (g + 1) all)) → ((t : Tail) → (sum_for more t).sum ≡ (sum_for sums t).sum + weighted (closed_at n keep t (g + 1)) all) → ((t : Tail) → (sum_for more t).opened ≡ (sum_for sums t).opened + counted n keep t (g + 1) kept) → IsDistinct key_eq (keys kept) → AllHeavy kept → HasSwept n course (suc m) more kept
+    swept-next more kept stay sum opened distinct heavy =
+        let next : ℕ = course.stage + suc m in
+        let left : (f : List ℤ → ℕ) → weighted f kept ≡ weighted f (staying n course.keep next (arriving n course (suc m))) = λ f.
+        stay f ∙ ap (λ k. weighted f (staying n k (g + 1) all)) keeps ∙ ap (λ j. weighted f (staying n course.keep j all)) on
+        ∙ told-filtered (stays n course.keep next) all (arriving n course (suc m)) came f in
+        let closed : (t : Tail) → weighted (closed_at n keep t (g + 1)) all ≡ weighted (closed_at n course.keep t next) (arriving n course (suc m)) = λ t.
+        ap (λ k. weighted (closed_at n k t (g + 1)) all) keeps ∙ ap (λ j. weighted (closed_at n course.keep t j) all) on ∙ came (closed_at n course.keep t next) in
+        let count : (t : Tail) → counted n keep t (g + 1) kept ≡ counted n course.keep t next kept = λ t.
+        ap (λ k. counted n k t (g + 1) kept) keeps ∙ ap (λ j. counted n course.keep t j kept) on in
+        record {
+          told = left;
+          sum = λ t. omega (arith, sum t, swept.sum t, closed t);
+          opened = λ t. omega (arith, opened t, swept.opened t, count t, counted-is n course.keep t next kept (arriving n course (suc m)) heavy (arriving-heavy (suc m) within) distinct left);
+          distinct = distinct;
+          heavy = heavy;
+        }
+
+-- a sweep stands at nodes of its stage
+pub sweeping-nodes : {C : Type 0} (n : Network) (width step_width limit : ℕ) (course : Course) (sweep : Sweep C) → IsSweeping n width step_width limit course sweep → AllReached n sweep.stage sweep.nodes.nodes
+sweeping-nodes n width step_width limit course sweep s =
+    subst (λ g. AllReached n g sweep.nodes.nodes) (sym s.stands) (swept-reached n s.lawful limit course s.starts s.gone sweep.sums sweep.nodes.nodes (omega (arith, s.stands, s.within)) s.swept)
+
+pub sweeping-here : {C : Type 0} (n : Network) (width step_width limit : ℕ) (course : Course) (sweep : Sweep C) → IsSweeping n width step_width limit course sweep → sweep.stage < n.count → AreHere n width sweep.stage sweep.nodes
+sweeping-here n width step_width limit course sweep s before = record {
+  nodes = record { lawful = s.lawful; before = before; reached = sweeping-nodes n width step_width limit course sweep s; heavy = s.swept.heavy };
+  roomed = s.stores.roomed;
+  shape = s.stores.nodes;
+}
+
+pub sweeping-light : {C : Type 0} (n : Network) (width step_width limit : ℕ) (course : Course) (sweep : Sweep C) → IsSweeping n width step_width limit course sweep → weighted (λ k. 1) sweep.nodes.nodes ≤ MAX
+sweeping-light n width step_width limit course sweep s =
+    let nodes : List Node = sweep.nodes.nodes in
+    omega (
+      arith,
+      weights-le-weighted n s.lawful sweep.stage s.within nodes (sweeping-nodes n width step_width limit course sweep s),
+      ap (λ g. weighted (total_weight n g) nodes) s.stands,
+      swept-light n s.lawful limit course s.starts s.gone sweep.sums nodes (omega (arith, s.stands, s.within)) s.swept Less,
+      s.starts.light.fits,
+    )
+
+-- at the last stage nothing is open
+none-stays : (n : Network) → IsLawful n → (all : List Node) → AllReached n n.count all → staying n Open n.count all ≡ []
+none-stays n l all r = filter_none (λ (a : Node). is_open_for_some n n.count a.key) all
+    (all_weaker (λ (a : Node). IsReached n n.count a.key) (λ (a : Node). is_open_for_some n n.count a.key ≡ false) (λ a reached. shut n l a.key reached) all r)
+
+none-counted : (n : Network) → IsLawful n → (t : Tail) (all : List Node) → AllReached n n.count all → filter (is_open n t n.count) (keys all) ≡ []
+none-counted n l t [] r = refl
+none-counted n l t (a ∷ all) r = rw (not_undecided (n.verdict t n.count a.key) (l.decided t a.key r.0)) (none-counted n l t all r.1)
+
+-- from the first key
+keys-first : (n : Network) (m : ℕ) → keys (arriving n (first_course n Open) m) ≡ reached_by_some n m
+keys-first n zero = refl
+keys-first n (suc m) =
+    let e : 0 + m ≡ m = omega arith in
+    rw e (keys-opened_to n (is_open_for_some n) m (arriving n (first_course n Open) m))
+    ∙ ap (λ ks. flat_map (λ k. map (n.next m k) (n.choices m k)) (filter (is_open_for_some n m) ks)) (keys-first n m)
+
+opened-first : (n : Network) (t : Tail) (m : ℕ) → on_the_way (counted_keys n Open t) n (first_course n Open) m ≡ opened_by_some n t (suc m)
+opened-first n t zero = omega arith
+opened-first n t (suc m) =
+    let e : 0 + suc m ≡ suc m = omega arith in
+    let here : counted_keys n Open t (0 + suc m) (arriving n (first_course n Open) (suc m)) ≡ distinct_count key_eq (filter (is_open n t (suc m)) (reached_by_some n (suc m))) =
+    ap (λ g. counted_keys n Open t g (arriving n (first_course n Open) (suc m))) e ∙ ap (λ ks. distinct_count key_eq (filter (is_open n t (suc m)) ks)) (keys-first n (suc m)) in
+    omega (arith, here, opened-first n t m)
+
+open-split : (n : Network) → IsLawful n → (t : Tail) (g : ℕ) (all : List Node) → g ≤ n.count → AllReached n g all → weighted (closed_at n Open t g) all + weighted (extreme_weight n t g) (staying n Open g all) ≡ weighted (extreme_weight n t g) all
+open-split n l t g all h r = omega (arith, sym (closed-weighted n t g all), sum_by-filter (λ (a : Node). a.weight * extreme_weight n t g a.key) (λ a. is_open_for_some n g a.key) all, split-extreme n l t g h all r)
+
+no-sum : (n : Network) (course : Course) (m : ℕ) → on_the_way (λ g all. 0) n course m ≡ 0
+no-sum n course zero = refl
+no-sum n course (suc m) = omega (arith, no-sum n course m)
+
+pub swept-last : (n : Network) → IsLawful n → (limit : ℕ) (keep : Kept) → IsCourse n limit (first_course n keep) → (sums : TailSums) (nodes : List Node) → HasSwept n (first_course n keep) n.count sums nodes → IsSwept n keep sums nodes
+swept-last n l limit Open starts sums nodes swept =
+    let course : Course = first_course n Open in
+    let e : 0 + n.count ≡ n.count = omega arith in
+    let within : 0 + n.count ≤ n.count = omega arith in
+    let all : List Node = arriving n course n.count in
+    let reached : AllReached n n.count all = subst (λ g. AllReached n g all) e (arriving-reached n l limit course starts n.count within) in
+    let none : staying n Open (0 + n.count) all ≡ [] = ap (λ g. staying n Open g all) e ∙ none-stays n l all reached in
+    λ t. (
+      (let v : ℕ → List ℤ → ℕ = extreme_weight n t in
+          let kept = conserved n l limit course starts v (λ g all. weighted (closed_at n Open t g) all) (λ g k before. extreme_weight-step n t g k before) (λ g all. open-split n l t g all) n.count within in
+          let left : weighted (v (0 + n.count)) (staying n Open (0 + n.count) all) ≡ 0 = ap (weighted (v (0 + n.count))) none in
+          omega (arith, swept.sum t, kept, left, one (v 0) n.first)),
+      (let zero' : distinct_count key_eq (filter (is_open n t n.count) (reached_by_some n n.count)) ≡ 0 = ap (λ ks. distinct_count key_eq (filter (is_open n t n.count) ks)) (sym (keys-first n n.count)) ∙ ap (distinct_count key_eq) (none-counted n l t all reached) in
+          omega (arith, swept.opened t, opened-first n t n.count, zero')),
+    )
+swept-last n l limit All starts sums nodes swept = λ p.
+    let course : Course = first_course n All in
+    let e : 0 + n.count ≡ n.count = omega arith in
+    let within : 0 + n.count ≤ n.count = omega arith in
+    let v : ℕ → List ℤ → ℕ = to_come n p in
+    let kept = conserved n l limit course starts v (λ g all. 0) (λ g k before. to_come-step n p g before k) (λ g all h r. omega (arith, ap (weighted (v g)) (staying-none n g all))) n.count within in
+    let last : weighted (λ k. cond (p k) 1 0) nodes ≡ weighted (v (0 + n.count)) nodes = sym (to_come-last n p nodes) ∙ ap (λ g. weighted (v g) nodes) (sym e) in
+    omega (arith, last, swept.told (v (0 + n.count)), kept, no-sum n course n.count, one (v 0) n.first, to_come-first n p)

@@ -1,0 +1,78 @@
+use Rattle.std.proofs.Common.{◌≡◌, ◌+◌, ◌*◌, ◌++◌, ℕ, List, length, drop, ap, sym, ◌∙◌, arith}
+use Rattle.std.specs.Prelude.{ℤ}
+use Rattle.std.proofs.lemmas.List.{with_items_is}
+use Rattle.node_pool.specs.Nodes.{weighted}
+use Rattle.node_pool.proofs.Puts.{weight_in-le}
+use Rattle.stage_network.specs.Network.{Network}
+use Rattle.stage_network.proofs.Roomwise.{heavy-merge}
+use Rattle.stage_network.proofs.OneArc.{start-arc, start-reached, start-allowed, start-more, start-fits, start-heavy}
+use Rattle.stage_network.proofs.rooms.RoomPool.pour.Goals as goal
+
+pub step-requires-clause-arc : goal.step-requires-clause-arc
+step-requires-clause-arc g c =
+    let r = c.requires in
+    start-arc _ _ _ _ r.here.shape.room_width _ r.here.nodes _ _ _ _ r.chosen r.run _ c.room-room.ensures.room c.room-room.ensures.wide
+
+pub advance-requires-clause-reached : goal.advance-requires-clause-reached
+advance-requires-clause-reached g c =
+    let r = c.requires in
+    start-reached _ _ _ _ r.here.shape.room_width _ r.here.nodes _ _ _ _ r.chosen r.run _ c.room-room.ensures.room _ c.loop-i.invariant.from c.loop-i-test.true _ c.partial.ensures.partial
+
+pub advance-requires-clause-allowed : goal.advance-requires-clause-allowed
+advance-requires-clause-allowed g c =
+    let r = c.requires in
+    start-allowed _ _ _ _ r.here.shape.room_width _ r.here.nodes _ _ _ _ r.chosen r.run _ c.room-room.ensures.room _ c.loop-i.invariant.from c.loop-i-test.true _ c.partial.ensures.partial
+
+pub scaled-requires-clause-limit : goal.scaled-requires-clause-limit
+scaled-requires-clause-limit g c =
+    let r = c.requires in
+    omega (arith, start-fits _ _ _ _ r.here.shape.room_width _ r.here.nodes _ _ _ _ r.chosen r.run _ c.room-room.ensures.room _ c.loop-i.invariant.from c.loop-i-test.true _ c.partial.ensures.partial _ c.weight.ensures (λ k. 1), r.light.limit)
+
+pub scaled-requires-clause-fits : goal.scaled-requires-clause-fits
+scaled-requires-clause-fits g c =
+    let r = c.requires in
+    omega (arith, start-fits _ _ _ _ r.here.shape.room_width _ r.here.nodes _ _ _ _ r.chosen r.run _ c.room-room.ensures.room _ c.loop-i.invariant.from c.loop-i-test.true _ c.partial.ensures.partial _ c.weight.ensures (λ k. 1), r.light.fits)
+
+pub add-requires-clause-fits : goal.add-requires-clause-fits
+add-requires-clause-fits g c =
+    let r = c.requires in
+    omega (
+      arith,
+      start-fits _ _ _ _ r.here.shape.room_width _ r.here.nodes _ _ _ _ r.chosen r.run _ c.room-room.ensures.room _ c.loop-i.invariant.from c.loop-i-test.true _ c.partial.ensures.partial _ c.weight.ensures (λ k. 1),
+      r.light.limit,
+      c.scaled.ensures,
+      weight_in-le c.deref-in-loop-i.result.now c.reserve.new.self.nodes,
+      ap (weighted (λ k. 1)) c.reserve.ensures.nodes,
+      c.loop-i.invariant.told (λ k. 1),
+    )
+
+pub loop-i-preserved : goal.loop-i-preserved
+loop-i-preserved g c =
+    let n : Network = g.S.Stages.network c.args.stages.now in
+    let r = c.requires in
+    let w : ℕ = g.S.Roomed.room_width c.args.stages.now in
+    let count : ℕ = g.C.Count.number c.weight.result in
+    let reached : List ℤ = drop w (n.next c.args.stage (c.room-room.result.now ++ c.partial.result.now) c.args.choice.now) in
+    let buffer = c.loop-i.self.next in
+    let long : length c.advance.new.next ≡ length buffer.items = c.advance.auto.next ∙ ap length c.deref_mut-in-loop-i.ensures.value in
+    let written = with_items_is buffer c.advance.new.next (long ∙ sym buffer.ok.0) in
+    let next : c.deref-in-loop-i.result.now ≡ reached = c.deref-in-loop-i.ensures.value ∙ written ∙ c.advance.ensures in
+    record {
+      from = omega (arith, c.loop-i.invariant.from);
+      told = λ f.
+          let summed : weighted f c.add.new.self.nodes ≡ weighted f c.loop-i.self.partials.nodes + (count * c.args.arc.weight) * f reached =
+          c.add.ensures.merged.sums f
+          ∙ ap (λ ns. weighted f ns + g.C.Count.number c.scaled.result * f c.deref-in-loop-i.result.now) c.reserve.ensures.nodes
+          ∙ ap (λ m. weighted f c.loop-i.self.partials.nodes + m * f c.deref-in-loop-i.result.now) c.scaled.ensures
+          ∙ ap (λ k. weighted f c.loop-i.self.partials.nodes + (count * c.args.arc.weight) * f k) next in
+          omega (arith, summed, start-more _ _ _ _ r.here.shape.room_width _ r.here.nodes _ _ _ _ r.chosen r.run _ c.room-room.ensures.room _ c.loop-i.invariant.from c.loop-i-test.true _ c.partial.ensures.partial _ c.weight.ensures (λ k. f (drop w k)), c.loop-i.invariant.told f);
+      heavy = λ h. heavy-merge c.reserve.new.self.nodes c.deref-in-loop-i.result.now (g.C.Count.number c.scaled.result) c.add.new.self.nodes c.add.ensures.merged
+          (rw c.scaled.ensures (start-heavy _ _ _ _ r.here.shape.room_width _ r.here.nodes _ _ _ _ r.chosen r.run _ c.room-room.ensures.room _ c.loop-i.invariant.from c.loop-i-test.true _ c.partial.ensures.partial _ c.weight.ensures))
+          (rw c.reserve.ensures.nodes (c.loop-i.invariant.heavy h));
+      fitted = record {
+        wide = ap (λ m. w + m) (c.add.ensures.width ∙ c.reserve.ensures.width) ∙ c.loop-i.invariant.fitted.wide;
+        step = c.loop-i.invariant.fitted.step;
+        next = ap length written ∙ long ∙ c.loop-i.invariant.fitted.next ∙ sym (c.add.ensures.width ∙ c.reserve.ensures.width);
+      };
+      step = c.loop-i.invariant.step;
+    }

@@ -1,0 +1,114 @@
+// The arcs of a stage, listed once per room and choice.
+ghost use Rattle.std.specs.Prelude.{◌≡◌, ◌<◌, ◌≤◌, length, OnOk, IfOk};
+ghost use Rattle.node_pool.specs.Nodes.{weighted};
+ghost use Rattle.node_pool.specs.Pool.{IsPlaced};
+ghost use Rattle.stage_network.specs.ArcSteps.{IsRun};
+ghost use Rattle.stage_network.specs.SweepSteps.{AreHere, HasBuffers, AreListed};
+
+use crate::arcs::Arcs;
+use crate::keys::write_key;
+use crate::nodes::StageNodes;
+use crate::stages::{Roomed, Stages};
+use node_pool::NodePool;
+use std::alloc::Global;
+use weights::{Count, Narrow, NoMemory};
+
+/// The arcs of a stage and the rooms that they lead to, with buffers for a key, a choice and the
+/// room that it leads to.
+#[derive(Drop)]
+pub struct StageArcs {
+    pub rooms: NodePool<Narrow>,
+    pub arcs: Arcs,
+    pub key: Vec<i128>,
+    pub choice: Vec<u64>,
+    pub target_room: Vec<i128>,
+}
+
+// Names a room, and answers its place.
+#[inline(always)]
+fn place(rooms: &mut NodePool<Narrow>, room: &[i128]) -> Result<usize, NoMemory>
+    requires wide { length room.now ≡ rooms.old.width }
+    requires light { weighted (λ k. 1) rooms.old.nodes ≡ 0 }
+    ensures width { OnOk result (rooms.new.width ≡ rooms.old.width) }
+    ensures light { OnOk result (weighted (λ k. 1) rooms.new.nodes ≡ 0) }
+    ensures placed { IfOk result (IsPlaced rooms.old.nodes room.now rooms.new.nodes) }
+{
+    rooms.reserve(1)?;
+    match Narrow::of(0) {
+        Some(none) => Ok(rooms.enter(room, none)),
+        None => unreachable!(),
+    }
+}
+
+impl StageArcs {
+    /// No arcs, and buffers for a network.
+    pub fn new<S: Roomed>(alloc: Global, stages: &S) -> Result<StageArcs, NoMemory>
+        ensures { IfOk result (HasBuffers (S.Stages.network stages.now) (S.room_width stages.now)) }
+    {
+        let _lawful = stages.stages();
+        let width = stages.room_width();
+        Ok(StageArcs {
+            rooms: NodePool::new(alloc, width)?,
+            arcs: Arcs::new(alloc, stages.choice_width()),
+            key: vec![in alloc; 0i128; stages.width()]?,
+            choice: vec![in alloc; 0u64; stages.choice_width()]?,
+            target_room: vec![in alloc; 0i128; width]?,
+        })
+    }
+
+    // Lists those of the nodes of one room.
+    fn add_run<C: Count, S: Roomed>(
+        &mut self,
+        stages: &S,
+        stage: usize,
+        nodes: &StageNodes<C>,
+        start: usize,
+        end: usize,
+    ) -> Result<(), NoMemory>
+        requires here { let n = S.Stages.network stages.now in
+            AreHere n (S.room_width stages.now) stage nodes.now }
+        requires some { start < end }
+        requires within { end ≤ length nodes.now.nodes }
+        requires run { IsRun (S.room_width stages.now) nodes.now.nodes start end }
+        requires listed { let n = S.Stages.network stages.now in
+            AreListed n (S.room_width stages.now) stage nodes.now.nodes start self.old }
+        ensures listed { let n = S.Stages.network stages.now in
+            OnOk result (AreListed n (S.room_width stages.now) stage nodes.now.nodes end self.new) }
+    {
+        write_key(nodes.room(start), nodes.partial(start), &mut self.key);
+        let mut more = stages.first_choice(stage, &self.key, &mut self.choice);
+        while more {
+            let weight = stages.cross(stage, &self.key, &self.choice, &mut self.target_room);
+            let target = place(&mut self.rooms, &self.target_room)?;
+            self.arcs.push(start, end, weight, &self.choice, target)?;
+            more = stages.next_choice(stage, &self.key, &mut self.choice);
+        }
+        Ok(())
+    }
+
+    /// Lists those of the nodes of a stage.
+    pub fn list<C: Count, S: Roomed>(
+        &mut self,
+        stages: &S,
+        stage: usize,
+        nodes: &StageNodes<C>,
+    ) -> Result<(), NoMemory>
+        requires here { let n = S.Stages.network stages.now in
+            AreHere n (S.room_width stages.now) stage nodes.now }
+        requires fitted { let n = S.Stages.network stages.now in
+            HasBuffers n (S.room_width stages.now) self.old }
+        ensures listed { let n = S.Stages.network stages.now in
+            let all = nodes.now.nodes in
+            OnOk result (AreListed n (S.room_width stages.now) stage all (length all) self.new) }
+    {
+        self.rooms.clear();
+        self.arcs.clear();
+        let mut start = 0usize;
+        while start < nodes.len() {
+            let end = nodes.run_end(start);
+            self.add_run(stages, stage, nodes, start, end)?;
+            start = end;
+        }
+        Ok(())
+    }
+}
