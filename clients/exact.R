@@ -6,11 +6,14 @@
 #   exact_test("jt", value ~ group, data = d)        groups stand in the order of the factor's levels
 #   exact_test("fisher", table(d$sex, d$answer))     a table of counts, or a matrix
 #   exact_test("friedman", d)                        a data frame: its columns are the fields
+#   exact_shift(x, y, miss = "1/20")                 the shift of y against x, with exact limits
 #
 # Further arguments are the options of the program, with _ for the dash: tail = "less", order = c("b", "a"),
 # row_scores = 1:4, nodes = TRUE. The answer is an htest; `numerator`, `denominator` and `total` are texts, since a double
 # does not hold them, `tails` has every tail that was asked, `distribution` the whole distribution where it was asked, and
-# `dropped` the number of rows that missing = "drop" left out.
+# `dropped` the number of rows that missing = "drop" left out. That of exact_shift has `estimate` and `conf.int` as
+# wilcox.test has them (but of the second sample less the first); the level of `conf.int` is the one that is attained, and
+# limits that there are not are infinite. `miss` has numerator and denominator as texts.
 # A refusal is an error of class exact_refused, whose message is the program's line; `status` is its status.
 #
 # Numbers are written with 15 digits, as R shows them, and rounded to 18 decimals where they have more, with a warning.
@@ -18,20 +21,31 @@
 exact_test <- function(test, x, y = NULL, data = NULL, paired = FALSE, ...,
                        program = Sys.getenv("EXACT", "exact")) {
   name <- paste(c(deparse1(substitute(x)), if (!is.null(y)) deparse1(substitute(y))), collapse = " and ")
-  rows <- exact_rows(x, y, data, paired)
+  call <- sys.call()
+  exact_report(exact_lines(test, exact_rows(x, y, data, paired), list(...), program, call), name)
+}
+
+exact_shift <- function(x, y = NULL, data = NULL, ..., program = Sys.getenv("EXACT", "exact")) {
+  name <- paste(c(deparse1(substitute(x)), if (!is.null(y)) deparse1(substitute(y))), collapse = " and ")
+  call <- sys.call()
+  exact_limits(exact_lines("shift", exact_rows(x, y, data, FALSE), list(...), program, call), name)
+}
+
+# the lines that the program prints; a refusal is an error
+exact_lines <- function(command, rows, options, program, call) {
   file <- tempfile(fileext = ".csv")
   said <- tempfile()
   on.exit(unlink(c(file, said)))
   write.table(rows, file, sep = ",", row.names = FALSE, qmethod = "double", na = "", fileEncoding = "UTF-8")
-  words <- c(test, file, exact_words(list(...)))
+  words <- c(command, file, exact_words(options))
   report <- suppressWarnings(system2(program, shQuote(words), stdout = TRUE, stderr = said))
   status <- attr(report, "status")
   if (!is.null(status) && status != 0) {
     line <- paste(readLines(said, warn = FALSE), collapse = "\n")
-    stop(structure(list(message = line, call = sys.call(), status = status),
+    stop(structure(list(message = line, call = call, status = status),
                    class = c("exact_refused", "error", "condition")))
   }
-  exact_report(report, name)
+  report
 }
 
 # what the file holds, a column a field
@@ -108,4 +122,21 @@ exact_report <- function(report, name) {
                                       weight = vapply(at, `[`, "", 3))
   }
   structure(answer, class = "htest")
+}
+
+# the report of a shift as an htest
+exact_limits <- function(report, name) {
+  lines <- strsplit(report, " ")
+  first <- vapply(lines, `[`, "", 1)
+  told <- function(word) lines[first == word][[1]][2]
+  ratio <- function(text) strsplit(text, "/")[[1]]
+  quotient <- function(text) as.numeric(ratio(text)[1]) / as.numeric(ratio(text)[2])
+  limit <- function(word, none) if (told(word) == "none") none else quotient(told(word))
+  limits <- c(limit("lower", -Inf), limit("upper", Inf))
+  attr(limits, "conf.level") <- 1 - quotient(told("miss"))
+  structure(list(estimate = c("difference in location" = quotient(told("estimate"))), conf.int = limits,
+                 method = "Exact estimate of a shift", data.name = name, differences = as.integer(told("differences")),
+                 total = told("total"), miss = ratio(told("miss")),
+                 dropped = if ("dropped" %in% first) as.integer(told("dropped")), report = as.vector(report)),
+            class = "htest")
 }

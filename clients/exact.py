@@ -16,6 +16,9 @@
     exact.BadData: refused: row 4 field 2: missing
     >>> exact.run("ranksum", {"x": [1, 2, None], "y": [4, 5, 6]}, missing="drop").dropped
     1
+    >>> found = exact.shift({"x": [1, 2, 3], "y": [4, 5, 6]}, miss="1/5")
+    >>> found.estimate, found.lower, found.upper, found.miss
+    (Fraction(3, 1), Fraction(2, 1), Fraction(4, 1), Fraction(1, 5))
 
 One file, no dependency. Nothing is rounded: a number is written as Python shows it (`repr`), a text or a Decimal as it
 is; None and NaN are written as an empty field, which is missing. A number that has more than 18 decimals, such as
@@ -98,6 +101,28 @@ class Report:
     """The report as it was printed."""
 
 
+@dataclasses.dataclass(frozen=True)
+class Shift:
+    """The estimate of the shift of the second sample against the first, and its exact limits."""
+
+    sizes: tuple[str, ...]
+    """The lines of the groups, as they are printed."""
+    differences: int
+    """How many differences of a value of the second sample less one of the first there are."""
+    estimate: Fraction
+    """Their median, by Hodges and Lehmann."""
+    lower: Fraction | None
+    """The limits, or None where there are none that miss so little."""
+    upper: Fraction | None
+    total: int
+    miss: Fraction
+    """The part of all rearrangements that the limits miss: at most what was asked."""
+    dropped: int | None = None
+    """How many rows were left out, with missing="drop"."""
+    text: str = ""
+    """The report as it was printed."""
+
+
 def run(test: str, data: object = None, *, program: str | None = None, **options: object) -> Report:
     """The report of a test.
 
@@ -107,7 +132,22 @@ def run(test: str, data: object = None, *, program: str | None = None, **options
     options: as the program has them, with `_` for the dash: tail="less", order=["x", "y"], columns=[2, 3], nodes=True.
     program: its path; else that in the environment variable EXACT, else the one on the PATH.
     """
-    words = [program or os.environ.get("EXACT") or "exact", test]
+    return read(_text(test, data, program, options))
+
+
+def shift(data: object, *, program: str | None = None, **options: object) -> Shift:
+    """The shift of the second sample against the first, with exact limits.
+
+    data: a mapping from two labels to samples, or rows of a label and a value, or a file, as for `run`.
+    options: miss=Fraction(1, 20) or "1/20", the part of all rearrangements that the limits may miss; order, columns,
+    separator, missing.
+    """
+    return read_shift(_text("shift", data, program, options))
+
+
+def _text(command: str, data: object, program: str | None, options: Mapping[str, object]) -> str:
+    """What the program prints; a refusal is raised."""
+    words = [program or os.environ.get("EXACT") or "exact", command]
     with tempfile.TemporaryDirectory() as folder:
         if isinstance(data, (str, os.PathLike)):
             words.append(os.fspath(data))
@@ -119,7 +159,7 @@ def run(test: str, data: object = None, *, program: str | None = None, **options
     if done.returncode in REFUSALS:
         raise REFUSALS[done.returncode](done.stderr.decode(errors="replace").rstrip("\n"))
     done.check_returncode()
-    return read(done.stdout.decode(errors="replace"))
+    return done.stdout.decode(errors="replace")
 
 
 def read(text: str) -> Report:
@@ -145,6 +185,22 @@ def read(text: str) -> Report:
         else:
             found["sizes"].append(line)
     return Report(**{name: tuple(value) if isinstance(value, list) else value for name, value in found.items()})
+
+
+def read_shift(text: str) -> Shift:
+    """Reads the report of a shift."""
+    found: dict = {"sizes": (), "text": text}
+    for line in text.splitlines()[1:]:
+        word, _, rest = line.partition(" ")
+        if word in ("differences", "total", "dropped"):
+            found[word] = int(rest)
+        elif word in ("lower", "upper") and rest == "none":
+            found[word] = None
+        elif word in ("estimate", "lower", "upper", "miss"):
+            found[word] = Fraction(rest.split(" ")[0])
+        else:
+            found["sizes"] += (line,)
+    return Shift(**found)
 
 
 def _word(name: str, value: object) -> str:

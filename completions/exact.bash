@@ -2,7 +2,7 @@
 _exact() {
     local word=${COMP_WORDS[COMP_CWORD]} before=${COMP_WORDS[COMP_CWORD - 1]} test=${COMP_WORDS[1]} words=""
     if [ "$COMP_CWORD" -eq 1 ]; then
-        mapfile -t COMPREPLY < <(compgen -W "--help signedrank sign rawsigned mcnemar ranksum ansari mood savage median raw kw jt umbrella friedman page cochran fisher linear strata drill" -- "$word")
+        mapfile -t COMPREPLY < <(compgen -W "--help signedrank sign rawsigned mcnemar ranksum ansari mood savage median raw kw jt umbrella friedman page cochran fisher linear strata drill shift" -- "$word")
         return
     fi
     case $before in
@@ -16,6 +16,7 @@ _exact() {
     --separator) mapfile -t COMPREPLY < <(compgen -W "comma semicolon tab" -- "$word"); return ;;
     --number) return ;;
     --missing) mapfile -t COMPREPLY < <(compgen -W "refuse drop" -- "$word"); return ;;
+    --miss) return ;;
     esac
     case $test in
     signedrank) words="--tail --columns --separator --missing --distribution --plain --nodes" ;;
@@ -38,6 +39,7 @@ _exact() {
     linear) words="--tail --row-scores --column-scores --columns --separator --distribution --plain --nodes" ;;
     strata) words="--tail --columns --separator --distribution --plain --nodes" ;;
     drill) words="--number" ;;
+    shift) words="--order --columns --separator --missing --miss" ;;
     esac
     case $word in
     -*) mapfile -t COMPREPLY < <(compgen -W "$words" -- "$word") ;;

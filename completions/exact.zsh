@@ -2,7 +2,7 @@
 # zsh completion of exact; made by completions/make
 local -a rest
 if (( CURRENT == 2 )); then
-    compadd -- --help signedrank sign rawsigned mcnemar ranksum ansari mood savage median raw kw jt umbrella friedman page cochran fisher linear strata drill
+    compadd -- --help signedrank sign rawsigned mcnemar ranksum ansari mood savage median raw kw jt umbrella friedman page cochran fisher linear strata drill shift
     return
 fi
 case $words[2] in
@@ -187,6 +187,13 @@ strata) rest=(
 ) ;;
 drill) rest=(
     '--number=:k: '
+) ;;
+shift) rest=(
+    '--order=:labels: '
+    '--columns=:list: '
+    '--separator=:value:(comma semicolon tab)'
+    '--missing=:value:(refuse drop)'
+    '--miss=:p/q: '
 ) ;;
 esac
 _arguments '1: :' $rest '*:file:_files'

@@ -8,8 +8,8 @@ is_example <- function(name, answer) {
   wanted <- readLines(file.path(examples, paste0(name, ".out")))
   tell(identical(answer$report, wanted[seq_len(match("-- standard error", wanted) - 1)]), paste("R:", name))
 }
-refused <- function(status, ...) {
-  tryCatch({ exact_test(...); FALSE }, exact_refused = function(e) e$status == status && startsWith(conditionMessage(e), "refused: "))
+refused <- function(status, ..., by = exact_test) {
+  tryCatch({ by(...); FALSE }, exact_refused = function(e) e$status == status && startsWith(conditionMessage(e), "refused: "))
 }
 in_file_order <- function(labels) factor(labels, levels = unique(labels))
 
@@ -26,6 +26,17 @@ is_example("satisfaction", exact_test("linear", as.matrix(data_of("satisfaction"
 is_example("rabbits", exact_test("strata", data_of("rabbits")))
 is_example("mucociliary", exact_test("kw", value ~ in_file_order(group), data = data_of("mucociliary")))
 is_example("diphtheria", exact_test("cochran", data_of("diphtheria"), nodes = TRUE))
+
+d <- data_of("chorioamnion")
+found <- exact_shift(pd ~ in_file_order(age), data = d)
+is_example("chorioamnion_shift", found)
+limits <- c(unname(found$estimate), as.vector(found$conf.int), attr(found$conf.int, "conf.level"))
+tell(all.equal(limits, c(-0.305, -0.76, 0.15, 1 - 120 / 3003)), "R: limits of a shift")
+tell(identical(names(found$estimate), "difference in location") && identical(found$miss, c("120", "3003")), "R: names of a shift")
+few <- exact_shift(1:3, 4:6)
+tell(few$estimate == 3 && identical(as.vector(few$conf.int), c(-Inf, Inf)), "R: no limits of a shift")
+tell(exact_shift(1:3, 4:6, miss = "1/5")$conf.int[2] == 4, "R: another miss")
+tell(refused(2, 1:3, 4:6, miss = 0.05, by = exact_shift), "R: a decimal miss")
 
 for (status in 2:7) tell(refused(status, "ranksum", status, program = Sys.getenv("FAKE")), paste("R: status", status))
 tell(refused(2, "ranksum", c(1, 2), c(3, 4), tail = "left"), "R: refused words")

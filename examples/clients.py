@@ -4,6 +4,7 @@ import decimal
 import os
 import pathlib
 import sys
+from fractions import Fraction
 
 EXAMPLES = pathlib.Path(sys.argv[1])
 sys.path.insert(0, str(EXAMPLES.parent / "clients"))
@@ -68,7 +69,22 @@ for name, answer in runs.items():
     wanted = (EXAMPLES / f"{name}.out").read_text(encoding="utf-8").split("-- standard error")[0]
     tell(answer().text == wanted, f"Python: {name}")
 
+found = exact.shift(samples_of("chorioamnion.csv"))
+wanted = (EXAMPLES / "chorioamnion_shift.out").read_text(encoding="utf-8").split("-- standard error")[0]
+tell(found.text == wanted, "Python: chorioamnion_shift")
+limits = [str(found.lower), str(found.estimate), str(found.upper)]
+tell(limits == ["-19/25", "-61/200", "3/20"] and found.miss == Fraction(120, 3003), "Python: limits of a shift")
+
 six = {"x": [1, 2, 3], "y": [4, 5, 6]}
+tell(exact.shift(six).lower is None and exact.shift(six).miss == 0, "Python: no limits of a shift")
+turned = exact.shift(six, miss=Fraction(1, 5), order=["y", "x"])
+tell(turned.lower == -4 and turned.upper == -2 and turned.sizes[0] == "group 3 y", "Python: a shift turned round")
+tell(exact.shift({"x": [1, None], "y": [2]}, missing="drop").dropped == 1, "Python: a shift with missing values dropped")
+try:
+    exact.shift(six, miss=0.05)
+    tell(False, "Python: a decimal miss")
+except exact.Usage as fault:
+    tell(str(fault) == "refused: value of --miss", "Python: a decimal miss")
 for status, kind in exact.REFUSALS.items():
     told = refused(kind, "ranksum", [status], program=os.environ["FAKE"])
     tell(told and 2 <= status <= 7, f"Python: status {status}")

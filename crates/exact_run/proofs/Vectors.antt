@@ -9,13 +9,16 @@ use Rattle.record_reader.specs.declared.faults.Kind.TheVariants as kind
 use Rattle.record_reader.specs.declared.missing.Missing.TheVariants.{Drop}
 use Rattle.midranks.specs.Midranks.{doubled_midrank, midranks_among, number_below, number_equal}
 use Rattle.sample_reader.specs.PooledSample.{paired_subjects}
+use Rattle.scores.specs.RawScores.{decimals, is_whole, raw_score}
 use Rattle.settings.specs.Options.{settings_without_options}
 use Rattle.settings.specs.declared.names.OptionName.TheVariants as option
 use Rattle.settings.specs.declared.names.TestName.TheVariants as test
 use Rattle.settings.specs.declared.settings.Settings.{Settings}
 use Rattle.settings.specs.declared.tails.TailChoice.TheVariants as choice
 use Rattle.report.specs.Report.{dropped_line, extra_lines, group_line, group_lines, report_text, size_lines, spread_lines, statistic_line, tail_line, tail_lines, title_line, total_line}
+use Rattle.report.specs.Shift.{differences_line, estimate_line, limit_line, limits_lines, miss_line, shift_text}
 use Rattle.report.specs.declared.refusals.Refusal.TheVariants as refusal
+use Rattle.shift_limits.specs.Differences.{differences_between, labelled_values}
 use Rattle.exact_run.specs.Outcome.{outcome_of_bytes}
 
 abbrev rank_sum : Settings
@@ -58,3 +61,23 @@ not_left_out = refl
 none_left : outcome_of_bytes (record (settings_without_options test.Sign (codes "f.csv")) { missing = Drop }) (codes "d\nNA\n \n") ≡ Err (refusal.Row (record { row = 3; field = 0; kind = kind.EndsEarly }))
 unfolding outcome_of_bytes records_from next_record strip_bom value_of units_of
 none_left = refl
+
+abbrev shifted : Settings
+shifted = settings_without_options test.Shift (codes "f.csv")
+
+-- the estimate of a shift with its limits, which miss a fifth
+limited : outcome_of_bytes (record shifted { miss = record { above = 1; below = 5 } }) (codes "group,value\nx,1\nx,2\nx,3\ny,4\ny,5\ny,6\n")
+    ≡ Ok (codes "shift\ngroup 3 x\ngroup 3 y\ndifferences 9\nestimate 6/2\nlower 2/1\nupper 4/1\ntotal 20\nmiss 4/20 0.200000\n")
+unfolding outcome_of_bytes records_from next_record strip_bom value_of units_of paired_subjects decimals is_whole raw_score labelled_values differences_between shift_text size_lines group_lines group_line dropped_line limits_lines differences_line estimate_line limit_line total_line miss_line digits
+limited = refl
+
+-- no limits miss a twentieth of three labellings; a row is left out, and the groups stand in another order
+unlimited : outcome_of_bytes (record shifted { order = codes "y" ∷ codes "x" ∷ []; missing = Drop }) (codes "group,value\nx,1.5\ny,\ny,2\ny,4.25\n")
+    ≡ Ok (codes "shift\ngroup 2 y\ngroup 1 x\ndropped 1\ndifferences 2\nestimate -325/200\nlower none\nupper none\ntotal 3\nmiss 0/3 0.000000\n")
+unfolding outcome_of_bytes records_from next_record strip_bom value_of units_of paired_subjects decimals is_whole raw_score labelled_values differences_between shift_text size_lines group_lines group_line dropped_line limits_lines differences_line estimate_line limit_line total_line miss_line digits
+unlimited = refl
+
+-- a third label is refused as for the tests of two samples
+third_label : outcome_of_bytes shifted (codes "group,value\nx,1\ny,2\nz,3\n") ≡ Err (refusal.Row (record { row = 4; field = 1; kind = kind.GroupTooMany }))
+unfolding outcome_of_bytes records_from next_record strip_bom value_of units_of
+third_label = refl

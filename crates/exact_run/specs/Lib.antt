@@ -4,6 +4,7 @@ pub mod GroupQuestions
 pub mod BlockQuestions
 pub mod TableQuestions
 pub mod StrataQuestions
+pub mod ShiftReports
 pub mod Questions
 pub mod MadeData
 pub mod Outcome

@@ -20,6 +20,8 @@ use Rattle.settings.specs.Meaning.{meaning_of}
 use Rattle.settings.specs.declared.command_line.CommandLine.{CommandLine}
 use Rattle.settings.specs.declared.command_line.CommandLine.TheVariants as command
 use Rattle.settings.specs.declared.names.OptionName.TheVariants as option
+use Rattle.settings.specs.declared.names.TestName.{TestName}
+use Rattle.settings.specs.declared.names.TestName.TheVariants as test
 use Rattle.settings.specs.declared.names.UsageFault.{UsageFault}
 use Rattle.settings.specs.declared.names.UsageFault.TheVariants as usage
 use Rattle.settings.specs.declared.settings.Settings.{Settings}
@@ -31,7 +33,8 @@ use Rattle.report.specs.declared.refusals.Refusal.{Refusal}
 use Rattle.report.specs.declared.refusals.Refusal.TheVariants as refusal
 use Rattle.exact_run.specs.MadeData.{made_question}
 use Rattle.exact_run.specs.Question.{Question}
-use Rattle.exact_run.specs.Questions.{question_of}
+use Rattle.exact_run.specs.Questions.{question_for}
+use Rattle.exact_run.specs.ShiftReports.{shift_of}
 use Rattle.exact_run.specs.declared.reports.Asking.{Asking}
 
 -- the text of the report, or why there is none
@@ -120,10 +123,16 @@ outcome_of_question asking question =
 
 -- ---- a file
 
--- faults of the data, and other options that do not fit them, are refused before
+-- a shift is no test; of a test, faults of the data, and other options that do not fit them, are
+-- refused before
+abbrev pub outcome_for : TestName → Settings → List (List (List ℕ)) → Outcome
+outcome_for test.Shift settings rows = shift_of settings rows
+outcome_for name settings rows =
+    and_then (outcome_of_question (asking_of settings)) (question_for name settings rows)
+
+-- what the settings ask of the rows
 abbrev pub outcome_of_rows : Settings → List (List (List ℕ)) → Outcome
-outcome_of_rows settings rows =
-    and_then (outcome_of_question (asking_of settings)) (question_of settings rows)
+outcome_of_rows settings rows = outcome_for settings.test settings rows
 
 -- and the length of the file before these
 unfoldable pub outcome_of_bytes : Settings → List ℕ → Outcome
@@ -145,6 +154,8 @@ outcome_of_command (Err fault) held = Some (Err (usage_refusal fault))
 outcome_of_command (Ok command.Help) held = Some (Ok help)
 outcome_of_command (Ok (command.Test settings)) held =
     option_map (outcome_of_bytes settings) (held settings.file)
+outcome_of_command (Ok (command.Shift settings)) held =
+    option_map (outcome_of_bytes settings) (held settings.file)
 outcome_of_command (Ok (command.Drill number)) held =
     Some (outcome_of_question (asking_of_made number) (made_question number))
 
@@ -156,4 +167,5 @@ outcome_of words held = outcome_of_command (meaning_of words) held
 -- the words name a file that is read
 abbrev pub names_file : Result CommandLine UsageFault → Bool
 names_file (Ok (command.Test settings)) = true
+names_file (Ok (command.Shift settings)) = true
 names_file _ = false

@@ -39,7 +39,3 @@ question_for test.Fisher = fisher_of
 question_for test.Linear = linear_of
 question_for test.Strata = strata_of
 question_for _ = λ settings rows. Err (refusal.Unfit option.Test)
-
--- what the settings ask of the rows
-abbrev pub question_of : Settings → List (List (List ℕ)) → Result Question Refusal
-question_of settings rows = question_for settings.test settings rows

@@ -98,6 +98,7 @@ fn text_for<S: Source>(alloc: Global, words: &[String], source: &mut S) -> Resul
     match read(alloc, words) {
         Ok(CommandLine::Help) => Ok(Text::Help),
         Ok(CommandLine::Test(settings)) => as_text(report_from(alloc, &settings, source)),
+        Ok(CommandLine::Shift(settings)) => as_text(report_from(alloc, &settings, source)),
         Ok(CommandLine::Drill(number)) => as_text(made_report(alloc, number)),
         Err(fault) => Err(usage_refusal(fault)),
     }
@@ -114,8 +115,9 @@ fn refuse<E: Sink>(refusal: Refusal, err: &mut E) -> Status
 }
 
 /// Runs the command that the words name; they are those after the program's own name. `TEST FILE`
-/// with options in any place writes the report of the test for the data of the file; `drill` with a
-/// number writes that of made data, and `--help` alone the help text, both without the source. The
+/// with options in any place writes the report of the test for the data of the file, and `shift
+/// FILE` that of the estimate of a shift with its limits; `drill` with a number writes the report
+/// of made data, and `--help` alone the help text, both without the source. The
 /// report is composed whole, and then written to `out` by one call of `write_all`; the help text
 /// stands in the program, and takes no memory. Where nothing is written so, one line to `err` says
 /// why.

@@ -23,7 +23,7 @@ use two_sample_tests::prepare;
 use weights::Bytes;
 
 // The most groups of a file that a test takes.
-const TWO_SAMPLES: u64 = 2;
+pub(crate) const TWO_SAMPLES: u64 = 2;
 
 const MOST_SAMPLES: u64 = 8;
 
@@ -63,8 +63,13 @@ fn in_order(alloc: Global, groups: Groups, order: &Labels) -> Result<Groups, Ref
     }
 }
 
-// The groups in the order used.
-fn groups_of(alloc: Global, most: u64, settings: &Settings, rows: &Rows) -> Result<Groups, Refusal>
+/// The groups in the order used.
+pub(crate) fn groups_of(
+    alloc: Global,
+    most: u64,
+    settings: &Settings,
+    rows: &Rows,
+) -> Result<Groups, Refusal>
     requires picks { MayPick 2 2 settings.now.picks }
     requires two { 2 ≤ most }
     requires eight { most ≤ 8 }

@@ -10,6 +10,7 @@ mod pair_reports;
 mod questions;
 mod refusing;
 mod reports;
+mod shift_reports;
 mod status;
 mod strata_reports;
 mod sums;

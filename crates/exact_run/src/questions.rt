@@ -1,4 +1,4 @@
-// The report of each test.
+// The report of each test, and that of a shift.
 ghost use Rattle.settings.specs.Usable.{AreUsable};
 ghost use Rattle.exact_run.specs.CauseSteps.{Meets};
 ghost use Rattle.exact_run.specs.Outcome.{outcome_of_rows};
@@ -8,6 +8,7 @@ use crate::group_reports::{
     kruskal_wallis_report, ordered_report, two_sample_report, umbrella_report,
 };
 use crate::pair_reports::pair_report;
+use crate::shift_reports::shift_report;
 use crate::strata_reports::strata_report;
 use crate::table_reports::{fisher_report, linear_report, mcnemar_report};
 use block_tests::BlockKind;
@@ -45,6 +46,7 @@ pub(crate) fn report_in(alloc: Global, settings: &Settings, rows: &Rows) -> Resu
         TestName::Fisher => fisher_report(alloc, settings, rows),
         TestName::Linear => linear_report(alloc, settings, rows),
         TestName::Strata => strata_report(alloc, settings, rows),
+        TestName::Shift => shift_report(alloc, settings, rows),
         _ => Err(Refusal::Unfit(OptionName::Test)),
     }
 }

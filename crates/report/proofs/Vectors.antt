@@ -10,6 +10,7 @@ use Rattle.settings.specs.declared.names.UsageFault.TheVariants as usage
 use Rattle.report.specs.Decimals.{six_decimals}
 use Rattle.report.specs.Refusals.{refusal_line_text}
 use Rattle.report.specs.Report.{dropped_line, extra_lines, group_line, group_lines, node_line, node_lines, report_text, size_lines, spread_lines, statistic_line, tail_line, tail_lines, title_line, total_line, value_line}
+use Rattle.report.specs.Shift.{differences_line, estimate_line, limit_line, limits_lines, miss_line, shift_text}
 use Rattle.report.specs.declared.headings.Extra.TheVariants as extra
 use Rattle.report.specs.declared.headings.Sizes.TheVariants.{Groups, Pairs, Table}
 use Rattle.report.specs.declared.headings.Title.TheVariants.{Drill, Test}
@@ -77,6 +78,36 @@ none_left_out = refl
 heads : title_line (Drill 7) ++ extra_lines (extra.Scores Raw) ++ extra_lines (extra.Peak 2) ≡ codes "test drill 7\nscores raw\npeak 2\n"
 unfolding title_line extra_lines digits
 heads = refl
+
+-- the shift of two samples of three values
+shift :
+    shift_text (Groups (codes "x" ∷ codes "y" ∷ []) (3 ∷ 3 ∷ [])) None (record {
+      differences = 9;
+      places = 1;
+      middle = pos 6;
+      lower = Some (pos 2);
+      upper = Some (pos 4);
+      total = 20;
+      missed = 4;
+    })
+    ≡ codes "shift\ngroup 3 x\ngroup 3 y\ndifferences 9\nestimate 6/2\nlower 2/1\nupper 4/1\ntotal 20\nmiss 4/20 0.200000\n"
+unfolding shift_text size_lines group_lines group_line dropped_line limits_lines differences_line estimate_line limit_line total_line miss_line digits
+shift = refl
+
+-- no limits, and a negative estimate in hundredths
+unlimited :
+    shift_text (Groups (codes "x" ∷ codes "y" ∷ []) (1 ∷ 2 ∷ [])) (Some 0) (record {
+      differences = 2;
+      places = 100;
+      middle = negsuc 324;
+      lower = None;
+      upper = None;
+      total = 3;
+      missed = 0;
+    })
+    ≡ codes "shift\ngroup 1 x\ngroup 2 y\ndropped 0\ndifferences 2\nestimate -325/200\nlower none\nupper none\ntotal 3\nmiss 0/3 0.000000\n"
+unfolding shift_text size_lines group_lines group_line dropped_line limits_lines differences_line estimate_line limit_line total_line miss_line digits
+unlimited = refl
 
 control : group_line 1 (97 ∷ 31 ∷ 127 ∷ 128 ∷ []) ≡ codes "group 1 a??" ++ 128 ∷ 10 ∷ []
 unfolding group_line digits

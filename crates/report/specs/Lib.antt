@@ -1,4 +1,5 @@
 pub mod Decimals
 pub mod Report
+pub mod Shift
 pub mod Refusals
 pub mod DecimalSteps

@@ -8,10 +8,12 @@ mod heading_lines;
 mod headings;
 mod pieces;
 mod refusals;
+mod shift;
 mod short_line;
 
 pub use composing::compose;
 pub use decimals::six_decimals;
 pub use headings::{Extra, Sizes, Title};
 pub use refusals::{Refusal, refusal_line};
+pub use shift::compose_shift;
 pub use short_line::ShortLine;
