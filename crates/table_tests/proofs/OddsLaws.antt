@@ -27,9 +27,8 @@ use Rattle.room_network.specs.Plans.{Gives, IsPlan, Plan, alone, ways, way_weigh
 use Rattle.room_network.proofs.RoomKeys.{choices_before, is_allowed}
 use Rattle.label_network.specs.LabelRooms.{label_plan}
 use Rattle.label_network.specs.Meanings.{sizes_in}
-use Rattle.label_network.proofs.LabelPlans.{label_plan_sound, label_width, labels_give, rest_is, sizes-back}
+use Rattle.label_network.proofs.LabelPlans.{label_plan_sound, labels_give, rest_is, sizes-back}
 use Rattle.label_network.proofs.Narrowing.{chosen}
-use Rattle.table_tests.specs.FisherExact.{first_cell}
 use Rattle.table_tests.specs.FisherOdds.{labels_weight}
 use Rattle.weights.specs.Odds.{IsOdds, odds_weight}
 use Rattle.table_tests.specs.OddsNetworks.{odds_at, odds_plan}

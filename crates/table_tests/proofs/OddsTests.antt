@@ -1,7 +1,7 @@
 -- What holds of Fisher's test of a table with odds whose total passes no limit.
-use Rattle.std.proofs.Common.{◌≡◌, ℕ, ◌+◌, ◌-◌, ◌^◌, ◌<◌, ◌≤◌, List, [], ◌∷◌, length, true, Some, None, Err, Result, inl, inr, refl, sym, ◌∙◌, ap, subst, arith, lit≤}
-use Rattle.std.specs.Prelude.{ℤ, pos, slice_index}
-use Rattle.std.specs.List.{AllByRecursion, Contains, sum, sum_by}
+use Rattle.std.proofs.Common.{◌≡◌, ℕ, ◌+◌, ◌-◌, ◌^◌, ◌<◌, ◌≤◌, List, [], ◌∷◌, length, true, Some, None, Err, inl, inr, refl, sym, ◌∙◌, subst, arith, lit≤}
+use Rattle.std.specs.Prelude.{ℤ, slice_index}
+use Rattle.std.specs.List.{AllByRecursion, Contains, sum_by}
 use Rattle.std.proofs.Math.Nat.{one-le-pow}
 use Rattle.std.proofs.lemmas.Bool.{cases_lt, le-ltb, lt-ltb}
 use Rattle.std.proofs.lemmas.List.Sums.{sum_by-cons}
@@ -35,8 +35,8 @@ use Rattle.label_network.proofs.LinearNarrows.{linear_measure}
 use Rattle.label_network.proofs.OverRooms.{over_measure, over_value}
 use Rattle.table_reader.specs.TableLayout.{TableData}
 use Rattle.table_tests.specs.FisherExact.{first_cell, fisher_test}
-use Rattle.table_tests.specs.FisherOdds.{WeightedTable, has_odds_tail, labels_weight, odds_test}
-use Rattle.weights.specs.Odds.{IsOdds, odds_weight}
+use Rattle.table_tests.specs.FisherOdds.{WeightedTable, labels_weight, odds_test}
+use Rattle.weights.specs.Odds.{IsOdds}
 use Rattle.table_tests.specs.OddsNetworks.{cell_meaning, odds_network, odds_plan, odds_weights}
 use Rattle.table_tests.specs.OddsSteps.{AreWeighted, IsWeightedTable, cells_weight, odds_total}
 use Rattle.table_tests.specs.TableNetworks.{first_scores}
@@ -94,11 +94,11 @@ module _ (w : WeightedTable) (i : IsOdds w.odds) where
   wider : (what : WideOf) → too_wide (fisher_test w.table) ≡ Some what → too_wide (odds_test w) ≡ Some what
   wider what e = elim (cases_lt MAX (total (fisher_test w.table))) [
     | inl l ↦
-      let here : too_wide (fisher_test w.table) ≡ Some Total = rw (lt-ltb MAX (total (fisher_test w.table)) l) refl in
-      total-wide (λ h. omega (arith, l, fisher.total-is w.table, labellings-weigh, h)) ∙ sym here ∙ e
+        let here : too_wide (fisher_test w.table) ≡ Some Total = rw (lt-ltb MAX (total (fisher_test w.table)) l) refl in
+        total-wide (λ h. omega (arith, l, fisher.total-is w.table, labellings-weigh, h)) ∙ sym here ∙ e
     | inr l ↦
-      let none : too_wide (fisher_test w.table) ≡ None = rw (le-ltb MAX (total (fisher_test w.table)) (omega (arith, l))) refl in
-      absurd (cc (none, e))
+        let none : too_wide (fisher_test w.table) ≡ None = rw (le-ltb MAX (total (fisher_test w.table)) (omega (arith, l))) refl in
+        absurd (cc (none, e))
   ]
 
   pub refused : (fault : PrepareFault) → Prepares {V = TableData} fisher_test w.table (Err fault) → Prepares {V = WeightedTable} odds_test w (Err fault)

@@ -39,8 +39,8 @@ pub const MOST_SCORE: u64 = 1_000_000_000;
 /// The answer of a test of a table for tails that it has, by either way: the observed statistic,
 /// its scale, the number of labellings, and of each asked tail how many labellings are at least as
 /// extreme; with odds, their weights instead of their numbers. All tests have all tails, but
-/// `fisher` of a table that is not 2 by 2 has the tail on both sides alone, and with odds a table has
-/// the tails of one side alone.
+/// `fisher` of a table that is not 2 by 2 has the tail on both sides alone, and with odds those of
+/// one side alone.
 pub fn answer(
     alloc: Global,
     problem: &TableTest,

@@ -8,7 +8,7 @@ use Rattle.label_network.specs.Meanings.{Meaning}
 use Rattle.label_network.specs.declared.linear.LinearMeasure.{LinearMeasure}
 use Rattle.table_tests.specs.declared.odds_rooms.OddsRooms.{OddsRooms}
 use Rattle.table_tests.specs.FisherOdds.{odds_test}
-use Rattle.table_tests.specs.OddsNetworks.{cell_meaning, odds_weights}
+use Rattle.table_tests.specs.OddsNetworks.{odds_weights}
 use Rattle.table_tests.proofs.OddsTests.{are-weighted, follows, housed, linear}
 use Rattle.table_tests.proofs.odds_ways.OddsTablePrepared.stages_of.Goals as goal
 
