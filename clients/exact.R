@@ -5,15 +5,17 @@
 #   exact_test("sign", after - before)               differences
 #   exact_test("jt", value ~ group, data = d)        groups stand in the order of the factor's levels
 #   exact_test("fisher", table(d$sex, d$answer))     a table of counts, or a matrix
+#   exact_test("fisher", m, odds = "3/2")            a table of 2 by 2 against an odds ratio of 3/2
 #   exact_test("friedman", d)                        a data frame: its columns are the fields
 #   exact_shift(x, y, miss = "1/20")                 the shift of y against x, with exact limits
 #
 # Further arguments are the options of the program, with _ for the dash: tail = "less", order = c("b", "a"),
 # row_scores = 1:4, nodes = TRUE. The answer is an htest; `numerator`, `denominator` and `total` are texts, since a double
-# does not hold them, `tails` has every tail that was asked, `distribution` the whole distribution where it was asked, and
-# `dropped` the number of rows that missing = "drop" left out. That of exact_shift has `estimate` and `conf.int` as
-# wilcox.test has them (but of the second sample less the first); the level of `conf.int` is the one that is attained, and
-# limits that there are not are infinite. `miss` has numerator and denominator as texts.
+# does not hold them, `tails` has every tail that was asked (the p-value of the htest is that of `two`, where there is no
+# such tail that of the first), `distribution` the whole distribution where it was asked, and `dropped` the number of rows
+# that missing = "drop" left out. That of exact_shift has `estimate` and `conf.int` as wilcox.test has them (but of the
+# second sample less the first); the level of `conf.int` is the one that is attained, and limits that there are not are
+# infinite. `miss` has numerator and denominator as texts.
 # A refusal is an error of class exact_refused, whose message is the program's line; `status` is its status.
 #
 # Numbers are written with 15 digits, as R shows them, and rounded to 18 decimals where they have more, with a warning.

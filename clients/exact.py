@@ -10,6 +10,8 @@
     Fraction(1, 8)
     >>> exact.run("fisher", [[3, 1], [1, 3]], distribution=True).distribution[0]
     (Fraction(0, 1), 1)
+    >>> exact.run("fisher", [[3, 1], [1, 3]], odds="2/1").greater
+    Fraction(48, 107)
     >>> exact.run("ranksum", {"x": [1, 2, None], "y": [4, 5, 6]})
     Traceback (most recent call last):
     ...
@@ -129,7 +131,8 @@ def run(test: str, data: object = None, *, program: str | None = None, **options
     data: a mapping from labels to samples (a label and a value in each row), or rows: a list of lists or tuples, a zip
     of two lists, a numpy array, a pandas frame (whose columns are the fields); a list of numbers is one field a row. A
     text or a path names a file that stands. Without data no file is named, as `drill` wants it.
-    options: as the program has them, with `_` for the dash: tail="less", order=["x", "y"], columns=[2, 3], nodes=True.
+    options: as the program has them, with `_` for the dash: tail="less", order=["x", "y"], columns=[2, 3], nodes=True,
+    odds=Fraction(3, 2) or "3/2".
     program: its path; else that in the environment variable EXACT, else the one on the PATH.
     """
     return read(_text(test, data, program, options))
@@ -207,6 +210,8 @@ def _word(name: str, value: object) -> str:
     flag = "--" + name.replace("_", "-")
     if value is True:
         return flag
+    if isinstance(value, Fraction):
+        value = f"{value.numerator}/{value.denominator}"
     if not isinstance(value, str) and isinstance(value, Iterable):
         value = ",".join(str(item) for item in value)
     return f"{flag}={value}"

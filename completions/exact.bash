@@ -15,6 +15,7 @@ _exact() {
     --columns) return ;;
     --separator) mapfile -t COMPREPLY < <(compgen -W "comma semicolon tab" -- "$word"); return ;;
     --number) return ;;
+    --odds) return ;;
     --missing) mapfile -t COMPREPLY < <(compgen -W "refuse drop" -- "$word"); return ;;
     --miss) return ;;
     esac
@@ -35,9 +36,9 @@ _exact() {
     friedman) words="--tail --columns --separator --missing --distribution --plain --nodes" ;;
     page) words="--tail --columns --separator --missing --distribution --plain --nodes" ;;
     cochran) words="--tail --columns --separator --missing --distribution --plain --nodes" ;;
-    fisher) words="--tail --columns --separator --distribution --plain --nodes" ;;
+    fisher) words="--tail --columns --separator --odds --distribution --plain --nodes" ;;
     linear) words="--tail --row-scores --column-scores --columns --separator --distribution --plain --nodes" ;;
-    strata) words="--tail --columns --separator --distribution --plain --nodes" ;;
+    strata) words="--tail --columns --separator --odds --distribution --plain --nodes" ;;
     drill) words="--number" ;;
     shift) words="--order --columns --separator --missing --miss" ;;
     esac

@@ -30,6 +30,7 @@ complete -c exact -n '__fish_seen_subcommand_from linear' -l column-scores -x
 complete -c exact -n '__fish_seen_subcommand_from signedrank sign rawsigned mcnemar ranksum ansari mood savage median raw kw jt umbrella friedman page cochran fisher linear strata shift' -l columns -x
 complete -c exact -n '__fish_seen_subcommand_from signedrank sign rawsigned mcnemar ranksum ansari mood savage median raw kw jt umbrella friedman page cochran fisher linear strata shift' -l separator -x -a 'comma semicolon tab'
 complete -c exact -n '__fish_seen_subcommand_from drill' -l number -x
+complete -c exact -n '__fish_seen_subcommand_from fisher strata' -l odds -x
 complete -c exact -n '__fish_seen_subcommand_from signedrank sign rawsigned ranksum ansari mood savage median raw kw jt umbrella friedman page cochran shift' -l missing -x -a 'refuse drop'
 complete -c exact -n '__fish_seen_subcommand_from shift' -l miss -x
 complete -c exact -n '__fish_seen_subcommand_from signedrank sign rawsigned mcnemar ranksum ansari mood savage median raw kw jt umbrella friedman page cochran fisher linear strata' -l distribution

@@ -57,6 +57,7 @@ runs = {
     "motivation": lambda: exact.run("jt", samples_of("motivation.csv")),
     "rounding": lambda: exact.run("friedman", numbers(rows_of("rounding.csv"))),
     "tea": lambda: exact.run("fisher", counts(rows_of("tea.csv")), distribution=True),
+    "tea_odds": lambda: exact.run("fisher", counts(rows_of("tea.csv")), odds=Fraction(2)),
     "satisfaction": lambda: exact.run(
         "linear", counts(rows_of("satisfaction.csv")), row_scores=[3, 10, 20, 35], column_scores=[1, 3, 4, 5]
     ),

@@ -1,10 +1,12 @@
 -- Worked files, whose outcomes are computed from the definitions.
-use Rattle.std.proofs.Common.{◌≡◌, ◌∷◌, [], Ok, Err, refl}
+use Rattle.std.proofs.Common.{◌≡◌, ◌∷◌, [], Some, Ok, Err, refl}
 use Rattle.std.specs.Prelude.{codes}
 use Rattle.std.specs.Fmt.{digits}
 use Rattle.csv.specs.Machine.{next_record}
 use Rattle.csv.specs.Reading.{records_from, strip_bom}
+use Rattle.number_text.specs.CountTexts.{count_of}
 use Rattle.number_text.specs.NumberTexts.{units_of, value_of}
+use Rattle.weights.specs.Numbers.{lcm}
 use Rattle.record_reader.specs.declared.faults.Kind.TheVariants as kind
 use Rattle.record_reader.specs.declared.missing.Missing.TheVariants.{Drop}
 use Rattle.midranks.specs.Midranks.{doubled_midrank, midranks_among, number_below, number_equal}
@@ -81,3 +83,22 @@ unlimited = refl
 third_label : outcome_of_bytes shifted (codes "group,value\nx,1\ny,2\nz,3\n") ≡ Err (refusal.Row (record { row = 4; field = 1; kind = kind.GroupTooMany }))
 unfolding outcome_of_bytes records_from next_record strip_bom value_of units_of
 third_label = refl
+
+-- Fisher's test with odds: of six labellings three weigh 4 and three weigh 2
+abbrev with_odds : Settings
+with_odds = record (settings_without_options test.Fisher (codes "f.csv")) { odds = Some (record { above = 2; below = 1 }) }
+
+odds_of_two : outcome_of_bytes with_odds (codes "a,b\n2,0\n1,1\n") ≡ Ok (codes "test fisher\ntable 2 by 2 sum 4\nstatistic 2/1\ntotal 18\nless 18/18 1.000000\ngreater 12/18 0.666667\n")
+unfolding outcome_of_bytes records_from next_record strip_bom value_of units_of count_of report_text title_line size_lines dropped_line extra_lines statistic_line total_line tail_lines tail_line spread_lines digits
+odds_of_two = refl
+
+-- a greater table has no tail of one side
+odds_of_three_columns : outcome_of_bytes with_odds (codes "a,b,c\n2,0,1\n1,1,0\n") ≡ Err (refusal.Unfit option.Tail)
+unfolding outcome_of_bytes records_from next_record strip_bom value_of units_of count_of
+odds_of_three_columns = refl
+
+-- two strata, each of two labellings, of which one weighs 2
+strata_with_odds : outcome_of_bytes (record with_odds { test = test.Strata }) (codes "s,a,b,c,d\none,1,0,0,1\ntwo,0,1,1,0\n")
+    ≡ Ok (codes "test strata\nstrata 2 sum 4\nstatistic 1/1\ntotal 9\nless 5/9 0.555556\ngreater 8/9 0.888889\n")
+unfolding outcome_of_bytes records_from next_record strip_bom value_of units_of count_of lcm report_text title_line size_lines dropped_line extra_lines statistic_line total_line tail_lines tail_line spread_lines digits
+strata_with_odds = refl

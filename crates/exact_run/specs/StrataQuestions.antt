@@ -1,7 +1,8 @@
 -- What is asked of strata of tables of two rows and two columns.
-use Rattle.std.specs.Prelude.{ℕ, ◌/◌, List, length, None, Result}
+use Rattle.std.specs.Prelude.{ℕ, ◌/◌, List, length, Option, None, Result}
 use Rattle.std.specs.List.{sum}
 use Rattle.weights.specs.Results.{with_fault, with_value}
+use Rattle.weights.specs.declared.odds.Odds.{Odds}
 use Rattle.table_reader.specs.StrataLayout.{strata_in}
 use Rattle.settings.specs.declared.settings.Settings.{Settings}
 use Rattle.report.specs.declared.headings.Extra.TheVariants as extra
@@ -9,17 +10,20 @@ use Rattle.report.specs.declared.headings.Sizes.{Sizes}
 use Rattle.report.specs.declared.headings.Sizes.TheVariants as sizes
 use Rattle.report.specs.declared.refusals.Refusal.{Refusal}
 use Rattle.stratified_tests.specs.StrataNetwork.{strata_network}
-use Rattle.stratified_tests.specs.StrataTests.{strata_test}
+use Rattle.stratified_tests.specs.StrataTests.{data_of, strata_test}
 use Rattle.exact_run.specs.Question.{Question, layout_refusal, question_about}
 
 -- each stratum has four cells
 abbrev pub strata_sizes : List ℕ → Sizes
 strata_sizes cells = sizes.Strata (length cells / 4) (sum cells)
 
-abbrev pub strata_question : List ℕ → Question
-strata_question cells =
-    question_about strata_test strata_network cells (strata_sizes cells) None extra.None
+-- with odds, where they are given
+abbrev pub strata_question : Option Odds → List ℕ → Question
+strata_question odds cells =
+    question_about strata_test strata_network (data_of odds cells) (strata_sizes cells) None
+    extra.None
 
 abbrev pub strata_of : Settings → List (List (List ℕ)) → Result Question Refusal
 strata_of settings rows =
-    with_value strata_question (with_fault layout_refusal (strata_in settings.picks rows))
+    with_value (strata_question settings.odds)
+    (with_fault layout_refusal (strata_in settings.picks rows))

@@ -1,7 +1,8 @@
 -- What is asked of tables of counts.
-use Rattle.std.specs.Prelude.{ℕ, ◌==◌, Bool, true, false, List, [], length, ℤ, pos, map, None, Result, Ok, Err, if◌then◌else◌}
+use Rattle.std.specs.Prelude.{ℕ, ◌==◌, Bool, true, false, List, [], length, ℤ, pos, map, Option, Some, None, Result, Ok, Err, if◌then◌else◌}
 use Rattle.std.specs.List.{range_with_len, sum}
 use Rattle.weights.specs.Results.{and_then, with_fault, with_value}
+use Rattle.weights.specs.declared.odds.Odds.{Odds}
 use Rattle.table_reader.specs.TableLayout.{TableData, table_in}
 use Rattle.settings.specs.declared.names.OptionName.{OptionName}
 use Rattle.settings.specs.declared.names.OptionName.TheVariants as option
@@ -13,9 +14,12 @@ use Rattle.report.specs.declared.refusals.Refusal.{Refusal}
 use Rattle.report.specs.declared.refusals.Refusal.TheVariants as refusal
 use Rattle.one_sample_tests.specs.SignNetwork.{one_sample_network}
 use Rattle.one_sample_tests.specs.SignedSamples.{discordant, one_sample_test}
+use Rattle.table_tests.specs.OddsSteps.{weighted_of}
 use Rattle.table_tests.specs.TableSteps.{scored_of}
 use Rattle.table_tests.specs.TableTests.{table_network, table_test}
-use Rattle.table_tests.specs.declared.table_test.TableTest.TheVariants.{Fisher, Linear}
+use Rattle.table_tests.specs.Tables.{is_two_by_two}
+use Rattle.table_tests.specs.declared.table_test.TableTest.{TableTest}
+use Rattle.table_tests.specs.declared.table_test.TableTest.TheVariants as kind
 use Rattle.exact_run.specs.Question.{Question, layout_refusal, question_about}
 
 -- the table of the rows: one of two rows and two columns, or any
@@ -38,12 +42,27 @@ mcnemar_of settings rows = with_value mcnemar_question (table_of true settings r
 
 -- ---- Fisher's exact test
 
+-- what a test of a table asks
+abbrev pub table_question : TableData → TableTest → Question
+table_question table test =
+    question_about table_test table_network test (table_sizes table) None extra.None
+
 abbrev pub fisher_question : TableData → Question
-fisher_question table =
-    question_about table_test table_network (Fisher table) (table_sizes table) None extra.None
+fisher_question table = table_question table (kind.Fisher table)
+
+-- with odds it has the tails of one side, which are those of a table of two rows and two columns
+abbrev pub odds_question : Odds → TableData → Result Question Refusal
+odds_question odds table =
+    if is_two_by_two table then Ok (table_question table (kind.Odds (weighted_of table odds)))
+    else Err (refusal.Unfit option.Tail)
+
+-- with odds, where they are given
+abbrev pub fisher_asked : Option Odds → TableData → Result Question Refusal
+fisher_asked None table = Ok (fisher_question table)
+fisher_asked (Some odds) table = odds_question odds table
 
 abbrev pub fisher_of : Settings → List (List (List ℕ)) → Result Question Refusal
-fisher_of settings rows = with_value fisher_question (table_of false settings rows)
+fisher_of settings rows = and_then (fisher_asked settings.odds) (table_of false settings rows)
 
 -- ---- the linear-by-linear test
 
@@ -60,8 +79,7 @@ fitting_scores name count given =
 
 abbrev pub linear_question : TableData → List ℤ → List ℤ → Question
 linear_question table row_scores column_scores =
-    question_about table_test table_network (Linear (scored_of table row_scores column_scores))
-    (table_sizes table) None extra.None
+    table_question table (kind.Linear (scored_of table row_scores column_scores))
 
 -- the scores of rows are looked at before those of columns
 abbrev pub scored_question : Settings → TableData → Result Question Refusal

@@ -33,6 +33,9 @@ pub(crate) const ALL: Tails = Tails {
     two: true,
 };
 
+/// The tails of one side each.
+pub(crate) const ONE_SIDED: Tails = Tails { two: false, ..ALL };
+
 /// The tail of great values alone.
 pub(crate) const GREATER: Tails = Tails {
     greater: true,

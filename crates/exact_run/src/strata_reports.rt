@@ -1,23 +1,26 @@
 // The report of the test of strata.
-ghost use Rattle.std.specs.Prelude.{◌≡◌, Ok, IfErr, IfOk};
+ghost use Rattle.std.specs.Prelude.{◌≡◌, Ok, IfErr, IfOk, IfSome};
 ghost use Rattle.record_reader.specs.Layouts.{MayPick};
+ghost use Rattle.weights.specs.Odds.{IsOdds};
 ghost use Rattle.weights.specs.Results.{and_then, with_fault};
+ghost use Rattle.weights.specs.Wide.{Prepares};
 ghost use Rattle.table_reader.specs.StrataLayout.{strata_in};
+ghost use Rattle.stratified_tests.specs.StrataTests.{data_of, strata_test, tails_with};
 ghost use Rattle.exact_run.specs.CauseSteps.{IsCauseOf, Meets};
-ghost use Rattle.exact_run.specs.Outcome.{asking_of, outcome_of_question};
+ghost use Rattle.exact_run.specs.Outcome.{asking_of, outcome_of_question, tails_by};
 ghost use Rattle.exact_run.specs.Question.{layout_refusal};
 ghost use Rattle.exact_run.specs.StrataQuestions.{strata_of, strata_sizes};
 
 use crate::refusing::layout_refusal;
-use crate::reports::{ALL, Asking, Heading, report_on};
+use crate::reports::{ALL, Asking, Heading, ONE_SIDED, report_on};
 use crate::sums::cell_sum;
 use record_reader::Rows;
 use report::{Extra, Refusal, Sizes};
 use settings::Settings;
 use std::alloc::Global;
-use stratified_tests::prepare;
+use stratified_tests::{StrataTest, prepare, prepare_odds};
 use table_reader::{Strata, strata};
-use weights::Bytes;
+use weights::{Bytes, Odds, PrepareFault, Tails};
 
 // The strata of the rows, or the refusal of their fault.
 fn strata_read(alloc: Global, settings: &Settings, rows: &Rows) -> Result<Strata, Refusal>
@@ -39,22 +42,45 @@ fn sizes_of(strata: &Strata) -> Sizes
     }
 }
 
-/// The report of the test of strata, or the refusal.
+// The test of the strata, prepared with odds where they are given.
+fn prepared(alloc: Global, odds: Option<Odds>, strata: &Strata) -> Result<StrataTest, PrepareFault>
+    requires { IfSome odds IsOdds }
+    ensures { Prepares strata_test (data_of odds strata.now.cells) result }
+{
+    match odds {
+        None => prepare(alloc, strata),
+        Some(odds) => prepare_odds(alloc, odds, strata),
+    }
+}
+
+// The tails that the test has.
+fn tails_of(odds: Option<Odds>) -> Tails
+    ensures { result ≡ tails_by (tails_with odds) }
+{
+    match odds {
+        None => ALL,
+        Some(_) => ONE_SIDED,
+    }
+}
+
+/// The report of the test of strata, with odds where they are given, or the refusal.
 pub(crate) fn strata_report(
     alloc: Global,
     settings: &Settings,
     rows: &Rows,
 ) -> Result<Bytes, Refusal>
-    requires { MayPick 5 5 settings.now.picks }
+    requires picks { MayPick 5 5 settings.now.picks }
+    requires odds { IfSome settings.now.odds IsOdds }
     ensures { let question = strata_of settings.now rows.now in
         Meets (and_then (outcome_of_question (asking_of settings.now)) question) result }
 {
     let strata = strata_read(alloc, settings, rows)?;
-    let problem = prepare(alloc, &strata);
+    let problem = prepared(alloc, settings.odds, &strata);
+    let tails = tails_of(settings.odds);
     let heading = Heading {
         sizes: sizes_of(&strata),
         dropped: None,
         extra: Extra::None,
     };
-    report_on(alloc, Asking::of(settings), &heading, ALL, problem)
+    report_on(alloc, Asking::of(settings), &heading, tails, problem)
 }

@@ -1,20 +1,22 @@
 // The reports of the tests of tables of counts.
-ghost use Rattle.std.specs.Prelude.{◌≡◌, ◌≤◌, pos, length, map, None, Ok, IfErr, IfOk};
+ghost use Rattle.std.specs.Prelude.{◌≡◌, ◌≤◌, pos, length, map, None, Ok, IfErr, IfOk, IfSome};
 ghost use Rattle.std.specs.List.{range_with_len};
 ghost use Rattle.record_reader.specs.Layouts.{MayPick};
+ghost use Rattle.weights.specs.Odds.{IsOdds};
 ghost use Rattle.weights.specs.Results.{and_then};
 ghost use Rattle.table_reader.specs.Data.{table_data_of};
 ghost use Rattle.table_reader.specs.Kept.{HasShape};
 ghost use Rattle.table_reader.specs.TableLayout.{table_shape};
 ghost use Rattle.table_reader.specs.declared.TheConstants.{MOST_TABLE_COLUMNS};
+ghost use Rattle.table_tests.specs.Tables.{is_two_by_two};
 ghost use Rattle.settings.specs.Usable.{AreWithin};
 ghost use Rattle.settings.specs.Values.{column_scores_form, row_scores_form};
 ghost use Rattle.exact_run.specs.CauseSteps.{IsCauseOf, Meets};
 ghost use Rattle.exact_run.specs.Outcome.{asking_of, outcome_of_question};
-ghost use Rattle.exact_run.specs.TableQuestions.{fisher_of, fitting_scores, linear_of, mcnemar_of, scores_or_numbers, table_of, table_sizes};
+ghost use Rattle.exact_run.specs.TableQuestions.{fisher_of, fisher_question, fitting_scores, linear_of, mcnemar_of, odds_question, scores_or_numbers, table_of, table_sizes};
 
 use crate::refusing::layout_refusal;
-use crate::reports::{ALL, Asking, Heading, report_on};
+use crate::reports::{ALL, Asking, Heading, ONE_SIDED, report_on};
 use crate::sums::cell_sum;
 use one_sample_tests::prepare_mcnemar;
 use record_reader::Rows;
@@ -22,8 +24,8 @@ use report::{Extra, Refusal, Sizes};
 use settings::{Nums64, OptionName, Settings};
 use std::alloc::Global;
 use table_reader::{Table, table};
-use table_tests::{fisher_tails, prepare_fisher, prepare_linear};
-use weights::{Bytes, NoMemory};
+use table_tests::{fisher_tails, prepare_fisher, prepare_linear, prepare_odds};
+use weights::{Bytes, NoMemory, Odds};
 
 // The table of the rows, or the refusal of its fault.
 fn table_of(
@@ -81,26 +83,68 @@ pub(crate) fn mcnemar_report(
     )
 }
 
-/// The report of Fisher's exact test, or the refusal.
+// The report of Fisher's exact test of a table without odds, or the refusal.
+fn central_report(alloc: Global, settings: &Settings, table: &Table) -> Result<Bytes, Refusal>
+    ensures { let question = fisher_question (table_data_of table.now) in
+        Meets (outcome_of_question (asking_of settings.now) question) result }
+{
+    let problem = prepare_fisher(alloc, table);
+    let tails = fisher_tails(table);
+    report_on(
+        alloc,
+        Asking::of(settings),
+        &heading_of(table),
+        tails,
+        problem,
+    )
+}
+
+fn is_two_by_two(table: &Table) -> bool
+    ensures { result ≡ is_two_by_two (table_data_of table.now) }
+{
+    table.rows == 2 && table.columns == 2
+}
+
+// The report of Fisher's exact test of a table with odds, or the refusal.
+fn odds_report(
+    alloc: Global,
+    settings: &Settings,
+    odds: Odds,
+    table: &Table,
+) -> Result<Bytes, Refusal>
+    requires { IsOdds odds }
+    ensures { let question = odds_question odds (table_data_of table.now) in
+        Meets (and_then (outcome_of_question (asking_of settings.now)) question) result }
+{
+    if !is_two_by_two(table) {
+        return Err(Refusal::Unfit(OptionName::Tail));
+    }
+    let problem = prepare_odds(alloc, odds, table);
+    report_on(
+        alloc,
+        Asking::of(settings),
+        &heading_of(table),
+        ONE_SIDED,
+        problem,
+    )
+}
+
+/// The report of Fisher's exact test, with odds where they are given, or the refusal.
 pub(crate) fn fisher_report(
     alloc: Global,
     settings: &Settings,
     rows: &Rows,
 ) -> Result<Bytes, Refusal>
-    requires { MayPick 2 MOST_TABLE_COLUMNS settings.now.picks }
+    requires picks { MayPick 2 MOST_TABLE_COLUMNS settings.now.picks }
+    requires odds { IfSome settings.now.odds IsOdds }
     ensures { let question = fisher_of settings.now rows.now in
         Meets (and_then (outcome_of_question (asking_of settings.now)) question) result }
 {
     let table = table_of(alloc, false, settings, rows)?;
-    let problem = prepare_fisher(alloc, &table);
-    let tails = fisher_tails(&table);
-    report_on(
-        alloc,
-        Asking::of(settings),
-        &heading_of(&table),
-        tails,
-        problem,
-    )
+    match settings.odds {
+        None => central_report(alloc, settings, &table),
+        Some(odds) => odds_report(alloc, settings, odds, &table),
+    }
 }
 
 // The scores that are given for so many rows or columns, or the refusal where they do not fit.
