@@ -1,5 +1,4 @@
 use Rattle.std.proofs.Common.{◌∙◌, None, ap, subst}
-use Rattle.sample_reader.specs.Groups.{GroupData}
 use Rattle.report.specs.declared.headings.Extra.TheVariants as extra
 use Rattle.report.specs.declared.headings.Sizes.{Sizes}
 use Rattle.scores.specs.declared.kinds.ScoreKind.TheVariants.{Wilcoxon}
