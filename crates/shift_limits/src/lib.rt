@@ -51,9 +51,9 @@ fn told(alloc: Global, groups: &Groups, miss: Odds, total: u128) -> Result<Limit
 /// Lehmann, Annals of Mathematical Statistics 34, 1963; Hollander and Wolfe, Nonparametric
 /// Statistical Methods, chapter 4). The estimate is half the sum of the two middle differences. The
 /// limits stand at the same place from either end of the ascending differences, the greatest at
-/// which they miss at most this part of the labellings, on both sides together. There are none where
-/// no place is so far out. A labelling is an assignment of the subjects' places, without ties, to
-/// the two samples.
+/// which they miss at most this part of the labellings, on both sides together; there are none
+/// where no place is so far out. A labelling says which of the subjects' places, without ties, the
+/// second sample has.
 ///
 /// # Errors
 /// `TooWide` exactly where there are more labellings than [`weights::MAX`]; `NoMemory` where memory

@@ -5,101 +5,56 @@ use crate::{longest_field, rows_with_empty_fields};
 use record_reader::{DataFault, Kind, LayoutFault, Missing, Picks, records};
 use sample_reader::{Labels, Layout, blocks, dropped, groups, pooled_subjects};
 use std::alloc::Global;
+use std::process::Abort;
 use std::test::Fail;
 use weights::{NoMemory, Nums};
 
-// A layout of a stranger's is read by the same rules. Rows that miss a field may be dropped, but
-// not one too many, nor one of another width.
+// What a file comes to in the layout of texts: how many rows are dropped, and the longest field or
+// the first fault, by its row, field and kind.
+fn reads(
+    rt: &impl Abort,
+    alloc: Global,
+    text: &str,
+    missing: Missing,
+    dropped: u64,
+    wanted: Result<usize, (u64, u64, Kind)>,
+) -> Result<(), Fail> {
+    let rows = records(alloc, text.as_bytes(), b',')?;
+    let answer = longest_field(alloc, &rows, &Picks::Natural, missing);
+    let expected = wanted.map_err(|(row, field, kind)| LayoutFault::At(DataFault {
+        row,
+        field,
+        kind,
+    }));
+    assert!(rt; answer == expected, "at {text:?}");
+    let told = rows_with_empty_fields(&rows, &Picks::Natural, missing);
+    assert_eq!(rt; told, dropped, "at {text:?}");
+    Ok(())
+}
+
+// A layout of a stranger's is read by the same rules.
 #[test]
 fn reads_a_layout_of_its_own(rt: HostRuntime) -> Result<(), Fail> {
-    for (text, missing, dropped, longest, fault) in [
-        ("a,b\nxx,y\nz,\"a,b\"\n", Missing::Refuse, 0, Some(3), None),
-        (
-            "a,b\nxx,y\nz,\n",
-            Missing::Refuse,
-            0,
-            None,
-            Some((3, 2, Kind::Missing)),
-        ),
-        (
-            "a\nx\nx\nx\nx\n",
-            Missing::Refuse,
-            0,
-            None,
-            Some((5, 0, Kind::TooManyRows)),
-        ),
-        (
-            "a,b,c,d\n",
-            Missing::Refuse,
-            0,
-            None,
-            Some((1, 0, Kind::TooManyColumns)),
-        ),
-        (
-            "a,b\nx\n",
-            Missing::Refuse,
-            0,
-            None,
-            Some((2, 0, Kind::FieldCount)),
-        ),
-        (
-            "a\n",
-            Missing::Refuse,
-            0,
-            None,
-            Some((1, 0, Kind::EndsEarly)),
-        ),
-        ("", Missing::Refuse, 0, None, Some((1, 0, Kind::NoHeader))),
-        ("a,b\nxx,y\nlonger,\n", Missing::Drop, 1, Some(2), None),
-        (
-            "a,b\nxx,y\n,longer,\n",
-            Missing::Drop,
-            0,
-            None,
-            Some((3, 0, Kind::FieldCount)),
-        ),
-        (
-            "a\n\"\"\nx\nx\nx\n",
-            Missing::Drop,
-            1,
-            None,
-            Some((5, 0, Kind::TooManyRows)),
-        ),
-        (
-            "a\nx\nx\nx\n\"\"\n",
-            Missing::Drop,
-            0,
-            None,
-            Some((5, 0, Kind::TooManyRows)),
-        ),
-        (
-            "a\n\"\"\n\"\"\n",
-            Missing::Drop,
-            2,
-            None,
-            Some((3, 0, Kind::EndsEarly)),
-        ),
-        (
-            "a,b,c,d\n,,,\n",
-            Missing::Drop,
-            0,
-            None,
-            Some((1, 0, Kind::TooManyColumns)),
-        ),
-    ] {
-        let rows = records(rt.alloc(), text.as_bytes(), b',')?;
-        let answer = longest_field(rt.alloc(), &rows, &Picks::Natural, missing);
-        assert_eq!(rt; answer.ok(), longest, "at {text:?}");
-        let wanted = fault.map(|(row, field, kind)| LayoutFault::At(DataFault {
-            row,
-            field,
-            kind,
-        }));
-        assert!(rt; answer.err() == wanted, "at {text:?}");
-        let told = rows_with_empty_fields(&rows, &Picks::Natural, missing);
-        assert_eq!(rt; told, dropped, "at {text:?}");
-    }
-    Ok(())
+    let refuse = Missing::Refuse;
+    reads(&rt, rt.alloc(), "a,b\nxx,y\nz,\"a,b\"\n", refuse, 0, Ok(3))?;
+    reads(&rt, rt.alloc(), "a,b\nxx,y\nz,\n", refuse, 0, Err((3, 2, Kind::Missing)))?;
+    reads(&rt, rt.alloc(), "a\nx\nx\nx\nx\n", refuse, 0, Err((5, 0, Kind::TooManyRows)))?;
+    reads(&rt, rt.alloc(), "a,b,c,d\n", refuse, 0, Err((1, 0, Kind::TooManyColumns)))?;
+    reads(&rt, rt.alloc(), "a,b\nx\n", refuse, 0, Err((2, 0, Kind::FieldCount)))?;
+    reads(&rt, rt.alloc(), "a\n", refuse, 0, Err((1, 0, Kind::EndsEarly)))?;
+    reads(&rt, rt.alloc(), "", refuse, 0, Err((1, 0, Kind::NoHeader)))
+}
+
+// Rows that miss a field may be dropped, but not one too many, nor one of another width.
+#[test]
+fn drops_rows_of_a_layout_of_its_own(rt: HostRuntime) -> Result<(), Fail> {
+    let drop = Missing::Drop;
+    reads(&rt, rt.alloc(), "a,b\nxx,y\nlonger,\n", drop, 1, Ok(2))?;
+    reads(&rt, rt.alloc(), "a,b\nxx,y\n,longer,\n", drop, 0, Err((3, 0, Kind::FieldCount)))?;
+    reads(&rt, rt.alloc(), "a\n\"\"\nx\nx\nx\n", drop, 1, Err((5, 0, Kind::TooManyRows)))?;
+    reads(&rt, rt.alloc(), "a\nx\nx\nx\n\"\"\n", drop, 0, Err((5, 0, Kind::TooManyRows)))?;
+    reads(&rt, rt.alloc(), "a\n\"\"\n\"\"\n", drop, 2, Err((3, 0, Kind::EndsEarly)))?;
+    reads(&rt, rt.alloc(), "a,b,c,d\n,,,\n", drop, 0, Err((1, 0, Kind::TooManyColumns)))
 }
 
 // Picks of the third field and the first.
