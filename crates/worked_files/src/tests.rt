@@ -37,11 +37,46 @@ fn reads(
 fn reads_a_layout_of_its_own(rt: HostRuntime) -> Result<(), Fail> {
     let refuse = Missing::Refuse;
     reads(&rt, rt.alloc(), "a,b\nxx,y\nz,\"a,b\"\n", refuse, 0, Ok(3))?;
-    reads(&rt, rt.alloc(), "a,b\nxx,y\nz,\n", refuse, 0, Err((3, 2, Kind::Missing)))?;
-    reads(&rt, rt.alloc(), "a\nx\nx\nx\nx\n", refuse, 0, Err((5, 0, Kind::TooManyRows)))?;
-    reads(&rt, rt.alloc(), "a,b,c,d\n", refuse, 0, Err((1, 0, Kind::TooManyColumns)))?;
-    reads(&rt, rt.alloc(), "a,b\nx\n", refuse, 0, Err((2, 0, Kind::FieldCount)))?;
-    reads(&rt, rt.alloc(), "a\n", refuse, 0, Err((1, 0, Kind::EndsEarly)))?;
+    reads(
+        &rt,
+        rt.alloc(),
+        "a,b\nxx,y\nz,\n",
+        refuse,
+        0,
+        Err((3, 2, Kind::Missing)),
+    )?;
+    reads(
+        &rt,
+        rt.alloc(),
+        "a\nx\nx\nx\nx\n",
+        refuse,
+        0,
+        Err((5, 0, Kind::TooManyRows)),
+    )?;
+    reads(
+        &rt,
+        rt.alloc(),
+        "a,b,c,d\n",
+        refuse,
+        0,
+        Err((1, 0, Kind::TooManyColumns)),
+    )?;
+    reads(
+        &rt,
+        rt.alloc(),
+        "a,b\nx\n",
+        refuse,
+        0,
+        Err((2, 0, Kind::FieldCount)),
+    )?;
+    reads(
+        &rt,
+        rt.alloc(),
+        "a\n",
+        refuse,
+        0,
+        Err((1, 0, Kind::EndsEarly)),
+    )?;
     reads(&rt, rt.alloc(), "", refuse, 0, Err((1, 0, Kind::NoHeader)))
 }
 
@@ -50,11 +85,46 @@ fn reads_a_layout_of_its_own(rt: HostRuntime) -> Result<(), Fail> {
 fn drops_rows_of_a_layout_of_its_own(rt: HostRuntime) -> Result<(), Fail> {
     let drop = Missing::Drop;
     reads(&rt, rt.alloc(), "a,b\nxx,y\nlonger,\n", drop, 1, Ok(2))?;
-    reads(&rt, rt.alloc(), "a,b\nxx,y\n,longer,\n", drop, 0, Err((3, 0, Kind::FieldCount)))?;
-    reads(&rt, rt.alloc(), "a\n\"\"\nx\nx\nx\n", drop, 1, Err((5, 0, Kind::TooManyRows)))?;
-    reads(&rt, rt.alloc(), "a\nx\nx\nx\n\"\"\n", drop, 0, Err((5, 0, Kind::TooManyRows)))?;
-    reads(&rt, rt.alloc(), "a\n\"\"\n\"\"\n", drop, 2, Err((3, 0, Kind::EndsEarly)))?;
-    reads(&rt, rt.alloc(), "a,b,c,d\n,,,\n", drop, 0, Err((1, 0, Kind::TooManyColumns)))
+    reads(
+        &rt,
+        rt.alloc(),
+        "a,b\nxx,y\n,longer,\n",
+        drop,
+        0,
+        Err((3, 0, Kind::FieldCount)),
+    )?;
+    reads(
+        &rt,
+        rt.alloc(),
+        "a\n\"\"\nx\nx\nx\n",
+        drop,
+        1,
+        Err((5, 0, Kind::TooManyRows)),
+    )?;
+    reads(
+        &rt,
+        rt.alloc(),
+        "a\nx\nx\nx\n\"\"\n",
+        drop,
+        0,
+        Err((5, 0, Kind::TooManyRows)),
+    )?;
+    reads(
+        &rt,
+        rt.alloc(),
+        "a\n\"\"\n\"\"\n",
+        drop,
+        2,
+        Err((3, 0, Kind::EndsEarly)),
+    )?;
+    reads(
+        &rt,
+        rt.alloc(),
+        "a,b,c,d\n,,,\n",
+        drop,
+        0,
+        Err((1, 0, Kind::TooManyColumns)),
+    )
 }
 
 // Picks of the third field and the first.
