@@ -3,7 +3,7 @@ ghost use Rattle.std.specs.Prelude.{◌≤◌};
 use crate::{Shelf, Tight};
 use exact_run::{Status, run};
 use outside::{
-    Counter, HostSink, HostSource, MemorySink, MemorySource, ReadFail, Sink, SteadySink,
+    Counter, HostSink, HostSource, MemorySink, MemorySource, ReadFail, Sink, Source, SteadySink,
     SteadySource, WriteFault, read_all, write_all,
 };
 use std::alloc::{AllocError, Global};
@@ -41,6 +41,18 @@ fn sink(alloc: Global, fail: &[u64]) -> Result<MemorySink, AllocError> {
     Ok(MemorySink::new(room, 16, Vec::from_slice(alloc, fail)?))
 }
 
+// The status of a run. No more is told of it, so that a proof above carries no more.
+fn status_of<S: Source, O: Sink, E: Sink>(
+    alloc: Global,
+    words: &str,
+    source: &mut S,
+    out: &mut O,
+    err: &mut E,
+) -> Result<Status, AllocError> {
+    let words = words_of(alloc, words)?;
+    Ok(run(alloc, &words, source, out, err))
+}
+
 // Runs over a source and sinks in memory, and compares what both sinks hold in the end.
 fn expect(
     rt: &impl Abort,
@@ -51,14 +63,29 @@ fn expect(
     status: Status,
     told: [&str; 2],
 ) -> Result<(), AllocError> {
-    let words = words_of(alloc, words)?;
     let mut out = sink(alloc, writes[0])?;
     let mut err = sink(alloc, writes[1])?;
-    let answer = run(alloc, &words, source, &mut out, &mut err);
+    let answer = status_of(alloc, words, source, &mut out, &mut err)?;
     assert!(rt; answer == status);
     assert!(rt; out.taken() == told[0].as_bytes());
     assert!(rt; err.taken() == told[1].as_bytes());
     Ok(())
+}
+
+// A run over a source that gives so many bytes at a time, and whose call of this number fails.
+fn expect_of_reads(
+    rt: &impl Abort,
+    alloc: Global,
+    step: usize,
+    call: u64,
+    status: Status,
+    told: [&str; 2],
+) -> Result<(), AllocError>
+    requires { 1 ≤ step }
+{
+    let mut source = six_values(alloc, step, &[call])?;
+    let words = "ranksum f.csv";
+    expect(rt, alloc, words, &mut source, [&[], &[]], status, told)
 }
 
 // The source is started by call 0, gives its bytes, and then none: five times eight bytes at most,
@@ -66,50 +93,45 @@ fn expect(
 #[test]
 fn tells_read_faults(rt: HostRuntime) -> Result<(), AllocError> {
     let alloc = rt.alloc();
+    let fault = Status::ReadFault;
     let refused = ["", "refused: read fault\n"];
+    let done = [REPORT, ""];
+    expect_of_reads(&rt, alloc, 8, 0, fault, refused)?;
+    expect_of_reads(&rt, alloc, 8, 1, fault, refused)?;
+    expect_of_reads(&rt, alloc, 8, 6, fault, refused)?;
+    expect_of_reads(&rt, alloc, 8, 7, Status::Done, done)?;
+    expect_of_reads(&rt, alloc, 1, 37, fault, refused)?;
+    expect_of_reads(&rt, alloc, 1, 38, Status::Done, done)
+}
+
+// A run over sinks, of which the first fails at its write of this number.
+fn expect_of_writes(
+    rt: &impl Abort,
+    alloc: Global,
+    write: u64,
+    status: Status,
+    told: [&str; 2],
+) -> Result<(), AllocError> {
+    let mut source = six_values(alloc, 8, &[])?;
+    let writes: [&[u64]; 2] = [&[write], &[]];
     let words = "ranksum f.csv";
-    for (step, call, status, told) in [
-        (8, 0, Status::ReadFault, refused),
-        (8, 1, Status::ReadFault, refused),
-        (8, 6, Status::ReadFault, refused),
-        (8, 7, Status::Done, [REPORT, ""]),
-        (1, 37, Status::ReadFault, refused),
-        (1, 38, Status::Done, [REPORT, ""]),
-    ] {
-        let mut source = six_values(alloc, step, &[call])?;
-        expect(&rt, alloc, words, &mut source, [&[], &[]], status, told)?;
-    }
-    Ok(())
+    expect(rt, alloc, words, &mut source, writes, status, told)
 }
 
 #[test]
 fn tells_write_faults(rt: HostRuntime) -> Result<(), AllocError> {
     let alloc = rt.alloc();
+    let fault = Status::WriteFault;
     let line = "refused: write fault\n";
     let last = "test ranksum\ngroup 3 x\ngroup 3 y\nstatistic 30/2\ntotal 20\n\
         less 20/20 1.000000\ngreater 1/20 0.050000\ntwo 2/20 0.10";
-    for (write, status, told) in [
-        (1, Status::WriteFault, ["", line]),
-        (2, Status::WriteFault, ["test ranksum\ngro", line]),
-        (8, Status::WriteFault, [last, line]),
-        (9, Status::Done, [REPORT, ""]),
-    ] {
-        let mut source = six_values(alloc, 8, &[])?;
-        let writes: [&[u64]; 2] = [&[write], &[]];
-        expect(
-            &rt,
-            alloc,
-            "ranksum f.csv",
-            &mut source,
-            writes,
-            status,
-            told,
-        )?;
-    }
-    Ok(())
+    expect_of_writes(&rt, alloc, 1, fault, ["", line])?;
+    expect_of_writes(&rt, alloc, 2, fault, ["test ranksum\ngro", line])?;
+    expect_of_writes(&rt, alloc, 8, fault, [last, line])?;
+    expect_of_writes(&rt, alloc, 9, Status::Done, [REPORT, ""])
 }
 
-// What fails on `err` changes no status, and no source is touched but for a file.
+// What fails on `err` changes no status.
 #[test]
 fn tells_what_it_can(rt: HostRuntime) -> Result<(), AllocError> {
     let alloc = rt.alloc();
@@ -117,69 +139,88 @@ fn tells_what_it_can(rt: HostRuntime) -> Result<(), AllocError> {
     let told = ["", "refused: read fa"];
     let writes: [&[u64]; 2] = [&[], &[2]];
     let status = Status::ReadFault;
-    expect(&rt, alloc, "sign f.csv", &mut failing, writes, status, told)?;
+    expect(&rt, alloc, "sign f.csv", &mut failing, writes, status, told)
+}
+
+// No source is touched but for a file.
+#[test]
+fn helps_without_a_source(rt: HostRuntime) -> Result<(), AllocError> {
+    let alloc = rt.alloc();
     let mut failing = six_values(alloc, 8, &[0])?;
+    let status = Status::WriteFault;
     let told = ["", "refused: write fault\n"];
     let writes: [&[u64]; 2] = [&[1], &[]];
-    expect(
-        &rt,
-        alloc,
-        "--help",
-        &mut failing,
-        writes,
-        Status::WriteFault,
-        told,
-    )?;
+    expect(&rt, alloc, "--help", &mut failing, writes, status, told)?;
     let told = ["usage: exact TES", "refused: write fault\n"];
     let writes: [&[u64]; 2] = [&[2], &[]];
-    expect(
-        &rt,
-        alloc,
-        "--help",
-        &mut failing,
-        writes,
-        Status::WriteFault,
-        told,
-    )
+    expect(&rt, alloc, "--help", &mut failing, writes, status, told)
+}
+
+// The six values under the name `six`.
+fn shelf_of_six(alloc: Global) -> Result<Shelf, AllocError> {
+    let file = SteadySource::new(Vec::from_slice(alloc, SIX)?, 7);
+    Ok(Shelf::new("six".to_string(alloc)?, file))
+}
+
+// A run over a stranger's source, and a stranger's sink of so much room.
+fn expect_in_room(
+    rt: &impl Abort,
+    alloc: Global,
+    words: &str,
+    shelf: &mut Shelf,
+    room: usize,
+    status: Status,
+    line: &str,
+) -> Result<(), AllocError> {
+    let mut tight = Tight::new(room);
+    let mut err = sink(alloc, &[])?;
+    let answer = status_of(alloc, words, shelf, &mut tight, &mut err)?;
+    assert!(rt; answer == status);
+    assert!(rt; err.taken() == line.as_bytes());
+    Ok(())
+}
+
+// A run over a stranger's source, and a sink in memory.
+fn expect_of_shelf(
+    rt: &impl Abort,
+    alloc: Global,
+    words: &str,
+    shelf: &mut Shelf,
+    status: Status,
+    report: &str,
+) -> Result<(), AllocError> {
+    let mut out = sink(alloc, &[])?;
+    let mut err = sink(alloc, &[])?;
+    let answer = status_of(alloc, words, shelf, &mut out, &mut err)?;
+    assert!(rt; answer == status);
+    assert!(rt; out.taken() == report.as_bytes());
+    Ok(())
 }
 
 // Runs over a stranger's source and sink.
 #[test]
 fn runs_over_any_source(rt: HostRuntime) -> Result<(), AllocError> {
     let alloc = rt.alloc();
-    for (words, room, status, report, line) in [
-        ("ranksum six", 127, Status::Done, REPORT, ""),
-        (
-            "ranksum six",
-            0,
-            Status::WriteFault,
-            "",
-            "refused: write fault\n",
-        ),
-        (
-            "ranksum 6",
-            127,
-            Status::ReadFault,
-            "",
-            "refused: read fault\n",
-        ),
-    ] {
-        let words = words_of(alloc, words)?;
-        let file = SteadySource::new(Vec::from_slice(alloc, SIX)?, 7);
-        let mut shelf = Shelf::new("six".to_string(alloc)?, file);
-        let mut out = sink(alloc, &[])?;
-        let mut tight = Tight::new(room);
-        let mut err = sink(alloc, &[])?;
-        let answer = run(alloc, &words, &mut shelf, &mut tight, &mut err);
-        assert!(rt; answer == status);
-        assert!(rt; err.taken() == line.as_bytes());
-        if status != Status::WriteFault {
-            let mut err = sink(alloc, &[])?;
-            assert!(rt; run(alloc, &words, &mut shelf, &mut out, &mut err) == status);
-            assert!(rt; out.taken() == report.as_bytes());
-        }
-    }
-    Ok(())
+    let done = Status::Done;
+    let mut shelf = shelf_of_six(alloc)?;
+    let words = "ranksum six";
+    expect_in_room(&rt, alloc, words, &mut shelf, 127, done, "")?;
+    expect_of_shelf(&rt, alloc, words, &mut shelf, done, REPORT)
+}
+
+#[test]
+fn tells_faults_of_any_source(rt: HostRuntime) -> Result<(), AllocError> {
+    let alloc = rt.alloc();
+    let mut shelf = shelf_of_six(alloc)?;
+    let fault = Status::WriteFault;
+    let line = "refused: write fault\n";
+    expect_in_room(&rt, alloc, "ranksum six", &mut shelf, 0, fault, line)?;
+    let mut shelf = shelf_of_six(alloc)?;
+    let words = "ranksum 6";
+    let fault = Status::ReadFault;
+    let line = "refused: read fault\n";
+    expect_in_room(&rt, alloc, words, &mut shelf, 127, fault, line)?;
+    expect_of_shelf(&rt, alloc, words, &mut shelf, fault, "")
 }
 
 #[test]

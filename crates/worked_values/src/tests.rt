@@ -9,7 +9,7 @@ use enumerate::{first_labelling, next_labelling, next_signs};
 use midranks::{MOST_VALUES, Tie, doubled, group_of, tie_groups};
 use node_pool::{NodeList, NodePool};
 use number_text::NumberFault::{Missing, NotNumber, OutOfRange};
-use number_text::{read_count, read_list, read_value};
+use number_text::{NumberFault, read_count, read_list, read_value};
 use scores::ScoreKind::{Ansari, Median, Mood, Raw, Savage, Wilcoxon};
 use scores::{ScoreFault, ScoreKind, labelled_sum, scored};
 use std::alloc::Global;
@@ -20,19 +20,24 @@ use weights::{
     bounded_product, gcd, lcm, multinomial, power,
 };
 
+fn chooses(rt: &impl Abort, n: u64, k: u64, ways: Option<u128>) {
+    assert_eq!(rt; binomial(n, k), ways, "{k} of {n}");
+}
+
 #[test]
-fn choices_multiples_and_powers(rt: HostRuntime) {
-    for (n, k, ways) in [
-        (130, 65, Some(95067625827960698145584333020095113100)),
-        (131, 65, None),
-        (3, 5, Some(0)),
-        (1 << 63, 2, Some(42535295865117307928310139910543638528)),
-        (u64::MAX, 1 << 63, None),
-    ] {
-        assert_eq!(rt; binomial(n, k), ways, "{k} of {n}");
-    }
+fn choices(rt: HostRuntime) {
+    chooses(&rt, 130, 65, Some(95067625827960698145584333020095113100));
+    chooses(&rt, 131, 65, None);
+    chooses(&rt, 3, 5, Some(0));
+    let most = 42535295865117307928310139910543638528;
+    chooses(&rt, 1 << 63, 2, Some(most));
+    chooses(&rt, u64::MAX, 1 << 63, None);
     assert_eq!(rt; multinomial(&[2, 1, 1]), Some(12));
     assert_eq!(rt; multinomial(&[5_000, 5_000]), None);
+}
+
+#[test]
+fn multiples_and_powers(rt: HostRuntime) {
     assert_eq!(rt; (gcd(0, 0), gcd(12, 18)), (0, 6));
     assert_eq!(rt; (lcm(4, 6), lcm(MAX, 2)), (Some(12), None));
     assert_eq!(rt; bounded_product(1 << 64, 1 << 63), None);
@@ -47,7 +52,7 @@ fn sum_and_product<C: Count>(a: u128, b: u128) -> Option<(u128, u128)> {
 }
 
 #[test]
-fn counts_and_lists(rt: HostRuntime) -> Result<(), Fail> {
+fn counts(rt: HostRuntime) {
     assert_eq!(rt; sum_and_product::<Narrow>(4, 6), Some((10, 24)));
     assert_eq!(rt; sum_and_product::<Narrow>(1 << 63, 1 << 63), None);
     assert_eq!(rt;
@@ -55,6 +60,10 @@ fn counts_and_lists(rt: HostRuntime) -> Result<(), Fail> {
         Some(((1 << 64) + 5, 5 << 64))
     );
     assert_eq!(rt; sum_and_product::<Wide>(MAX, 1), None);
+}
+
+#[test]
+fn lists_of_scores(rt: HostRuntime) -> Result<(), Fail> {
     let mut ints = Ints::empty(rt.alloc());
     ints.push(7)?;
     let mut copy = ints.copy()?;
@@ -63,6 +72,11 @@ fn counts_and_lists(rt: HostRuntime) -> Result<(), Fail> {
     }
     assert_eq!(rt; copy.as_slice(), [-8].as_slice());
     assert_eq!(rt; ints.as_slice(), [7].as_slice());
+    Ok(())
+}
+
+#[test]
+fn lists_of_numbers(rt: HostRuntime) -> Result<(), Fail> {
     assert_eq!(rt; Ints::zeros(rt.alloc(), 2)?.as_slice(), [0, 0].as_slice());
     let mut nums = Nums::empty(rt.alloc());
     nums.append(&[u64::MAX, 1])?;
@@ -113,28 +127,30 @@ fn walks_in_order(rt: HostRuntime) -> Result<(), Fail> {
     Ok(())
 }
 
+fn reads(rt: &impl Abort, text: &str, value: Result<i128, NumberFault>) {
+    assert_eq!(rt; read_value(text.as_bytes()), value, "at {text}");
+}
+
 #[test]
-fn texts_of_numbers(rt: HostRuntime) {
-    for (text, value) in [
-        ("+.5", Ok(500_000_000_000_000_000)),
-        ("-1e-18", Ok(-1)),
-        ("-0.0E+999999999999999999999999999999", Ok(0)),
-        ("0.0000000000000000000000000000000000000001e22", Ok(1)),
-        (
-            "-999999999999999999.999999999999999999",
-            Ok(-999_999_999_999_999_999_999_999_999_999_999_999),
-        ),
-        ("\t \t", Err(Missing)),
-        (" NA ", Err(Missing)),
-        ("1e5.", Err(NotNumber)),
-        ("1\r", Err(NotNumber)),
-        ("é", Err(NotNumber)),
-        ("1e18", Err(OutOfRange)),
-        ("-1.5e-18", Err(OutOfRange)),
-        ("1e999999999999999999999999999999", Err(OutOfRange)),
-    ] {
-        assert_eq!(rt; read_value(text.as_bytes()), value, "at {text}");
-    }
+fn texts_of_values(rt: HostRuntime) {
+    reads(&rt, "+.5", Ok(500_000_000_000_000_000));
+    reads(&rt, "-1e-18", Ok(-1));
+    reads(&rt, "-0.0E+999999999999999999999999999999", Ok(0));
+    reads(&rt, "0.0000000000000000000000000000000000000001e22", Ok(1));
+    let least = -999_999_999_999_999_999_999_999_999_999_999_999;
+    reads(&rt, "-999999999999999999.999999999999999999", Ok(least));
+    reads(&rt, "\t \t", Err(Missing));
+    reads(&rt, " NA ", Err(Missing));
+    reads(&rt, "1e5.", Err(NotNumber));
+    reads(&rt, "1\r", Err(NotNumber));
+    reads(&rt, "é", Err(NotNumber));
+    reads(&rt, "1e18", Err(OutOfRange));
+    reads(&rt, "-1.5e-18", Err(OutOfRange));
+    reads(&rt, "1e999999999999999999999999999999", Err(OutOfRange));
+}
+
+#[test]
+fn texts_of_counts_and_lists(rt: HostRuntime) {
     assert_eq!(rt; read_count(b"1000000", 1_000_000), Some(1_000_000));
     assert_eq!(rt; read_count(b"1000001", 1_000_000), None);
     let mut out = [7; 3];
@@ -206,34 +222,42 @@ fn score_sum(rt: &impl Abort, alloc: Global, kind: ScoreKind, values: &[i128]) -
     }
 }
 
-#[test]
-fn scores_of_values(rt: HostRuntime) -> Result<(), Fail> {
+fn tied_scores(rt: &impl Abort, alloc: Global, kind: ScoreKind, sum: u128) {
     let tied = [5, -3, 5, -3, 0];
-    for (kind, sum) in [
-        (Wilcoxon, 30),
-        (Ansari, 18),
-        (Mood, 80),
-        (Savage, 600),
-        (Median, 4),
-        (Raw, 16),
-    ] {
-        assert_eq!(rt;
-            score_sum(&rt, rt.alloc(), kind, &tied),
-            Some(sum),
-            "{kind:?}"
-        );
-    }
-    for (kind, number, fits) in [
-        (Wilcoxon, 10_000, true),
-        (Mood, 10_000, true),
-        (Savage, 82, true),
-        (Savage, 83, false),
-    ] {
-        let values = many(rt.alloc(), number)?;
-        let sum = score_sum(&rt, rt.alloc(), kind, values.as_slice());
-        assert_eq!(rt; sum.is_some(), fits, "{kind:?} of {number}");
-    }
+    assert_eq!(rt; score_sum(rt, alloc, kind, &tied), Some(sum), "{kind:?}");
+}
+
+#[test]
+fn scores_of_ties(rt: HostRuntime) {
+    tied_scores(&rt, rt.alloc(), Wilcoxon, 30);
+    tied_scores(&rt, rt.alloc(), Ansari, 18);
+    tied_scores(&rt, rt.alloc(), Mood, 80);
+    tied_scores(&rt, rt.alloc(), Savage, 600);
+    tied_scores(&rt, rt.alloc(), Median, 4);
+    tied_scores(&rt, rt.alloc(), Raw, 16);
     assert_eq!(rt; labelled_sum(&[2, -5, 11], &[1, 0, 1], 1), 13);
+}
+
+// Whether the scores of so many distinct values have a sum within the limit.
+fn fits(
+    rt: &impl Abort,
+    alloc: Global,
+    kind: ScoreKind,
+    number: usize,
+    fits: bool,
+) -> Result<(), NoMemory> {
+    let values = many(alloc, number)?;
+    let sum = score_sum(rt, alloc, kind, values.as_slice());
+    assert_eq!(rt; sum.is_some(), fits, "{kind:?} of {number}");
+    Ok(())
+}
+
+#[test]
+fn scores_of_many_values(rt: HostRuntime) -> Result<(), Fail> {
+    fits(&rt, rt.alloc(), Wilcoxon, 10_000, true)?;
+    fits(&rt, rt.alloc(), Mood, 10_000, true)?;
+    fits(&rt, rt.alloc(), Savage, 82, true)?;
+    fits(&rt, rt.alloc(), Savage, 83, false)?;
     Ok(())
 }
 
@@ -263,13 +287,19 @@ fn weight_of<C: Count>(pool: &NodePool<C>, key: &[i128]) -> u128 {
     0
 }
 
-// A pool that is refused memory stays as it was, and equal keys are one, at no number too.
-#[test]
-fn pools_and_lists_of_nodes(rt: HostRuntime) -> Result<(), Fail> {
-    let mut pool = NodePool::<Wide>::new(rt.alloc(), 2)?;
+// A pool of two keys, to one of which was added twice.
+fn two_keys(alloc: Global) -> Result<NodePool<Wide>, NoMemory> {
+    let mut pool = NodePool::<Wide>::new(alloc, 2)?;
     put(&mut pool, &[1, 5], 3)?;
     put(&mut pool, &[1, 6], 1 << 100)?;
     put(&mut pool, &[1, 5], 4)?;
+    Ok(pool)
+}
+
+// Equal keys are one, and a pool that is refused memory stays as it was.
+#[test]
+fn pools_of_nodes(rt: HostRuntime) -> Result<(), Fail> {
+    let mut pool = two_keys(rt.alloc())?;
     assert_eq!(rt; pool.len(), 2);
     let spare = pool.spare();
     assert!(rt; pool.reserve(1 << 40).is_err());
@@ -278,10 +308,21 @@ fn pools_and_lists_of_nodes(rt: HostRuntime) -> Result<(), Fail> {
     assert_eq!(rt; weight_of(&pool, &[1, 6]), 1 << 100);
     pool.clear();
     assert_eq!(rt; pool.len(), 0);
+    Ok(())
+}
+
+// Equal keys are one, at no number too.
+#[test]
+fn pools_of_empty_keys(rt: HostRuntime) -> Result<(), Fail> {
     let mut empty = NodePool::<Narrow>::new(rt.alloc(), 0)?;
     put(&mut empty, &[], 3)?;
     put(&mut empty, &[], 4)?;
     assert_eq!(rt; (empty.len(), weight_of(&empty, &[])), (1, 7));
+    Ok(())
+}
+
+#[test]
+fn lists_of_nodes(rt: HostRuntime) -> Result<(), Fail> {
     let mut list = NodeList::<Narrow>::new(rt.alloc(), 0);
     let one = Narrow::of(1).ok_or("within the limit")?;
     list.push(&[], one)?;
