@@ -1,10 +1,9 @@
 -- The arrangements of one block: the first one ascends, all have the same cells, and two neighbours may change places in all of them.
 use Rattle.std.proofs.Common.{◌≡◌, ℕ, zero, suc, ◌-◌, ◌≤◌, ◌<◌, List, [], ◌∷◌, length, map, get_or, cond, nat_eq, nat_le, refl, sym, ◌∙◌, ap, subst, arith, inl, inr}
-use Rattle.std.specs.Prelude.{ℤ, pos, Contains}
+use Rattle.std.specs.Prelude.{ℤ, pos}
 use Rattle.std.specs.List.{AllByRecursion, sum, sum_by}
 use Rattle.std.specs.Cmp.Lexicographic.{pointwise}
 use Rattle.std.proofs.lemmas.Bool.Decides.{leb_tells}
-use Rattle.std.proofs.lemmas.List.Elements.{All-contains_itself, All-weaker, recursion_from_All}
 use Rattle.weights.specs.Labellings.{counts_of, has_counts, labellings, labels, lists_over}
 use Rattle.weights.proofs.Counted.{all_from_SameCounts, count_of, labelling_from_SameCounts}
 use Rattle.weights.proofs.Filters.{map-same}
@@ -31,9 +30,6 @@ begins counts =
 
 pub first_of : (counts x : List ℕ) → BeginsWith (labellings counts) x → x ≡ first_arrangement counts
 first_of counts x b = sym (ap (λ xs. get_or xs 0 []) b)
-
-pub each-labelling : (counts : List ℕ) → AllByRecursion (IsLabelling counts) (labellings counts)
-each-labelling counts = recursion_from_All (IsLabelling counts) (labellings counts) (All-weaker (Contains (labellings counts)) (IsLabelling counts) (λ x m. labelling_from counts x m) (labellings counts) (All-contains_itself (labellings counts)))
 
 pub first-labelling : (counts : List ℕ) → IsLabelling counts (first_arrangement counts)
 first-labelling counts = labelling_from counts (first_arrangement counts) (Contains-first (first_arrangement counts) (labellings counts) (begins counts))

@@ -8,12 +8,14 @@ use Rattle.std.proofs.lemmas.List.{length-map}
 use Rattle.std.proofs.lemmas.List.Elements.{All-contains, All-from_recursion}
 use Rattle.std.proofs.lemmas.List.Sums.{sum_by-append, sum_by-cons}
 use Rattle.weights.specs.declared.tails.Tail.{Tail}
-use Rattle.weights.specs.declared.rules.Rule.{Rule}
+use Rattle.stage_network.specs.Judged.{judge_of}
+use Rattle.stage_network.proofs.Following.{judge-fits}
+use Rattle.stage_network.specs.declared.verdicts.Judge.{Judge}
 use Rattle.weights.specs.declared.rules.Rule.TheVariants.{Far}
 use Rattle.weights.specs.declared.TheConstants.{MAX}
 use Rattle.weights.specs.Conditional.{by_distance, total}
 use Rattle.weights.specs.Labellings.{labellings, number_of_labellings, product}
-use Rattle.weights.specs.Rules.{RuleFits, measured, rule_of}
+use Rattle.weights.specs.Rules.{RuleFits, measured}
 use Rattle.weights.proofs.Centred.{IsCentred, far-fits, measured-is, no_factor-fits, rule-fits}
 use Rattle.weights.proofs.Filters.{all_append, all_map}
 use Rattle.weights.proofs.FirstLabel.{number_of_labellings-positive}
@@ -21,7 +23,7 @@ use Rattle.weights.proofs.Members.{IsLabelling}
 use Rattle.weights.proofs.Sums.{sum_by-flat_map, sum_by-map, sum_by-same}
 use Rattle.sample_reader.specs.Data.{block_data_of}
 use Rattle.sample_reader.specs.declared.samples.Blocks.{Blocks}
-use Rattle.enumerate.proofs.Products.{joined, map-concat-product}
+use Rattle.enumerate.proofs.JoinedMembers.{all-joined, each-labelling, joined-front}
 use Rattle.stage_network.specs.Addends.{Addends, additive_network}
 use Rattle.stage_network.specs.Network.{Network}
 use Rattle.stage_network.specs.Follows.{Follows}
@@ -32,7 +34,6 @@ use Rattle.block_tests.specs.BlockTests.{BlockTests, TakesCells, block_counts, b
 use Rattle.block_tests.specs.PreparedSteps.{AreBlocks, AreFitting}
 use Rattle.block_tests.specs.declared.kinds.BlockKind.{BlockKind}
 use Rattle.block_tests.specs.declared.kinds.BlockKind.TheVariants.{Friedman, Page, Cochran}
-use Rattle.block_tests.proofs.Arranged.{each-labelling}
 use Rattle.block_tests.proofs.PageLaws.{page-measured, page-stages, page_additive, page_pieces}
 use Rattle.block_tests.proofs.Rows.{each-row, each-taken, length-cells, length-cut, midranks-sum, row-small, row-sum, row-whole}
 use Rattle.block_tests.proofs.SquareLaws.{square-stages, square_additive, square_pieces, squares-measured}
@@ -69,15 +70,10 @@ pub record IsMember (n m : ℕ) (r : List ℕ) : Type 0 where
   pub long : length r ≡ n
   pub small : AllByRecursion (λ z. z ≤ m) r
 
-pub all-joined : (P Q R : List ℕ → Type 0) → ((x y : List ℕ) → P x → Q y → R (x ++ y)) → (parts rests : List (List ℕ)) → AllByRecursion P parts → AllByRecursion Q rests → AllByRecursion R (joined parts rests)
-all-joined P Q R f [] rests a b = tt
-all-joined P Q R f (x ∷ parts) rests a b =
-    all_append R (map (λ rest. x ++ rest) rests) (joined parts rests) (all_map R (λ rest. x ++ rest) rests (all_weaker Q (λ y. R (x ++ y)) (λ y q. f x y a.0 q) rests b)) (all-joined P Q R f parts rests a.1 b)
-
 pub members-are : (k : ℕ) (blocks : List (List ℕ)) → AllByRecursion (IsWhole k) blocks → AllByRecursion (IsMember (length blocks * k) 16) (rearrangements blocks)
 members-are k [] a = (record { long = (let e : 0 ≡ 0 * k = omega arith in e); small = tt }, tt)
 members-are k (counts ∷ blocks) a =
-    subst (AllByRecursion (IsMember (length (counts ∷ blocks) * k) 16)) (sym (map-concat-product (labellings counts) (map labellings blocks)))
+    subst (AllByRecursion (IsMember (length (counts ∷ blocks) * k) 16)) (sym (joined-front counts blocks))
     (all-joined (IsLabelling counts) (IsMember (length blocks * k) 16) (IsMember (length (counts ∷ blocks) * k) 16)
     (λ x y l r. record {
       long = (let e : length (x ++ y) ≡ length x + length y = length-append x y in let w : length x ≡ k = l.over.long ∙ a.0.treatments in let n : suc (length blocks) * k ≡ k + length blocks * k = omega arith in omega (arith, e, w, r.long, n));
@@ -278,14 +274,14 @@ module _ (tests : BlockTests) (f : AreFitting tests) where
   whole-all : All (IsWhole tests.blocks.treatments) (block_counts tests)
   whole-all = All-from_recursion (IsWhole tests.blocks.treatments) (block_counts tests) (blocks-whole tests f.blocks)
 
-  pub are-stages : (tail : Tail) → AreStages tests.blocks.treatments (block_counts tests) (rule_of (block_test tests) tail)
-  are-stages tail = record {
+  pub are-stages : AreStages tests.blocks.treatments (block_counts tests) (judge_of (block_test tests))
+  are-stages = record {
     some = omega (arith, f.blocks.at_least_two);
     narrow = f.blocks.at_most_eight;
     few = omega (arith, blocks-many tests f.blocks, f.blocks.few_enough);
     whole = whole-all;
     ways_fit = omega (arith, total-is tests, f.total_fits);
-    rule_fits = λ v h. rule-fits (block_test tests) (centred tests f.blocks) tail v (small-fits tests f.blocks v h);
+    judge_fits = λ v h. judge-fits (block_test tests) (judge_of (block_test tests)) refl v (λ tail. rule-fits (block_test tests) (centred tests f.blocks) tail v (small-fits tests f.blocks v h));
   }
 
   pub bound-fits : (block_test tests).bound ≤ MAX
@@ -298,20 +294,19 @@ module _ (tests : BlockTests) (f : AreFitting tests) where
 
   -- ---- the network
 
-  squares-follow : (tail : Tail) → (tests.kind ≡ Friedman) ⊎ (tests.kind ≡ Cochran) → Follows (block_test tests) tail (additive_network (square_addends (block_test tests).bound tests.blocks.treatments (block_counts tests) tail (rule_of (block_test tests) tail)))
+  squares-follow : (tail : Tail) → (tests.kind ≡ Friedman) ⊎ (tests.kind ≡ Cochran) → Follows (block_test tests) tail (additive_network (square_addends (block_test tests).bound tests.blocks.treatments (block_counts tests) (judge_of (block_test tests))))
   squares-follow tail e =
       let k : ℕ = tests.blocks.treatments in
       let blocks : List (List ℕ) = block_counts tests in
-      let rule : Rule = rule_of (block_test tests) tail in
-      let a : Addends = square_addends (block_test tests).bound k blocks tail rule in
+      let judge : Judge = judge_of (block_test tests) in
+      let a : Addends = square_addends (block_test tests).bound k blocks judge in
       additive_follows (block_test tests) tail a square_pieces (IsArranged (length blocks) k) (map labellings blocks)
-      (square_additive (block_test tests).bound k blocks tail rule (are-stages tail) (bounded tests f.blocks e) bound-fits)
+      (square_additive (block_test tests).bound k blocks judge are-stages (bounded tests f.blocks e) bound-fits)
       (record {
         reference = refl;
-        tail_is = refl;
-        rule_is = refl;
+        judge_is = refl;
         counted = length-map blocks labellings;
-        stages = square-stages (block_test tests).bound k blocks tail rule whole-all;
+        stages = square-stages (block_test tests).bound k blocks judge whole-all;
         each = parts-arranged k blocks whole-all blocks 0 refl;
         joined = record {
           measures = λ xs all. measured_at tests tail (concat xs) ∙ squared-is e (concat xs) ∙ ap (λ n. pos (square_sum (treatment_sums k (cut k n (concat xs))))) (sym (blocks-many tests f.blocks)) ∙ squares-measured (length blocks) k xs all;
@@ -323,20 +318,19 @@ module _ (tests : BlockTests) (f : AreFitting tests) where
       squared-is (inl e) r = rw e refl
       squared-is (inr e) r = rw e refl
 
-  page-follows : (tail : Tail) → tests.kind ≡ Page → Follows (block_test tests) tail (additive_network (line_addends (block_counts tests) tail (rule_of (block_test tests) tail)))
+  page-follows : (tail : Tail) → tests.kind ≡ Page → Follows (block_test tests) tail (additive_network (line_addends (block_counts tests) (judge_of (block_test tests))))
   page-follows tail e =
       let k : ℕ = tests.blocks.treatments in
       let blocks : List (List ℕ) = block_counts tests in
-      let rule : Rule = rule_of (block_test tests) tail in
-      let a : Addends = line_addends blocks tail rule in
+      let judge : Judge = judge_of (block_test tests) in
+      let a : Addends = line_addends blocks judge in
       additive_follows (block_test tests) tail a page_pieces (IsArranged (length blocks) k) (map labellings blocks)
-      (page_additive k blocks tail rule (are-stages tail))
+      (page_additive k blocks judge are-stages)
       (record {
         reference = refl;
-        tail_is = refl;
-        rule_is = refl;
+        judge_is = refl;
         counted = length-map blocks labellings;
-        stages = page-stages blocks tail rule;
+        stages = page-stages blocks judge;
         each = parts-arranged k blocks whole-all blocks 0 refl;
         joined = record {
           measures = λ xs all. measured_at tests tail (concat xs) ∙ paged e (concat xs) ∙ ap (λ n. pos (page_sum 1 (treatment_sums k (cut k n (concat xs))))) (sym (blocks-many tests f.blocks)) ∙ page-measured (length blocks) k xs all;
@@ -347,17 +341,17 @@ module _ (tests : BlockTests) (f : AreFitting tests) where
       paged : tests.kind ≡ Page → (r : List ℕ) → block_statistic tests.kind tests.blocks.blocks tests.blocks.treatments r ≡ pos (page_sum 1 (treatment_sums tests.blocks.treatments (cut tests.blocks.treatments tests.blocks.blocks r)))
       paged e r = rw e refl
 
-  of_kind : Tail → BlockKind → Network
-  of_kind tail kind = additive_network (running_addends kind (block_test tests).bound tests.blocks.treatments (block_counts tests) tail (rule_of (block_test tests) tail))
+  of_kind : BlockKind → Network
+  of_kind kind = additive_network (running_addends kind (block_test tests).bound tests.blocks.treatments (block_counts tests) (judge_of (block_test tests)))
 
   pub follows : (tail : Tail) → Follows (block_test tests) tail (running_network tests tail)
   unfolding of_kind
   follows tail = by tests.kind refl
     where
       by : (kind : BlockKind) → tests.kind ≡ kind → Follows (block_test tests) tail (running_network tests tail)
-      by Friedman e = subst (λ kind. Follows (block_test tests) tail (of_kind tail kind)) (sym e) (squares-follow tail (inl e))
-      by Page e = subst (λ kind. Follows (block_test tests) tail (of_kind tail kind)) (sym e) (page-follows tail e)
-      by Cochran e = subst (λ kind. Follows (block_test tests) tail (of_kind tail kind)) (sym e) (squares-follow tail (inr e))
+      by Friedman e = subst (λ kind. Follows (block_test tests) tail (of_kind kind)) (sym e) (squares-follow tail (inl e))
+      by Page e = subst (λ kind. Follows (block_test tests) tail (of_kind kind)) (sym e) (page-follows tail e)
+      by Cochran e = subst (λ kind. Follows (block_test tests) tail (of_kind kind)) (sym e) (squares-follow tail (inr e))
 
 -- ---- blocks that are read, and their answer
 

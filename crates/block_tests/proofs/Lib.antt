@@ -11,6 +11,5 @@ pub mod Rows
 pub mod Fitting
 pub mod OneBlock
 pub mod Steps
-pub mod Walking
 pub mod CutSteps
 pub mod Vectors

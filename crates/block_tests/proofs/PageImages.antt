@@ -8,9 +8,9 @@ use Rattle.std.proofs.lemmas.List.{get_or_default}
 use Rattle.std.proofs.lemmas.List.Elements.{All-contains_itself, recursion_from_All}
 use Rattle.weights.specs.Conditional.{ascending_values, insert_value, value_weight}
 use Rattle.weights.specs.Labellings.{labellings}
-use Rattle.weights.specs.Rules.{rule_of}
 use Rattle.weights.specs.declared.lines.Line.{Line}
-use Rattle.weights.specs.declared.rules.Rule.{Rule}
+use Rattle.stage_network.specs.Judged.{judge_of}
+use Rattle.stage_network.specs.declared.verdicts.Judge.{Judge}
 use Rattle.weights.specs.declared.tails.Tail.{Tail}
 use Rattle.weights.proofs.Filters.{all_map}
 use Rattle.weights.proofs.Members.{Contains-cons, Contains-here, Contains-later, Contains-map, Contains-range}
@@ -91,12 +91,12 @@ added-place counts x m =
 
 -- ---- the two networks
 
-module _ (k : ℕ) (blocks : List (List ℕ)) (tail : Tail) (rule : Rule) (t : Tail) where
+module _ (k : ℕ) (blocks : List (List ℕ)) (judge : Judge) (t : Tail) where
   n : Network
-  n = additive_network (line_addends blocks tail rule)
+  n = additive_network (line_addends blocks judge)
 
   q : Network
-  q = additive_network (page_addends k blocks tail rule)
+  q = additive_network (page_addends k blocks judge)
 
   as_written : OpensImages n q t
   unfolding n q IsAdded
@@ -108,17 +108,17 @@ module _ (k : ℕ) (blocks : List (List ℕ)) (tail : Tail) (rule : Rule) (t : T
     verdict = λ g key r h. refl;
     there = λ g key c r h m.
         let counts : List ℕ = block_at blocks g in
-        let own : Contains (labellings counts) c = subst (λ cs. Contains cs c) (choices-before (page_addends k blocks tail rule) g key h) m in
+        let own : Contains (labellings counts) c = subst (λ cs. Contains cs c) (choices-before (page_addends k blocks judge) g key h) m in
         let place = added-place counts c own in
-        (place.0, subst (λ cs. Contains cs place.0) (sym (choices-before (line_addends blocks tail rule) g key h)) place.1, ap (λ v. plus key (v ∷ [])) place.2);
+        (place.0, subst (λ cs. Contains cs place.0) (sym (choices-before (line_addends blocks judge) g key h)) place.1, ap (λ v. plus key (v ∷ [])) place.2);
     back = λ g key d r h m.
         let counts : List ℕ = block_at blocks g in
-        let own : Contains (places_from 0 (length (page_lines counts))) d = subst (λ cs. Contains cs d) (choices-before (line_addends blocks tail rule) g key h) m in
+        let own : Contains (places_from 0 (length (page_lines counts))) d = subst (λ cs. Contains cs d) (choices-before (line_addends blocks judge) g key h) m in
         let added = place-added counts d own in
-        (added.0, subst (λ cs. Contains cs added.0) (sym (choices-before (page_addends k blocks tail rule) g key h)) added.1, ap (λ v. plus key (v ∷ [])) (sym added.2));
+        (added.0, subst (λ cs. Contains cs added.0) (sym (choices-before (page_addends k blocks judge) g key h)) added.1, ap (λ v. plus key (v ∷ [])) (sym added.2));
   }
 
-  page-opened : opened_below (additive_network (line_addends blocks tail rule)) t (length blocks) ≡ opened_below (additive_network (page_addends k blocks tail rule)) t (length blocks)
+  page-opened : opened_below (additive_network (line_addends blocks judge)) t (length blocks) ≡ opened_below (additive_network (page_addends k blocks judge)) t (length blocks)
   unfolding n q
   page-opened = opened-images n q t as_written (length blocks) (omega arith)
 
@@ -126,11 +126,11 @@ module _ (k : ℕ) (blocks : List (List ℕ)) (tail : Tail) (rule : Rule) (t : T
 abbrev opened : Tail → Addends → ℕ
 opened tail a = opened_below (additive_network a) tail a.count
 
-alike : (kind : BlockKind) (bound k : ℕ) (blocks : List (List ℕ)) (tail : Tail) (rule : Rule) → opened tail (running_addends kind bound k blocks tail rule) ≡ opened tail (addends_of kind bound k blocks tail rule)
-alike Friedman bound k blocks tail rule = refl
-alike Page bound k blocks tail rule = page-opened k blocks tail rule tail
-alike Cochran bound k blocks tail rule = refl
+alike : (kind : BlockKind) (bound k : ℕ) (blocks : List (List ℕ)) (judge : Judge) (tail : Tail) → opened tail (running_addends kind bound k blocks judge) ≡ opened tail (addends_of kind bound k blocks judge)
+alike Friedman bound k blocks judge tail = refl
+alike Page bound k blocks judge tail = page-opened k blocks judge tail
+alike Cochran bound k blocks judge tail = refl
 
 -- the network that runs has as many open keys as the one that is written
 pub counted : (tests : BlockTests) (tail : Tail) → open_keys (running_network tests) tail ≡ open_keys (block_network tests) tail
-counted tests tail = alike tests.kind (block_test tests).bound tests.blocks.treatments (block_counts tests) tail (rule_of (block_test tests) tail)
+counted tests tail = alike tests.kind (block_test tests).bound tests.blocks.treatments (block_counts tests) (judge_of (block_test tests)) tail

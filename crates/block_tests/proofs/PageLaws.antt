@@ -10,8 +10,7 @@ use Rattle.std.proofs.lemmas.List.Sums.{sum_by-cons}
 use Rattle.weights.specs.Conditional.{ascending_values, insert_value, value_weight}
 use Rattle.weights.specs.Labellings.{labellings, number_of_labellings}
 use Rattle.weights.specs.declared.lines.Line.{Line}
-use Rattle.weights.specs.declared.rules.Rule.{Rule}
-use Rattle.weights.specs.declared.tails.Tail.{Tail}
+use Rattle.stage_network.specs.declared.verdicts.Judge.{Judge}
 use Rattle.weights.proofs.FirstLabel.{number_of_labellings-positive}
 use Rattle.weights.proofs.Filters.{all_map}
 use Rattle.weights.proofs.Members.{IsLabelling, range-below}
@@ -23,10 +22,11 @@ use Rattle.stage_network.specs.SoundAddends.{AddsBetween, IsAdditive}
 use Rattle.stage_network.proofs.DistributionLines.{distribution-is}
 use Rattle.stage_network.proofs.Flat.{AllAt}
 use Rattle.stage_network.proofs.Parts.{AreStages as AreParts, Pieces, summed}
+use Rattle.enumerate.proofs.JoinedMembers.{each-labelling}
 use Rattle.block_tests.specs.BlockNetworks.{arrangement_test, block_at, first_arrangement, line_of, no_line, line_addends, page_lines, places_from}
 use Rattle.block_tests.specs.BlockSteps.{AreStages, IsSmall, IsWhole}
 use Rattle.block_tests.specs.BlockTests.{cut, page_sum, treatment_sums}
-use Rattle.block_tests.proofs.Arranged.{each-labelling, first-labelling, length-first}
+use Rattle.block_tests.proofs.Arranged.{first-labelling, length-first}
 use Rattle.block_tests.proofs.Different.{places-different}
 use Rattle.block_tests.proofs.Lines.{over-lines}
 use Rattle.block_tests.proofs.PageOrder.{page-least, page-most}
@@ -111,13 +111,13 @@ line-weight counts c m = line-has (λ l. 1 ≤ l.weight) counts c (lines-are cou
 
 -- ---- the network
 
-pub page-total : (blocks : List (List ℕ)) (tail : Tail) (rule : Rule) (g : ℕ) → stage_total (line_addends blocks tail rule) g ≡ number_of_labellings (block_at blocks g)
-page-total blocks tail rule g = over-places (λ (l : Line). l.weight) (page_lines (block_at blocks g)) ∙ lines-total (block_at blocks g)
+pub page-total : (blocks : List (List ℕ)) (judge : Judge) (g : ℕ) → stage_total (line_addends blocks judge) g ≡ number_of_labellings (block_at blocks g)
+page-total blocks judge g = over-places (λ (l : Line). l.weight) (page_lines (block_at blocks g)) ∙ lines-total (block_at blocks g)
 
-page-adds : (blocks : List (List ℕ)) (tail : Tail) (rule : Rule) (g : ℕ) → AllByRecursion (AddsBetween (line_addends blocks tail rule) g) (places_from 0 (length (page_lines (block_at blocks g))))
-page-adds blocks tail rule g =
+page-adds : (blocks : List (List ℕ)) (judge : Judge) (g : ℕ) → AllByRecursion (AddsBetween (line_addends blocks judge) g) (places_from 0 (length (page_lines (block_at blocks g))))
+page-adds blocks judge g =
     let counts : List ℕ = block_at blocks g in
-    all_weaker (λ c. slice_index c 0 < length (page_lines counts)) (AddsBetween (line_addends blocks tail rule) g)
+    all_weaker (λ c. slice_index c 0 < length (page_lines counts)) (AddsBetween (line_addends blocks judge) g)
     (λ c h. (let ends = line-has (λ l. HasEnds counts l.value) counts c (lines-between counts) h in record { wide = refl; between = (ends, tt) }))
     (places_from 0 (length (page_lines counts))) (each-place (length (page_lines counts)))
 
@@ -137,16 +137,16 @@ first-page-small k counts narrow w =
     recursion : All (λ z. z ≤ 16) (first_arrangement counts) → AllByRecursion (λ z. z ≤ 16) (first_arrangement counts)
     recursion a = recursion_from_All (λ z. z ≤ 16) (first_arrangement counts) a
 
-module _ (k : ℕ) (blocks : List (List ℕ)) (tail : Tail) (rule : Rule) (s : AreStages k blocks rule) where
+module _ (k : ℕ) (blocks : List (List ℕ)) (judge : Judge) (s : AreStages k blocks judge) where
   most-small : (g : ℕ) → g < length blocks → page_sum 1 (first_arrangement (block_at blocks g)) ≤ 1152
   most-small g h = first-page-small k (block_at blocks g) s.narrow (whole-at k blocks g s.whole h)
 
   least-small : (g : ℕ) → g < length blocks → page_sum 1 (reverse (first_arrangement (block_at blocks g))) ≤ 1152
   least-small g h = omega (arith, most-small g h, page-least (block_at blocks g) (first_arrangement (block_at blocks g)) (first-labelling (block_at blocks g)))
 
-  reach-small : reach (line_addends blocks tail rule) ≤ 11520000
+  reach-small : reach (line_addends blocks judge) ≤ 11520000
   reach-small =
-      let all : reach (line_addends blocks tail rule) ≤ length blocks * 1152 = over-within (stride (line_addends blocks tail rule)) (length blocks) 1152 (λ g h. (let low = least-small g h in let high = most-small g h in omega (arith, low, high))) in
+      let all : reach (line_addends blocks judge) ≤ length blocks * 1152 = over-within (stride (line_addends blocks judge)) (length blocks) 1152 (λ g h. (let low = least-small g h in let high = most-small g h in omega (arith, low, high))) in
       omega (arith, all, s.few)
 
   end-fits : (f : ℕ → ℕ) → ((g : ℕ) → g < length blocks → f g ≤ 1152) → IsSmall (pos 0 +ℤ over_stages (λ g. pos (f g)) (length blocks - 0) 0)
@@ -156,19 +156,19 @@ module _ (k : ℕ) (blocks : List (List ℕ)) (tail : Tail) (rule : Rule) (s : A
       let few : (length blocks - 0) * 1152 ≤ 11520000 = omega (arith, s.few) in
       (omega (arith, ints, some.1), omega (arith, ints, most, few))
 
-  pub page_additive : IsAdditive (line_addends blocks tail rule)
+  pub page_additive : IsAdditive (line_addends blocks judge)
   page_additive = record {
     slots_some = omega arith;
     slots_few = omega arith;
     some_choice = λ g h. some-place (length (page_lines (block_at blocks g))) (some-line (block_at blocks g));
     different = λ g h. places-different 0 (length (page_lines (block_at blocks g)));
     weighty = λ g c h m. line-weight (block_at blocks g) c m;
-    fits = total-fits (line_addends blocks tail rule) blocks (λ g h. page-total blocks tail rule g) s.ways_fit;
-    between = λ g h. page-adds blocks tail rule g;
+    fits = total-fits (line_addends blocks judge) blocks (λ g h. page-total blocks judge g) s.ways_fit;
+    between = λ g h. page-adds blocks judge g;
     sums_fit = omega (arith, reach-small);
     measured = refl;
-    low_fits = s.rule_fits _ (end-fits (λ g. page_sum 1 (reverse (first_arrangement (block_at blocks g)))) least-small);
-    high_fits = s.rule_fits _ (end-fits (λ g. page_sum 1 (first_arrangement (block_at blocks g))) most-small);
+    low_fits = s.judge_fits _ (end-fits (λ g. page_sum 1 (reverse (first_arrangement (block_at blocks g)))) least-small);
+    high_fits = s.judge_fits _ (end-fits (λ g. page_sum 1 (first_arrangement (block_at blocks g))) most-small);
   }
 
 -- ---- rearrangements
@@ -180,9 +180,9 @@ one-each : (rs : List (List ℕ)) → AllByRecursion (λ r. length (pos (page_su
 one-each [] = tt
 one-each (r ∷ rs) = (refl, one-each rs)
 
-page-parts : (blocks : List (List ℕ)) (tail : Tail) (rule : Rule) (rest : List (List ℕ)) (g : ℕ) → drop g blocks ≡ rest → AreParts (line_addends blocks tail rule) page_pieces g (map labellings rest)
-page-parts blocks tail rule [] g e = tt
-page-parts blocks tail rule (b ∷ rest) g e =
+page-parts : (blocks : List (List ℕ)) (judge : Judge) (rest : List (List ℕ)) (g : ℕ) → drop g blocks ≡ rest → AreParts (line_addends blocks judge) page_pieces g (map labellings rest)
+page-parts blocks judge [] g e = tt
+page-parts blocks judge (b ∷ rest) g e =
     let here = at-head blocks g b rest [] e in (
       record {
         same = λ f.
@@ -193,11 +193,11 @@ page-parts blocks tail rule (b ∷ rest) g e =
         closed = λ sorted i f. absurd (cc sorted);
         wide = one-each (labellings b);
       },
-      page-parts blocks tail rule rest (g + 1) here.1,
+      page-parts blocks judge rest (g + 1) here.1,
     )
 
-pub page-stages : (blocks : List (List ℕ)) (tail : Tail) (rule : Rule) → AreParts (line_addends blocks tail rule) page_pieces 0 (map labellings blocks)
-page-stages blocks tail rule = page-parts blocks tail rule blocks 0 refl
+pub page-stages : (blocks : List (List ℕ)) (judge : Judge) → AreParts (line_addends blocks judge) page_pieces 0 (map labellings blocks)
+page-stages blocks judge = page-parts blocks judge blocks 0 refl
 
 summed-page : (n k m g s : ℕ) (xs : List (List ℕ)) → AllAt (IsArranged n k) g xs → g + m ≡ n → summed (λ i x. pos (page_sum 1 x) ∷ []) g (pos s ∷ []) xs ≡ pos (s + page_sum 1 (treatment_sums k (cut k m (concat xs)))) ∷ []
 summed-page n k m g s [] all e =

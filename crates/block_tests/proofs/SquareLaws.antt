@@ -11,8 +11,7 @@ use Rattle.std.proofs.lemmas.List.Elements.{All-from_recursion}
 use Rattle.std.proofs.lemmas.List.Sums.{sum_by-cons}
 use Rattle.weights.specs.Labellings.{labellings}
 use Rattle.weights.specs.declared.TheConstants.{MAX}
-use Rattle.weights.specs.declared.rules.Rule.{Rule}
-use Rattle.weights.specs.declared.tails.Tail.{Tail}
+use Rattle.stage_network.specs.declared.verdicts.Judge.{Judge}
 use Rattle.weights.proofs.Members.{IsLabelling}
 use Rattle.weights.proofs.Sums.{sum_by-map, sum_by-one}
 use Rattle.stage_network.specs.Addends.{over_earlier, over_stages, raised_squares, reach, square, stride}
@@ -20,10 +19,11 @@ use Rattle.stage_network.specs.PartialSums.{plus}
 use Rattle.stage_network.specs.SoundAddends.{AddsBetween, IsAdditive, IsSquared}
 use Rattle.stage_network.proofs.Flat.{AllAt}
 use Rattle.stage_network.proofs.Parts.{AreStages as AreParts, Pieces, summed}
+use Rattle.enumerate.proofs.JoinedMembers.{each-labelling}
 use Rattle.block_tests.specs.BlockNetworks.{block_at, first_arrangement, greatest_cell, least_cell, square_addends}
 use Rattle.block_tests.specs.BlockSteps.{AreStages, IsSmall, IsWhole, cells_sum}
 use Rattle.block_tests.specs.BlockTests.{added, cut, square_sum, squared, treatment_sums}
-use Rattle.block_tests.proofs.Arranged.{between-ends, cells-swapped, each-labelling, first-labelling, sum_by-first}
+use Rattle.block_tests.proofs.Arranged.{between-ends, cells-swapped, first-labelling, sum_by-first}
 use Rattle.block_tests.proofs.Different.{arrangements-different}
 use Rattle.block_tests.proofs.Staged.{IsArranged, all_weaker, at-head, over-blocks, over-within, some-arrangement, total-fits, whole-at}
 use Rattle.block_tests.proofs.TreatmentSums.{added-assoc, added-zeros, length-added, length-sums, sums-front, sums-none, zeros-added}
@@ -34,9 +34,9 @@ pos-between : (a b : ℕ) (x : List ℕ) → AllByRecursion (λ z. (a ≤ z) × 
 pos-between a b [] h = tt
 pos-between a b (z ∷ x) h = ((omega (arith, ints, h.0.0), omega (arith, ints, h.0.1)), pos-between a b x h.1)
 
-wide_between : (bound k : ℕ) (blocks : List (List ℕ)) (tail : Tail) (rule : Rule) (g : ℕ) → All (IsWhole k) blocks → g < length blocks → AllByRecursion (AddsBetween (square_addends bound k blocks tail rule) g) (labellings (block_at blocks g))
-wide_between bound k blocks tail rule g whole h =
-    all_weaker (IsLabelling (block_at blocks g)) (AddsBetween (square_addends bound k blocks tail rule) g)
+wide_between : (bound k : ℕ) (blocks : List (List ℕ)) (judge : Judge) (g : ℕ) → All (IsWhole k) blocks → g < length blocks → AllByRecursion (AddsBetween (square_addends bound k blocks judge) g) (labellings (block_at blocks g))
+wide_between bound k blocks judge g whole h =
+    all_weaker (IsLabelling (block_at blocks g)) (AddsBetween (square_addends bound k blocks judge) g)
     (λ x l. record {
       wide = length-map x pos ∙ l.over.long ∙ (whole-at k blocks g whole h).treatments;
       between = pos-between (least_cell (block_at blocks g)) (greatest_cell (block_at blocks g)) x (between-ends (block_at blocks g) x l);
@@ -52,8 +52,8 @@ cell-small counts i few = elim (cases_lt i (length (first_arrangement counts))) 
   | inr l ↦ (let none : slice_index (first_arrangement counts) i ≡ 0 = get_or_past (first_arrangement counts) i 0 l in omega (arith, none))
 ]
 
-stride-small : (bound k : ℕ) (blocks : List (List ℕ)) (tail : Tail) (rule : Rule) → All (IsWhole k) blocks → (g : ℕ) → g < length blocks → stride (square_addends bound k blocks tail rule) g ≤ 16
-stride-small bound k blocks tail rule whole g h =
+stride-small : (bound k : ℕ) (blocks : List (List ℕ)) (judge : Judge) → All (IsWhole k) blocks → (g : ℕ) → g < length blocks → stride (square_addends bound k blocks judge) g ≤ 16
+stride-small bound k blocks judge whole g h =
     let few = (whole-at k blocks g whole h).few in
     let least : least_cell (block_at blocks g) ≤ 16 = cell-small (block_at blocks g) 0 few in
     let most : greatest_cell (block_at blocks g) ≤ 16 = cell-small (block_at blocks g) (length (first_arrangement (block_at blocks g)) - 1) few in
@@ -89,19 +89,19 @@ end-small k n e narrow few (m, is) h =
 least-small : (n b : ℕ) → IsSmall (pos n) → IsSmall (pos (min b n))
 least-small n b h = (omega (arith, ints), (let k : min b n ≤ n = omega arith in omega (arith, ints, k, h.1)))
 
-module _ (bound k : ℕ) (blocks : List (List ℕ)) (tail : Tail) (rule : Rule) (s : AreStages k blocks rule) (bounded : squared (cells_sum blocks) ≤ bound) (bound_fits : bound ≤ MAX) where
-  reach-small : reach (square_addends bound k blocks tail rule) ≤ 160000
+module _ (bound k : ℕ) (blocks : List (List ℕ)) (judge : Judge) (s : AreStages k blocks judge) (bounded : squared (cells_sum blocks) ≤ bound) (bound_fits : bound ≤ MAX) where
+  reach-small : reach (square_addends bound k blocks judge) ≤ 160000
   reach-small =
-      let all : reach (square_addends bound k blocks tail rule) ≤ length blocks * 16 = over-within (stride (square_addends bound k blocks tail rule)) (length blocks) 16 (stride-small bound k blocks tail rule s.whole) in
+      let all : reach (square_addends bound k blocks judge) ≤ length blocks * 16 = over-within (stride (square_addends bound k blocks judge)) (length blocks) 16 (stride-small bound k blocks judge s.whole) in
       omega (arith, all, s.few)
 
   each_sum : ℕ → ℕ
   each_sum g = sum (first_arrangement (block_at blocks g))
 
-  squared_sums : IsSquared (square_addends bound k blocks tail rule) bound
+  squared_sums : IsSquared (square_addends bound k blocks judge) bound
   unfolding each_sum
   squared_sums =
-      let reached : reach (square_addends bound k blocks tail rule) ≤ 160000 = reach-small in
+      let reached : reach (square_addends bound k blocks judge) ≤ 160000 = reach-small in
       let all : over_earlier (λ g. sum (first_arrangement (block_at blocks g))) (length blocks) ≡ cells_sum blocks = over-blocks (λ counts. sum (first_arrangement counts)) blocks (length blocks) (omega arith) ∙ ap (sum_by (λ counts. sum (first_arrangement counts))) (take-length blocks) in
       record {
         least_some = λ g h. omega (arith, ints);
@@ -110,10 +110,10 @@ module _ (bound k : ℕ) (blocks : List (List ℕ)) (tail : Tail) (rule : Rule) 
         alike = λ g h. all_weaker (IsLabelling (block_at blocks g)) (λ x. sum_by nat_abs (map pos x) ≡ sum (first_arrangement (block_at blocks g))) (λ x l. sum_by-map nat_abs pos x ∙ sum_by-first (λ v. v) (block_at blocks g) x l) (labellings (block_at blocks g)) (each-labelling (block_at blocks g));
         bounded = rw all bounded;
         bound_fits = bound_fits;
-        squares_fit = (let sq : k * (reach (square_addends bound k blocks tail rule) * reach (square_addends bound k blocks tail rule)) ≤ 8 * (160000 * 160000) = mul-le-mul s.narrow (mul-le-mul reached reached) in omega (arith, sq));
+        squares_fit = (let sq : k * (reach (square_addends bound k blocks judge) * reach (square_addends bound k blocks judge)) ≤ 8 * (160000 * 160000) = mul-le-mul s.narrow (mul-le-mul reached reached) in omega (arith, sq));
       }
 
-  pub square_additive : IsAdditive (square_addends bound k blocks tail rule)
+  pub square_additive : IsAdditive (square_addends bound k blocks judge)
   square_additive =
       let least = end-small k (length blocks) (over_stages (λ i. pos (least_cell (block_at blocks i))) (length blocks - 0) 0) s.narrow s.few (over-pos (λ i. least_cell (block_at blocks i)) (length blocks - 0) 0) (low-end) in
       let most = end-small k (length blocks) (over_stages (λ i. pos (greatest_cell (block_at blocks i))) (length blocks - 0) 0) s.narrow s.few (over-pos (λ i. greatest_cell (block_at blocks i)) (length blocks - 0) 0) (high-end) in
@@ -123,12 +123,12 @@ module _ (bound k : ℕ) (blocks : List (List ℕ)) (tail : Tail) (rule : Rule) 
         some_choice = λ g h. some-arrangement (block_at blocks g);
         different = λ g h. arrangements-different (block_at blocks g);
         weighty = λ g c h m. omega arith;
-        fits = total-fits (square_addends bound k blocks tail rule) blocks (λ g h. sum_by-one (labellings (block_at blocks g))) s.ways_fit;
-        between = λ g h. wide_between bound k blocks tail rule g s.whole h;
+        fits = total-fits (square_addends bound k blocks judge) blocks (λ g h. sum_by-one (labellings (block_at blocks g))) s.ways_fit;
+        between = λ g h. wide_between bound k blocks judge g s.whole h;
         sums_fit = omega (arith, reach-small);
         measured = squared_sums;
-        low_fits = s.rule_fits _ least;
-        high_fits = s.rule_fits _ (least-small _ bound most);
+        low_fits = s.judge_fits _ least;
+        high_fits = s.judge_fits _ (least-small _ bound most);
       }
     where
       low-end : over_stages (λ i. pos (least_cell (block_at blocks i))) (length blocks - 0) 0 ≤ℤ pos (length blocks * 16)
@@ -142,9 +142,9 @@ module _ (bound k : ℕ) (blocks : List (List ℕ)) (tail : Tail) (rule : Rule) 
 abbrev pub square_pieces : Pieces
 square_pieces = record { mass = λ g x. 1; added = λ g x. map pos x }
 
-stage-parts : (bound k : ℕ) (blocks : List (List ℕ)) (tail : Tail) (rule : Rule) → All (IsWhole k) blocks → (rest : List (List ℕ)) (g : ℕ) → drop g blocks ≡ rest → AreParts (square_addends bound k blocks tail rule) square_pieces g (map labellings rest)
-stage-parts bound k blocks tail rule whole [] g e = tt
-stage-parts bound k blocks tail rule whole (b ∷ rest) g e =
+stage-parts : (bound k : ℕ) (blocks : List (List ℕ)) (judge : Judge) → All (IsWhole k) blocks → (rest : List (List ℕ)) (g : ℕ) → drop g blocks ≡ rest → AreParts (square_addends bound k blocks judge) square_pieces g (map labellings rest)
+stage-parts bound k blocks judge whole [] g e = tt
+stage-parts bound k blocks judge whole (b ∷ rest) g e =
     let here = at-head blocks g b rest [] e in
     let own : IsWhole k b = subst (IsWhole k) here.0 (whole-at k blocks g whole here.2) in (
       record {
@@ -152,7 +152,7 @@ stage-parts bound k blocks tail rule whole (b ∷ rest) g e =
         closed = λ sorted i f. cells-swapped b i (λ v. 1 * f v);
         wide = all_weaker (IsLabelling b) (λ x. length (map pos x) ≡ k) (λ x l. length-map x pos ∙ l.over.long ∙ own.treatments) (labellings b) (each-labelling b);
       },
-      stage-parts bound k blocks tail rule whole rest (g + 1) here.1,
+      stage-parts bound k blocks judge whole rest (g + 1) here.1,
     )
 
 plus-pos : (xs ys : List ℕ) → length xs ≡ length ys → plus (map pos xs) (map pos ys) ≡ map pos (added xs ys)
@@ -181,5 +181,5 @@ squares-measured n k xs all =
     ap pos (sym (ap (sum_by square) (ap (λ zs. summed (λ g x. map pos x) 0 zs xs) (zeros-pos k) ∙ summed-is n k n 0 (replicate k 0) xs all (omega arith) (length-replicate k 0) ∙ ap (map pos) (zeros-added k (treatment_sums k (cut k n (concat xs))) (length-sums k n (concat xs))))
     ∙ squares-pos (treatment_sums k (cut k n (concat xs)))))
 
-pub square-stages : (bound k : ℕ) (blocks : List (List ℕ)) (tail : Tail) (rule : Rule) → All (IsWhole k) blocks → AreParts (square_addends bound k blocks tail rule) square_pieces 0 (map labellings blocks)
-square-stages bound k blocks tail rule whole = stage-parts bound k blocks tail rule whole blocks 0 refl
+pub square-stages : (bound k : ℕ) (blocks : List (List ℕ)) (judge : Judge) → All (IsWhole k) blocks → AreParts (square_addends bound k blocks judge) square_pieces 0 (map labellings blocks)
+square-stages bound k blocks judge whole = stage-parts bound k blocks judge whole blocks 0 refl

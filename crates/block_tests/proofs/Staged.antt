@@ -10,9 +10,9 @@ use Rattle.weights.proofs.Members.{IsLabelling}
 use Rattle.stage_network.specs.Addends.{Addends, over_earlier, stage_total, totals}
 use Rattle.stage_network.proofs.Flat.{AllParts}
 use Rattle.stage_network.proofs.Parts.{product_weight}
+use Rattle.enumerate.proofs.JoinedMembers.{each-labelling}
 use Rattle.block_tests.specs.BlockNetworks.{block_at}
 use Rattle.block_tests.specs.BlockSteps.{IsWhole, ways_of}
-use Rattle.block_tests.proofs.Arranged.{each-labelling}
 
 pub all_weaker : {X : Type 0} (P Q : X → Type 0) → ((x : X) → P x → Q x) → (xs : List X) → AllByRecursion P xs → AllByRecursion Q xs
 all_weaker P Q w [] a = tt

@@ -1,20 +1,22 @@
 -- One step of the loops over blocks and cells.
-use Rattle.std.proofs.Common.{◌≡◌, ℕ, zero, suc, ◌+◌, ◌*◌, ◌-◌, ◌<◌, ◌≤◌, List, [], ◌∷◌, ◌++◌, length, drop, take, map, get_or, set, refl, sym, ◌∙◌, ap, subst, arith, add-one, drop-cons, length-take, append-nil, lit≤}
+use Rattle.std.proofs.Common.{◌≡◌, ℕ, zero, suc, ◌+◌, ◌*◌, ◌-◌, ◌<◌, ◌≤◌, List, [], ◌∷◌, ◌++◌, length, drop, take, map, get_or, set, refl, sym, ◌∙◌, ap, subst, arith, add-one, drop-cons, length-take, lit≤}
 use Rattle.std.specs.Prelude.{Contains}
-use Rattle.std.specs.List.{All, concat, range_with_len, sum, sum_by}
+use Rattle.std.specs.List.{All, range_with_len, sum, sum_by}
 use Rattle.std.proofs.Math.Nat.{mul-le-mul}
 use Rattle.std.proofs.lemmas.List.{get_or_default, map_more, take_more}
 use Rattle.std.proofs.lemmas.List.Elements.{All-from_recursion}
-use Rattle.std.proofs.lemmas.List.Folds.{concat-append}
 use Rattle.std.proofs.lemmas.List.FromFn.{length-range_with_len}
 use Rattle.std.proofs.lemmas.List.Sums.{sum_by-cons}
 use Rattle.weights.specs.Labellings.{has_counts, labellings, lists_over, number_of_labellings}
 use Rattle.weights.specs.declared.TheConstants.{MAX}
 use Rattle.weights.proofs.Members.{IsLabelling, labelling_from}
 use Rattle.weights.proofs.Sums.{sum_by-filter-≤, sum_by-fronts, sum_by-one, sum_by-same}
+use Rattle.enumerate.specs.Walk.{BeginsWith}
+use Rattle.enumerate.proofs.JoinedSteps.{begins-more}
 use Rattle.block_tests.specs.BlockNetworks.{block_at, first_arrangement}
-use Rattle.block_tests.specs.BlockSteps.{IsWhole, first_cells, ways_of}
-use Rattle.block_tests.specs.BlockTests.{added}
+use Rattle.block_tests.specs.BlockSteps.{IsWhole, ways_of}
+use Rattle.block_tests.specs.BlockTests.{added, rearrangements}
+use Rattle.block_tests.proofs.Arranged.{begins, length-first}
 use Rattle.block_tests.proofs.Fitting.{ways-some}
 use Rattle.block_tests.proofs.Staged.{whole-at}
 
@@ -70,11 +72,16 @@ module _ (sums cells now : List ℕ) (i : ℕ) (long : length sums ≡ length ce
 
 -- ---- blocks, one after another
 
-pub first-cells-more : (blocks : List (List ℕ)) (i : ℕ) → i < length blocks → first_cells (take (i + 1) blocks) ≡ first_cells (take i blocks) ++ first_arrangement (block_at blocks i)
-first-cells-more blocks i h =
-    ap concat (map_more first_arrangement blocks i [] h)
-    ∙ concat-append (map first_arrangement (take i blocks)) (first_arrangement (block_at blocks i) ∷ [])
-    ∙ ap (λ xs. first_cells (take i blocks) ++ xs) (append-nil (first_arrangement (block_at blocks i)))
+pub begins-at : (blocks : List (List ℕ)) (i : ℕ) (cells first new : List ℕ) → i < length blocks → BeginsWith (rearrangements (take i blocks)) cells → first ≡ first_arrangement (block_at blocks i) → new ≡ cells ++ first → BeginsWith (rearrangements (take (i + 1) blocks)) new
+begins-at blocks i cells first new h b e f =
+    subst (BeginsWith (rearrangements (take (i + 1) blocks))) (sym f)
+    (subst (λ parts. BeginsWith (rearrangements parts) (cells ++ first)) (sym (take_more blocks i [] h))
+    (begins-more (take i blocks) cells (block_at blocks i) first b (subst (BeginsWith (labellings (block_at blocks i))) (sym e) (begins (block_at blocks i)))))
+
+pub lengths-at : (blocks : List (List ℕ)) (i : ℕ) (lengths first : List ℕ) → i < length blocks → map sum (take i blocks) ≡ lengths → first ≡ first_arrangement (block_at blocks i) → map sum (take (i + 1) blocks) ≡ lengths ++ length first ∷ []
+lengths-at blocks i lengths first h e f =
+    map_more sum blocks i [] h ∙ ap (λ ns. ns ++ sum (block_at blocks i) ∷ []) e
+    ∙ ap (λ n. lengths ++ n ∷ []) (sym (ap length f ∙ length-first (block_at blocks i)))
 
 pub ways-next : (blocks : List (List ℕ)) (i : ℕ) → i < length blocks → ways_of (drop i blocks) ≡ number_of_labellings (block_at blocks i) * ways_of (drop (i + 1) blocks)
 ways-next blocks i h = ap ways_of (drop-cons blocks i [] h) ∙ ap (λ n. number_of_labellings (block_at blocks i) * ways_of (drop n blocks)) (sym (add-one i))

@@ -2,21 +2,20 @@
 -- is an arrangement of its cells. For Friedman's and Cochran's tests a key has the treatments' sums
 -- so far, ascending, since the order of the treatments changes no square. For Page's test a key is
 -- what the earlier blocks add.
-use Rattle.std.specs.Prelude.{ℕ, ◌+◌, ◌-◌, pos, List, [], ◌∷◌, length, map, reverse, true, false, slice_index, slice_index_or}
+use Rattle.std.specs.Prelude.{ℕ, ◌+◌, ◌-◌, pos, List, [], ◌∷◌, length, map, reverse, true, false}
+use Rattle.std.specs.Prelude.{slice_index, slice_index_or}
 use Rattle.std.specs.List.{range_with_len}
 use Rattle.weights.specs.Conditional.{ConditionalTest, by_distance, distribution, unit_weight}
 use Rattle.weights.specs.Labellings.{labellings}
-use Rattle.weights.specs.Rules.{rule_of}
 use Rattle.weights.specs.declared.lines.Line.{Line}
-use Rattle.weights.specs.declared.rules.Rule.{Rule}
+use Rattle.stage_network.specs.Judged.{judge_of}
+use Rattle.stage_network.specs.declared.verdicts.Judge.{Judge}
 use Rattle.weights.specs.declared.tails.Tail.{Tail}
-use Rattle.weights.specs.declared.tails.Tail.TheVariants.{Greater}
 use Rattle.enumerate.specs.Walk.{members_after}
 use Rattle.stage_network.specs.Addends.{Addends, additive_network}
-use Rattle.stage_network.specs.Judged.{is_tail}
 use Rattle.stage_network.specs.Network.{Network}
 use Rattle.stage_network.specs.declared.additive.SumValue.TheVariants.{First, Squares}
-use Rattle.block_tests.specs.BlockTests.{BlockTests, block_counts, block_test, page_sum}
+use Rattle.block_tests.specs.BlockTests.{BlockTests, block_counts, block_test, page_sum, is_upper}
 use Rattle.block_tests.specs.declared.kinds.BlockKind.{BlockKind}
 use Rattle.block_tests.specs.declared.kinds.BlockKind.TheVariants.{Friedman, Page, Cochran}
 
@@ -37,8 +36,8 @@ greatest_cell counts =
 
 -- ---- the sums of all treatments, and their squares
 
-abbrev pub square_addends : ℕ → ℕ → List (List ℕ) → Tail → Rule → Addends
-square_addends bound k blocks tail rule = record {
+abbrev pub square_addends : ℕ → ℕ → List (List ℕ) → Judge → Addends
+square_addends bound k blocks judge = record {
   count = length blocks;
   slots = k;
   choice_width = k;
@@ -50,15 +49,14 @@ square_addends bound k blocks tail rule = record {
   most = λ g. pos (greatest_cell (block_at blocks g));
   sorted = true;
   value = Squares bound;
-  tail = tail;
-  rule = rule;
+  judge = judge;
 }
 
 -- ---- Page's sum
 
 -- a block adds least where its cells descend, and most where they ascend
-abbrev pub page_addends : ℕ → List (List ℕ) → Tail → Rule → Addends
-page_addends k blocks tail rule = record {
+abbrev pub page_addends : ℕ → List (List ℕ) → Judge → Addends
+page_addends k blocks judge = record {
   count = length blocks;
   slots = 1;
   choice_width = k;
@@ -70,8 +68,7 @@ page_addends k blocks tail rule = record {
   most = λ g. pos (page_sum 1 (first_arrangement (block_at blocks g)));
   sorted = false;
   value = First;
-  tail = tail;
-  rule = rule;
+  judge = judge;
 }
 
 -- ---- what runs for Page's test: arrangements of a block that add the same are one choice
@@ -83,7 +80,7 @@ arrangement_test counts = record {
   statistic = λ cells. pos (page_sum 1 cells);
   observed = first_arrangement counts;
   weight = unit_weight;
-  has_tail = is_tail Greater;
+  has_tail = is_upper;
   two_sided = by_distance 0 (pos 0);
   scale = 1;
   bound = 0;
@@ -104,8 +101,8 @@ line_of counts choice = slice_index_or (page_lines counts) (slice_index choice 0
 abbrev pub places_from : ℕ → ℕ → List (List ℕ)
 places_from i n = map (λ place. place ∷ []) (range_with_len i n)
 
-abbrev pub line_addends : List (List ℕ) → Tail → Rule → Addends
-line_addends blocks tail rule = record {
+abbrev pub line_addends : List (List ℕ) → Judge → Addends
+line_addends blocks judge = record {
   count = length blocks;
   slots = 1;
   choice_width = 1;
@@ -118,13 +115,12 @@ line_addends blocks tail rule = record {
   most = λ g. pos (page_sum 1 (first_arrangement (block_at blocks g)));
   sorted = false;
   value = First;
-  tail = tail;
-  rule = rule;
+  judge = judge;
 }
 
 -- ---- the networks
 
-abbrev pub addends_of : BlockKind → ℕ → ℕ → List (List ℕ) → Tail → Rule → Addends
+abbrev pub addends_of : BlockKind → ℕ → ℕ → List (List ℕ) → Judge → Addends
 addends_of Friedman bound k = square_addends bound k
 addends_of Page bound k = page_addends k
 addends_of Cochran bound k = square_addends bound k
@@ -134,9 +130,9 @@ abbrev pub block_network : BlockTests → Tail → Network
 block_network tests tail =
     let test = block_test tests in
     additive_network (addends_of tests.kind test.bound tests.blocks.treatments
-    (block_counts tests) tail (rule_of test tail))
+    (block_counts tests) (judge_of test))
 
-abbrev pub running_addends : BlockKind → ℕ → ℕ → List (List ℕ) → Tail → Rule → Addends
+abbrev pub running_addends : BlockKind → ℕ → ℕ → List (List ℕ) → Judge → Addends
 running_addends Friedman bound k = square_addends bound k
 running_addends Page bound k = line_addends
 running_addends Cochran bound k = square_addends bound k
@@ -146,4 +142,4 @@ abbrev pub running_network : BlockTests → Tail → Network
 running_network tests tail =
     let test = block_test tests in
     additive_network (running_addends tests.kind test.bound tests.blocks.treatments
-    (block_counts tests) tail (rule_of test tail))
+    (block_counts tests) (judge_of test))

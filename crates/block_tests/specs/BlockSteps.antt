@@ -1,10 +1,10 @@
 -- What is kept of one block, and of the cells of blocks while they are ranked.
-use Rattle.std.specs.Prelude.{◌≡◌, ℕ, ◌*◌, ◌≤◌, ◌≤ℤ◌, ◌^◌, ℤ, pos, List, [], ◌∷◌, length, map}
-use Rattle.std.specs.List.{All, concat, sum, sum_by}
+use Rattle.std.specs.Prelude.{◌≡◌, ℕ, ◌*◌, ◌≤◌, ◌≤ℤ◌, ◌^◌, ℤ, pos, List, [], ◌∷◌, length}
+use Rattle.std.specs.List.{All, sum, sum_by}
 use Rattle.weights.specs.Labellings.{number_of_labellings}
-use Rattle.weights.specs.Rules.{RuleFits}
 use Rattle.weights.specs.declared.TheConstants.{MAX}
-use Rattle.weights.specs.declared.rules.Rule.{Rule}
+use Rattle.stage_network.specs.Judged.{JudgeFits}
+use Rattle.stage_network.specs.declared.verdicts.Judge.{Judge}
 use Rattle.record_reader.specs.declared.TheConstants.{MOST_ROWS}
 use Rattle.block_tests.specs.BlockNetworks.{first_arrangement}
 
@@ -19,10 +19,6 @@ pub record IsBlock (counts first : List ℕ) (number : ℕ) : Type 0 where
 pub record IsWhole (k : ℕ) (counts : List ℕ) : Type 0 where
   pub treatments : sum counts ≡ k
   pub few : length counts ≤ 17
-
--- the first arrangements of blocks, joined
-abbrev pub first_cells : List (List ℕ) → List ℕ
-first_cells blocks = concat (map first_arrangement blocks)
 
 -- how many rearrangements blocks have
 abbrev pub ways_of : List (List ℕ) → ℕ
@@ -39,10 +35,10 @@ IsSmall v = (pos 0 ≤ℤ v) × (v ≤ℤ pos (2 ^ 60))
 
 -- Blocks of k treatments that have a lawful network: their rearrangements pass no limit, nor do the
 -- numbers that the rule computes.
-pub record AreStages (k : ℕ) (blocks : List (List ℕ)) (rule : Rule) : Type 0 where
+pub record AreStages (k : ℕ) (blocks : List (List ℕ)) (judge : Judge) : Type 0 where
   pub some : 1 ≤ k
   pub narrow : k ≤ 8
   pub few : length blocks ≤ MOST_ROWS
   pub whole : All (IsWhole k) blocks
   pub ways_fit : ways_of blocks ≤ MAX
-  pub rule_fits : (v : ℤ) → IsSmall v → RuleFits rule v
+  pub judge_fits : (v : ℤ) → IsSmall v → JudgeFits judge v

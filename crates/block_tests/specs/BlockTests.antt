@@ -3,16 +3,17 @@
 -- ordered treatments (Page, the same, 1963), both as in Hollander and Wolfe, Nonparametric
 -- Statistical Methods, chapter 7, and Cochran's test of zeros and ones (Cochran, Biometrika, 1950).
 -- All are conditional on each block's values, with their ties.
-use Rattle.std.specs.Prelude.{ℕ, zero, suc, ℤ, pos, ◌+◌, ◌*◌, nat_abs, List, [], ◌∷◌, map, take, drop, replicate, Bool, All, ⊤}
+use Rattle.std.specs.Prelude.{ℕ, zero, suc, ℤ, pos, ◌+◌, ◌*◌, nat_abs, List, [], ◌∷◌, map}
+use Rattle.std.specs.Prelude.{take, drop, replicate, Bool, true, false, All, ⊤}
 use Rattle.std.specs.List.{concat, sum, sum_by}
 use Rattle.weights.specs.Conditional.{ConditionalTest, TwoSided, by_distance, every_tail, unit_weight}
-use Rattle.weights.specs.Labellings.{counts_of, labellings, product}
+use Rattle.weights.specs.Labellings.{counts_of}
+use Rattle.enumerate.specs.Joined.{joined_labellings}
 use Rattle.weights.specs.declared.tails.Tail.{Tail}
-use Rattle.weights.specs.declared.tails.Tail.TheVariants.{Greater}
+use Rattle.weights.specs.declared.tails.Tail.TheVariants.{Less, Greater, Two}
 use Rattle.midranks.specs.Midranks.{doubled_midranks}
 use Rattle.sample_reader.specs.CellLayouts.{BlockData}
 use Rattle.sample_reader.specs.Values.{IsBinary}
-use Rattle.stage_network.specs.Judged.{is_tail}
 use Rattle.block_tests.specs.declared.kinds.BlockKind.{BlockKind}
 use Rattle.block_tests.specs.declared.kinds.BlockKind.TheVariants.{Friedman, Page, Cochran}
 
@@ -65,7 +66,7 @@ block_counts tests = map (counts_in tests.kind tests.blocks.treatments) (rows te
 -- so equal cells that change places are one arrangement. A rearrangement has one of each block,
 -- joined.
 abbrev pub rearrangements : List (List ℕ) → List (List ℕ)
-rearrangements blocks = map concat (product (map labellings blocks))
+rearrangements blocks = joined_labellings blocks
 
 -- the cells as they are
 abbrev pub observed_cells : BlockTests → List ℕ
@@ -107,10 +108,15 @@ block_statistic kind n k cells = pos (measure kind (treatment_sums k (cut k n ce
 
 -- ---- the tests
 
+abbrev pub is_upper : Tail → Bool
+is_upper Less = false
+is_upper Greater = true
+is_upper Two = false
+
 abbrev pub has_tail : BlockKind → Tail → Bool
-has_tail Friedman = is_tail Greater
+has_tail Friedman = is_upper
 has_tail Page = every_tail
-has_tail Cochran = is_tail Greater
+has_tail Cochran = is_upper
 
 -- Page's sum has the mean n k (k + 1)^2 / 2 in doubled ranks; the others have no centre
 abbrev pub sides_of : BlockKind → ℕ → ℕ → TwoSided

@@ -1,5 +1,6 @@
 -- What is kept of a prepared test.
-use Rattle.std.specs.Prelude.{◌≡◌, ℕ, ℤ, ◌*◌, ◌≤◌, List, length}
+use Rattle.std.specs.Prelude.{◌≡◌, ℕ, ℤ, ◌*◌, ◌≤◌, List, length, map}
+use Rattle.std.specs.List.{sum}
 use Rattle.weights.specs.Conditional.{TwoSided, by_distance, by_rarity, distance, total}
 use Rattle.weights.specs.Frames.{IsFrameOf}
 use Rattle.weights.specs.declared.TheConstants.{MAX}
@@ -35,9 +36,11 @@ pub record AreFitting (tests : BlockTests) : Type 0 where
   pub blocks : AreBlocks tests
   pub total_fits : total (block_test tests) ≤ MAX
 
-pub record IsPrepared (tests : BlockTests) (blocks : List (List ℕ)) (bound : ℕ) (frame : Frame)
+pub record IsPrepared
+    (tests : BlockTests) (blocks : List (List ℕ)) (lengths : List ℕ) (bound : ℕ) (frame : Frame)
     : Type 0 where
   pub fitting : AreFitting tests
   pub blocks_are : blocks ≡ block_counts tests
+  pub lengths_are : map sum (block_counts tests) ≡ lengths
   pub bound_is : bound ≡ (block_test tests).bound
   pub frame_is : IsFrameOf (block_test tests) frame

@@ -1,9 +1,11 @@
 // One block, as its test and its network see it.
-ghost use Rattle.std.specs.Prelude.{◌≡◌, ◌<◌, ◌≤◌, length, true, IfOk};
+ghost use Rattle.std.specs.Prelude.{◌≡◌, ◌<◌, ◌≤◌, length, map, true, IfOk};
 ghost use Rattle.std.specs.List.{All, sum};
 ghost use Rattle.weights.specs.declared.TheConstants.{MAX};
 ghost use Rattle.weights.specs.Labellings.{counts_of, number_of_labellings};
+ghost use Rattle.enumerate.specs.Walk.{BeginsWith};
 ghost use Rattle.block_tests.specs.BlockNetworks.{first_arrangement};
+ghost use Rattle.block_tests.specs.BlockTests.{rearrangements};
 
 use enumerate::first_labelling;
 use std::alloc::Global;
@@ -94,4 +96,26 @@ impl Block {
     {
         self.counts.as_slice() == other.counts.as_slice()
     }
+}
+
+/// The first arrangements of blocks, one after another.
+pub(crate) fn first_arrangements(alloc: Global, blocks: &[Block]) -> Result<Bytes, NoMemory>
+    ensures { IfOk result (BeginsWith (rearrangements blocks.now)) }
+{
+    let mut cells = Bytes::empty(alloc);
+    for block in blocks {
+        cells.append(block.first())?;
+    }
+    Ok(cells)
+}
+
+/// How many cells each block has.
+pub(crate) fn lengths(alloc: Global, blocks: &[Block]) -> Result<Nums, NoMemory>
+    ensures { IfOk result (λ lengths. map sum blocks.now ≡ lengths) }
+{
+    let mut lengths = Nums::empty(alloc);
+    for block in blocks {
+        lengths.push(block.first().len() as u64)?;
+    }
+    Ok(lengths)
 }

@@ -1,23 +1,27 @@
 // Blocks that are prepared for their test.
-ghost use Rattle.std.specs.Prelude.{◌≡◌, ◌*◌, ◌≤◌, length, Contains, SomeIff};
+ghost use Rattle.std.specs.Prelude.{◌≡◌, ◌*◌, ◌≤◌, length, map, Contains, SomeIff};
 ghost use Rattle.std.specs.List.{sum};
 ghost use Rattle.weights.specs.Frames.{IsFrameOf};
 ghost use Rattle.weights.specs.Wide.{Prepares};
 ghost use Rattle.weights.specs.declared.TheConstants.{MAX};
 ghost use Rattle.record_reader.specs.declared.TheConstants.{MOST_ROWS};
+ghost use Rattle.stage_network.specs.Judged.{judge_of};
 ghost use Rattle.sample_reader.specs.Data.{block_data_of};
-ghost use Rattle.block_tests.specs.BlockTests.{TakesCells, block_counts, block_statistic, block_test, blocks_for, bound_of, scale_of, sides_of};
+ghost use Rattle.block_tests.specs.BlockTests.{TakesCells, block_counts, block_statistic};
+ghost use Rattle.block_tests.specs.BlockTests.{block_test, blocks_for, bound_of};
+ghost use Rattle.block_tests.specs.BlockTests.{scale_of, sides_of};
 ghost use Rattle.block_tests.specs.BlockSteps.{IsSmall, ways_of};
 ghost use Rattle.block_tests.specs.PreparedSteps.{AreFitting, far_of};
 
-use crate::block::Block;
+use crate::block::{Block, lengths};
 use crate::kinds::BlockKind;
 use crate::ranked::rank_blocks;
 use crate::sums::block_statistic;
 use sample_reader::Blocks;
+use stage_network::Judge;
 use std::alloc::Global;
 use std::marker::Model;
-use weights::{Frame, Ints, PrepareFault, Rule, WideOf, bounded_product};
+use weights::{Frame, Ints, Nums, PrepareFault, Rule, WideOf, bounded_product};
 
 /// A test of blocks whose data are checked. It is seen as its kind and the blocks that it was
 /// prepared of.
@@ -29,6 +33,8 @@ pub struct BlockTest {
     // What it was prepared of, by which contracts name it.
     cells: Ints,
     made: Vec<Block>,
+    // How many cells each block has, for the walk.
+    lengths: Nums,
     bound: u128,
     frame: Frame,
 }
@@ -41,8 +47,8 @@ impl Model for BlockTest {
 
     ghost view = { λ t. tests_of t.kind t.blocks t.treatments t.cells };
 
-    ghost invariant = { λ t.
-        IsPrepared (tests_of t.kind t.blocks t.treatments t.cells) t.made.items t.bound t.frame };
+    ghost invariant = { λ t. let tests = tests_of t.kind t.blocks t.treatments t.cells in
+        IsPrepared tests t.made.items t.lengths t.bound t.frame };
 }
 
 // How many rearrangements blocks have. None exactly where their number passes the greatest.
@@ -161,6 +167,7 @@ pub fn prepare(alloc: Global, kind: BlockKind, blocks: &Blocks) -> Result<BlockT
     let Some(total) = ways_of(&ranked.blocks) else {
         return Err(PrepareFault::TooWide(WideOf::Total));
     };
+    let lengths = lengths(alloc, &ranked.blocks)?;
     let cells = ranked.cells.as_slice();
     let bound = bound_of(kind, rows, treatments, cells);
     let frame = frame_of(kind, rows, treatments, cells, total);
@@ -170,6 +177,7 @@ pub fn prepare(alloc: Global, kind: BlockKind, blocks: &Blocks) -> Result<BlockT
         treatments,
         cells: blocks.cells.copy()?,
         made: ranked.blocks,
+        lengths,
         bound,
         frame,
     })
@@ -189,6 +197,13 @@ impl BlockTest {
         ensures fitting { AreFitting self.now }
     {
         self.made.as_slice()
+    }
+
+    /// How many cells each of them has.
+    pub(crate) fn lengths(&self) -> &[u64]
+        ensures { map sum (block_counts self.now) ≡ result.now }
+    {
+        self.lengths.as_slice()
     }
 
     /// How many treatments there are.
@@ -211,6 +226,14 @@ impl BlockTest {
         ensures fitting { AreFitting self.now }
     {
         self.frame
+    }
+
+    /// The rules of its tails.
+    pub(crate) fn judge(&self) -> Judge
+        ensures judge { result ≡ judge_of (block_test self.now) }
+        ensures fitting { AreFitting self.now }
+    {
+        Judge::of(&self.frame_made())
     }
 
     /// What is measured of a rearrangement.

@@ -15,7 +15,6 @@ mod page;
 mod ranked;
 mod squares;
 mod sums;
-mod walk;
 mod ways;
 
 pub use block_test::{BlockTest, prepare};

@@ -142,13 +142,13 @@ pub struct PageBlocks {
     blocks: Vec<PageBlock>,
     treatments: usize,
     judge: Judge,
-    ghost sound: { AreStages treatments blocks.items judge.rule },
+    ghost sound: { AreStages treatments blocks.items judge },
 }
 
 impl PageBlocks {
     /// The blocks of at most eight treatments.
     pub(crate) fn new(blocks: Vec<PageBlock>, treatments: usize, judge: Judge) -> PageBlocks
-        requires { AreStages treatments blocks.items judge.rule }
+        requires { AreStages treatments blocks.items judge }
         ensures blocks { result.blocks.items ≡ blocks.items }
         ensures judge { result.judge ≡ judge }
     {
@@ -171,7 +171,7 @@ fn line_at(lines: &[Line], place: u64) -> Line
 impl Additive for PageBlocks {
     ghost use Rattle.block_tests.specs.BlockNetworks.{line_addends};
 
-    ghost addends = { λ s. line_addends s.blocks.items s.judge.tail s.judge.rule };
+    ghost addends = { λ s. line_addends s.blocks.items s.judge };
 
     fn stages(&self) -> usize {
         self.blocks.len()

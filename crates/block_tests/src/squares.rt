@@ -18,7 +18,7 @@ pub struct SquareBlocks {
     treatments: usize,
     bound: u128,
     judge: Judge,
-    ghost sound: { AreStages treatments blocks.items judge.rule },
+    ghost sound: { AreStages treatments blocks.items judge },
     ghost bounded: { squared (cells_sum blocks.items) ≤ bound },
     ghost bound_fits: { bound ≤ MAX },
 }
@@ -73,7 +73,7 @@ impl SquareBlocks {
         bound: u128,
         judge: Judge,
     ) -> SquareBlocks
-        requires sound { AreStages treatments blocks.items judge.rule }
+        requires sound { AreStages treatments blocks.items judge }
         requires bounded { squared (cells_sum blocks.items) ≤ bound }
         requires bound_fits { bound ≤ MAX }
         ensures blocks { result.blocks.items ≡ blocks.items }
@@ -93,8 +93,7 @@ impl SquareBlocks {
 impl Additive for SquareBlocks {
     ghost use Rattle.block_tests.specs.BlockNetworks.{square_addends};
 
-    ghost addends = { λ s.
-        square_addends s.bound s.treatments s.blocks.items s.judge.tail s.judge.rule };
+    ghost addends = { λ s. square_addends s.bound s.treatments s.blocks.items s.judge };
 
     fn stages(&self) -> usize {
         self.blocks.len()

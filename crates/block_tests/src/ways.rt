@@ -5,12 +5,12 @@ ghost use Rattle.block_tests.specs.BlockNetworks.{line_addends, square_addends};
 ghost use Rattle.block_tests.specs.BlockSteps.{AreStages, cells_sum};
 ghost use Rattle.block_tests.specs.BlockTests.{block_counts, block_test, squared};
 
+use crate::block::first_arrangements;
 use crate::block_test::BlockTest;
 use crate::kinds::BlockKind;
 use crate::page::{PageBlocks, page_blocks};
 use crate::squares::{SquareBlocks, block_copies};
-use crate::walk::{first_member, next_member};
-use enumerate::Plain;
+use enumerate::{Plain, next_joined};
 use stage_network::{AdditiveStages, Judge, OneOf, Prepared};
 use std::alloc::Global;
 use weights::{Bytes, Frame, NoMemory, Tail};
@@ -21,11 +21,11 @@ impl Plain for BlockTest {
     ghost test = { block_test };
 
     fn first(&self, alloc: Global) -> Result<Bytes, NoMemory> {
-        first_member(alloc, self.blocks())
+        first_arrangements(alloc, self.blocks())
     }
 
     fn next(&self, labels: &mut Bytes) -> bool {
-        next_member(self.blocks(), self.treatments(), labels.as_mut_slice())
+        next_joined(self.lengths(), labels.as_mut_slice())
     }
 
     fn weight(&self, _labels: &[u8]) -> u128 {
@@ -52,15 +52,15 @@ fn square_stages(
     judge: Judge,
 ) -> Result<AdditiveStages<SquareBlocks>, NoMemory>
     requires stages { let k = test.now.blocks.treatments in
-        AreStages k (block_counts test.now) judge.rule }
+        AreStages k (block_counts test.now) judge }
     requires bounded { let bound = (block_test test.now).bound in
         squared (cells_sum (block_counts test.now)) ≤ bound }
     requires fits { (block_test test.now).bound ≤ MAX }
     ensures { let bound = (block_test test.now).bound in
         let k = test.now.blocks.treatments in
-        let a = square_addends bound k (block_counts test.now) judge.tail judge.rule in
+        let a = square_addends bound k (block_counts test.now) judge in
         IfOk result (λ s.
-        square_addends s.bound s.treatments s.blocks.items s.judge.tail s.judge.rule ≡ a) }
+        square_addends s.bound s.treatments s.blocks.items s.judge ≡ a) }
 {
     let blocks = block_copies(alloc, test.blocks())?;
     let inside = SquareBlocks::new(blocks, test.treatments(), test.bound(), judge);
@@ -74,9 +74,9 @@ fn page_stages(
     judge: Judge,
 ) -> Result<AdditiveStages<PageBlocks>, NoMemory>
     requires { let k = test.now.blocks.treatments in
-        AreStages k (block_counts test.now) judge.rule }
-    ensures { let a = line_addends (block_counts test.now) judge.tail judge.rule in
-        IfOk result (λ s. line_addends s.blocks.items s.judge.tail s.judge.rule ≡ a) }
+        AreStages k (block_counts test.now) judge }
+    ensures { let a = line_addends (block_counts test.now) judge in
+        IfOk result (λ s. line_addends s.blocks.items s.judge ≡ a) }
 {
     let blocks = page_blocks(alloc, test.blocks())?;
     let inside = PageBlocks::new(blocks, test.treatments(), judge);
@@ -84,7 +84,6 @@ fn page_stages(
 }
 
 impl Prepared for BlockTest {
-    ghost use Rattle.stage_network.specs.Addends.{additive_shape};
     ghost use Rattle.block_tests.specs.BlockNetworks.{block_network, running_network};
 
     type Built = OneOf<AdditiveStages<SquareBlocks>, AdditiveStages<PageBlocks>>;
@@ -92,8 +91,6 @@ impl Prepared for BlockTest {
     ghost network = { block_network };
 
     ghost runs = { running_network };
-
-    ghost shape = { λ _ _. additive_shape };
 
     fn has_tail(&self, tail: Tail) -> bool {
         self.kind() == BlockKind::Page || tail == Tail::Greater
@@ -103,9 +100,8 @@ impl Prepared for BlockTest {
         true
     }
 
-    fn stages_of(&self, alloc: Global, tail: Tail) -> Result<Self::Built, NoMemory> {
-        let rule = self.frame_made().rule(tail);
-        let judge = Judge { tail, rule };
+    fn stages_of(&self, alloc: Global, _tail: Tail) -> Result<Self::Built, NoMemory> {
+        let judge = self.judge();
         match self.kind() {
             BlockKind::Page => {
                 let stages = page_stages(alloc, self, judge)?;

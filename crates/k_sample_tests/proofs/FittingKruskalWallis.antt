@@ -7,14 +7,13 @@ use Rattle.std.proofs.lemmas.Bool.{ltb-true}
 use Rattle.std.proofs.lemmas.List.{length-map}
 use Rattle.std.proofs.lemmas.List.Elements.{recursion_from_All}
 use Rattle.weights.specs.declared.tails.Tail.{Tail}
-use Rattle.weights.specs.declared.rules.Rule.{Rule}
 use Rattle.weights.specs.declared.TheConstants.{MAX}
 use Rattle.weights.specs.declared.wide.WideOf.TheVariants.{Total, Statistic}
 use Rattle.weights.specs.declared.wide.PrepareFault.{PrepareFault}
 use Rattle.weights.specs.declared.wide.PrepareFault.TheVariants.{TooWide, NoMemory}
 use Rattle.weights.specs.Conditional.{total}
 use Rattle.weights.specs.Labellings.{labellings, number_of_labellings}
-use Rattle.weights.specs.Rules.{RuleFits, measured, rule_of}
+use Rattle.weights.specs.Rules.{measured}
 use Rattle.weights.specs.Wide.{Prepares}
 use Rattle.weights.proofs.Centred.{IsCentred, bound-wide, measured-is, no_factor-fits, rule-fits}
 use Rattle.weights.proofs.FirstLabel.{number_of_labellings-positive}
@@ -32,6 +31,9 @@ use Rattle.scores.proofs.Positive.{scale-some}
 use Rattle.sample_reader.specs.Data.{data_of}
 use Rattle.sample_reader.specs.Groups.{group_sizes}
 use Rattle.sample_reader.specs.declared.samples.Groups.{Groups}
+use Rattle.stage_network.specs.declared.verdicts.Judge.{Judge}
+use Rattle.stage_network.specs.Judged.{judge_of}
+use Rattle.stage_network.proofs.Following.{judge-fits}
 use Rattle.stage_network.specs.Follows.{Follows, open_keys}
 use Rattle.stage_network.specs.Network.{Network}
 use Rattle.stage_network.specs.Opened.{opened_below}
@@ -118,8 +120,8 @@ module _ (samples : ScoredGroups) (f : AreFitting samples) where
   pub column-total : absolute_sum (subjects (column_scores samples.kind (pooled_values samples.groups)) (column_sizes (pooled_values samples.groups))) ≡ absolute_sum (pooled_scores samples)
   column-total = ap absolute_sum column-subjects
 
-  pub is-squaring : (tail : Tail) (rule : Rule) → rule ≡ rule_of (kruskal_wallis_test samples) tail → IsSquaring (size_factors (group_sizes samples.groups)) (kruskal_wallis_test samples).bound (column_scores samples.kind (pooled_values samples.groups)) (column_sizes (pooled_values samples.groups)) (group_sizes samples.groups) rule
-  is-squaring tail rule e = record {
+  pub is-squaring : (judge : Judge) → judge ≡ judge_of (kruskal_wallis_test samples) → IsSquaring (size_factors (group_sizes samples.groups)) (kruskal_wallis_test samples).bound (column_scores samples.kind (pooled_values samples.groups)) (column_sizes (pooled_values samples.groups)) (group_sizes samples.groups) judge
+  is-squaring judge e = record {
     long = columns-level;
     level = columns-sum samples.groups ∙ sym f.whole;
     few = omega (arith, f.whole, f.few);
@@ -128,25 +130,24 @@ module _ (samples : ScoredGroups) (f : AreFitting samples) where
     sums_fit = omega (arith, column-total, sum-fits);
     bound_fits = f.bound_fits;
     bounded = λ p h. squares-bounded (group_sizes samples.groups) (pooled_scores samples) (scale_of samples.kind (pooled_values samples.groups)) p (omega (arith, h, column-total));
-    rule_fits = λ v. subst (λ x. RuleFits x v) (sym e) (rule-fits (kruskal_wallis_test samples) (centred samples) tail v (no_factor-fits v));
+    rules_fit = λ v. judge-fits (kruskal_wallis_test samples) judge e v (λ tail. rule-fits (kruskal_wallis_test samples) (centred samples) tail v (no_factor-fits v));
   }
 
-  unpacked-measure : (tail : Tail) → IsMeasure (unpacked_meaning samples tail)
-  unpacked-measure tail = squares_measure (size_factors (group_sizes samples.groups)) (kruskal_wallis_test samples).bound (column_scores samples.kind (pooled_values samples.groups)) (column_sizes (pooled_values samples.groups)) (group_sizes samples.groups) tail (rule_of (kruskal_wallis_test samples) tail) (is-squaring tail (rule_of (kruskal_wallis_test samples) tail) refl)
+  unpacked-measure : IsMeasure (unpacked_meaning samples)
+  unpacked-measure = squares_measure (size_factors (group_sizes samples.groups)) (kruskal_wallis_test samples).bound (column_scores samples.kind (pooled_values samples.groups)) (column_sizes (pooled_values samples.groups)) (group_sizes samples.groups) (judge_of (kruskal_wallis_test samples)) (is-squaring (judge_of (kruskal_wallis_test samples)) refl)
 
-  unpacked-value : (tail : Tail) (xs : List ℕ) → measured (kruskal_wallis_test samples) tail xs ≡ labelling_value (unpacked_meaning samples tail) xs
+  unpacked-value : (tail : Tail) (xs : List ℕ) → measured (kruskal_wallis_test samples) tail xs ≡ labelling_value (unpacked_meaning samples) xs
   unpacked-value tail xs =
       measured-is (kruskal_wallis_test samples) refl tail xs ∙ ap (λ s. squares_statistic (group_sizes samples.groups) s xs) (sym column-subjects)
-      ∙ sym (value-is (size_factors (group_sizes samples.groups)) (kruskal_wallis_test samples).bound (column_scores samples.kind (pooled_values samples.groups)) (column_sizes (pooled_values samples.groups)) (group_sizes samples.groups) tail (rule_of (kruskal_wallis_test samples) tail) columns-level xs)
+      ∙ sym (value-is (size_factors (group_sizes samples.groups)) (kruskal_wallis_test samples).bound (column_scores samples.kind (pooled_values samples.groups)) (column_sizes (pooled_values samples.groups)) (group_sizes samples.groups) (judge_of (kruskal_wallis_test samples)) columns-level xs)
 
   -- all scores together are less than half of the base
   pub small-sums : fits_one samples ≡ true → absolute_sum (subjects (column_scores samples.kind (pooled_values samples.groups)) (column_sizes (pooled_values samples.groups))) < half_for (length (group_sizes samples.groups))
   small-sums e = omega (arith, column-total, ltb-true (absolute_sum (pooled_scores samples)) (half_for (length (group_sizes samples.groups))) e)
 
-  follows-unpacked : (tail : Tail) → Follows (kruskal_wallis_test samples) tail (label_network (unpacked_meaning samples tail))
-  follows-unpacked tail = label_follows (unpacked_meaning samples tail) (unpacked-measure tail) (kruskal_wallis_test samples) tail (record {
-    tail_is = refl;
-    rule_is = refl;
+  follows-unpacked : (tail : Tail) → Follows (kruskal_wallis_test samples) tail (label_network (unpacked_meaning samples))
+  follows-unpacked tail = label_follows (unpacked_meaning samples) unpacked-measure (kruskal_wallis_test samples) tail (record {
+    judge_is = refl;
     reference = refl;
     alike = λ xs. refl;
     values = λ xs m. unpacked-value tail xs;
@@ -156,49 +157,48 @@ module _ (samples : ScoredGroups) (f : AreFitting samples) where
     abbrev half : ℕ
     half = half_for (length (group_sizes samples.groups))
 
-    follows-packed : Follows (kruskal_wallis_test samples) tail (label_network (packed_meaning half (unpacked_meaning samples tail)))
-    follows-packed = label_follows (packed_meaning half (unpacked_meaning samples tail)) (packed_squares (size_factors (group_sizes samples.groups)) (kruskal_wallis_test samples).bound (column_scores samples.kind (pooled_values samples.groups)) (column_sizes (pooled_values samples.groups)) (group_sizes samples.groups) tail (rule_of (kruskal_wallis_test samples) tail) (is-squaring tail (rule_of (kruskal_wallis_test samples) tail) refl) half (small-sums e)) (kruskal_wallis_test samples) tail (record {
-      tail_is = refl;
-      rule_is = refl;
+    follows-packed : Follows (kruskal_wallis_test samples) tail (label_network (packed_meaning half (unpacked_meaning samples)))
+    follows-packed = label_follows (packed_meaning half (unpacked_meaning samples)) (packed_squares (size_factors (group_sizes samples.groups)) (kruskal_wallis_test samples).bound (column_scores samples.kind (pooled_values samples.groups)) (column_sizes (pooled_values samples.groups)) (group_sizes samples.groups) (judge_of (kruskal_wallis_test samples)) (is-squaring (judge_of (kruskal_wallis_test samples)) refl) half (small-sums e)) (kruskal_wallis_test samples) tail (record {
+      judge_is = refl;
       reference = refl;
       alike = λ xs. refl;
       values = λ xs m.
           unpacked-value tail xs
-          ∙ sym (packed-value (size_factors (group_sizes samples.groups)) (kruskal_wallis_test samples).bound (column_scores samples.kind (pooled_values samples.groups)) (column_sizes (pooled_values samples.groups)) (group_sizes samples.groups) tail (rule_of (kruskal_wallis_test samples) tail) half columns-level (small-sums e) xs);
+          ∙ sym (packed-value (size_factors (group_sizes samples.groups)) (kruskal_wallis_test samples).bound (column_scores samples.kind (pooled_values samples.groups)) (column_sizes (pooled_values samples.groups)) (group_sizes samples.groups) (judge_of (kruskal_wallis_test samples)) half columns-level (small-sums e) xs);
     })
 
-    opened-packed : opened_below (label_network (packed_meaning half (unpacked_meaning samples tail))) tail (length (column_sizes (pooled_values samples.groups))) ≡ opened_below (label_network (unpacked_meaning samples tail)) tail (length (column_sizes (pooled_values samples.groups)))
+    opened-packed : opened_below (label_network (packed_meaning half (unpacked_meaning samples))) tail (length (column_sizes (pooled_values samples.groups))) ≡ opened_below (label_network (unpacked_meaning samples)) tail (length (column_sizes (pooled_values samples.groups)))
     opened-packed =
-        let rule : Rule = rule_of (kruskal_wallis_test samples) tail in
-        let images : OpensImages (label_network (packed_meaning half (unpacked_meaning samples tail))) (label_network (unpacked_meaning samples tail)) tail =
-        packed-images half (unpacked_meaning samples tail)
-        (back (size_factors (group_sizes samples.groups)) (kruskal_wallis_test samples).bound (column_scores samples.kind (pooled_values samples.groups)) (column_sizes (pooled_values samples.groups)) (group_sizes samples.groups) tail rule (is-squaring tail rule refl) half (small-sums e)) tail in
-        opened-images (label_network (packed_meaning half (unpacked_meaning samples tail))) (label_network (unpacked_meaning samples tail)) tail images (length (column_sizes (pooled_values samples.groups))) (omega arith)
+        let judge : Judge = judge_of (kruskal_wallis_test samples) in
+        let images : OpensImages (label_network (packed_meaning half (unpacked_meaning samples))) (label_network (unpacked_meaning samples)) tail =
+        packed-images half (unpacked_meaning samples)
+        (back (size_factors (group_sizes samples.groups)) (kruskal_wallis_test samples).bound (column_scores samples.kind (pooled_values samples.groups)) (column_sizes (pooled_values samples.groups)) (group_sizes samples.groups) judge (is-squaring judge refl) half (small-sums e)) tail in
+        opened-images (label_network (packed_meaning half (unpacked_meaning samples))) (label_network (unpacked_meaning samples)) tail images (length (column_sizes (pooled_values samples.groups))) (omega arith)
 
-  abbrev running : Tail → Bool → Network
-  running tail b = label_network (cond b (packed_meaning (half_for (length (group_sizes samples.groups))) (unpacked_meaning samples tail)) (unpacked_meaning samples tail))
+  abbrev running : Bool → Network
+  running b = label_network (cond b (packed_meaning (half_for (length (group_sizes samples.groups))) (unpacked_meaning samples)) (unpacked_meaning samples))
 
   -- what runs opens as many keys as the network that is written, with a number for each group
   pub counted : (tail : Tail) → open_keys (kruskal_wallis_runs samples) tail ≡ open_keys (kruskal_wallis_network samples) tail
   counted tail = by (fits_one samples) refl
     where
-      by : (b : Bool) → fits_one samples ≡ b → open_keys (λ t. running t b) tail ≡ open_keys (kruskal_wallis_network samples) tail
+      by : (b : Bool) → fits_one samples ≡ b → open_keys (λ t. running b) tail ≡ open_keys (kruskal_wallis_network samples) tail
       by true e = opened-packed tail e
       by false e = refl
 
   pub follows : (tail : Tail) → Follows (kruskal_wallis_test samples) tail (kruskal_wallis_runs samples tail)
   follows tail = by (fits_one samples) refl
     where
-      by : (b : Bool) → fits_one samples ≡ b → Follows (kruskal_wallis_test samples) tail (label_network (cond b (packed_meaning (half_for (length (group_sizes samples.groups))) (unpacked_meaning samples tail)) (unpacked_meaning samples tail)))
+      by : (b : Bool) → fits_one samples ≡ b → Follows (kruskal_wallis_test samples) tail (label_network (cond b (packed_meaning (half_for (length (group_sizes samples.groups))) (unpacked_meaning samples)) (unpacked_meaning samples)))
       by true e = follows-packed tail e
       by false e = follows-unpacked tail
 
   -- which of the two it is
-  pub meaning-packed : (tail : Tail) → fits_one samples ≡ true → packed_meaning (half_for (length (group_sizes samples.groups))) (unpacked_meaning samples tail) ≡ kruskal_wallis_meaning samples tail
-  meaning-packed tail e = ap (λ b. cond b (packed_meaning (half_for (length (group_sizes samples.groups))) (unpacked_meaning samples tail)) (unpacked_meaning samples tail)) (sym e)
+  pub meaning-packed : fits_one samples ≡ true → packed_meaning (half_for (length (group_sizes samples.groups))) (unpacked_meaning samples) ≡ kruskal_wallis_meaning samples
+  meaning-packed e = ap (λ b. cond b (packed_meaning (half_for (length (group_sizes samples.groups))) (unpacked_meaning samples)) (unpacked_meaning samples)) (sym e)
 
-  pub meaning-unpacked : (tail : Tail) → fits_one samples ≡ false → unpacked_meaning samples tail ≡ kruskal_wallis_meaning samples tail
-  meaning-unpacked tail e = ap (λ b. cond b (packed_meaning (half_for (length (group_sizes samples.groups))) (unpacked_meaning samples tail)) (unpacked_meaning samples tail)) (sym e)
+  pub meaning-unpacked : fits_one samples ≡ false → unpacked_meaning samples ≡ kruskal_wallis_meaning samples
+  meaning-unpacked e = ap (λ b. cond b (packed_meaning (half_for (length (group_sizes samples.groups))) (unpacked_meaning samples)) (unpacked_meaning samples)) (sym e)
 
 -- ---- of the groups of a file
 

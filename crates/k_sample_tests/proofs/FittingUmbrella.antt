@@ -9,13 +9,12 @@ use Rattle.std.proofs.lemmas.List.Elements.{All-from_recursion}
 use Rattle.std.proofs.lemmas.List.FromFn.{length-range_with_len}
 use Rattle.std.proofs.lemmas.List.Sums.{sum-map}
 use Rattle.weights.specs.declared.tails.Tail.{Tail}
-use Rattle.weights.specs.declared.rules.Rule.{Rule}
 use Rattle.weights.specs.declared.rules.Rule.TheVariants.{Far}
 use Rattle.weights.specs.declared.TheConstants.{MAX}
 use Rattle.weights.specs.Conditional.{distance, total}
 use Rattle.weights.specs.Frames.{IsFrameOf}
 use Rattle.weights.specs.Labellings.{counts_of, labellings, labels, number_of_labellings}
-use Rattle.weights.specs.Rules.{RuleFits, rule_of}
+use Rattle.weights.specs.Rules.{RuleFits}
 use Rattle.weights.proofs.Centred.{IsCentred, far_natural-fits, measured-is, rule-fits}
 use Rattle.weights.proofs.Filters.{all_append}
 use Rattle.weights.proofs.FirstLabel.{number_of_labellings-positive}
@@ -28,6 +27,9 @@ use Rattle.midranks.proofs.TieLemmas.{groups-ascend}
 use Rattle.sample_reader.specs.Groups.{GroupData, group_sizes}
 use Rattle.sample_reader.specs.PooledSample.{labels_of, paired_subjects, pooled}
 use Rattle.sample_reader.specs.declared.subjects.Subject.{Subject}
+use Rattle.stage_network.specs.declared.verdicts.Judge.{Judge}
+use Rattle.stage_network.specs.Judged.{judge_of}
+use Rattle.stage_network.proofs.Following.{judge-fits}
 use Rattle.stage_network.specs.Follows.{Follows}
 use Rattle.label_network.specs.LaterSums.{subjects}
 use Rattle.label_network.proofs.LabelFollows.{label_follows}
@@ -201,22 +203,21 @@ module _ (samples : PeakedGroups) (made : CountedSamples) (f : AreCounted sample
   pub points-of : (xs : List ℕ) → Contains (labellings sizes) xs → points_from pairs sizes sizes (column_sizes values) xs ≡ sum_by (pair_points (paired_subjects values xs)) pairs
   points-of xs m = let labelling = labelling_from sizes xs m in statistic-is samples f.few_rows xs (labelling.over.long ∙ f.whole) labelling.counted
 
-  pub is-counting : (tail : Tail) (rule : Rule) → rule ≡ rule_of (umbrella_test samples) tail → IsCounting pairs sizes (column_sizes values) rule
-  is-counting tail rule e = record {
+  pub is-counting : (judge : Judge) → judge ≡ judge_of (umbrella_test samples) → IsCounting pairs sizes (column_sizes values) judge
+  is-counting judge e = record {
     pairs_are = pairs_are;
     level = columns-sum samples.groups ∙ sym f.whole;
     few = few_sizes;
     few_rows = f.few_rows;
-    rule_fits = λ n h. subst (λ x. RuleFits x (pos n)) (sym e) (rule-fits (umbrella_test samples) centred tail (pos n) (count-fits n (omega (arith, h, centre-few))));
+    rules_fit = λ n h. judge-fits (umbrella_test samples) judge e (pos n) (λ tail. rule-fits (umbrella_test samples) centred tail (pos n) (count-fits n (omega (arith, h, centre-few))));
   }
 
   pub follows : (tail : Tail) → Follows (umbrella_test samples) tail (umbrella_network samples tail)
   follows tail =
-      let rule : Rule = rule_of (umbrella_test samples) tail in
-      label_follows (umbrella_meaning samples tail) (pairs_measure pairs sizes (column_sizes values) tail rule (is-counting tail rule refl)) (umbrella_test samples) tail (record {
-        tail_is = refl;
-        rule_is = refl;
+      let judge : Judge = judge_of (umbrella_test samples) in
+      label_follows (umbrella_meaning samples) (pairs_measure pairs sizes (column_sizes values) judge (is-counting judge refl)) (umbrella_test samples) tail (record {
+        judge_is = refl;
         reference = refl;
         alike = λ xs. refl;
-        values = λ xs m. measured-is (umbrella_test samples) refl tail xs ∙ ap pos (sym (points-of xs m)) ∙ sym (value-is pairs sizes (column_sizes values) tail rule xs);
+        values = λ xs m. measured-is (umbrella_test samples) refl tail xs ∙ ap pos (sym (points-of xs m)) ∙ sym (value-is pairs sizes (column_sizes values) judge xs);
       })

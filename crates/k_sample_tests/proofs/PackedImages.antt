@@ -5,7 +5,7 @@ use Rattle.std.proofs.lemmas.List.{take-append-drop}
 use Rattle.std.specs.List.{Contains}
 use Rattle.weights.specs.Grouped.{minus}
 use Rattle.weights.specs.declared.tails.Tail.{Tail}
-use Rattle.stage_network.specs.Judged.{judged}
+use Rattle.stage_network.specs.Judged.{rule_in, verdict_of}
 use Rattle.stage_network.specs.Network.{Network, IsReached}
 use Rattle.stage_network.proofs.Images.{OpensImages}
 use Rattle.room_network.specs.RoomNetworks.{partial_of, room_of}
@@ -66,8 +66,8 @@ module _ (half : ℕ) (m : Meaning) (back : (g : ℕ) (r : List ℕ) (p : List �
   same-verdict : (t : Tail) (g : ℕ) (k : List ℤ) → AKey g k → running.verdict t g (image k) ≡ written.verdict t g k
   same-verdict t g k h =
       let sums : List ℤ = unpacked half m (partial (image k)) in
-      ap (λ r. judged m.tail m.rule t (m.low g (sizes_in r) sums) (m.high g (sizes_in r) sums)) (front-image g k h)
-      ∙ ap (λ p. judged m.tail m.rule t (m.low g (sizes_in (room k)) p) (m.high g (sizes_in (room k)) p)) (sums-image g k h)
+      ap (λ r. verdict_of (rule_in m.judge t) (m.low g (sizes_in r) sums) (m.high g (sizes_in r) sums)) (front-image g k h)
+      ∙ ap (λ p. verdict_of (rule_in m.judge t) (m.low g (sizes_in (room k)) p) (m.high g (sizes_in (room k)) p)) (sums-image g k h)
 
   same-choices : (g : ℕ) (k : List ℤ) → AKey g k → running.choices g (image k) ≡ written.choices g k
   same-choices g k h = ap (λ r. cond (nat_lt g (length m.columns)) (allowed m g (sizes_in r)) []) (front-image g k h)

@@ -3,8 +3,7 @@ use Rattle.std.proofs.Common.{◌≡◌, ℕ, suc, ◌+◌, ◌*◌, ◌^◌, �
 use Rattle.std.specs.Prelude.{ℤ, pos, ◌+ℤ◌, unsigned_abs}
 use Rattle.weights.specs.Grouped.{minus}
 use Rattle.weights.specs.declared.TheConstants.{MAX}
-use Rattle.weights.specs.declared.tails.Tail.{Tail}
-use Rattle.weights.specs.declared.rules.Rule.{Rule}
+use Rattle.stage_network.specs.declared.verdicts.Judge.{Judge}
 use Rattle.std.proofs.Math.Nat.{mul-le-mul_right}
 use Rattle.completion_bounds.specs.Boxes.{greatest_squares}
 use Rattle.label_network.specs.declared.ends.End.{End}
@@ -25,15 +24,15 @@ use Rattle.k_sample_tests.proofs.RankWriting.{sums-room}
 use Rattle.k_sample_tests.proofs.RankKeys.{back-is, choice-long, column-fits, counts-within, end-long, end-within, front-is, long, outlook-long, partial_is}
 use Rattle.k_sample_tests.proofs.RankNarrows.{length-parts, length-plus, reached_partial, squares_measure}
 
-module _ (factors : List ℕ) (bound : ℕ) (scores : List ℤ) (columns rows : List ℕ) (tail : Tail) (rule : Rule) (h : IsSquaring factors bound scores columns rows rule) (half : ℕ) (small : absolute_sum (subjects scores columns) < half) where
-  pub within : (g : ℕ) (r : List ℕ) (p : List ℤ) → AreReached (squares_meaning factors bound scores columns rows tail rule) g r p → absolute_sum p < half
-  within g r p a = omega (arith, (reached_partial factors bound scores columns rows tail rule h g r p a).small, small)
+module _ (factors : List ℕ) (bound : ℕ) (scores : List ℤ) (columns rows : List ℕ) (judge : Judge) (h : IsSquaring factors bound scores columns rows judge) (half : ℕ) (small : absolute_sum (subjects scores columns) < half) where
+  pub within : (g : ℕ) (r : List ℕ) (p : List ℤ) → AreReached (squares_meaning factors bound scores columns rows judge) g r p → absolute_sum p < half
+  within g r p a = omega (arith, (reached_partial factors bound scores columns rows judge h g r p a).small, small)
 
-  pub back : (g : ℕ) (r : List ℕ) (p : List ℤ) → AreReached (squares_meaning factors bound scores columns rows tail rule) g r p → unpack half (length rows) (pack half p) ≡ p
-  back g r p a = unpack-pack half (length rows) p (reached_partial factors bound scores columns rows tail rule h g r p a).wide (within g r p a)
+  pub back : (g : ℕ) (r : List ℕ) (p : List ℤ) → AreReached (squares_meaning factors bound scores columns rows judge) g r p → unpack half (length rows) (pack half p) ≡ p
+  back g r p a = unpack-pack half (length rows) p (reached_partial factors bound scores columns rows judge h g r p a).wide (within g r p a)
 
-  pub packed_squares : IsMeasure (packed_meaning half (squares_meaning factors bound scores columns rows tail rule))
-  packed_squares = packed_measure half (squares_meaning factors bound scores columns rows tail rule) back (squares_measure factors bound scores columns rows tail rule h)
+  pub packed_squares : IsMeasure (packed_meaning half (squares_meaning factors bound scores columns rows judge))
+  packed_squares = packed_measure half (squares_meaning factors bound scores columns rows judge) back (squares_measure factors bound scores columns rows judge h)
 
 module _ (s : PackedSums) where
   abbrev m : Meaning
@@ -54,14 +53,14 @@ module _ (s : PackedSums) where
   abbrev parts : ℕ → List ℕ → List ℤ
   parts g c = score_parts (score_of s.sums.later.scores.items g) c
 
-  squaring : IsSquaring s.sums.factors.items s.sums.bound s.sums.later.scores.items s.sums.later.columns.items s.sums.rows.items s.sums.judge.rule
+  squaring : IsSquaring s.sums.factors.items s.sums.bound s.sums.later.scores.items s.sums.later.columns.items s.sums.rows.items s.sums.judge
   squaring = s.sums.right.squaring
 
   back-of : (g : ℕ) (r : List ℕ) (p : List ℤ) → AreReached m g r p → unpack half groups (pack half p) ≡ p
-  back-of = back s.sums.factors.items s.sums.bound s.sums.later.scores.items s.sums.later.columns.items s.sums.rows.items s.sums.judge.tail s.sums.judge.rule squaring half s.right.small
+  back-of = back s.sums.factors.items s.sums.bound s.sums.later.scores.items s.sums.later.columns.items s.sums.rows.items s.sums.judge squaring half s.right.small
 
   pub sound : IsMeasure (packed_meaning half m)
-  sound = packed_squares s.sums.factors.items s.sums.bound s.sums.later.scores.items s.sums.later.columns.items s.sums.rows.items s.sums.judge.tail s.sums.judge.rule squaring half s.right.small
+  sound = packed_squares s.sums.factors.items s.sums.bound s.sums.later.scores.items s.sums.later.columns.items s.sums.rows.items s.sums.judge squaring half s.right.small
 
   pub place : (g : ℕ) (f e : List ℤ) → IsPlace (packed_meaning half m) g f e → IsPlace m g f (sums e)
   place = place_of half m back-of
@@ -142,8 +141,8 @@ module _ (s : PackedSums) where
     pub step-fits : unsigned_abs (get_or e 0 (pos 0) +ℤ numeral (2 * half) (parts g c)) ≤ MAX
     step-fits =
         let next : List ℤ = plus_each (sums e) (parts g c) in
-        let it = packed half next (within s.sums.factors.items s.sums.bound s.sums.later.scores.items s.sums.later.columns.items s.sums.rows.items s.sums.judge.tail s.sums.judge.rule squaring half s.right.small (suc g) (minus (sizes_in f) c) next after) in
-        let wide : length next ≡ groups = (reached_partial s.sums.factors.items s.sums.bound s.sums.later.scores.items s.sums.later.columns.items s.sums.rows.items s.sums.judge.tail s.sums.judge.rule squaring (suc g) (minus (sizes_in f) c) next after).wide in
+        let it = packed half next (within s.sums.factors.items s.sums.bound s.sums.later.scores.items s.sums.later.columns.items s.sums.rows.items s.sums.judge squaring half s.right.small (suc g) (minus (sizes_in f) c) next after) in
+        let wide : length next ≡ groups = (reached_partial s.sums.factors.items s.sums.bound s.sums.later.scores.items s.sums.later.columns.items s.sums.rows.items s.sums.judge squaring (suc g) (minus (sizes_in f) c) next after).wide in
         let most : (2 * half) ^ length next ≤ MAX + 1 = subst (λ n. (2 * half) ^ n ≤ MAX + 1) (sym wide) s.right.wide in
         let same : unsigned_abs (get_or e 0 (pos 0) +ℤ numeral (2 * half) (parts g c)) ≡ it.number = ap unsigned_abs (step-sum ∙ it.is) in
         omega (arith, same, it.below, most)

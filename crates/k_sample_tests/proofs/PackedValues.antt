@@ -3,8 +3,7 @@ use Rattle.std.proofs.Common.{◌≡◌, ℕ, ◌+◌, ◌*◌, ◌<◌, ◌≤�
 use Rattle.std.specs.Prelude.{ℤ, pos, ◌+ℤ◌, ◌*ℤ◌, unsigned_abs}
 use Rattle.std.proofs.lemmas.Int.{ints}
 use Rattle.std.proofs.lemmas.List.{length-replicate}
-use Rattle.weights.specs.declared.tails.Tail.{Tail}
-use Rattle.weights.specs.declared.rules.Rule.{Rule}
+use Rattle.stage_network.specs.declared.verdicts.Judge.{Judge}
 use Rattle.weights.specs.Labellings.{counts_of, labels}
 use Rattle.weights.specs.Grouped.{columns_of, minus}
 use Rattle.weights.proofs.Counted.{count_of}
@@ -41,14 +40,14 @@ column-within k c s xs =
     let same = ap absolute_sum (alone (labels k) c s xs) in
     omega (arith, same, sums-within k (replicate c s ++ []) xs, sizes-block c s [])
 
-module _ (factors : List ℕ) (bound : ℕ) (scores : List ℤ) (columns rows : List ℕ) (tail : Tail) (rule : Rule) (half : ℕ) where
+module _ (factors : List ℕ) (bound : ℕ) (scores : List ℤ) (columns rows : List ℕ) (judge : Judge) (half : ℕ) where
   after-is : (cs : List ℕ) (ss : List ℤ) (g : ℕ) (r : List ℕ) (p : List ℤ) (xs : List ℕ) → drop g scores ≡ ss → length ss ≡ length cs → length p ≡ length rows → absolute_sum p + absolute_sum (subjects ss cs) < half
-      → unpacked half (squares_meaning factors bound scores columns rows tail rule) (partial_after (packed_meaning half (squares_meaning factors bound scores columns rows tail rule)) g r (pack half p ∷ []) (columns_of (length rows) cs xs)) ≡ partial_after (squares_meaning factors bound scores columns rows tail rule) g r p (columns_of (length rows) cs xs)
+      → unpacked half (squares_meaning factors bound scores columns rows judge) (partial_after (packed_meaning half (squares_meaning factors bound scores columns rows judge)) g r (pack half p ∷ []) (columns_of (length rows) cs xs)) ≡ partial_after (squares_meaning factors bound scores columns rows judge) g r p (columns_of (length rows) cs xs)
   after-is [] [] g r p xs d e l h = unpack-pack half (length rows) p l (omega (arith, h))
   after-is [] (s ∷ ss) g r p xs d e l h = absurd (omega (arith, e))
   after-is (c ∷ cs) [] g r p xs d e l h = absurd (omega (arith, e))
   after-is (c ∷ cs) (s ∷ ss) g r p xs d e l h =
-      let m : Meaning = squares_meaning factors bound scores columns rows tail rule in
+      let m : Meaning = squares_meaning factors bound scores columns rows judge in
       let k : ℕ = length rows in
       let x : List ℕ = counts_of k (take c xs) in
       let here = drop-head g scores s ss d in
@@ -61,7 +60,7 @@ module _ (factors : List ℕ) (bound : ℕ) (scores : List ℤ) (columns rows : 
       ap (λ q. unpacked half m (partial_after (packed_meaning half m) (g + 1) (minus r x) (pack half (plus_each q parts) ∷ []) (columns_of k cs (drop c xs)))) same
       ∙ after-is cs ss (g + 1) (minus r x) next (drop c xs) here.1 (omega (arith, e)) long room
 
-  pub packed-value : length scores ≡ length columns → absolute_sum (subjects scores columns) < half → (xs : List ℕ) → labelling_value (packed_meaning half (squares_meaning factors bound scores columns rows tail rule)) xs ≡ labelling_value (squares_meaning factors bound scores columns rows tail rule) xs
+  pub packed-value : length scores ≡ length columns → absolute_sum (subjects scores columns) < half → (xs : List ℕ) → labelling_value (packed_meaning half (squares_meaning factors bound scores columns rows judge)) xs ≡ labelling_value (squares_meaning factors bound scores columns rows judge) xs
   packed-value long small xs =
-      let m : Meaning = squares_meaning factors bound scores columns rows tail rule in
+      let m : Meaning = squares_meaning factors bound scores columns rows judge in
       ap m.value (after-is columns scores 0 rows m.first xs refl long (length-replicate (length rows) (pos 0)) (omega (arith, sizes-zeros (length rows), small)))

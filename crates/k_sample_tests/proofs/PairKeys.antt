@@ -6,9 +6,8 @@ use Rattle.std.proofs.lemmas.Int.{ints}
 use Rattle.std.proofs.lemmas.List.{length-take}
 use Rattle.std.proofs.lemmas.List.Sums.{sum_by-take-drop}
 use Rattle.weights.specs.declared.TheConstants.{MAX}
-use Rattle.weights.specs.declared.tails.Tail.{Tail}
-use Rattle.weights.specs.declared.rules.Rule.{Rule}
-use Rattle.weights.specs.Rules.{RuleFits}
+use Rattle.stage_network.specs.declared.verdicts.Judge.{Judge}
+use Rattle.stage_network.specs.Judged.{JudgeFits}
 use Rattle.weights.proofs.ChoiceLists.{IsChoice}
 use Rattle.label_network.specs.LabelSteps.{AreSizes}
 use Rattle.label_network.specs.Linear.{score_of, so_far}
@@ -24,13 +23,13 @@ use Rattle.k_sample_tests.specs.UmbrellaSteps.{IsCounting}
 use Rattle.k_sample_tests.proofs.PairFits.{pairs-most, points-most}
 use Rattle.k_sample_tests.proofs.PairPoints.{IsPartial, middle-is, open-is, reached_left, reached_partial}
 
-module _ (qs : List UsedPair) (rows columns : List ℕ) (tail : Tail) (rule : Rule) (h : IsCounting qs rows columns rule) where
-  module _ (g : ℕ) (f p : List ℤ) (a : IsPlace (pairs_meaning qs rows columns tail rule) g f p) where
-    pub left : IsLeft (pairs_meaning qs rows columns tail rule) g (sizes_in f)
-    left = reached_left qs rows columns tail rule h g (sizes_in f) p a.reached
+module _ (qs : List UsedPair) (rows columns : List ℕ) (judge : Judge) (h : IsCounting qs rows columns judge) where
+  module _ (g : ℕ) (f p : List ℤ) (a : IsPlace (pairs_meaning qs rows columns judge) g f p) where
+    pub left : IsLeft (pairs_meaning qs rows columns judge) g (sizes_in f)
+    left = reached_left qs rows columns judge h g (sizes_in f) p a.reached
 
     pub partial_is : IsPartial qs rows g (sizes_in f) p
-    partial_is = reached_partial qs rows columns tail rule h g (sizes_in f) p a.reached
+    partial_is = reached_partial qs rows columns judge h g (sizes_in f) p a.reached
 
     pub long : length f ≡ length rows
     long = sym (length-abs f) ∙ fits-length (sizes_in f) rows left.within
@@ -53,14 +52,14 @@ module _ (qs : List UsedPair) (rows columns : List ℕ) (tail : Tail) (rule : Ru
     whole-sum : (s : ℤ) (n : ℕ) → s ≡ pos (nat_abs s) → s +ℤ pos n ≡ pos (nat_abs s + n)
     whole-sum s n e = omega (arith, ints, e)
 
-    pub low-rule : RuleFits rule (so_far p +ℤ pos (sure_points qs rows (sizes_in f)))
-    low-rule = rw (whole-sum (so_far p) (sure_points qs rows (sizes_in f)) partial_is.whole) (h.rule_fits _ (omega (arith, partial_is.most)))
+    pub low-rule : JudgeFits judge (so_far p +ℤ pos (sure_points qs rows (sizes_in f)))
+    low-rule = rw (whole-sum (so_far p) (sure_points qs rows (sizes_in f)) partial_is.whole) (h.rules_fit _ (omega (arith, partial_is.most)))
 
-    pub high-rule : RuleFits rule (so_far p +ℤ pos (sure_points qs rows (sizes_in f) + open_points qs (sizes_in f)))
-    high-rule = rw (whole-sum (so_far p) (sure_points qs rows (sizes_in f) + open_points qs (sizes_in f)) partial_is.whole) (h.rule_fits _ (omega (arith, partial_is.most)))
+    pub high-rule : JudgeFits judge (so_far p +ℤ pos (sure_points qs rows (sizes_in f) + open_points qs (sizes_in f)))
+    high-rule = rw (whole-sum (so_far p) (sure_points qs rows (sizes_in f) + open_points qs (sizes_in f)) partial_is.whole) (h.rules_fit _ (omega (arith, partial_is.most)))
 
     -- a choice for a column
-    module _ (x : List ℕ) (o : Contains (allowed (pairs_meaning qs rows columns tail rule) g (sizes_in f)) x) where
+    module _ (x : List ℕ) (o : Contains (allowed (pairs_meaning qs rows columns judge) g (sizes_in f)) x) where
       pub choice : IsChoice (slice_index columns g) (sizes_in f) x
       choice = chosen (slice_index columns g) (sizes_in f) x o
 

@@ -6,8 +6,7 @@ use Rattle.std.proofs.Math.Seq.{drop-length}
 use Rattle.std.proofs.lemmas.Bool.{leb-true}
 use Rattle.std.proofs.lemmas.Int.{ints}
 use Rattle.std.proofs.lemmas.List.Sums.{sum_by-cons}
-use Rattle.weights.specs.declared.tails.Tail.{Tail}
-use Rattle.weights.specs.declared.rules.Rule.{Rule}
+use Rattle.stage_network.specs.declared.verdicts.Judge.{Judge}
 use Rattle.weights.specs.Grouped.{fits, minus}
 use Rattle.weights.proofs.Sized.{first_and}
 use Rattle.weights.proofs.Sums.{sum_by-plus, sum_by-scaled}
@@ -128,8 +127,8 @@ pub record IsPartial (qs : List UsedPair) (rows : List ℕ) (g : ℕ) (r : List 
   pub whole : so_far p ≡ pos (nat_abs (so_far p))
   pub most : nat_abs (so_far p) + (sure_points qs rows r + open_points qs r) ≤ 2 * subject_pairs qs rows
 
-module _ (qs : List UsedPair) (rows columns : List ℕ) (tail : Tail) (rule : Rule) where
-  none-left : (r : List ℕ) → IsLeft (pairs_meaning qs rows columns tail rule) (length columns) r → sum r ≡ 0
+module _ (qs : List UsedPair) (rows columns : List ℕ) (judge : Judge) where
+  none-left : (r : List ℕ) → IsLeft (pairs_meaning qs rows columns judge) (length columns) r → sum r ≡ 0
   none-left r l = sym l.whole ∙ ap sum (drop-length columns)
 
   grown : (s : ℤ) (n : ℕ) → s ≡ pos (nat_abs s) → (s +ℤ pos n ≡ pos (nat_abs (s +ℤ pos n))) × (nat_abs (s +ℤ pos n) ≡ nat_abs s + n)
@@ -144,7 +143,7 @@ module _ (qs : List UsedPair) (rows columns : List ℕ) (tail : Tail) (rule : Ru
   plus-none : (s : ℤ) (n : ℕ) → n ≡ 0 → s +ℤ pos n ≡ s
   plus-none s n e = omega (arith, ints, e)
 
-  pub pairs_narrowing : IsNarrowing (pairs_meaning qs rows columns tail rule) (IsPartial qs rows)
+  pub pairs_narrowing : IsNarrowing (pairs_meaning qs rows columns judge) (IsPartial qs rows)
   pairs_narrowing = record {
     keeps = λ g r x p before l c k.
         let sum = grown (so_far p) (column_points qs rows r x) k.whole in
@@ -162,12 +161,12 @@ module _ (qs : List UsedPair) (rows columns : List ℕ) (tail : Tail) (rule : Ru
   first-partial : IsPartial qs rows 0 rows (pos 0 ∷ [])
   first-partial = record { one = refl; whole = refl; most = omega (arith, sure-first qs rows, open-is qs rows) }
 
-  module _ (h : IsCounting qs rows columns rule) where
-    pub pairs_measure : IsMeasure (pairs_meaning qs rows columns tail rule)
-    pairs_measure = measured (pairs_meaning qs rows columns tail rule) h.level (IsPartial qs rows) pairs_narrowing first-partial (omega (arith, h.few)) (λ g r p k. k.one)
+  module _ (h : IsCounting qs rows columns judge) where
+    pub pairs_measure : IsMeasure (pairs_meaning qs rows columns judge)
+    pairs_measure = measured (pairs_meaning qs rows columns judge) h.level (IsPartial qs rows) pairs_narrowing first-partial (omega (arith, h.few)) (λ g r p k. k.one)
 
-    pub reached_partial : (g : ℕ) (r : List ℕ) (p : List ℤ) → AreReached (pairs_meaning qs rows columns tail rule) g r p → IsPartial qs rows g r p
-    reached_partial g r p a = reached-kept (pairs_meaning qs rows columns tail rule) h.level (IsPartial qs rows) pairs_narrowing first-partial g r p a
+    pub reached_partial : (g : ℕ) (r : List ℕ) (p : List ℤ) → AreReached (pairs_meaning qs rows columns judge) g r p → IsPartial qs rows g r p
+    reached_partial g r p a = reached-kept (pairs_meaning qs rows columns judge) h.level (IsPartial qs rows) pairs_narrowing first-partial g r p a
 
-    pub reached_left : (g : ℕ) (r : List ℕ) (p : List ℤ) → AreReached (pairs_meaning qs rows columns tail rule) g r p → IsLeft (pairs_meaning qs rows columns tail rule) g r
-    reached_left g r p a = reached-left (pairs_meaning qs rows columns tail rule) h.level g r p a
+    pub reached_left : (g : ℕ) (r : List ℕ) (p : List ℤ) → AreReached (pairs_meaning qs rows columns judge) g r p → IsLeft (pairs_meaning qs rows columns judge) g r
+    reached_left g r p a = reached-left (pairs_meaning qs rows columns judge) h.level g r p a

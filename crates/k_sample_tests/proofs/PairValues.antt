@@ -8,8 +8,7 @@ use Rattle.std.proofs.lemmas.List.{get_or-map, length-drop, length-replicate, le
 use Rattle.std.proofs.lemmas.List.Elements.{filter-append, recursion_from_All}
 use Rattle.std.proofs.lemmas.List.FromFn.{get_or-range_with_len, length-range_with_len}
 use Rattle.std.proofs.lemmas.List.Sums.{sum_by-cons, sum_by-append}
-use Rattle.weights.specs.declared.tails.Tail.{Tail}
-use Rattle.weights.specs.declared.rules.Rule.{Rule}
+use Rattle.stage_network.specs.declared.verdicts.Judge.{Judge}
 use Rattle.weights.specs.Grouped.{columns_of, fits, minus}
 use Rattle.weights.specs.Labellings.{counts_of, labels}
 use Rattle.weights.proofs.Filters.{all_append}
@@ -254,9 +253,9 @@ module _ (qs : List UsedPair) (rows : List ℕ) (pairs : ArePairs (length rows) 
 
 -- ---- the network
 
-module _ (qs : List UsedPair) (rows columns : List ℕ) (tail : Tail) (rule : Rule) where
+module _ (qs : List UsedPair) (rows columns : List ℕ) (judge : Judge) where
   value-from : (cs : List ℕ) (g : ℕ) (r : List ℕ) (p : List ℤ) (xs : List ℕ)
-      → so_far (partial_after (pairs_meaning qs rows columns tail rule) g r p (columns_of (length rows) cs xs)) ≡ so_far p +ℤ pos (points_from qs rows r cs xs)
+      → so_far (partial_after (pairs_meaning qs rows columns judge) g r p (columns_of (length rows) cs xs)) ≡ so_far p +ℤ pos (points_from qs rows r cs xs)
   value-from [] g r p xs = plus-zero (so_far p)
     where
       plus-zero : (s : ℤ) → s ≡ s +ℤ pos 0
@@ -269,7 +268,7 @@ module _ (qs : List UsedPair) (rows columns : List ℕ) (tail : Tail) (rule : Ru
       moved : (s : ℤ) (a b : ℕ) → (s +ℤ pos a) +ℤ pos b ≡ s +ℤ pos (a + b)
       moved s a b = omega (arith, ints)
 
-  pub value-is : (xs : List ℕ) → labelling_value (pairs_meaning qs rows columns tail rule) xs ≡ pos (points_from qs rows rows columns xs)
+  pub value-is : (xs : List ℕ) → labelling_value (pairs_meaning qs rows columns judge) xs ≡ pos (points_from qs rows rows columns xs)
   value-is xs = value-from columns 0 rows (pos 0 ∷ []) xs ∙ zero-plus (points_from qs rows rows columns xs)
     where
       zero-plus : (n : ℕ) → pos 0 +ℤ pos n ≡ pos n

@@ -57,10 +57,10 @@ module _ (m : RankSums) where
 
   module _ (g : ℕ) (f p : List ℤ) (a : IsPlace (sums_meaning m) g f p) where
     pub left : IsLeft (sums_meaning m) g (sizes_in f)
-    left = reached_left m.factors.items m.bound m.later.scores.items m.later.columns.items m.rows.items m.judge.tail m.judge.rule m.right.squaring g (sizes_in f) p a.reached
+    left = reached_left m.factors.items m.bound m.later.scores.items m.later.columns.items m.rows.items m.judge m.right.squaring g (sizes_in f) p a.reached
 
     pub partial_is : IsPartial m.later.scores.items m.later.columns.items m.rows.items g (sizes_in f) p
-    partial_is = reached_partial m.factors.items m.bound m.later.scores.items m.later.columns.items m.rows.items m.judge.tail m.judge.rule m.right.squaring g (sizes_in f) p a.reached
+    partial_is = reached_partial m.factors.items m.bound m.later.scores.items m.later.columns.items m.rows.items m.judge m.right.squaring g (sizes_in f) p a.reached
 
     pub within-stages : g ≤ length m.later.columns.items
     within-stages = reached-stage (sums_meaning m) g (sizes_in f) p a.reached
@@ -126,7 +126,7 @@ module _ (m : RankSums) where
       pub column-fits : sum x * unsigned_abs (score_of m.later.scores.items g) + absolute_sum (later (g + 1)) ≡ absolute_sum (later g)
       column-fits =
           ap (λ n. n * unsigned_abs (score_of m.later.scores.items g) + absolute_sum (later (g + 1))) choice.whole
-          ∙ sym (column-size m.factors.items m.bound m.later.scores.items m.later.columns.items m.rows.items m.judge.tail m.judge.rule m.right.squaring g (sizes_in f) x p before left choice partial_is)
+          ∙ sym (column-size m.factors.items m.bound m.later.scores.items m.later.columns.items m.rows.items m.judge m.right.squaring g (sizes_in f) x p before left choice partial_is)
 
       pub parts-fit : sum x * unsigned_abs (score_of m.later.scores.items g) ≤ MAX
       parts-fit = omega (arith, column-fits, partial_is.small, m.right.squaring.sums_fit)

@@ -7,8 +7,7 @@ use Rattle.std.proofs.lemmas.Bool.{leb-true}
 use Rattle.std.proofs.lemmas.Int.{ints, clamps, unsigned_abs-mul}
 use Rattle.std.proofs.lemmas.List.{length-replicate, length-map}
 use Rattle.std.proofs.lemmas.List.Sums.{sum_by-cons}
-use Rattle.weights.specs.declared.tails.Tail.{Tail}
-use Rattle.weights.specs.declared.rules.Rule.{Rule}
+use Rattle.stage_network.specs.declared.verdicts.Judge.{Judge}
 use Rattle.weights.specs.Grouped.{fits, minus}
 use Rattle.weights.proofs.ChoiceLists.{IsChoice}
 use Rattle.weights.proofs.Sized.{first_and, sum-minus}
@@ -116,9 +115,9 @@ pub record IsPartial (scores : List ℤ) (columns rows : List ℕ) (g : ℕ) (r 
   pub wide : length p ≡ length rows
   pub small : absolute_sum p + absolute_sum (later_scores scores columns g) ≤ absolute_sum (subjects scores columns)
 
-module _ (factors : List ℕ) (bound : ℕ) (scores : List ℤ) (columns rows : List ℕ) (tail : Tail) (rule : Rule) (h : IsSquaring factors bound scores columns rows rule) where
+module _ (factors : List ℕ) (bound : ℕ) (scores : List ℤ) (columns rows : List ℕ) (judge : Judge) (h : IsSquaring factors bound scores columns rows judge) where
   -- a choice for a column
-  module _ (g : ℕ) (r x : List ℕ) (p : List ℤ) (before : g < length columns) (l : IsLeft (squares_meaning factors bound scores columns rows tail rule) g r) (c : IsChoice (slice_index columns g) r x) (k : IsPartial scores columns rows g r p) where
+  module _ (g : ℕ) (r x : List ℕ) (p : List ℤ) (before : g < length columns) (l : IsLeft (squares_meaning factors bound scores columns rows judge) g r) (c : IsChoice (slice_index columns g) r x) (k : IsPartial scores columns rows g r p) where
     pub wide-left : length p ≡ length r
     wide-left = k.wide ∙ sym (fits-length r rows l.within)
 
@@ -129,7 +128,7 @@ module _ (factors : List ℕ) (bound : ℕ) (scores : List ℤ) (columns rows : 
     column-size = ap absolute_sum (later-next scores columns g before h.long) ∙ sizes-block (slice_index columns g) (score_of scores g) (later_scores scores columns (g + 1))
 
     room : sum (minus r x) ≤ length (later_scores scores columns (g + 1))
-    room = omega (arith, sizes-next (squares_meaning factors bound scores columns rows tail rule) scores g r h.long before l, sum-minus r x c.fitting, c.whole)
+    room = omega (arith, sizes-next (squares_meaning factors bound scores columns rows judge) scores g r h.long before l, sum-minus r x c.fitting, c.whole)
 
     keeping : IsPartial scores columns rows (g + 1) (minus r x) (plus_each p (score_parts (score_of scores g) x))
     keeping =
@@ -148,7 +147,7 @@ module _ (factors : List ℕ) (bound : ℕ) (scores : List ℤ) (columns rows : 
   whole-end : (p : List ℤ) (r : List ℕ) → IsPartial scores columns rows (length columns) r p → pos (min (factored_squares p factors) bound) ≡ pos (factored_squares p factors)
   whole-end p r k = ap pos (omega (arith, h.bounded p (omega (arith, k.small))))
 
-  pub squares_narrowing : IsNarrowing (squares_meaning factors bound scores columns rows tail rule) (IsPartial scores columns rows)
+  pub squares_narrowing : IsNarrowing (squares_meaning factors bound scores columns rows judge) (IsPartial scores columns rows)
   squares_narrowing = record {
     keeps = λ g r x p before l c k. keeping g r x p before l c k;
     rises = λ g r x p before l c k. rw (later-next scores columns g before h.long) (capped _ _ (least_squares-rises _ _ _ _ factors (in-box g r x p before l c k)));
@@ -164,11 +163,11 @@ module _ (factors : List ℕ) (bound : ℕ) (scores : List ℤ) (columns rows : 
   first-partial : IsPartial scores columns rows 0 rows (replicate (length rows) (pos 0))
   first-partial = record { wide = length-replicate (length rows) (pos 0); small = omega (arith, sizes-zeros (length rows)) }
 
-  pub squares_measure : IsMeasure (squares_meaning factors bound scores columns rows tail rule)
-  squares_measure = measured (squares_meaning factors bound scores columns rows tail rule) h.level (IsPartial scores columns rows) squares_narrowing first-partial (omega (arith, h.few)) (λ g r p k. k.wide)
+  pub squares_measure : IsMeasure (squares_meaning factors bound scores columns rows judge)
+  squares_measure = measured (squares_meaning factors bound scores columns rows judge) h.level (IsPartial scores columns rows) squares_narrowing first-partial (omega (arith, h.few)) (λ g r p k. k.wide)
 
-  pub reached_partial : (g : ℕ) (r : List ℕ) (p : List ℤ) → AreReached (squares_meaning factors bound scores columns rows tail rule) g r p → IsPartial scores columns rows g r p
-  reached_partial g r p a = reached-kept (squares_meaning factors bound scores columns rows tail rule) h.level (IsPartial scores columns rows) squares_narrowing first-partial g r p a
+  pub reached_partial : (g : ℕ) (r : List ℕ) (p : List ℤ) → AreReached (squares_meaning factors bound scores columns rows judge) g r p → IsPartial scores columns rows g r p
+  reached_partial g r p a = reached-kept (squares_meaning factors bound scores columns rows judge) h.level (IsPartial scores columns rows) squares_narrowing first-partial g r p a
 
-  pub reached_left : (g : ℕ) (r : List ℕ) (p : List ℤ) → AreReached (squares_meaning factors bound scores columns rows tail rule) g r p → IsLeft (squares_meaning factors bound scores columns rows tail rule) g r
-  reached_left g r p a = reached-left (squares_meaning factors bound scores columns rows tail rule) h.level g r p a
+  pub reached_left : (g : ℕ) (r : List ℕ) (p : List ℤ) → AreReached (squares_meaning factors bound scores columns rows judge) g r p → IsLeft (squares_meaning factors bound scores columns rows judge) g r
+  reached_left g r p a = reached-left (squares_meaning factors bound scores columns rows judge) h.level g r p a

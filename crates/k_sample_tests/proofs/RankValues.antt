@@ -6,8 +6,7 @@ use Rattle.std.proofs.lemmas.Int.{ints}
 use Rattle.std.proofs.lemmas.List.{length-map, length-replicate}
 use Rattle.std.proofs.lemmas.List.FromFn.{length-range_with_len}
 use Rattle.std.proofs.lemmas.List.Sums.{sum_by-cons}
-use Rattle.weights.specs.declared.tails.Tail.{Tail}
-use Rattle.weights.specs.declared.rules.Rule.{Rule}
+use Rattle.stage_network.specs.declared.verdicts.Judge.{Judge}
 use Rattle.weights.specs.Labellings.{counts_of, labels}
 use Rattle.weights.specs.Grouped.{columns_of, minus}
 use Rattle.weights.proofs.Counted.{count_of}
@@ -91,9 +90,9 @@ drop-head (suc g) [] s ss d = absurd (cc d)
 drop-head zero (v ∷ vs) s ss d = (cc, cc)
 drop-head (suc g) (v ∷ vs) s ss d = let rest = drop-head g vs s ss d in (rest.0, rw (suc-add g 1) rest.1)
 
-module _ (factors : List ℕ) (bound : ℕ) (scores : List ℤ) (columns rows : List ℕ) (tail : Tail) (rule : Rule) where
+module _ (factors : List ℕ) (bound : ℕ) (scores : List ℤ) (columns rows : List ℕ) (judge : Judge) where
   sums-from : (k : ℕ) (cs : List ℕ) (ss : List ℤ) (g : ℕ) (r : List ℕ) (p : List ℤ) (xs : List ℕ) → drop g scores ≡ ss → length ss ≡ length cs → length p ≡ k
-      → partial_after (squares_meaning factors bound scores columns rows tail rule) g r p (columns_of k cs xs) ≡ plus_each p (group_sums k (subjects ss cs) xs)
+      → partial_after (squares_meaning factors bound scores columns rows judge) g r p (columns_of k cs xs) ≡ plus_each p (group_sums k (subjects ss cs) xs)
   sums-from k [] [] g r p xs d e l = plus-none p (labels k) xs (l ∙ (let n = length-labels k in omega (arith, n)))
   sums-from k [] (s ∷ ss) g r p xs d e l = absurd (omega (arith, e))
   sums-from k (c ∷ cs) [] g r p xs d e l = absurd (omega (arith, e))
@@ -106,7 +105,7 @@ module _ (factors : List ℕ) (bound : ℕ) (scores : List ℤ) (columns rows : 
       ∙ ap (λ z. plus_each (plus_each p (score_parts z x)) (group_sums k (subjects ss cs) (drop c xs))) here.0
       ∙ blocks (labels k) p c s (subjects ss cs) xs (omega (arith, l, length-labels k))
 
-  pub value-is : length scores ≡ length columns → (xs : List ℕ) → labelling_value (squares_meaning factors bound scores columns rows tail rule) xs ≡ pos (factored_squares (group_sums (length rows) (subjects scores columns) xs) factors)
+  pub value-is : length scores ≡ length columns → (xs : List ℕ) → labelling_value (squares_meaning factors bound scores columns rows judge) xs ≡ pos (factored_squares (group_sums (length rows) (subjects scores columns) xs) factors)
   value-is long xs =
       ap (λ p. pos (factored_squares p factors))
       (sums-from (length rows) columns scores 0 rows (replicate (length rows) (pos 0)) xs refl long (length-replicate (length rows) (pos 0))

@@ -1,29 +1,21 @@
--- The tests of several samples.
+-- The tests of several samples: whether they differ, or whether samples in an order rise and fall.
 use Rattle.weights.specs.Conditional.{ConditionalTest}
 use Rattle.weights.specs.declared.tails.Tail.{Tail}
-use Rattle.stage_network.specs.Alike.{Shape}
+use Rattle.stage_network.specs.declared.one_of.OneOf.{OneOf}
 use Rattle.stage_network.specs.Network.{Network}
-use Rattle.k_sample_tests.specs.KruskalWallis.{kruskal_wallis_test}
-use Rattle.k_sample_tests.specs.PairCounts.{umbrella_network, umbrella_shape}
-use Rattle.k_sample_tests.specs.RankSums.{kruskal_wallis_network, kruskal_wallis_runs, kruskal_wallis_shape}
-use Rattle.k_sample_tests.specs.Umbrella.{umbrella_test}
-use Rattle.k_sample_tests.specs.declared.k_sample.KSample.{KSample}
-use Rattle.k_sample_tests.specs.declared.k_sample.KSample.TheVariants.{Differing, Ordered}
+use Rattle.stage_network.specs.OneOf.{of_either}
+use Rattle.k_sample_tests.specs.KruskalWallis.{ScoredGroups, kruskal_wallis_test}
+use Rattle.k_sample_tests.specs.PairCounts.{umbrella_network}
+use Rattle.k_sample_tests.specs.RankSums.{kruskal_wallis_network, kruskal_wallis_runs}
+use Rattle.k_sample_tests.specs.Umbrella.{PeakedGroups, umbrella_test}
 
-abbrev pub k_sample_test : KSample → ConditionalTest
-k_sample_test (Differing samples) = kruskal_wallis_test samples
-k_sample_test (Ordered samples) = umbrella_test samples
+abbrev pub k_sample_test : OneOf ScoredGroups PeakedGroups → ConditionalTest
+k_sample_test = of_either kruskal_wallis_test umbrella_test
 
 -- the network of a test, as it is written
-abbrev pub k_sample_network : KSample → Tail → Network
-k_sample_network (Differing samples) tail = kruskal_wallis_network samples tail
-k_sample_network (Ordered samples) tail = umbrella_network samples tail
+abbrev pub k_sample_network : OneOf ScoredGroups PeakedGroups → Tail → Network
+k_sample_network = of_either kruskal_wallis_network umbrella_network
 
 -- and the one that runs
-abbrev pub k_sample_runs : KSample → Tail → Network
-k_sample_runs (Differing samples) tail = kruskal_wallis_runs samples tail
-k_sample_runs (Ordered samples) tail = umbrella_network samples tail
-
-abbrev pub k_sample_shape : KSample → Tail → Shape
-k_sample_shape (Differing samples) tail = kruskal_wallis_shape samples tail
-k_sample_shape (Ordered samples) tail = umbrella_shape samples tail
+abbrev pub k_sample_runs : OneOf ScoredGroups PeakedGroups → Tail → Network
+k_sample_runs = of_either kruskal_wallis_runs umbrella_network

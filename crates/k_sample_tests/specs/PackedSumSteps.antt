@@ -26,7 +26,7 @@ pub record AreNarrow (sums added : List ℤ) : Type 0 where
 abbrev pub sums_meaning : RankSums → Meaning
 sums_meaning m =
     squares_meaning m.factors.items m.bound m.later.scores.items m.later.columns.items
-    m.rows.items m.judge.tail m.judge.rule
+    m.rows.items m.judge
 
 -- no sum of scores leaves 32 bits, and no eight of the greatest squared sums leave 128
 pub record HasNarrowBoxes (m : RankSums) : Type 0 where

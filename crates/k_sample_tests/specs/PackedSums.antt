@@ -42,6 +42,5 @@ packed_meaning half m = record {
   value = λ p. m.value (unpacked half m p);
   low = λ g r p. m.low g r (unpacked half m p);
   high = λ g r p. m.high g r (unpacked half m p);
-  tail = m.tail;
-  rule = m.rule;
+  judge = m.judge;
 }

@@ -4,12 +4,11 @@
 use Rattle.std.specs.Prelude.{ℕ, ◌+◌, ◌-◌, ◌*◌, pos, ◌+ℤ◌, List, [], ◌∷◌, length, slice_index}
 use Rattle.std.specs.List.{sum_by}
 use Rattle.weights.specs.declared.tails.Tail.{Tail}
-use Rattle.weights.specs.declared.rules.Rule.{Rule}
-use Rattle.weights.specs.Rules.{rule_of}
 use Rattle.sample_reader.specs.Groups.{group_sizes}
-use Rattle.stage_network.specs.Alike.{Shape}
+use Rattle.stage_network.specs.declared.verdicts.Judge.{Judge}
+use Rattle.stage_network.specs.Judged.{judge_of}
 use Rattle.stage_network.specs.Network.{Network}
-use Rattle.label_network.specs.LabelNetwork.{label_network, label_shape}
+use Rattle.label_network.specs.LabelNetwork.{label_network}
 use Rattle.label_network.specs.Linear.{so_far}
 use Rattle.label_network.specs.Meanings.{Meaning}
 use Rattle.pooled_columns.specs.PooledColumns.{column_sizes, pooled_values}
@@ -38,8 +37,8 @@ open_points pairs r =
     sum_by (λ q. 2 * (slice_index r q.lesser * slice_index r q.greater)) pairs
 
 -- The count over the used pairs of groups, from what is sure to what all open pairs can add.
-abbrev pub pairs_meaning : List UsedPair → List ℕ → List ℕ → Tail → Rule → Meaning
-pairs_meaning pairs rows columns tail rule = record {
+abbrev pub pairs_meaning : List UsedPair → List ℕ → List ℕ → Judge → Meaning
+pairs_meaning pairs rows columns judge = record {
   columns = columns;
   rows = rows;
   slots = 1;
@@ -54,18 +53,15 @@ pairs_meaning pairs rows columns tail rule = record {
   value = so_far;
   low = λ g r p. so_far p +ℤ pos (sure_points pairs rows r);
   high = λ g r p. so_far p +ℤ pos (sure_points pairs rows r + open_points pairs r);
-  tail = tail;
-  rule = rule;
+  judge = judge;
 }
 
-abbrev pub umbrella_meaning : PeakedGroups → Tail → Meaning
-umbrella_meaning samples tail =
+abbrev pub umbrella_meaning : PeakedGroups → Meaning
+umbrella_meaning samples =
     let sizes = group_sizes samples.groups in
     pairs_meaning (used_pairs samples.peak (length sizes)) sizes
-    (column_sizes (pooled_values samples.groups)) tail (rule_of (umbrella_test samples) tail)
+    (column_sizes (pooled_values samples.groups)) (judge_of (umbrella_test samples))
 
+-- one network for all tails
 abbrev pub umbrella_network : PeakedGroups → Tail → Network
-umbrella_network samples tail = label_network (umbrella_meaning samples tail)
-
-abbrev pub umbrella_shape : PeakedGroups → Tail → Shape
-umbrella_shape samples tail = label_shape (umbrella_meaning samples tail)
+umbrella_network samples tail = label_network (umbrella_meaning samples)

@@ -3,9 +3,9 @@ use Rattle.std.specs.Prelude.{◌≡◌, ⊤, ℕ, ◌+◌, ◌-◌, ◌<◌, �
 use Rattle.std.specs.List.{All, sum}
 use Rattle.weights.specs.Frames.{IsFrameOf}
 use Rattle.weights.specs.Labellings.{number_of_labellings}
-use Rattle.weights.specs.Rules.{RuleFits}
+use Rattle.stage_network.specs.Judged.{JudgeFits}
 use Rattle.weights.specs.declared.TheConstants.{MAX}
-use Rattle.weights.specs.declared.rules.Rule.{Rule}
+use Rattle.stage_network.specs.declared.verdicts.Judge.{Judge}
 use Rattle.weights.specs.declared.wide.WideOf.TheVariants.{Total, Statistic}
 use Rattle.weights.specs.declared.wide.PrepareFault.{PrepareFault}
 use Rattle.weights.specs.declared.wide.PrepareFault.TheVariants.{TooWide, NoMemory}
@@ -44,7 +44,7 @@ pub record AreEnough (most : ℕ) (sizes : List ℕ) : Type 0 where
 
 -- sums of scores, and of their squares, that pass no limit
 pub record IsSquaring (factors : List ℕ) (bound : ℕ) (scores : List ℤ) (columns rows : List ℕ)
-    (rule : Rule) : Type 0 where
+    (judge : Judge) : Type 0 where
   pub long : length scores ≡ length columns
   pub level : sum columns ≡ sum rows
   pub few : sum rows ≤ MOST_ROWS
@@ -54,12 +54,12 @@ pub record IsSquaring (factors : List ℕ) (bound : ℕ) (scores : List ℤ) (co
   pub bound_fits : bound ≤ MAX
   pub bounded : (p : List ℤ) → absolute_sum p ≤ absolute_sum (subjects scores columns)
       → factored_squares p factors ≤ bound
-  pub rule_fits : (v : ℤ) → RuleFits rule v
+  pub rules_fit : (v : ℤ) → JudgeFits judge v
 
 -- what the measure keeps
 pub record AreRankSums (factors : List ℕ) (bound : ℕ) (scores : List ℤ) (columns rows : List ℕ)
-    (rule : Rule) (width : ℕ) : Type 0 where
-  pub squaring : IsSquaring factors bound scores columns rows rule
+    (judge : Judge) (width : ℕ) : Type 0 where
+  pub squaring : IsSquaring factors bound scores columns rows judge
   pub enough : AreEnough (width - 1) rows
 
 -- several groups, none of them empty, and a total and a bound that pass no limit

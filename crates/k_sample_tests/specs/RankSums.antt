@@ -4,14 +4,13 @@
 -- number where they fit it.
 use Rattle.std.specs.Prelude.{ℕ, ◌-◌, ◌*◌, ◌/◌, ◌^◌, ℤ, pos, ◌+ℤ◌, ◌*ℤ◌, Bool, List, [], ◌∷◌, ◌++◌, length, map, min, nat_lt, replicate, if◌then◌else◌}
 use Rattle.weights.specs.declared.tails.Tail.{Tail}
-use Rattle.weights.specs.declared.rules.Rule.{Rule}
-use Rattle.weights.specs.Rules.{rule_of}
 use Rattle.completion_bounds.specs.Boxes.{factored_squares, greatest_squares, least_squares}
 use Rattle.weights.specs.Numbers.{absolute_sum}
 use Rattle.sample_reader.specs.Groups.{group_sizes}
-use Rattle.stage_network.specs.Alike.{Shape}
+use Rattle.stage_network.specs.declared.verdicts.Judge.{Judge}
+use Rattle.stage_network.specs.Judged.{judge_of}
 use Rattle.stage_network.specs.Network.{Network}
-use Rattle.label_network.specs.LabelNetwork.{label_network, label_shape}
+use Rattle.label_network.specs.LabelNetwork.{label_network}
 use Rattle.label_network.specs.LaterSums.{greatest_sum, later_scores, least_sum}
 use Rattle.label_network.specs.Linear.{score_of}
 use Rattle.label_network.specs.Meanings.{Meaning}
@@ -52,8 +51,8 @@ squares_high factors bound later r p =
 -- The factored sum of the groups' squared sums, between its ends over the box of the sums that the
 -- groups can come to.
 abbrev pub squares_meaning :
-    List ℕ → ℕ → List ℤ → List ℕ → List ℕ → Tail → Rule → Meaning
-squares_meaning factors bound scores columns rows tail rule = record {
+    List ℕ → ℕ → List ℤ → List ℕ → List ℕ → Judge → Meaning
+squares_meaning factors bound scores columns rows judge = record {
   columns = columns;
   rows = rows;
   slots = length rows;
@@ -68,21 +67,20 @@ squares_meaning factors bound scores columns rows tail rule = record {
   value = λ p. pos (factored_squares p factors);
   low = λ g r p. squares_low factors bound (later_scores scores columns g) r p;
   high = λ g r p. squares_high factors bound (later_scores scores columns g) r p;
-  tail = tail;
-  rule = rule;
+  judge = judge;
 }
 
 -- the network as it is written, with a number for each group
-abbrev pub unpacked_meaning : ScoredGroups → Tail → Meaning
-unpacked_meaning samples tail =
+abbrev pub unpacked_meaning : ScoredGroups → Meaning
+unpacked_meaning samples =
     let test = kruskal_wallis_test samples in
     let sizes = group_sizes samples.groups in
     let values = pooled_values samples.groups in
     squares_meaning (size_factors sizes) test.bound (column_scores samples.kind values)
-    (column_sizes values) sizes tail (rule_of test tail)
+    (column_sizes values) sizes (judge_of test)
 
 abbrev pub kruskal_wallis_network : ScoredGroups → Tail → Network
-kruskal_wallis_network samples tail = label_network (unpacked_meaning samples tail)
+kruskal_wallis_network samples tail = label_network (unpacked_meaning samples)
 
 -- half of the base in which 127 bits hold a digit of each of k groups
 abbrev pub half_for : ℕ → ℕ
@@ -94,15 +92,12 @@ fits_one samples =
     nat_lt (absolute_sum (pooled_scores samples)) (half_for (length (group_sizes samples.groups)))
 
 -- one number for all groups where it holds their sums, or else a number for each
-abbrev pub kruskal_wallis_meaning : ScoredGroups → Tail → Meaning
-kruskal_wallis_meaning samples tail =
+abbrev pub kruskal_wallis_meaning : ScoredGroups → Meaning
+kruskal_wallis_meaning samples =
     let half = half_for (length (group_sizes samples.groups)) in
-    if fits_one samples then packed_meaning half (unpacked_meaning samples tail)
-    else unpacked_meaning samples tail
+    if fits_one samples then packed_meaning half (unpacked_meaning samples)
+    else unpacked_meaning samples
 
 -- the network that runs
 abbrev pub kruskal_wallis_runs : ScoredGroups → Tail → Network
-kruskal_wallis_runs samples tail = label_network (kruskal_wallis_meaning samples tail)
-
-abbrev pub kruskal_wallis_shape : ScoredGroups → Tail → Shape
-kruskal_wallis_shape samples tail = label_shape (kruskal_wallis_meaning samples tail)
+kruskal_wallis_runs samples tail = label_network (kruskal_wallis_meaning samples)

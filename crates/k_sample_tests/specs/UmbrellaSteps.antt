@@ -2,11 +2,11 @@
 use Rattle.std.specs.Prelude.{◌≡◌, ℕ, ◌+◌, ◌*◌, ◌<◌, ◌≤◌, pos, List, [], ◌∷◌, length, take, drop}
 use Rattle.std.specs.List.{sum, All}
 use Rattle.weights.specs.declared.TheConstants.{MAX}
-use Rattle.weights.specs.declared.rules.Rule.{Rule}
+use Rattle.stage_network.specs.declared.verdicts.Judge.{Judge}
 use Rattle.weights.specs.Frames.{IsFrameOf}
 use Rattle.weights.specs.Grouped.{minus}
 use Rattle.weights.specs.Labellings.{counts_of, number_of_labellings}
-use Rattle.weights.specs.Rules.{RuleFits}
+use Rattle.stage_network.specs.Judged.{JudgeFits}
 use Rattle.record_reader.specs.declared.TheConstants.{MOST_ROWS}
 use Rattle.sample_reader.specs.Groups.{group_sizes}
 use Rattle.pooled_columns.specs.PooledColumns.{column_sizes, pooled_values}
@@ -35,14 +35,14 @@ points_from pairs rows r (c ∷ columns) xs =
     let x = counts_of (length rows) (take c xs) in
     column_points pairs rows r x + points_from pairs rows (minus r x) columns (drop c xs)
 
--- groups and columns that are counted, and a rule of which no number passes a limit
-pub record IsCounting (pairs : List UsedPair) (rows columns : List ℕ) (rule : Rule)
+-- groups and columns that are counted, and rules of which no number passes a limit
+pub record IsCounting (pairs : List UsedPair) (rows columns : List ℕ) (judge : Judge)
     : Type 0 where
   pub pairs_are : ArePairs (length rows) pairs
   pub level : sum columns ≡ sum rows
   pub few : sum rows ≤ MOST_ROWS
   pub few_rows : length rows ≤ 8
-  pub rule_fits : (n : ℕ) → n ≤ 2 * subject_pairs pairs rows → RuleFits rule (pos n)
+  pub rules_fit : (n : ℕ) → n ≤ 2 * subject_pairs pairs rows → JudgeFits judge (pos n)
 
 -- what is made of ordered groups
 pub record AreCounted (samples : PeakedGroups) (made : CountedSamples) : Type 0 where

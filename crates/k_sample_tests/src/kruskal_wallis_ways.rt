@@ -60,7 +60,6 @@ impl Plain for KruskalWallis {
 
 impl Prepared for KruskalWallis {
     ghost use Rattle.k_sample_tests.specs.RankSums.{kruskal_wallis_network, kruskal_wallis_runs};
-    ghost use Rattle.k_sample_tests.specs.RankSums.{kruskal_wallis_shape};
 
     type Built = OneOf<LabelStages<PackedSums>, LabelStages<RankSums>>;
 
@@ -68,15 +67,12 @@ impl Prepared for KruskalWallis {
 
     ghost runs = { kruskal_wallis_runs };
 
-    ghost shape = { kruskal_wallis_shape };
-
     fn has_tail(&self, tail: Tail) -> bool {
         tail == Tail::Greater
     }
 
-    fn stages_of(&self, alloc: Global, tail: Tail) -> Result<Self::Built, NoMemory> {
+    fn stages_of(&self, alloc: Global, _tail: Tail) -> Result<Self::Built, NoMemory> {
         let made = self.made();
-        let rule = made.frame.rule(tail);
         let rows = made.sizes.as_slice();
         let columns = made.columns.sizes.as_slice();
         let measure = RankSums::new(
@@ -87,7 +83,7 @@ impl Prepared for KruskalWallis {
             columns,
             rows,
             made.scores.len() as u64,
-            Judge { tail, rule },
+            Judge::of(&made.frame),
         )?;
         if fits_one(made.sum, rows.len()) {
             let packed = PackedSums::new(measure, made.sum);

@@ -4,7 +4,7 @@ ghost use Rattle.weights.specs.declared.TheConstants.{MAX};
 ghost use Rattle.label_network.specs.LaterSums.{subjects};
 ghost use Rattle.weights.specs.Numbers.{absolute_sum};
 ghost use Rattle.label_network.specs.Meanings.{IsPlace, sizes_in};
-ghost use Rattle.stage_network.specs.Judged.{judged};
+ghost use Rattle.stage_network.specs.Judged.{rule_in, verdict_of};
 ghost use Rattle.k_sample_tests.specs.PackedSums.{numeral, packed_meaning, unpack, unpacked};
 ghost use Rattle.k_sample_tests.specs.PackedSumSteps.{AreDigits, AreNarrow, ArePacked, IsHalf, sums_meaning};
 ghost use Rattle.k_sample_tests.specs.RankSums.{half_for, plus_each};
@@ -195,7 +195,7 @@ impl PackedSums {
             let sums = unpacked self.now.half m partial.now in
             let low = m.low stage (sizes_in remaining.now) sums in
             let high = m.high stage (sizes_in remaining.now) sums in
-            result ≡ judged m.tail m.rule tail low high }
+            result ≡ verdict_of (rule_in m.judge tail) low high }
     {
         let mut numbers = [0i128; 8];
         let sums = &mut numbers[..self.sums.slots()];

@@ -5,7 +5,7 @@ ghost use Rattle.weights.specs.declared.TheConstants.{MAX};
 ghost use Rattle.label_network.specs.Meanings.{IsMove, IsPlace, IsRoom, IsStep, allowed, sizes_in};
 ghost use Rattle.label_network.specs.LabelSteps.{AreSizes};
 ghost use Rattle.label_network.specs.Linear.{so_far};
-ghost use Rattle.stage_network.specs.Judged.{judged};
+ghost use Rattle.stage_network.specs.Judged.{rule_in, verdict_of};
 ghost use Rattle.k_sample_tests.specs.PairCounts.{column_points, pairs_meaning};
 ghost use Rattle.k_sample_tests.specs.UmbrellaSteps.{IsCounting};
 
@@ -25,7 +25,7 @@ pub struct PairCounts {
     rows: Vec<u64>,
     columns: Vec<u64>,
     judge: Judge,
-    ghost right: { IsCounting pairs.items rows.items columns.items judge.rule },
+    ghost right: { IsCounting pairs.items rows.items columns.items judge },
 }
 
 impl PairCounts {
@@ -37,10 +37,10 @@ impl PairCounts {
         columns: &[u64],
         judge: Judge,
     ) -> Result<PairCounts, NoMemory>
-        requires { IsCounting pairs.now rows.now columns.now judge.rule }
+        requires { IsCounting pairs.now rows.now columns.now judge }
         ensures { IfOk result (λ m.
-            pairs_meaning m.pairs.items m.rows.items m.columns.items m.judge.tail m.judge.rule
-            ≡ pairs_meaning pairs.now rows.now columns.now judge.tail judge.rule) }
+            pairs_meaning m.pairs.items m.rows.items m.columns.items m.judge
+            ≡ pairs_meaning pairs.now rows.now columns.now judge) }
     {
         Ok(PairCounts {
             pairs: Vec::from_slice(alloc, pairs)?,
@@ -53,7 +53,7 @@ impl PairCounts {
     // What a column's choice adds.
     fn points(&self, stage: usize, remaining: &[i128], choice: &[u64]) -> i128
         requires { let m = pairs_meaning self.now.pairs.items self.now.rows.items
-            self.now.columns.items self.now.judge.tail self.now.judge.rule in
+            self.now.columns.items self.now.judge in
             IsStep m stage remaining.now choice.now }
         ensures { result ≡ pos (column_points self.now.pairs.items self.now.rows.items
             (sizes_in remaining.now) choice.now) }
@@ -68,10 +68,10 @@ impl PairCounts {
     // would add the middle, from which each open pair can take 1, and to which it can add 1.
     fn added(&self, stage: usize, remaining: &[i128]) -> Interval
         requires { let m = pairs_meaning self.now.pairs.items self.now.rows.items
-            self.now.columns.items self.now.judge.tail self.now.judge.rule in
+            self.now.columns.items self.now.judge in
             IsRoom m stage remaining.now }
         ensures { let m = pairs_meaning self.now.pairs.items self.now.rows.items
-            self.now.columns.items self.now.judge.tail self.now.judge.rule in
+            self.now.columns.items self.now.judge in
             result.low ∷ result.high ∷ [] ≡ m.outlook stage (sizes_in remaining.now) }
     {
         let mut numbers = [0u64; 8];
@@ -97,16 +97,16 @@ impl PairCounts {
         tail: Tail,
     ) -> Verdict
         requires place { let m = pairs_meaning self.now.pairs.items self.now.rows.items
-            self.now.columns.items self.now.judge.tail self.now.judge.rule in
+            self.now.columns.items self.now.judge in
             IsPlace m stage remaining.now partial.now }
         requires added { let m = pairs_meaning self.now.pairs.items self.now.rows.items
-            self.now.columns.items self.now.judge.tail self.now.judge.rule in
+            self.now.columns.items self.now.judge in
             added.low ∷ added.high ∷ [] ≡ m.outlook stage (sizes_in remaining.now) }
         ensures { let m = pairs_meaning self.now.pairs.items self.now.rows.items
-            self.now.columns.items self.now.judge.tail self.now.judge.rule in
+            self.now.columns.items self.now.judge in
             let low = m.low stage (sizes_in remaining.now) partial.now in
             let high = m.high stage (sizes_in remaining.now) partial.now in
-            result ≡ judged m.tail m.rule tail low high }
+            result ≡ verdict_of (rule_in m.judge tail) low high }
     {
         let so_far = only(partial);
         let interval = Interval {
@@ -119,7 +119,7 @@ impl PairCounts {
 
 impl Measure for PairCounts {
     ghost meaning = { λ m.
-        pairs_meaning m.pairs.items m.rows.items m.columns.items m.judge.tail m.judge.rule };
+        pairs_meaning m.pairs.items m.rows.items m.columns.items m.judge };
 
     fn slots(&self) -> usize {
         1

@@ -6,7 +6,7 @@ ghost use Rattle.completion_bounds.specs.Boxes.{greatest_squares, least_squares}
 ghost use Rattle.label_network.specs.LaterSums.{later_scores};
 ghost use Rattle.label_network.specs.Linear.{score_of};
 ghost use Rattle.label_network.specs.Meanings.{IsMove, IsPlace, IsRoom, IsStep, sizes_in};
-ghost use Rattle.stage_network.specs.Judged.{judged};
+ghost use Rattle.stage_network.specs.Judged.{rule_in, verdict_of};
 ghost use Rattle.k_sample_tests.specs.RankSums.{greatest_parts, least_parts, plus_each, score_parts, squares_meaning};
 ghost use Rattle.k_sample_tests.specs.RankSumSteps.{AreAddable, AreEnough, AreRankSums, AreTabled, IsSquaring, parts_of};
 
@@ -28,7 +28,7 @@ pub struct RankSums {
     later: LaterScores,
     judge: Judge,
     ghost right: { AreRankSums factors.items bound later.scores.items later.columns.items rows.items
-        judge.rule later.width },
+        judge later.width },
 }
 
 // How many scores a table has to hold: of each group and the others together, one has no more.
@@ -98,16 +98,16 @@ impl RankSums {
         judge: Judge,
     ) -> Result<RankSums, NoMemory>
         requires subjects { subjects ≡ sum rows.now }
-        requires fits { IsSquaring factors.now bound scores.now columns.now rows.now judge.rule }
+        requires fits { IsSquaring factors.now bound scores.now columns.now rows.now judge }
         ensures bound { IfOk result (λ m. m.bound ≡ bound) }
         ensures scores { IfOk result (λ m. m.later.scores.items ≡ scores.now) }
         ensures columns { IfOk result (λ m. m.later.columns.items ≡ columns.now) }
         ensures rows { IfOk result (λ m. m.rows.items ≡ rows.now) }
         ensures meaning { IfOk result (λ m.
             squares_meaning m.factors.items m.bound m.later.scores.items m.later.columns.items
-            m.rows.items m.judge.tail m.judge.rule
+            m.rows.items m.judge
             ≡ squares_meaning factors.now bound scores.now columns.now rows.now
-            judge.tail judge.rule) }
+            judge) }
     {
         let most = most_of(rows, subjects);
         Ok(RankSums {
@@ -130,7 +130,7 @@ impl RankSums {
     fn parts(&self, stage: usize, remaining: &[i128], least: &mut [i128], greatest: &mut [i128])
         requires sizes { let m = squares_meaning self.now.factors.items self.now.bound
             self.now.later.scores.items self.now.later.columns.items self.now.rows.items
-            self.now.judge.tail self.now.judge.rule in
+            self.now.judge in
             IsRoom m stage remaining.now }
         requires least { length least.old ≡ length remaining.now }
         requires greatest { length greatest.old ≡ length remaining.now }
@@ -190,7 +190,7 @@ impl RankSums {
         ensures { let factors = self.now.factors.items in
             let low = pos (min (least_squares lows.now highs.now factors) self.now.bound) in
             let high = pos (min (greatest_squares lows.now highs.now factors) self.now.bound) in
-            result ≡ judged self.now.judge.tail self.now.judge.rule tail low high }
+            result ≡ verdict_of (rule_in self.now.judge tail) low high }
     {
         let (low, high) = narrow_squares(lows, highs, self.factors.as_slice());
         let interval = Interval {
@@ -204,7 +204,7 @@ impl RankSums {
 impl Measure for RankSums {
     ghost meaning = { λ m.
         squares_meaning m.factors.items m.bound m.later.scores.items m.later.columns.items
-        m.rows.items m.judge.tail m.judge.rule };
+        m.rows.items m.judge };
 
     fn slots(&self) -> usize {
         self.rows.len()

@@ -45,15 +45,13 @@ impl Plain for Umbrella {
 }
 
 impl Prepared for Umbrella {
-    ghost use Rattle.k_sample_tests.specs.PairCounts.{umbrella_network, umbrella_shape};
+    ghost use Rattle.k_sample_tests.specs.PairCounts.{umbrella_network};
 
     type Built = LabelStages<PairCounts>;
 
     ghost network = { umbrella_network };
 
     ghost runs = { umbrella_network };
-
-    ghost shape = { umbrella_shape };
 
     fn has_tail(&self, _tail: Tail) -> bool {
         true
@@ -63,12 +61,11 @@ impl Prepared for Umbrella {
         true
     }
 
-    fn stages_of(&self, alloc: Global, tail: Tail) -> Result<Self::Built, NoMemory> {
+    fn stages_of(&self, alloc: Global, _tail: Tail) -> Result<Self::Built, NoMemory> {
         let made = self.made();
-        let rule = made.frame.rule(tail);
         let rows = made.sizes.as_slice();
         let columns = made.columns.as_slice();
-        let judge = Judge { tail, rule };
+        let judge = Judge::of(&made.frame);
         let measure = PairCounts::new(alloc, made.pairs.as_slice(), rows, columns, judge)?;
         label_stages(alloc, columns, rows, measure)
     }

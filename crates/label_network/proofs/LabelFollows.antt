@@ -5,8 +5,9 @@ use Rattle.weights.specs.declared.tails.Tail.{Tail}
 use Rattle.weights.specs.Conditional.{ConditionalTest}
 use Rattle.weights.specs.Grouped.{columns_of}
 use Rattle.weights.specs.Labellings.{labellings}
-use Rattle.weights.specs.Rules.{measured, rule_of}
+use Rattle.weights.specs.Rules.{measured}
 use Rattle.weights.proofs.Sums.{sum_by-same}
+use Rattle.stage_network.specs.Judged.{judge_of}
 use Rattle.stage_network.specs.Follows.{Follows}
 use Rattle.room_network.specs.Meanings.{way_value}
 use Rattle.room_network.specs.Plans.{Gives}
@@ -20,8 +21,7 @@ use Rattle.label_network.proofs.OverRooms.{over_measure, over_value}
 
 -- what a test has in common with a measure, for one tail
 pub record IsOfTest (m : Meaning) (test : ConditionalTest) (tail : Tail) : Type 0 where
-  pub tail_is : m.tail ≡ tail
-  pub rule_is : m.rule ≡ rule_of test tail
+  pub judge_is : m.judge ≡ judge_of test
   pub reference : test.reference ≡ labellings m.rows
   pub alike : (xs : List ℕ) → test.weight xs ≡ 1
   pub values : (xs : List ℕ) → Contains (labellings m.rows) xs → measured test tail xs ≡ labelling_value m xs
@@ -43,8 +43,7 @@ module _ (m : Meaning) (s : IsMeasure m) (test : ConditionalTest) (tail : Tail) 
 
   pub label_follows : Follows test tail (label_network m)
   label_follows = room_follows (over_rooms m) label_weight (label_width m.columns m.rows) (over_measure m s) test tail cut (record {
-    tail_is = o.tail_is;
-    rule_is = o.rule_is;
+    judge_is = o.judge_is;
     gives = gives;
     values = values;
   })

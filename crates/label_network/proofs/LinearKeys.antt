@@ -6,9 +6,8 @@ use Rattle.std.proofs.Math.Nat.{mul-le-mul, mul-le-mul_left}
 use Rattle.std.proofs.lemmas.Bool.{cases_lt}
 use Rattle.std.proofs.lemmas.List.Sums.{sum_by-take-drop, sum_by-drop_more}
 use Rattle.weights.specs.declared.TheConstants.{MAX}
-use Rattle.weights.specs.declared.tails.Tail.{Tail}
-use Rattle.weights.specs.declared.rules.Rule.{Rule}
-use Rattle.weights.specs.Rules.{RuleFits}
+use Rattle.stage_network.specs.declared.verdicts.Judge.{Judge}
+use Rattle.stage_network.specs.Judged.{JudgeFits}
 use Rattle.weights.proofs.ChoiceLists.{IsChoice}
 use Rattle.completion_bounds.specs.Pairings.{greatest_score}
 use Rattle.label_network.specs.Meanings.{Meaning, AreReached, IsPlace, IsEnd, allowed, sizes_in}
@@ -46,7 +45,7 @@ pub reached-stage : (m : Meaning) (g : ℕ) (r : List ℕ) (p : List ℤ) → Ar
 reached-stage m zero r p a = omega arith
 reached-stage m (suc g) r p (s, q, c, a, before, o, e, f) = omega (arith, before)
 
-module _ (us : List ℤ) (rows : List ℕ) (scores : List ℤ) (columns : List ℕ) (width : ℕ) (order : List ℕ) (ordered_us : List ℤ) (rule : Rule) (h : IsLinearMeasure us rows scores columns width order ordered_us rule) (tail : Tail) where
+module _ (us : List ℤ) (rows : List ℕ) (scores : List ℤ) (columns : List ℕ) (width : ℕ) (order : List ℕ) (ordered_us : List ℤ) (judge : Judge) (h : IsLinearMeasure us rows scores columns width order ordered_us judge) where
   pub ordered-level_is : length ordered_us ≡ length order
   ordered-level_is = ap length h.ordered_is ∙ picked_scores-length (order_of us) us ∙ ap length (sym h.order_is)
 
@@ -56,24 +55,24 @@ module _ (us : List ℤ) (rows : List ℕ) (scores : List ℤ) (columns : List �
   pub steps-fit : whole_reach ordered_us < 2 ^ 127
   steps-fit = omega (arith, reach-small, h.linear.scores_fit)
 
-  module _ (g : ℕ) (f p : List ℤ) (a : IsPlace (linear_meaning us rows scores columns tail rule) g f p) where
-    left : IsLeft (linear_meaning us rows scores columns tail rule) g (sizes_in f)
-    left = reached_left us rows scores columns tail rule h.linear g (sizes_in f) p a.reached
+  module _ (g : ℕ) (f p : List ℤ) (a : IsPlace (linear_meaning us rows scores columns judge) g f p) where
+    left : IsLeft (linear_meaning us rows scores columns judge) g (sizes_in f)
+    left = reached_left us rows scores columns judge h.linear g (sizes_in f) p a.reached
 
     pub partial_is : IsPartial us scores columns g (sizes_in f) p
-    partial_is = reached_partial us rows scores columns tail rule h.linear g (sizes_in f) p a.reached
+    partial_is = reached_partial us rows scores columns judge h.linear g (sizes_in f) p a.reached
 
     pub one-number : length p ≡ 1
     one-number = partial_is.one
 
     pub within-stages : g ≤ length columns
-    within-stages = reached-stage (linear_meaning us rows scores columns tail rule) g (sizes_in f) p a.reached
+    within-stages = reached-stage (linear_meaning us rows scores columns judge) g (sizes_in f) p a.reached
 
     sizes-few : sum (sizes_in f) < 2 ^ 64
     sizes-few = omega (arith, left.whole, h.linear.level, h.linear.units, sum_by-take-drop (λ v. v) columns g)
 
     rows-long : length f ≡ length us
-    rows-long = sym (sizes-long f) ∙ rows-level us rows scores columns tail rule h.linear g (sizes_in f) left
+    rows-long = sym (sizes-long f) ∙ rows-level us rows scores columns judge h.linear g (sizes_in f) left
 
     pub places : ArePlaces order f
     places = record {
@@ -82,7 +81,7 @@ module _ (us : List ℤ) (rows : List ℕ) (scores : List ℤ) (columns : List �
     }
 
     pub whole : sum (picked order (sizes_in f)) ≡ length (later_scores scores columns g)
-    whole = ap (λ js. sum (picked js (sizes_in f))) h.order_is ∙ ordered-whole us rows scores columns tail rule h.linear g (sizes_in f) left
+    whole = ap (λ js. sum (picked js (sizes_in f))) h.order_is ∙ ordered-whole us rows scores columns judge h.linear g (sizes_in f) left
 
     parted : (k : ℕ) → (sum (drop k (picked order rows)) ≤ width - 1) ⊎ (sum (take k (picked order rows)) ≤ width - 1)
     parted k = by (cases_lt (width - 1) (sum (drop k (picked order rows))))
@@ -124,10 +123,10 @@ module _ (us : List ℤ) (rows : List ℕ) (scores : List ℤ) (columns : List �
       greatest-is = ap (λ l. score_of l 1) e
 
       pub low-fits : unsigned_abs (so_far p) + unsigned_abs low ≤ MAX
-      low-fits = rw least-is (omega (arith, sums-within, low-small us rows scores columns tail rule h.linear g (sizes_in f) left p partial_is))
+      low-fits = rw least-is (omega (arith, sums-within, low-small us rows scores columns judge h.linear g (sizes_in f) left p partial_is))
 
       pub high-fits : unsigned_abs (so_far p) + unsigned_abs high ≤ MAX
-      high-fits = rw greatest-is (omega (arith, sums-within, high-small us rows scores columns tail rule h.linear g (sizes_in f) left p partial_is))
+      high-fits = rw greatest-is (omega (arith, sums-within, high-small us rows scores columns judge h.linear g (sizes_in f) left p partial_is))
 
       pub low-is : so_far p +ℤ low ≡ linear_low us scores columns g (sizes_in f) p
       low-is = ap (λ t. so_far p +ℤ t) least-is
@@ -135,28 +134,28 @@ module _ (us : List ℤ) (rows : List ℕ) (scores : List ℤ) (columns : List �
       pub high-is : so_far p +ℤ high ≡ linear_high us scores columns g (sizes_in f) p
       high-is = ap (λ t. so_far p +ℤ t) greatest-is
 
-    pub low-rule_fits : RuleFits rule (linear_low us scores columns g (sizes_in f) p)
-    low-rule_fits = low-rule us rows scores columns tail rule h.linear g (sizes_in f) left p partial_is
+    pub low-rule_fits : JudgeFits judge (linear_low us scores columns g (sizes_in f) p)
+    low-rule_fits = low-rule us rows scores columns judge h.linear g (sizes_in f) left p partial_is
 
-    pub high-rule_fits : RuleFits rule (linear_high us scores columns g (sizes_in f) p)
-    high-rule_fits = high-rule us rows scores columns tail rule h.linear g (sizes_in f) left p partial_is
+    pub high-rule_fits : JudgeFits judge (linear_high us scores columns g (sizes_in f) p)
+    high-rule_fits = high-rule us rows scores columns judge h.linear g (sizes_in f) left p partial_is
 
     -- a choice there
-    module _ (before : g < length columns) (x : List ℕ) (o : Contains (allowed (linear_meaning us rows scores columns tail rule) g (sizes_in f)) x) where
+    module _ (before : g < length columns) (x : List ℕ) (o : Contains (allowed (linear_meaning us rows scores columns judge) g (sizes_in f)) x) where
       choice : IsChoice (slice_index columns g) (sizes_in f) x
       choice = chosen (slice_index columns g) (sizes_in f) x o
 
       pub choice-long : length x ≡ length us
-      choice-long = choice-level us rows scores columns tail rule h.linear g (sizes_in f) x before left choice
+      choice-long = choice-level us rows scores columns judge h.linear g (sizes_in f) x before left choice
 
       pub choice-whole : sum x ≡ slice_index columns g
       choice-whole = choice.whole
 
       pub arc-fits : unsigned_abs (so_far p) + unsigned_abs (column_sum us scores g x) ≤ MAX
-      arc-fits = omega (arith, sums-within, partial_is.small, column-small us rows scores columns tail rule h.linear g (sizes_in f) x before left choice)
+      arc-fits = omega (arith, sums-within, partial_is.small, column-small us rows scores columns judge h.linear g (sizes_in f) x before left choice)
 
-  pub end-one : (p : List ℤ) → IsEnd (linear_meaning us rows scores columns tail rule) p → length p ≡ 1
-  end-one p e = (reached_partial us rows scores columns tail rule h.linear (length columns) e.sizes p e.reached).one
+  pub end-one : (p : List ℤ) → IsEnd (linear_meaning us rows scores columns judge) p → length p ≡ 1
+  end-one p e = (reached_partial us rows scores columns judge h.linear (length columns) e.sizes p e.reached).one
 
   -- of a column and counts of so many subjects
   module _ (g : ℕ) (before : g < length columns) (x : List ℕ) (whole : sum x ≡ slice_index columns g) where

@@ -5,9 +5,8 @@ use Rattle.std.specs.List.{sum}
 use Rattle.std.specs.Int.{int_min, int_max}
 use Rattle.std.proofs.Math.Nat.{mul-le-mul_left}
 use Rattle.std.proofs.lemmas.Int.{ints, unsigned_abs-mul}
-use Rattle.weights.specs.declared.tails.Tail.{Tail}
-use Rattle.weights.specs.declared.rules.Rule.{Rule}
-use Rattle.weights.specs.Rules.{RuleFits}
+use Rattle.stage_network.specs.declared.verdicts.Judge.{Judge}
+use Rattle.stage_network.specs.Judged.{JudgeFits}
 use Rattle.weights.specs.Grouped.{minus}
 use Rattle.weights.proofs.ChoiceLists.{IsChoice}
 use Rattle.completion_bounds.specs.Pairings.{greatest_score}
@@ -31,9 +30,9 @@ pub record IsPartial (us scores : List ℤ) (columns : List ℕ) (g : ℕ) (r : 
 plus-zero : (t : ℤ) → t +ℤ pos 0 ≡ t
 plus-zero t = omega (arith, ints)
 
-module _ (us : List ℤ) (rows : List ℕ) (scores : List ℤ) (columns : List ℕ) (tail : Tail) (rule : Rule) (h : IsLinear us rows scores columns rule) where
+module _ (us : List ℤ) (rows : List ℕ) (scores : List ℤ) (columns : List ℕ) (judge : Judge) (h : IsLinear us rows scores columns judge) where
   -- the sizes that remain, in the order of the rows
-  module _ (g : ℕ) (r : List ℕ) (l : IsLeft (linear_meaning us rows scores columns tail rule) g r) where
+  module _ (g : ℕ) (r : List ℕ) (l : IsLeft (linear_meaning us rows scores columns judge) g r) where
     pub rows-level : length r ≡ length us
     rows-level = fits-length r rows l.within ∙ sym h.wide
 
@@ -60,16 +59,16 @@ module _ (us : List ℤ) (rows : List ℕ) (scores : List ℤ) (columns : List �
       pub high-small : unsigned_abs (so_far p) + unsigned_abs (greatest_added (ordered_scores us) (ordered us r) (later_scores scores columns g)) ≤ greatest_sizes us scores columns
       high-small = omega (arith, k.small, greatest-small)
 
-      pub low-rule : RuleFits rule (linear_low us scores columns g r p)
-      low-rule = h.rule_fits (linear_low us scores columns g r p) (omega (arith, low-small, size-plus (so_far p) (least_added (ordered_scores us) (ordered us r) (later_scores scores columns g))))
+      pub low-rule : JudgeFits judge (linear_low us scores columns g r p)
+      low-rule = h.rules_fit (linear_low us scores columns g r p) (omega (arith, low-small, size-plus (so_far p) (least_added (ordered_scores us) (ordered us r) (later_scores scores columns g))))
 
-      pub high-rule : RuleFits rule (linear_high us scores columns g r p)
-      high-rule = h.rule_fits (linear_high us scores columns g r p) (omega (arith, high-small, size-plus (so_far p) (greatest_added (ordered_scores us) (ordered us r) (later_scores scores columns g))))
+      pub high-rule : JudgeFits judge (linear_high us scores columns g r p)
+      high-rule = h.rules_fit (linear_high us scores columns g r p) (omega (arith, high-small, size-plus (so_far p) (greatest_added (ordered_scores us) (ordered us r) (later_scores scores columns g))))
 
   -- a choice for a column
-  module _ (g : ℕ) (r x : List ℕ) (before : g < length columns) (l : IsLeft (linear_meaning us rows scores columns tail rule) g r) (c : IsChoice (slice_index columns g) r x) where
+  module _ (g : ℕ) (r x : List ℕ) (before : g < length columns) (l : IsLeft (linear_meaning us rows scores columns judge) g r) (c : IsChoice (slice_index columns g) r x) where
     arc-sizes : sum (ordered us r) ≡ slice_index columns g + length (later_scores scores columns (g + 1))
-    arc-sizes = ordered-sum g r l ∙ sizes-next (linear_meaning us rows scores columns tail rule) scores g r h.long before l
+    arc-sizes = ordered-sum g r l ∙ sizes-next (linear_meaning us rows scores columns judge) scores g r h.long before l
 
     pub choice-level : length x ≡ length us
     choice-level = c.long ∙ rows-level g r l
@@ -120,7 +119,7 @@ module _ (us : List ℤ) (rows : List ℕ) (scores : List ℤ) (columns : List �
       small = omega (arith, k.small, column-small, size-plus (so_far p) (column_sum us scores g x));
     }
 
-  pub linear_narrowing : IsNarrowing (linear_meaning us rows scores columns tail rule) (IsPartial us scores columns)
+  pub linear_narrowing : IsNarrowing (linear_meaning us rows scores columns judge) (IsPartial us scores columns)
   linear_narrowing = record {
     keeps = λ g r x p before l c k. keeping g r x before l c p k;
     rises = λ g r x p before l c k. rising g r x before l c p;
@@ -132,11 +131,11 @@ module _ (us : List ℤ) (rows : List ℕ) (scores : List ℤ) (columns : List �
   first-partial : IsPartial us scores columns 0 rows (pos 0 ∷ [])
   first-partial = record { one = refl; small = omega arith }
 
-  pub linear_measure : IsMeasure (linear_meaning us rows scores columns tail rule)
-  linear_measure = measured (linear_meaning us rows scores columns tail rule) h.level (IsPartial us scores columns) linear_narrowing first-partial (omega (arith, h.units)) (λ g r p k. k.one)
+  pub linear_measure : IsMeasure (linear_meaning us rows scores columns judge)
+  linear_measure = measured (linear_meaning us rows scores columns judge) h.level (IsPartial us scores columns) linear_narrowing first-partial (omega (arith, h.units)) (λ g r p k. k.one)
 
-  pub reached_partial : (g : ℕ) (r : List ℕ) (p : List ℤ) → AreReached (linear_meaning us rows scores columns tail rule) g r p → IsPartial us scores columns g r p
-  reached_partial g r p a = reached-kept (linear_meaning us rows scores columns tail rule) h.level (IsPartial us scores columns) linear_narrowing first-partial g r p a
+  pub reached_partial : (g : ℕ) (r : List ℕ) (p : List ℤ) → AreReached (linear_meaning us rows scores columns judge) g r p → IsPartial us scores columns g r p
+  reached_partial g r p a = reached-kept (linear_meaning us rows scores columns judge) h.level (IsPartial us scores columns) linear_narrowing first-partial g r p a
 
-  pub reached_left : (g : ℕ) (r : List ℕ) (p : List ℤ) → AreReached (linear_meaning us rows scores columns tail rule) g r p → IsLeft (linear_meaning us rows scores columns tail rule) g r
-  reached_left g r p a = reached-left (linear_meaning us rows scores columns tail rule) h.level g r p a
+  pub reached_left : (g : ℕ) (r : List ℕ) (p : List ℤ) → AreReached (linear_meaning us rows scores columns judge) g r p → IsLeft (linear_meaning us rows scores columns judge) g r
+  reached_left g r p a = reached-left (linear_meaning us rows scores columns judge) h.level g r p a

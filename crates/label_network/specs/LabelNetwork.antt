@@ -4,9 +4,8 @@ use Rattle.std.specs.Prelude.{◌≡◌, ℕ, ◌+◌, ◌≤◌, List, length}
 use Rattle.weights.specs.declared.TheConstants.{MAX}
 use Rattle.weights.specs.Labellings.{number_of_labellings}
 use Rattle.stage_network.specs.Network.{Network}
-use Rattle.stage_network.specs.Alike.{Shape}
 use Rattle.room_network.specs.Meanings.{Meaning as RoomMeaning}
-use Rattle.room_network.specs.RoomNetworks.{room_network, room_shape}
+use Rattle.room_network.specs.RoomNetworks.{room_network}
 use Rattle.label_network.specs.LabelRooms.{label_floor, label_weight}
 use Rattle.label_network.specs.Meanings.{Meaning, sizes_in}
 
@@ -24,15 +23,11 @@ over_rooms m = record {
   value = m.value;
   low = λ g room p. m.low g (sizes_in room) p;
   high = λ g room p. m.high g (sizes_in room) p;
-  tail = m.tail;
-  rule = m.rule;
+  judge = m.judge;
 }
 
 abbrev pub label_network : Meaning → Network
 label_network m = room_network (over_rooms m) label_weight
-
-abbrev pub label_shape : Meaning → Shape
-label_shape m = room_shape (over_rooms m)
 
 -- the measure's columns and rows, of which there are few enough
 pub record IsMargin (m : Meaning) (columns rows : List ℕ) : Type 0 where

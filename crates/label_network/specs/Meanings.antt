@@ -2,8 +2,7 @@
 -- it can come to.
 use Rattle.std.specs.Prelude.{◌≡◌, ℕ, zero, suc, ◌+◌, ◌^◌, ◌<◌, ℤ, pos, ◌≤ℤ◌, nat_abs, List, length, map, slice_index}
 use Rattle.std.specs.List.{sum, Contains}
-use Rattle.weights.specs.declared.tails.Tail.{Tail}
-use Rattle.weights.specs.declared.rules.Rule.{Rule}
+use Rattle.stage_network.specs.declared.verdicts.Judge.{Judge}
 use Rattle.weights.specs.Grouped.{choices, minus}
 
 pub record Meaning : Type 0 where
@@ -26,9 +25,8 @@ pub record Meaning : Type 0 where
   -- of a stage, sizes and a partial: between which the values of all completions lie
   pub low : ℕ → List ℕ → List ℤ → ℤ
   pub high : ℕ → List ℕ → List ℤ → ℤ
-  -- the tail that the verdicts are for, and its rule
-  pub tail : Tail
-  pub rule : Rule
+  -- the rules that the verdicts go by
+  pub judge : Judge
 
 -- the counts that a column can be given where sizes remain
 abbrev pub allowed : Meaning → ℕ → List ℕ → List (List ℕ)

@@ -15,8 +15,9 @@ mod network;
 mod rooms;
 
 pub use binomials::Binomials;
+pub use choice_order::{first_counts, next_counts};
 pub use ends::End;
-pub use keys::read_sizes;
+pub use keys::{read_sizes, weight_in, write_sizes};
 pub use labelled::Labelled;
 pub use later_scores::LaterScores;
 pub use linear::{LinearMeasure, score_choice};

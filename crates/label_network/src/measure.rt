@@ -1,6 +1,6 @@
 // What a statistic of labellings offers to the network of its columns.
 ghost use Rattle.std.specs.Prelude.{◌≡◌, ◌≤◌, List, length};
-ghost use Rattle.stage_network.specs.Judged.{judged};
+ghost use Rattle.stage_network.specs.Judged.{rule_in, verdict_of};
 ghost use Rattle.label_network.specs.Meanings.{Meaning, IsMeasure, IsPlace, IsRoom, IsMove, IsStep, IsEnd, sizes_in};
 
 use stage_network::Verdict;
@@ -88,7 +88,7 @@ pub trait Measure {
         ensures { let m = meaning self.now in
             let low = m.low stage (sizes_in remaining.now) partial.now in
             let high = m.high stage (sizes_in remaining.now) partial.now in
-            result ≡ judged m.tail m.rule tail low high }
+            result ≡ verdict_of (rule_in m.judge tail) low high }
     {
         let mut numbers = [0i128; 16];
         let outlook = &mut numbers[..self.outlook_width()];
@@ -117,7 +117,7 @@ pub trait Measure {
         ensures { let m = meaning self.now in
             let low = m.low stage (sizes_in remaining.now) partial.now in
             let high = m.high stage (sizes_in remaining.now) partial.now in
-            result ≡ judged m.tail m.rule tail low high };
+            result ≡ verdict_of (rule_in m.judge tail) low high };
 
     /// The value of a partial after the last column.
     fn value(&self, partial: &[i128]) -> i128

@@ -9,7 +9,6 @@ use Rattle.std.proofs.lemmas.Int.{ints}
 use Rattle.std.proofs.lemmas.List.{length-map, length-replicate}
 use Rattle.std.proofs.lemmas.List.Elements.{All-from_recursion, recursion_from_All}
 use Rattle.std.proofs.lemmas.List.Sums.{count_by-le-length, length-filter}
-use Rattle.weights.specs.declared.rules.Rule.{Rule}
 use Rattle.weights.specs.declared.rules.Rule.TheVariants.{Far}
 use Rattle.weights.specs.declared.tails.Tail.{Tail}
 use Rattle.weights.specs.declared.TheConstants.{MAX}
@@ -18,7 +17,7 @@ use Rattle.weights.specs.declared.wide.PrepareFault.{PrepareFault}
 use Rattle.weights.specs.declared.wide.PrepareFault.TheVariants.{TooWide, NoMemory}
 use Rattle.weights.specs.Conditional.{ConditionalTest, total, unit_weight}
 use Rattle.weights.specs.Labellings.{sign_lists}
-use Rattle.weights.specs.Rules.{RuleFits, measured, rule_of}
+use Rattle.weights.specs.Rules.{RuleFits, measured}
 use Rattle.weights.specs.Wide.{Prepares}
 use Rattle.weights.proofs.Centred.{IsCentred, bound-wide, far_natural-fits, measured-is, rule-fits}
 use Rattle.weights.proofs.Filters.{all_append}
@@ -32,7 +31,10 @@ use Rattle.scores.specs.Scores.{labelled_sum}
 use Rattle.weights.specs.Numbers.{absolute_sum}
 use Rattle.scores.proofs.LabelledSums.{labelled-least, labelled-most}
 use Rattle.stage_network.specs.Follows.{Follows}
+use Rattle.stage_network.specs.Judged.{JudgeFits, judge_of}
+use Rattle.stage_network.specs.declared.verdicts.Judge.{Judge}
 use Rattle.stage_network.proofs.AdditiveLaws.{additive_intervals}
+use Rattle.stage_network.proofs.Following.{judge-fits}
 use Rattle.table_reader.specs.TableLayout.{TableData}
 use Rattle.one_sample_tests.specs.declared.kinds.SignKind.{SignKind}
 use Rattle.one_sample_tests.specs.declared.kinds.SignKind.TheVariants.{SignedRank, Sign, RawSigned}
@@ -114,16 +116,18 @@ module _ (sample : SignedSample) (total : 2 ^ length (used_scores sample) ≤ MA
   pub centred : IsCentred (one_sample_test sample) 2 (pos (absolute_sum (used_scores sample)))
   centred = record { by = refl; observed = sum-fits (signs_of (nonzero sample.differences)); each = λ r m. sum-fits r }
 
-  extreme-fits : (tail : Tail) (n : ℕ) → n ≤ absolute_sum (used_scores sample) → RuleFits (rule_of (one_sample_test sample) tail) (pos n)
-  extreme-fits tail n h = rule-fits (one_sample_test sample) centred tail (pos n) (value-fits (absolute_sum (used_scores sample)) bound (pos n) (omega (arith, ints)) (omega (arith, ints, h)))
+  extreme-fits : (n : ℕ) → n ≤ absolute_sum (used_scores sample) → JudgeFits (judge_of (one_sample_test sample)) (pos n)
+  extreme-fits n h =
+      let within = value-fits (absolute_sum (used_scores sample)) bound (pos n) (omega (arith, ints)) (omega (arith, ints, h)) in
+      judge-fits (one_sample_test sample) (judge_of (one_sample_test sample)) refl (pos n) (λ tail. rule-fits (one_sample_test sample) centred tail (pos n) within)
 
-  pub stages-fit : (tail : Tail) → AreStages (tie_groups (used_scores sample)) (rule_of (one_sample_test sample) tail)
-  stages-fit tail = record {
+  pub stages-fit : AreStages (tie_groups (used_scores sample)) (judge_of (one_sample_test sample))
+  stages-fit = record {
     some = All-from_recursion (λ (t : Tie). pos 0 ≤ℤ t.value) (tie_groups (used_scores sample)) (groups-some (used_scores sample) (used-some sample));
     total_fits = rw (groups-count (used_scores sample)) total;
     sums_fit = omega (arith, groups-size (used_scores sample), bound);
-    low_fits = extreme-fits tail 0 (omega arith);
-    high_fits = extreme-fits tail (sizes_in (tie_groups (used_scores sample))) (omega (arith, groups-size (used_scores sample)));
+    low_fits = extreme-fits 0 (omega arith);
+    high_fits = extreme-fits (sizes_in (tie_groups (used_scores sample))) (omega (arith, groups-size (used_scores sample)));
   }
 
   pub follows : (tail : Tail) → Follows (one_sample_test sample) tail (one_sample_network sample tail)
@@ -131,11 +135,11 @@ module _ (sample : SignedSample) (total : 2 ^ length (used_scores sample) ≤ MA
       let scores : List ℤ = used_scores sample in
       let groups : List Tie = tie_groups scores in
       let test : ConditionalTest = one_sample_test sample in
-      let rule : Rule = rule_of test tail in
+      let judge : Judge = judge_of test in
       record {
-        intervals = additive_intervals (mark_addends groups tail rule) (sound_stages groups tail rule (stages-fit tail));
+        intervals = additive_intervals (mark_addends groups judge) (sound_stages groups judge stages-fit);
         ends = λ p.
-            ends_at groups tail rule p ∙ sym (by_groups scores (λ u. cond (p u) 1 0)) ∙ sym (by_marks scores (λ u. cond (p u) 1 0))
+            ends_at groups judge p ∙ sym (by_groups scores (λ u. cond (p u) 1 0)) ∙ sym (by_marks scores (λ u. cond (p u) 1 0))
             ∙ sum_by-same (λ r. cond (p (labelled_sum 1 scores r)) 1 0) (λ r. cond (p (measured test tail r)) 1 0) (λ r. ap (λ z. cond (p z) 1 0) (sym (measured-is test refl tail r))) (sign_lists (length scores))
             ∙ sym (sum_by-filter unit_weight (λ r. p (measured test tail r)) (sign_lists (length scores)));
       }

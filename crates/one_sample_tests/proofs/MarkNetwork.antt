@@ -9,18 +9,16 @@ use Rattle.std.proofs.lemmas.Int.{ints}
 use Rattle.std.proofs.lemmas.List.Elements.{All-contains, All-from_recursion, recursion_from_All}
 use Rattle.std.proofs.lemmas.List.Sums.{sum_by-cons}
 use Rattle.std.proofs.lemmas.Nat.{pow-add}
-use Rattle.weights.specs.declared.rules.Rule.{Rule}
-use Rattle.weights.specs.declared.tails.Tail.{Tail}
-use Rattle.weights.specs.declared.tails.Tail.TheVariants.{Less}
 use Rattle.weights.specs.declared.TheConstants.{MAX}
 use Rattle.weights.specs.Numbers.{binomial}
-use Rattle.weights.specs.Rules.{RuleFits}
 use Rattle.weights.proofs.Binomials.{binomial-positive}
 use Rattle.weights.proofs.Filters.{all_map, all_weaker}
 use Rattle.weights.proofs.Members.{range-below}
 use Rattle.weights.proofs.Sums.{sum_by-map, sum_by-same}
 use Rattle.midranks.specs.Ties.{values_in}
 use Rattle.midranks.specs.declared.ties.Tie.{Tie}
+use Rattle.stage_network.specs.Judged.{JudgeFits}
+use Rattle.stage_network.specs.declared.verdicts.Judge.{Judge}
 use Rattle.stage_network.specs.Completions.{ending_weight, path_weight, value_weights}
 use Rattle.stage_network.specs.Addends.{Addends, additive_network, high, low, over_earlier, over_stages, reach, stage_total, stride, totals, zeros}
 use Rattle.stage_network.specs.SoundAddends.{AddsBetween, IsAdditive}
@@ -45,22 +43,22 @@ plus-none t = omega (arith, ints)
 grouped-plus : (a b c : ℤ) → (a +ℤ b) +ℤ c ≡ a +ℤ (b +ℤ c)
 grouped-plus a b c = omega (arith, ints)
 
-module _ (groups : List Tie) (tail : Tail) (rule : Rule) (p : List ℤ → Bool) where
+module _ (groups : List Tie) (judge : Judge) (p : List ℤ → Bool) where
   passing-is : (ts : List Tie) (g : ℕ) (k : ℤ) → drop g groups ≡ ts → g + length ts ≡ length groups
-      → passing (additive_network (mark_addends groups tail rule)) p (length ts) g (k ∷ []) ≡ over_marks (subjects_of ts) (λ u. cond (p ((k +ℤ u) ∷ [])) 1 0)
+      → passing (additive_network (mark_addends groups judge)) p (length ts) g (k ∷ []) ≡ over_marks (subjects_of ts) (λ u. cond (p ((k +ℤ u) ∷ [])) 1 0)
   passing-is [] g k d e = by (p (k ∷ [])) ∙ ap (λ z. cond (p (z ∷ [])) 1 0) (sym (plus-none k))
     where
-      by : (b : Bool) → sum_by (path_weight (additive_network (mark_addends groups tail rule)) g (k ∷ [])) (cond b ([] ∷ []) []) ≡ cond b 1 0
+      by : (b : Bool) → sum_by (path_weight (additive_network (mark_addends groups judge)) g (k ∷ [])) (cond b ([] ∷ []) []) ≡ cond b 1 0
       by true = refl
       by false = refl
   passing-is (t ∷ ts) g k d e =
-      let n = additive_network (mark_addends groups tail rule) in
+      let n = additive_network (mark_addends groups judge) in
       let here = drop-head g groups t ts d in
       let ends : ℤ → ℕ = λ u. cond (p ((k +ℤ u) ∷ [])) 1 0 in
       let after : (x : ℤ) → passing n p (length ts) (g + 1) ((k +ℤ x) ∷ []) ≡ over_marks (subjects_of ts) (λ u. ends (x +ℤ u)) =
       λ x. passing-is ts (g + 1) (k +ℤ x) here.1 (omega (arith, e)) ∙ over-same (subjects_of ts) (λ u. cond (p (((k +ℤ x) +ℤ u) ∷ [])) 1 0) (λ u. ends (x +ℤ u)) (λ u. ap (λ z. cond (p (z ∷ [])) 1 0) (grouped-plus k x u)) in
       passing-step n p (length ts) g (k ∷ [])
-      ∙ ap (sum_by (λ c. binomial (group_at groups g).count (slice_index c 0) * passing n p (length ts) (g + 1) ((k +ℤ (pos (slice_index c 0) *ℤ (group_at groups g).value)) ∷ []))) (choices-before (mark_addends groups tail rule) g (k ∷ []) (omega (arith, e)))
+      ∙ ap (sum_by (λ c. binomial (group_at groups g).count (slice_index c 0) * passing n p (length ts) (g + 1) ((k +ℤ (pos (slice_index c 0) *ℤ (group_at groups g).value)) ∷ []))) (choices-before (mark_addends groups judge) g (k ∷ []) (omega (arith, e)))
       ∙ ap (λ (u : Tie). sum_by (λ c. binomial u.count (slice_index c 0) * passing n p (length ts) (g + 1) ((k +ℤ (pos (slice_index c 0) *ℤ u.value)) ∷ [])) (choices_from 0 (u.count + 1))) here.0
       ∙ sum_by-map (λ c. binomial t.count (slice_index c 0) * passing n p (length ts) (g + 1) ((k +ℤ (pos (slice_index c 0) *ℤ t.value)) ∷ [])) (λ j. j ∷ []) (range_with_len 0 (t.count + 1))
       ∙ sum_by-same (λ j. binomial t.count j * passing n p (length ts) (g + 1) ((k +ℤ (pos j *ℤ t.value)) ∷ [])) (λ j. binomial t.count j * over_marks (subjects_of ts) (λ u. ends ((pos j *ℤ t.value) +ℤ u))) (λ j. ap (λ w. binomial t.count j * w) (after (pos j *ℤ t.value))) (range_with_len 0 (t.count + 1))
@@ -70,16 +68,16 @@ module _ (groups : List Tie) (tail : Tail) (rule : Rule) (p : List ℤ → Bool)
 zero-plus : (t : ℤ) → pos 0 +ℤ t ≡ t
 zero-plus t = omega (arith, ints)
 
-pub ends_at : (groups : List Tie) (tail : Tail) (rule : Rule) (p : ℤ → Bool) → value_weights (additive_network (mark_addends groups tail rule)) p ≡ over_marks (subjects_of groups) (λ u. cond (p u) 1 0)
+pub ends_at : (groups : List Tie) (judge : Judge) (p : ℤ → Bool) → value_weights (additive_network (mark_addends groups judge)) p ≡ over_marks (subjects_of groups) (λ u. cond (p u) 1 0)
 unfolding ending_weight
-ends_at groups tail rule p =
+ends_at groups judge p =
     let all : length groups - 0 ≡ length groups = omega arith in
-    ap (λ m. passing (additive_network (mark_addends groups tail rule)) (λ k. p (value k)) m 0 (pos 0 ∷ [])) all
-    ∙ passing-is groups tail rule (λ k. p (value k)) groups 0 (pos 0) refl (omega arith)
+    ap (λ m. passing (additive_network (mark_addends groups judge)) (λ k. p (value k)) m 0 (pos 0 ∷ [])) all
+    ∙ passing-is groups judge (λ k. p (value k)) groups 0 (pos 0) refl (omega arith)
     ∙ over-same (subjects_of groups) (λ u. cond (p (pos 0 +ℤ u)) 1 0) (λ u. cond (p u) 1 0) (λ u. ap (λ z. cond (p z) 1 0) (zero-plus u))
   where
     value : List ℤ → ℤ
-    value k = (additive_network (mark_addends groups tail rule)).value k
+    value k = (additive_network (mark_addends groups judge)).value k
 
 -- ---- the laws
 
@@ -90,9 +88,9 @@ times-some n (negsuc m) h = absurd (omega (arith, ints, h))
 choice-one : (least n : ℕ) → AllByRecursion (λ c. slice_index c 0 < least + n) (choices_from least n)
 choice-one least n = all_map (λ c. slice_index c 0 < least + n) (λ j. j ∷ []) (range_with_len least n) (range-below least n)
 
-module _ (groups : List Tie) (tail : Tail) (rule : Rule) where
+module _ (groups : List Tie) (judge : Judge) where
   abbrev a : Addends
-  a = mark_addends groups tail rule
+  a = mark_addends groups judge
 
   -- at most all of a group are plus
   pub choice-within : (g : ℕ) (c : List ℕ) → Contains (a.choices g) c → slice_index c 0 ≤ (group_at groups g).count
@@ -166,7 +164,7 @@ module _ (groups : List Tie) (tail : Tail) (rule : Rule) where
     pub low-is : low a 0 (zeros a) ≡ pos 0
     low-is = zero-plus (over_stages a.least (length groups - 0) 0) ∙ none-from (length groups - 0) 0
 
-    pub additive : 2 ^ values_in groups ≤ MAX → sizes_in groups ≤ MAX → RuleFits rule (pos 0) → RuleFits rule (pos (sizes_in groups)) → IsAdditive a
+    pub additive : 2 ^ values_in groups ≤ MAX → sizes_in groups ≤ MAX → JudgeFits judge (pos 0) → JudgeFits judge (pos (sizes_in groups)) → IsAdditive a
     additive total sums least most = record {
       slots_some = omega arith;
       slots_few = omega arith;
@@ -177,15 +175,15 @@ module _ (groups : List Tie) (tail : Tail) (rule : Rule) where
       between = λ g h. all_weaker (λ c. slice_index c 0 < 0 + ((group_at groups g).count + 1)) (AddsBetween a g) (λ c l. adds-between g c (omega (arith, l))) (choices_from 0 ((group_at groups g).count + 1)) (choice-one 0 ((group_at groups g).count + 1));
       sums_fit = omega (arith, reach-is, sums);
       measured = refl;
-      low_fits = subst (RuleFits rule) (sym low-is) least;
-      high_fits = subst (RuleFits rule) (sym high-is) most;
+      low_fits = subst (JudgeFits judge) (sym low-is) least;
+      high_fits = subst (JudgeFits judge) (sym high-is) most;
     }
       where
         no-choice : (n : ℕ) → choices_from 0 (n + 1) ≡ [] → ⊥
         no-choice n e = absurd (cc (rw (add-one n) at e))
 
-pub sound_stages : (groups : List Tie) (tail : Tail) (rule : Rule) → AreStages groups rule → IsAdditive (mark_addends groups tail rule)
-sound_stages groups tail rule s = additive groups tail rule (recursion_from_All (λ (t : Tie). pos 0 ≤ℤ t.value) groups s.some) s.total_fits s.sums_fit s.low_fits s.high_fits
+pub sound_stages : (groups : List Tie) (judge : Judge) → AreStages groups judge → IsAdditive (mark_addends groups judge)
+sound_stages groups judge s = additive groups judge (recursion_from_All (λ (t : Tie). pos 0 ≤ℤ t.value) groups s.some) s.total_fits s.sums_fit s.low_fits s.high_fits
 
 -- ---- what its functions compute
 
@@ -196,7 +194,7 @@ at-most f e [] (suc g) = omega (arith, e)
 at-most f e (t ∷ ts) zero = omega (arith, sum_by-cons f t ts)
 at-most f e (t ∷ ts) (suc g) = omega (arith, sum_by-cons f t ts, at-most f e ts g)
 
-module _ (groups : List Tie) (rule : Rule) (s : AreStages groups rule) (g : ℕ) where
+module _ (groups : List Tie) (judge : Judge) (s : AreStages groups judge) (g : ℕ) where
   ways-fit : 2 ^ (group_at groups g).count ≤ MAX
   ways-fit =
       let more : 2 ^ (group_at groups g).count ≤ 2 ^ values_in groups = pow-le-pow_right (lit≤ tt) (at-most (λ t. t.count) refl groups g) in
@@ -213,7 +211,7 @@ module _ (groups : List Tie) (rule : Rule) (s : AreStages groups rule) (g : ℕ)
 
   pub added-small : (j : ℕ) → j ≤ (group_at groups g).count → nat_abs (pos j *ℤ (group_at groups g).value) ≤ MAX
   added-small j h =
-      let is = added groups Less rule (recursion_from_All (λ (t : Tie). pos 0 ≤ℤ t.value) groups s.some) g j in
+      let is = added groups judge (recursion_from_All (λ (t : Tie). pos 0 ≤ℤ t.value) groups s.some) g j in
       let most : j * nat_abs (group_at groups g).value ≤ (group_at groups g).count * nat_abs (group_at groups g).value = mul-le-mul_right (nat_abs (group_at groups g).value) h in
       let all : (group_at groups g).count * nat_abs (group_at groups g).value ≤ sizes_in groups = at-most (λ t. t.count * nat_abs t.value) refl groups g in
       rw is (omega (arith, most, all, s.sums_fit))
@@ -221,10 +219,10 @@ module _ (groups : List Tie) (rule : Rule) (s : AreStages groups rule) (g : ℕ)
   pub ways-small : (j : ℕ) → binomial (group_at groups g).count j ≤ MAX
   ways-small j = omega (arith, binomial-small (group_at groups g).count j, ways-fit)
 
-  pub doubled : (tail : Tail) → 1 * 2 ^ (group_at groups g).count % 340282366920938463463374607431768211456 ≡ stage_total (mark_addends groups tail rule) g
-  doubled tail =
+  pub doubled : 1 * 2 ^ (group_at groups g).count % 340282366920938463463374607431768211456 ≡ stage_total (mark_addends groups judge) g
+  doubled =
       let small : 1 * 2 ^ (group_at groups g).count < 340282366920938463463374607431768211456 = omega (arith, ways-fit) in
-      rw (mod-eq_of_lt small) (omega arith) ∙ sym (stage-total groups tail rule g)
+      rw (mod-eq_of_lt small) (omega arith) ∙ sym (stage-total groups judge g)
 
 pub next-choices : (n : ℕ) (choice : List ℕ) → length choice ≡ 1 → get_or choice 0 0 < n
     → let next = set choice 0 (get_or choice 0 0 + 1) in choices_from (get_or choice 0 0 + 1) (n - get_or choice 0 0) ≡ next ∷ choices_from (slice_index next 0 + 1) (n - slice_index next 0)

@@ -2,9 +2,9 @@
 use Rattle.std.specs.Prelude.{◌≡◌, ⊤, ℕ, ℤ, pos, ◌*◌, ◌^◌, ◌<◌, ◌≤◌, ◌≤ℤ◌, nat_abs, List, All, length, Result, Ok, Err}
 use Rattle.std.specs.List.{sum_by}
 use Rattle.weights.specs.Frames.{IsFrameOf}
-use Rattle.weights.specs.Rules.{RuleFits}
+use Rattle.stage_network.specs.Judged.{JudgeFits}
 use Rattle.weights.specs.declared.TheConstants.{MAX}
-use Rattle.weights.specs.declared.rules.Rule.{Rule}
+use Rattle.stage_network.specs.declared.verdicts.Judge.{Judge}
 use Rattle.weights.specs.declared.wide.WideOf.TheVariants.{Total, Statistic}
 use Rattle.weights.specs.declared.wide.PrepareFault.{PrepareFault}
 use Rattle.weights.specs.declared.wide.PrepareFault.TheVariants.{TooWide, NoMemory}
@@ -57,9 +57,9 @@ abbrev pub sizes_in : List Tie → ℕ
 sizes_in groups = sum_by (λ t. t.count * nat_abs t.value) groups
 
 -- no score of the groups is negative, and no number of their network passes a limit
-pub record AreStages (groups : List Tie) (rule : Rule) : Type 0 where
+pub record AreStages (groups : List Tie) (judge : Judge) : Type 0 where
   pub some : All (λ (t : Tie). pos 0 ≤ℤ t.value) groups
   pub total_fits : 2 ^ values_in groups ≤ MAX
   pub sums_fit : sizes_in groups ≤ MAX
-  pub low_fits : RuleFits rule (pos 0)
-  pub high_fits : RuleFits rule (pos (sizes_in groups))
+  pub low_fits : JudgeFits judge (pos 0)
+  pub high_fits : JudgeFits judge (pos (sizes_in groups))

@@ -4,8 +4,8 @@
 use Rattle.std.specs.Prelude.{ℕ, pos, ◌+◌, ◌-◌, ◌*ℤ◌, List, [], ◌∷◌, length, map, slice_index, slice_index_or, false}
 use Rattle.std.specs.List.{range_with_len}
 use Rattle.weights.specs.Numbers.{binomial}
-use Rattle.weights.specs.Rules.{rule_of}
-use Rattle.weights.specs.declared.rules.Rule.{Rule}
+use Rattle.stage_network.specs.Judged.{judge_of}
+use Rattle.stage_network.specs.declared.verdicts.Judge.{Judge}
 use Rattle.weights.specs.declared.tails.Tail.{Tail}
 use Rattle.midranks.specs.Ties.{tie_groups}
 use Rattle.midranks.specs.declared.ties.Tie.{Tie}
@@ -23,8 +23,8 @@ abbrev pub choices_from : ℕ → ℕ → List (List ℕ)
 choices_from least n = map (λ plus. plus ∷ []) (range_with_len least n)
 
 -- the groups of subjects who share a score
-abbrev pub mark_addends : List Tie → Tail → Rule → Addends
-mark_addends groups tail rule = record {
+abbrev pub mark_addends : List Tie → Judge → Addends
+mark_addends groups judge = record {
   count = length groups;
   slots = 1;
   choice_width = 1;
@@ -36,10 +36,9 @@ mark_addends groups tail rule = record {
   most = λ g. pos (group_at groups g).count *ℤ (group_at groups g).value;
   sorted = false;
   value = First;
-  tail = tail;
-  rule = rule;
+  judge = judge;
 }
 
 abbrev pub one_sample_network : SignedSample → Tail → Network
 one_sample_network sample tail = additive_network
-    (mark_addends (tie_groups (used_scores sample)) tail (rule_of (one_sample_test sample) tail))
+    (mark_addends (tie_groups (used_scores sample)) (judge_of (one_sample_test sample)))

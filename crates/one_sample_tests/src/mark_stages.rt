@@ -13,7 +13,7 @@ use weights::binomial;
 pub struct MarkStages {
     pub(crate) groups: Ties,
     pub(crate) judge: Judge,
-    ghost sound: { AreStages groups judge.rule },
+    ghost sound: { AreStages groups judge },
 }
 
 // So many times a score.
@@ -38,7 +38,7 @@ fn ways(subjects: u64, plus: u64) -> u128
 impl Additive for MarkStages {
     ghost use Rattle.one_sample_tests.specs.SignNetwork.{mark_addends};
 
-    ghost addends = { λ s. mark_addends s.groups s.judge.tail s.judge.rule };
+    ghost addends = { λ s. mark_addends s.groups s.judge };
 
     fn stages(&self) -> usize {
         self.groups.len()

@@ -3,12 +3,14 @@ ghost use Rattle.std.specs.Prelude.{◌≡◌, ◌≤◌, ◌++◌, length, repl
 ghost use Rattle.weights.specs.Wide.{Prepares};
 ghost use Rattle.midranks.specs.declared.TheConstants.{MOST_VALUES};
 ghost use Rattle.table_reader.specs.Data.{table_data_of};
+ghost use Rattle.stage_network.specs.Judged.{judge_of};
 ghost use Rattle.one_sample_tests.specs.SignedSamples.{discordant, nonzero, one_sample_test, sample_of};
 ghost use Rattle.one_sample_tests.specs.SampleSteps.{AreDifferences, AreMarked};
 
 use crate::kinds::SignKind;
 use crate::scored_marks::{ScoredMarks, made_of};
 use sample_reader::Pairs;
+use stage_network::Judge;
 use std::alloc::Global;
 use std::marker::Model;
 use table_reader::Table;
@@ -126,5 +128,12 @@ impl OneSample {
         ensures { AreMarked self.now result.now }
     {
         &self.made
+    }
+
+    /// The rules of its tails.
+    pub(crate) fn judge(&self) -> Judge
+        ensures { result ≡ judge_of (one_sample_test self.now) }
+    {
+        Judge::of(&self.made().frame)
     }
 }

@@ -4,7 +4,7 @@ use crate::marks::first_marks;
 use crate::one_sample::OneSample;
 use enumerate::{Plain, next_signs};
 use scores::labelled_sum;
-use stage_network::{AdditiveStages, Judge, Prepared};
+use stage_network::{AdditiveStages, Prepared};
 use std::alloc::Global;
 use weights::{Bytes, Frame, NoMemory, Tail};
 
@@ -39,7 +39,6 @@ impl Plain for OneSample {
 }
 
 impl Prepared for OneSample {
-    ghost use Rattle.stage_network.specs.Addends.{additive_shape};
     ghost use Rattle.one_sample_tests.specs.SignNetwork.{one_sample_network};
 
     type Built = AdditiveStages<MarkStages>;
@@ -47,8 +46,6 @@ impl Prepared for OneSample {
     ghost network = { one_sample_network };
 
     ghost runs = { one_sample_network };
-
-    ghost shape = { λ _ _. additive_shape };
 
     fn has_tail(&self, _tail: Tail) -> bool {
         true
@@ -58,13 +55,9 @@ impl Prepared for OneSample {
         true
     }
 
-    fn stages_of(&self, alloc: Global, tail: Tail) -> Result<Self::Built, NoMemory> {
-        let made = self.made();
-        let judge = Judge {
-            tail,
-            rule: made.frame.rule(tail),
-        };
-        let groups = made.groups.copy()?;
+    fn stages_of(&self, alloc: Global, _tail: Tail) -> Result<Self::Built, NoMemory> {
+        let judge = self.judge();
+        let groups = self.made().groups.copy()?;
         AdditiveStages::new(alloc, MarkStages { groups, judge })
     }
 }

@@ -6,13 +6,13 @@ use Rattle.std.specs.List.{Contains}
 use Rattle.std.proofs.lemmas.List.Elements.{recursion_from_All, All-contains_itself}
 use Rattle.weights.specs.declared.tails.Tail.{Tail}
 use Rattle.weights.specs.Conditional.{ConditionalTest}
-use Rattle.weights.specs.Rules.{measured, rule_of}
+use Rattle.weights.specs.Rules.{measured}
 use Rattle.weights.proofs.Chosen.{one_if}
 use Rattle.weights.proofs.GroupingLaw.{one-times}
 use Rattle.weights.proofs.Sums.{sum_by-filter, sum_by-same_where}
 use Rattle.stage_network.specs.Completions.{value_weights}
 use Rattle.stage_network.specs.Follows.{Follows, measured_weight}
-use Rattle.stage_network.specs.Judged.{HasIntervals}
+use Rattle.stage_network.specs.Judged.{HasIntervals, judge_of}
 use Rattle.room_network.specs.Meanings.{Meaning, IsMeasure, way_value}
 use Rattle.room_network.specs.Plans.{Gives, Weights}
 use Rattle.room_network.specs.RoomNetworks.{room_network}
@@ -21,8 +21,7 @@ use Rattle.room_network.proofs.RoomLaws.{room_intervals}
 
 -- what a test has in common with a measure of weighed rooms, for one tail
 pub record IsOfTest (m : Meaning) (weight : Weights) (test : ConditionalTest) (tail : Tail) (cut : List ℕ → List (List ℕ)) : Type 0 where
-  pub tail_is : m.tail ≡ tail
-  pub rule_is : m.rule ≡ rule_of test tail
+  pub judge_is : m.judge ≡ judge_of test
   pub gives : Gives (weighed m weight) test.reference test.weight cut
   pub values : (xs : List ℕ) → Contains test.reference xs → measured test tail xs ≡ way_value m (cut xs)
 
@@ -39,6 +38,6 @@ module _ (m : Meaning) (weight : Weights) (s : KeepsWidth m.floor) (t : IsMeasur
 
   pub room_follows : Follows test tail (room_network m weight)
   room_follows = record {
-    intervals = subst (λ rule. HasIntervals (room_network m weight) tail rule) o.rule_is (subst (λ u. HasIntervals (room_network m weight) u m.rule) o.tail_is (room_intervals m weight s t));
+    intervals = subst (HasIntervals (room_network m weight)) o.judge_is (room_intervals m weight s t);
     ends = room_ends;
   }

@@ -6,7 +6,7 @@ use Rattle.std.proofs.lemmas.Bool.{cases_lt}
 use Rattle.stage_network.specs.Network.{IsReached}
 use Rattle.stage_network.specs.Laws.{IsLawful}
 use Rattle.stage_network.specs.Judged.{HasIntervals}
-use Rattle.stage_network.proofs.Judging.{judged-here, judged-else, intervals-inside, intervals-outside, intervals-decided}
+use Rattle.stage_network.proofs.Judging.{intervals-inside, intervals-outside, intervals-decided}
 use Rattle.room_network.specs.Meanings.{Meaning, IsMeasure}
 use Rattle.room_network.specs.Plans.{Plan, IsPlan, Weights}
 use Rattle.room_network.specs.RoomNetworks.{IsHoused, room_network, room_of, partial_of}
@@ -29,12 +29,11 @@ module _ (m : Meaning) (weight : Weights) (s : KeepsWidth m.floor) (t : IsMeasur
       let h : IsKey m weight s g k = is_key m weight s g k r in
       rw (room-next m weight s g k c h.long, partial-next m weight s g k c h.long) (t.high_falls g (room_of m k) (partial_of m k) c h.reached before (is_allowed (weighed m weight) g (room_of m k) c before o))
 
-  pub room_intervals : HasIntervals (room_network m weight) m.tail m.rule
+  pub room_intervals : HasIntervals (room_network m weight) m.judge
   room_intervals = record {
     low = λ g k. m.low g (room_of m k) (partial_of m k);
     high = λ g k. m.high g (room_of m k) (partial_of m k);
-    verdicts = λ g k r. judged-here m.tail m.rule (m.low g (room_of m k) (partial_of m k)) (m.high g (room_of m k) (partial_of m k));
-    others = λ u g k ne. judged-else m.tail m.rule u (m.low g (room_of m k) (partial_of m k)) (m.high g (room_of m k) (partial_of m k)) ne;
+    verdicts = λ u g k r. refl;
     low_rises = rises;
     high_falls = falls;
     low_ends = λ k r. t.low_ends (room_of m k) (partial_of m k) (is_key m weight s m.floor.count k r).reached;
@@ -77,9 +76,9 @@ module _ (m : Meaning) (weight : Weights) (p : IsPlan (weighed m weight)) where
     different = differing;
     ends = λ k r. choices_past (weighed m weight) m.floor.count (room_of m k) (omega arith);
     fits = rw (first_total m weight widths) p.fits;
-    inside = intervals-inside (room_network m weight) m.tail m.rule (room_intervals m weight widths t);
-    outside = intervals-outside (room_network m weight) m.tail m.rule (room_intervals m weight widths t);
-    decided = intervals-decided (room_network m weight) m.tail m.rule (room_intervals m weight widths t);
+    inside = intervals-inside (room_network m weight) m.judge (room_intervals m weight widths t);
+    outside = intervals-outside (room_network m weight) m.judge (room_intervals m weight widths t);
+    decided = intervals-decided (room_network m weight) m.judge (room_intervals m weight widths t);
   }
 
 -- so for a plan of the measure's rooms

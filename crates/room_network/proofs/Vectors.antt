@@ -3,8 +3,8 @@
 -- and weighs as many balls as may be drawn.
 use Rattle.std.proofs.Common.{◌≡◌, ℕ, zero, suc, ◌+◌, ◌-◌, List, [], ◌∷◌, map, refl, arith}
 use Rattle.std.specs.Prelude.{ℤ, pos, min}
-use Rattle.weights.specs.declared.tails.Tail.TheVariants.{Greater}
-use Rattle.weights.specs.declared.rules.Rule.TheVariants.{AtLeast}
+use Rattle.weights.specs.declared.tails.Tail.TheVariants.{Less, Greater}
+use Rattle.weights.specs.declared.rules.Rule.TheVariants.{AtMost, AtLeast}
 use Rattle.stage_network.specs.Completions.{completions, path_end, path_weight}
 use Rattle.stage_network.specs.declared.stages.Verdict.TheVariants.{Inside, Outside, Undecided}
 use Rattle.stage_network.specs.Network.{Network}
@@ -78,8 +78,7 @@ whites = record {
   value = count_of;
   low = λ g room partial. count_of partial;
   high = most;
-  tail = Greater;
-  rule = AtLeast (pos 1);
+  judge = record { less = AtMost (pos 0); greater = AtLeast (pos 1); two = AtLeast (pos 0) };
 }
 
 ways-are : ways box ≡ (black ∷ black ∷ []) ∷ (black ∷ white ∷ []) ∷ (white ∷ black ∷ []) ∷ []
@@ -116,6 +115,10 @@ weight-is = refl
 
 verdicts-are : map (n.verdict Greater 1) (map (n.next 0 n.first) (n.choices 0 n.first)) ≡ Undecided ∷ Inside ∷ []
 verdicts-are = refl
+
+-- of another tail, by its own rule
+other-verdicts : map (n.verdict Less 1) (map (n.next 0 n.first) (n.choices 0 n.first)) ≡ Undecided ∷ Outside ∷ []
+other-verdicts = refl
 
 last-verdict : n.verdict Greater 2 (path_end n 0 n.first (black ∷ black ∷ [])) ≡ Outside
 last-verdict = refl

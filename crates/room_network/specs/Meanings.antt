@@ -1,8 +1,7 @@
 -- What a measure measures of the ways through rooms, and an interval of what it can come to.
 use Rattle.std.specs.Prelude.{◌≡◌, ℕ, zero, suc, ◌+◌, ◌<◌, ℤ, ◌≤ℤ◌, List, [], ◌∷◌, length}
 use Rattle.std.specs.List.{Contains}
-use Rattle.weights.specs.declared.tails.Tail.{Tail}
-use Rattle.weights.specs.declared.rules.Rule.{Rule}
+use Rattle.stage_network.specs.declared.verdicts.Judge.{Judge}
 use Rattle.room_network.specs.Plans.{Floor}
 
 pub record Meaning : Type 0 where
@@ -24,9 +23,8 @@ pub record Meaning : Type 0 where
   -- of a stage, a room and a partial: between which the values of all completions lie
   pub low : ℕ → List ℤ → List ℤ → ℤ
   pub high : ℕ → List ℤ → List ℤ → ℤ
-  -- the tail that the verdicts are for, and its rule
-  pub tail : Tail
-  pub rule : Rule
+  -- the rules that the verdicts go by
+  pub judge : Judge
 
 -- this room and this partial are reached together by choices of the stages before g
 abbrev pub AreReached : Meaning → ℕ → List ℤ → List ℤ → Type 0

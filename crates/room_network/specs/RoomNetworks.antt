@@ -1,8 +1,7 @@
 -- The network of a measure: a key has a room, and then the measure's partial.
 use Rattle.std.specs.Prelude.{◌≡◌, ◌+◌, ◌≤◌, ℤ, List, [], ◌++◌, take, drop, nat_lt, if◌then◌else◌}
 use Rattle.stage_network.specs.Network.{Network}
-use Rattle.stage_network.specs.Alike.{Shape}
-use Rattle.stage_network.specs.Judged.{judged}
+use Rattle.stage_network.specs.Judged.{rule_in, verdict_of}
 use Rattle.room_network.specs.Meanings.{Meaning}
 use Rattle.room_network.specs.Plans.{Plan, Weights}
 
@@ -24,17 +23,9 @@ room_network m weight = record {
   weight = λ g k c. weight g (room_of m k) c;
   next = λ g k c.
       m.floor.next g (room_of m k) c ++ m.advance g (room_of m k) c (partial_of m k);
-  verdict = λ t g k. judged m.tail m.rule t
+  verdict = λ t g k. verdict_of (rule_in m.judge t)
       (m.low g (room_of m k) (partial_of m k)) (m.high g (room_of m k) (partial_of m k));
   value = λ k. m.value (partial_of m k);
-}
-
--- what it is asked once for each room
-abbrev pub room_shape : Meaning → Shape
-room_shape m = record {
-  room_width = m.floor.width;
-  outlook_width = m.outlook_width;
-  outlook = m.outlook;
 }
 
 -- rooms and a measure of them, whose keys have 1 to 16 numbers

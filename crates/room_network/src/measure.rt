@@ -1,6 +1,6 @@
 // What a statistic offers to the network of its rooms.
 ghost use Rattle.std.specs.Prelude.{◌≡◌, ◌≤◌, length};
-ghost use Rattle.stage_network.specs.Judged.{judged};
+ghost use Rattle.stage_network.specs.Judged.{rule_in, verdict_of};
 ghost use Rattle.room_network.specs.Meanings.{AreReached, IsEnd, IsMeasure, IsMove, IsRoom};
 ghost use Rattle.room_network.specs.Meanings.{IsStep, Meaning};
 
@@ -85,7 +85,7 @@ pub trait Measure {
         ensures { let m = meaning self.now in
             let low = m.low stage room.now partial.now in
             let high = m.high stage room.now partial.now in
-            result ≡ judged m.tail m.rule tail low high }
+            result ≡ verdict_of (rule_in m.judge tail) low high }
     {
         let mut numbers = [0i128; 16];
         let outlook = &mut numbers[..self.outlook_width()];
@@ -113,7 +113,7 @@ pub trait Measure {
         ensures { let m = meaning self.now in
             let low = m.low stage room.now partial.now in
             let high = m.high stage room.now partial.now in
-            result ≡ judged m.tail m.rule tail low high };
+            result ≡ verdict_of (rule_in m.judge tail) low high };
 
     /// The value of a partial after the last choice.
     fn value(&self, partial: &[i128]) -> i128

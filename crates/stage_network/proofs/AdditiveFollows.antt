@@ -4,8 +4,8 @@ use Rattle.std.specs.List.{sum_by, concat}
 use Rattle.weights.specs.declared.tails.Tail.{Tail}
 use Rattle.weights.specs.Conditional.{ConditionalTest}
 use Rattle.weights.specs.Labellings.{product}
-use Rattle.weights.specs.Rules.{measured, rule_of}
-use Rattle.stage_network.specs.Judged.{HasIntervals}
+use Rattle.weights.specs.Rules.{measured}
+use Rattle.stage_network.specs.Judged.{HasIntervals, judge_of}
 use Rattle.stage_network.specs.Follows.{Follows}
 use Rattle.stage_network.specs.Addends.{Addends, additive_network}
 use Rattle.stage_network.specs.SoundAddends.{IsAdditive}
@@ -16,8 +16,7 @@ use Rattle.stage_network.proofs.AdditiveLaws.{additive_intervals, value_even}
 -- The test's rearrangements are the members of a product, each joined, whose parts are those of the stages; and what it measures and weighs of one comes of its parts.
 pub record IsMadeOf (test : ConditionalTest) (tail : Tail) (a : Addends) (ps : Pieces) (P : ℕ → List ℕ → Type 0) (parts : List (List (List ℕ))) : Type 0 where
   pub reference : test.reference ≡ map concat (product parts)
-  pub tail_is : a.tail ≡ tail
-  pub rule_is : a.rule ≡ rule_of test tail
+  pub judge_is : a.judge ≡ judge_of test
   pub counted : length parts ≡ a.count
   pub stages : AreStages a ps 0 parts
   pub each : AllParts P 0 parts
@@ -25,6 +24,6 @@ pub record IsMadeOf (test : ConditionalTest) (tail : Tail) (a : Addends) (ps : P
 
 pub additive_follows : (test : ConditionalTest) (tail : Tail) (a : Addends) (ps : Pieces) (P : ℕ → List ℕ → Type 0) (parts : List (List (List ℕ))) → IsAdditive a → IsMadeOf test tail a ps P parts → Follows test tail (additive_network a)
 additive_follows test tail a ps P parts s m = record {
-  intervals = subst (λ rule. HasIntervals (additive_network a) tail rule) m.rule_is (subst (λ t. HasIntervals (additive_network a) t a.rule) m.tail_is (additive_intervals a s));
+  intervals = subst (HasIntervals (additive_network a)) m.judge_is (additive_intervals a s);
   ends = λ p. ends_flat a ps P (measured test tail) test.weight m.joined parts m.counted m.stages (λ sorted. value_even a s) m.each p ∙ ap (λ rs. sum_by test.weight (filter (λ r. p (measured test tail r)) rs)) (sym m.reference);
 }

@@ -5,18 +5,19 @@ use Rattle.std.specs.List.{Contains, AllByRecursion, sum_by}
 use Rattle.std.proofs.lemmas.Bool.{cases_lt}
 use Rattle.std.proofs.lemmas.Int.{ints}
 use Rattle.weights.specs.declared.TheConstants.{MAX}
+use Rattle.weights.specs.declared.tails.Tail.{Tail}
 use Rattle.weights.specs.Rules.{RuleFits}
 use Rattle.stage_network.specs.declared.additive.SumValue.{SumValue}
 use Rattle.stage_network.specs.declared.additive.SumValue.TheVariants.{First, Squares}
 use Rattle.stage_network.specs.Network.{IsReached}
 use Rattle.stage_network.specs.Laws.{IsLawful}
-use Rattle.stage_network.specs.Judged.{HasIntervals}
+use Rattle.stage_network.specs.Judged.{HasIntervals, rule_in}
 use Rattle.stage_network.specs.PartialSums.{plus, kept}
 use Rattle.stage_network.specs.Addends.{Addends, additive_network, first_sum, high, high_end, least_to_come, low, low_end, most_to_come, square, totals, value_of, zeros}
 use Rattle.stage_network.specs.SoundAddends.{AddsBetween, IsAdditive, IsMeasured}
 use Rattle.stage_network.proofs.Apart.{none_apart}
 use Rattle.stage_network.proofs.Swaps.{IsEvenAt, sum_by-swap_at, swap_at}
-use Rattle.stage_network.proofs.Judging.{fits-high, fits-low, intervals-inside, intervals-outside, intervals-decided, judged-else, judged-here}
+use Rattle.stage_network.proofs.Judging.{fits-high, fits-low, intervals-inside, intervals-outside, intervals-decided}
 use Rattle.stage_network.proofs.Bridge.{choices-before, additive_total}
 use Rattle.stage_network.proofs.AdditiveKeys.{allowed-before, choice_between, choices-past, over_stages-none, over_stages-step, reached_length}
 use Rattle.stage_network.proofs.SquaredEnds.{least_at_end, most_at_end, squares_bounded, squares_fall, squares_rise}
@@ -64,12 +65,11 @@ module _ (a : Addends) (s : IsAdditive a) where
       let most_of : sum_by square k ≤ bound = squares_bounded a s bound q k r in
       ap (λ n. pos (min bound n)) (most_at_end a s bound q k) ∙ ap pos (let e : min bound (sum_by square k) ≡ sum_by square k = omega arith in e)
 
-  pub additive_intervals : HasIntervals (additive_network a) a.tail a.rule
+  pub additive_intervals : HasIntervals (additive_network a) a.judge
   additive_intervals = record {
     low = low a;
     high = high a;
-    verdicts = λ g k r. judged-here a.tail a.rule (low a g k) (high a g k);
-    others = λ t g k other. judged-else a.tail a.rule t (low a g k) (high a g k) other;
+    verdicts = λ t g k r. refl;
     low_rises = low-arc a.value s.measured;
     high_falls = high-arc a.value s.measured;
     low_ends = low-last a.value s.measured;
@@ -115,16 +115,16 @@ module _ (a : Addends) (s : IsAdditive a) where
     different = λ g k r. different_arcs g k;
     ends = λ k r. choices-past a a.count k (omega arith);
     fits = (let all : totals a (a.count - 0) 0 ≤ MAX = subst (λ m. totals a m 0 ≤ MAX) (let e : a.count ≡ a.count - 0 = omega arith in e) s.fits in omega (arith, all, additive_total a 0 (zeros a) (omega arith)));
-    inside = intervals-inside (additive_network a) a.tail a.rule additive_intervals;
-    outside = intervals-outside (additive_network a) a.tail a.rule additive_intervals;
-    decided = intervals-decided (additive_network a) a.tail a.rule additive_intervals;
+    inside = intervals-inside (additive_network a) a.judge additive_intervals;
+    outside = intervals-outside (additive_network a) a.judge additive_intervals;
+    decided = intervals-decided (additive_network a) a.judge additive_intervals;
   }
 
-  -- the rule fits both ends of every reached interval
-  pub low_fits : (g : ℕ) (k : List ℤ) → IsReached (additive_network a) g k → RuleFits a.rule (low a g k)
+  -- the rules fit both ends of every reached interval
+  pub low_fits : (t : Tail) (g : ℕ) (k : List ℤ) → IsReached (additive_network a) g k → RuleFits (rule_in a.judge t) (low a g k)
   unfolding additive_intervals
-  low_fits = fits-low (additive_network a) a.tail a.rule additive_intervals some_arc s.low_fits s.high_fits
+  low_fits = fits-low (additive_network a) a.judge additive_intervals some_arc s.low_fits s.high_fits
 
-  pub high_fits : (g : ℕ) (k : List ℤ) → IsReached (additive_network a) g k → RuleFits a.rule (high a g k)
+  pub high_fits : (t : Tail) (g : ℕ) (k : List ℤ) → IsReached (additive_network a) g k → RuleFits (rule_in a.judge t) (high a g k)
   unfolding additive_intervals
-  high_fits = fits-high (additive_network a) a.tail a.rule additive_intervals some_arc s.low_fits s.high_fits
+  high_fits = fits-high (additive_network a) a.judge additive_intervals some_arc s.low_fits s.high_fits

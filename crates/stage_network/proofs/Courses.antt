@@ -6,18 +6,21 @@ use Rattle.std.specs.Set.{distinct_count}
 use Rattle.std.proofs.lemmas.List.{take_all}
 use Rattle.weights.specs.declared.tails.Tail.{Tail}
 use Rattle.weights.specs.declared.tails.Tail.TheVariants.{Less}
+use Rattle.weights.specs.declared.tails.Tails.{Tails}
 use Rattle.weights.specs.declared.TheConstants.{MAX}
 use Rattle.node_pool.specs.Nodes.{Node, key_eq, keys, weighted}
 use Rattle.stage_network.specs.declared.tail_sums.TailSums.{TailSums}
 use Rattle.stage_network.specs.declared.tail_sums.Kept.{Kept}
 use Rattle.stage_network.specs.declared.tail_sums.Kept.TheVariants.{Open, All}
 use Rattle.stage_network.specs.declared.sweep.Sweep.{Sweep}
+use Rattle.stage_network.specs.Asked.{asked}
 use Rattle.stage_network.specs.Network.{Network, IsReached}
 use Rattle.stage_network.specs.Completions.{total_weight, extreme_weight}
 use Rattle.stage_network.specs.Laws.{IsLawful}
 use Rattle.stage_network.specs.Opened.{is_open, is_open_for_some, reached_by_some, opened_by_some}
 use Rattle.stage_network.specs.NodeSteps.{all_successors, AllReached, AllHeavy}
 use Rattle.stage_network.specs.SweepSteps.{sum_for, stays, staying, closed_at, counted, counted_keys, Course, first_course, arriving, on_the_way, HasSwept, IsCourse, IsSweeping, IsSwept, AreHere}
+use Rattle.stage_network.proofs.Asked.{asked-lawful}
 use Rattle.stage_network.proofs.Steps.{filter_none, total_weight-step, extreme_weight-step}
 use Rattle.stage_network.proofs.Bounds.{weights-le-weighted}
 use Rattle.stage_network.proofs.NodeSums.{open-for}
@@ -39,8 +42,8 @@ led n g xs ys told f =
 -- the nodes that stay, each once, are counted as all keys that came are
 counted-is : (n : Network) (keep : Kept) (t : Tail) (g : ℕ) (kept all : List Node) → AllHeavy kept → AllHeavy all → IsDistinct key_eq (keys kept) → ((f : List ℤ → ℕ) → weighted f kept ≡ weighted f (staying n keep g all)) → counted n keep t g kept ≡ counted_keys n keep t g all
 counted-is n All t g kept all heavy solid distinct told = refl
-counted-is n Open t g kept all heavy solid distinct told =
-    counted-once (is_open_for_some n g) (is_open n t g) kept (keys all) distinct (open-for n t g) (stay-members n g kept all heavy solid told)
+counted-is n (Open tails) t g kept all heavy solid distinct told =
+    counted-once (is_open_for_some (asked tails n) g) (is_open (asked tails n) t g) kept (keys all) distinct (open-for (asked tails n) t g) (stay-members n tails g kept all heavy solid told)
 
 -- the start
 pub swept-first : (n : Network) (course : Course) (sums : TailSums) (kept : List Node) → kept ≡ staying n course.keep course.stage course.nodes → AllHeavy course.nodes → AllHeavy kept → IsDistinct key_eq (keys kept) → ((t : Tail) → (sum_for sums t).sum ≡ weighted (closed_at n course.keep t course.stage) course.nodes) → ((t : Tail) → (sum_for sums t).opened ≡ counted n course.keep t course.stage kept) → HasSwept n course 0 sums kept
@@ -187,52 +190,61 @@ sweeping-light n width step_width limit course sweep s =
     )
 
 -- at the last stage nothing is open
-none-stays : (n : Network) → IsLawful n → (all : List Node) → AllReached n n.count all → staying n Open n.count all ≡ []
-none-stays n l all r = filter_none (λ (a : Node). is_open_for_some n n.count a.key) all
-    (all_weaker (λ (a : Node). IsReached n n.count a.key) (λ (a : Node). is_open_for_some n n.count a.key ≡ false) (λ a reached. shut n l a.key reached) all r)
+none-stays : (n : Network) → IsLawful n → (tails : Tails) (all : List Node) → AllReached n n.count all → staying n (Open tails) n.count all ≡ []
+none-stays n l tails all r =
+    let some : List ℤ → Bool = is_open_for_some (asked tails n) n.count in
+    filter_none (λ (a : Node). some a.key) all
+    (all_weaker (λ (a : Node). IsReached n n.count a.key) (λ (a : Node). some a.key ≡ false) (λ a reached. shut (asked tails n) (asked-lawful tails n l) a.key reached) all r)
 
 none-counted : (n : Network) → IsLawful n → (t : Tail) (all : List Node) → AllReached n n.count all → filter (is_open n t n.count) (keys all) ≡ []
 none-counted n l t [] r = refl
 none-counted n l t (a ∷ all) r = rw (not_undecided (n.verdict t n.count a.key) (l.decided t a.key r.0)) (none-counted n l t all r.1)
 
 -- from the first key
-keys-first : (n : Network) (m : ℕ) → keys (arriving n (first_course n Open) m) ≡ reached_by_some n m
-keys-first n zero = refl
-keys-first n (suc m) =
+keys-first : (n : Network) (tails : Tails) (m : ℕ) → keys (arriving n (first_course n (Open tails)) m) ≡ reached_by_some (asked tails n) m
+keys-first n tails zero = refl
+keys-first n tails (suc m) =
     let e : 0 + m ≡ m = omega arith in
-    rw e (keys-opened_to n (is_open_for_some n) m (arriving n (first_course n Open) m))
-    ∙ ap (λ ks. flat_map (λ k. map (n.next m k) (n.choices m k)) (filter (is_open_for_some n m) ks)) (keys-first n m)
+    let some : ℕ → List ℤ → Bool = is_open_for_some (asked tails n) in
+    rw e (keys-opened_to n some m (arriving n (first_course n (Open tails)) m))
+    ∙ ap (λ ks. flat_map (λ k. map (n.next m k) (n.choices m k)) (filter (some m) ks)) (keys-first n tails m)
 
-opened-first : (n : Network) (t : Tail) (m : ℕ) → on_the_way (counted_keys n Open t) n (first_course n Open) m ≡ opened_by_some n t (suc m)
-opened-first n t zero = omega arith
-opened-first n t (suc m) =
+opened-first : (n : Network) (tails : Tails) (t : Tail) (m : ℕ) → on_the_way (counted_keys n (Open tails) t) n (first_course n (Open tails)) m ≡ opened_by_some (asked tails n) t (suc m)
+opened-first n tails t zero = omega arith
+opened-first n tails t (suc m) =
     let e : 0 + suc m ≡ suc m = omega arith in
-    let here : counted_keys n Open t (0 + suc m) (arriving n (first_course n Open) (suc m)) ≡ distinct_count key_eq (filter (is_open n t (suc m)) (reached_by_some n (suc m))) =
-    ap (λ g. counted_keys n Open t g (arriving n (first_course n Open) (suc m))) e ∙ ap (λ ks. distinct_count key_eq (filter (is_open n t (suc m)) ks)) (keys-first n (suc m)) in
-    omega (arith, here, opened-first n t m)
+    let free : List ℤ → Bool = is_open (asked tails n) t (suc m) in
+    let all : List Node = arriving n (first_course n (Open tails)) (suc m) in
+    let here : counted_keys n (Open tails) t (0 + suc m) all ≡ distinct_count key_eq (filter free (reached_by_some (asked tails n) (suc m))) =
+    ap (λ g. counted_keys n (Open tails) t g all) e ∙ ap (λ ks. distinct_count key_eq (filter free ks)) (keys-first n tails (suc m)) in
+    omega (arith, here, opened-first n tails t m)
 
-open-split : (n : Network) → IsLawful n → (t : Tail) (g : ℕ) (all : List Node) → g ≤ n.count → AllReached n g all → weighted (closed_at n Open t g) all + weighted (extreme_weight n t g) (staying n Open g all) ≡ weighted (extreme_weight n t g) all
-open-split n l t g all h r = omega (arith, sym (closed-weighted n t g all), sum_by-filter (λ (a : Node). a.weight * extreme_weight n t g a.key) (λ a. is_open_for_some n g a.key) all, split-extreme n l t g h all r)
+open-split : (n : Network) → IsLawful n → (tails : Tails) (t : Tail) (g : ℕ) (all : List Node) → g ≤ n.count → AllReached n g all → weighted (closed_at n (Open tails) t g) all + weighted (extreme_weight (asked tails n) t g) (staying n (Open tails) g all) ≡ weighted (extreme_weight (asked tails n) t g) all
+open-split n l tails t g all h r =
+    let v : List ℤ → ℕ = extreme_weight (asked tails n) t g in
+    omega (arith, sym (closed-weighted n tails t g all), sum_by-filter (λ (a : Node). a.weight * v a.key) (λ a. is_open_for_some (asked tails n) g a.key) all, split-extreme (asked tails n) (asked-lawful tails n l) t g h all r)
 
 no-sum : (n : Network) (course : Course) (m : ℕ) → on_the_way (λ g all. 0) n course m ≡ 0
 no-sum n course zero = refl
 no-sum n course (suc m) = omega (arith, no-sum n course m)
 
 pub swept-last : (n : Network) → IsLawful n → (limit : ℕ) (keep : Kept) → IsCourse n limit (first_course n keep) → (sums : TailSums) (nodes : List Node) → HasSwept n (first_course n keep) n.count sums nodes → IsSwept n keep sums nodes
-swept-last n l limit Open starts sums nodes swept =
-    let course : Course = first_course n Open in
+swept-last n l limit (Open tails) starts sums nodes swept =
+    let keep : Kept = Open tails in
+    let course : Course = first_course n keep in
     let e : 0 + n.count ≡ n.count = omega arith in
     let within : 0 + n.count ≤ n.count = omega arith in
     let all : List Node = arriving n course n.count in
     let reached : AllReached n n.count all = subst (λ g. AllReached n g all) e (arriving-reached n l limit course starts n.count within) in
-    let none : staying n Open (0 + n.count) all ≡ [] = ap (λ g. staying n Open g all) e ∙ none-stays n l all reached in
+    let none : staying n keep (0 + n.count) all ≡ [] = ap (λ g. staying n keep g all) e ∙ none-stays n l tails all reached in
     λ t. (
-      (let v : ℕ → List ℤ → ℕ = extreme_weight n t in
-          let kept = conserved n l limit course starts v (λ g all. weighted (closed_at n Open t g) all) (λ g k before. extreme_weight-step n t g k before) (λ g all. open-split n l t g all) n.count within in
-          let left : weighted (v (0 + n.count)) (staying n Open (0 + n.count) all) ≡ 0 = ap (weighted (v (0 + n.count))) none in
+      (let v : ℕ → List ℤ → ℕ = extreme_weight (asked tails n) t in
+          let kept = conserved n l limit course starts v (λ g all. weighted (closed_at n keep t g) all) (λ g k before. extreme_weight-step (asked tails n) t g k before) (λ g all. open-split n l tails t g all) n.count within in
+          let left : weighted (v (0 + n.count)) (staying n keep (0 + n.count) all) ≡ 0 = ap (weighted (v (0 + n.count))) none in
           omega (arith, swept.sum t, kept, left, one (v 0) n.first)),
-      (let zero' : distinct_count key_eq (filter (is_open n t n.count) (reached_by_some n n.count)) ≡ 0 = ap (λ ks. distinct_count key_eq (filter (is_open n t n.count) ks)) (sym (keys-first n n.count)) ∙ ap (distinct_count key_eq) (none-counted n l t all reached) in
-          omega (arith, swept.opened t, opened-first n t n.count, zero')),
+      (let free : List ℤ → Bool = is_open (asked tails n) t n.count in
+          let zero' : distinct_count key_eq (filter free (reached_by_some (asked tails n) n.count)) ≡ 0 = ap (λ ks. distinct_count key_eq (filter free ks)) (sym (keys-first n tails n.count)) ∙ ap (distinct_count key_eq) (none-counted (asked tails n) (asked-lawful tails n l) t all reached) in
+          omega (arith, swept.opened t, opened-first n tails t n.count, zero')),
     )
 swept-last n l limit All starts sums nodes swept = λ p.
     let course : Course = first_course n All in

@@ -1,17 +1,22 @@
 -- The extreme weight of a network that follows a test is the test's numerator, and its spread the test's distribution.
-use Rattle.std.proofs.Common.{◌≡◌, List, filter, sym, ◌∙◌, ap}
+use Rattle.std.proofs.Common.{◌≡◌, ℕ, List, filter, refl, sym, ◌∙◌, ap, subst}
+use Rattle.std.specs.Prelude.{ℤ}
 use Rattle.std.specs.List.{sum_by}
 use Rattle.weights.specs.declared.tails.Tail.{Tail}
+use Rattle.weights.specs.declared.tails.Tail.TheVariants.{Less, Greater, Two}
 use Rattle.weights.specs.declared.lines.Line.{Line}
 use Rattle.weights.specs.Conditional.{ConditionalTest, numerator, is_extreme, distribution, total}
-use Rattle.weights.specs.Rules.{passes, measured, rule_of}
+use Rattle.weights.specs.Rules.{RuleFits, passes, measured, rule_of}
 use Rattle.weights.proofs.ByRule.{is_extreme-by_rule}
 use Rattle.weights.proofs.Filters.{filter-same}
+use Rattle.stage_network.specs.declared.tail_sums.TailSum.{TailSum}
+use Rattle.stage_network.specs.declared.verdicts.Judge.{Judge}
 use Rattle.stage_network.specs.Network.{Network}
 use Rattle.stage_network.specs.Completions.{completions, ending_weight, extreme_weight, path_weight, total_weight, value_weights}
 use Rattle.weights.specs.Frames.{IsShown, first_tail}
 use Rattle.stage_network.specs.Lines.{IsSpreadOf, every}
 use Rattle.stage_network.specs.Follows.{Follows}
+use Rattle.stage_network.specs.Judged.{JudgeFits, judge_of, rule_in}
 use Rattle.stage_network.proofs.Judging.{extreme-passes}
 use Rattle.stage_network.proofs.DistributionLines.{spread-is}
 use Rattle.stage_network.proofs.Flat.{filter-every}
@@ -19,8 +24,24 @@ use Rattle.stage_network.proofs.Flat.{filter-every}
 pub numerator-by_rule : (test : ConditionalTest) (tail : Tail) → numerator test tail ≡ sum_by test.weight (filter (λ r. passes (rule_of test tail) (measured test tail r)) test.reference)
 numerator-by_rule test tail = ap (sum_by test.weight) (filter-same (is_extreme test tail) (λ r. passes (rule_of test tail) (measured test tail r)) (is_extreme-by_rule test tail) test.reference)
 
+-- a test's rules
+pub rule-of : (test : ConditionalTest) (tail : Tail) → rule_in (judge_of test) tail ≡ rule_of test tail
+rule-of test Less = refl
+rule-of test Greater = refl
+rule-of test Two = refl
+
+-- they fit a value where each of them does
+pub judge-fits : (test : ConditionalTest) (judge : Judge) → judge ≡ judge_of test → (v : ℤ) → ((tail : Tail) → RuleFits (rule_of test tail) v) → JudgeFits judge v
+judge-fits test judge e v fits = subst (λ j. JudgeFits j v) (sym e) (record { fits = λ tail. subst (λ rule. RuleFits rule v) (sym (rule-of test tail)) (fits tail) })
+
 pub extreme-is : (test : ConditionalTest) (tail : Tail) (n : Network) → Follows test tail n → extreme_weight n tail 0 n.first ≡ numerator test tail
-extreme-is test tail n f = extreme-passes n tail (rule_of test tail) f.intervals ∙ f.ends (passes (rule_of test tail)) ∙ sym (numerator-by_rule test tail)
+extreme-is test tail n f =
+    extreme-passes n (judge_of test) f.intervals tail ∙ ap (λ rule. value_weights n (passes rule)) (rule-of test tail)
+    ∙ f.ends (passes (rule_of test tail)) ∙ sym (numerator-by_rule test tail)
+
+-- what is found of a tail
+pub tail_sum_is : (x : TailSum) (a b : ℕ) → x.sum ≡ a → x.opened ≡ b → x ≡ record { sum = a; opened = b }
+tail_sum_is x a b e f = rw (← e, ← f) refl
 
 -- the completions of the first key weigh as much as all rearrangements: each passes the test that is always true
 pub whole-is : (test : ConditionalTest) (tail : Tail) (n : Network) → Follows test tail n → total_weight n 0 n.first ≡ total test

@@ -13,9 +13,10 @@ use Rattle.weights.specs.Rules.{passes, factor_of, centre_of, RuleFits}
 use Rattle.weights.proofs.Filters.{all_weaker}
 use Rattle.weights.proofs.Members.{Contains-here}
 use Rattle.stage_network.specs.declared.stages.Verdict.TheVariants.{Inside, Outside, Undecided}
+use Rattle.stage_network.specs.declared.verdicts.Judge.{Judge}
 use Rattle.stage_network.specs.Network.{Network, IsReached}
 use Rattle.stage_network.specs.Completions.{completions, path_end, path_weight, is_inside, is_extreme, extreme_weight, ending_weight}
-use Rattle.stage_network.specs.Judged.{offset, far_verdict, verdict_of, judged, HasIntervals}
+use Rattle.stage_network.specs.Judged.{offset, far_verdict, rule_in, verdict_of, HasIntervals, JudgeFits}
 use Rattle.stage_network.proofs.Steps.{completions-keep, reached-next}
 
 -- a greater value, times q
@@ -84,28 +85,7 @@ same_tail Two Less = inr (λ e. cc)
 same_tail Two Greater = inr (λ e. cc)
 same_tail Two Two = inl refl
 
--- what is judged for the tail, and for any other
-pub judged-here : (tail : Tail) (rule : Rule) (low high : ℤ) → judged tail rule tail low high ≡ verdict_of rule low high
-judged-here Less rule low high = refl
-judged-here Greater rule low high = refl
-judged-here Two rule low high = refl
-
-pub judged-else : (tail : Tail) (rule : Rule) (t : Tail) (low high : ℤ) → t ≢ tail → judged tail rule t low high ≡ Outside
-judged-else Less rule Less low high ne = absurd (ne refl)
-judged-else Less rule Greater low high ne = refl
-judged-else Less rule Two low high ne = refl
-judged-else Greater rule Less low high ne = refl
-judged-else Greater rule Greater low high ne = absurd (ne refl)
-judged-else Greater rule Two low high ne = refl
-judged-else Two rule Less low high ne = refl
-judged-else Two rule Greater low high ne = refl
-judged-else Two rule Two low high ne = absurd (ne refl)
-
 -- lists
-
-all_of : {X : Type 0} (P : X → Type 0) → ((x : X) → P x) → (xs : List X) → AllByRecursion P xs
-all_of P w [] = tt
-all_of P w (x ∷ xs) = (w x, all_of P w xs)
 
 filter-where : {X : Type 0} (P : X → Type 0) (p q : X → Bool) → ((x : X) → P x → p x ≡ q x) → (xs : List X) → AllByRecursion P xs → filter p xs ≡ filter q xs
 filter-where P p q e [] a = refl
@@ -131,7 +111,7 @@ fits-between rule a v b l h p q = record {
 
 -- a network with intervals
 
-module _ (n : Network) (tail : Tail) (rule : Rule) (h : HasIntervals n tail rule) where
+module _ (n : Network) (judge : Judge) (h : HasIntervals n judge) where
   -- what an arc keeps of an interval from low to high
   record IsWithin (low high : ℤ) (g : ℕ) (k : List ℤ) : Type 0 where
     reached : IsReached n g k
@@ -163,51 +143,36 @@ module _ (n : Network) (tail : Tail) (rule : Rule) (h : HasIntervals n tail rule
       (completions-keep n (IsWithin (h.low g k) (h.high g k)) (within-step (h.low g k) (h.high g k)) g k r l (record { reached = r; above = omega (arith, ints); below = omega (arith, ints) }))
 
   -- the verdict of a last key is that of its value
-  pub end_verdict : (e : List ℤ) → IsReached n n.count e → n.verdict tail n.count e ≡ verdict_of rule (n.value e) (n.value e)
-  end_verdict e r = h.verdicts n.count e r ∙ ap (λ z. verdict_of rule z (h.high n.count e)) (h.low_ends e r) ∙ ap (λ z. verdict_of rule (n.value e) z) (h.high_ends e r)
+  pub end_verdict : (t : Tail) (e : List ℤ) → IsReached n n.count e → n.verdict t n.count e ≡ verdict_of (rule_in judge t) (n.value e) (n.value e)
+  end_verdict t e r = h.verdicts t n.count e r ∙ ap (λ z. verdict_of (rule_in judge t) z (h.high n.count e)) (h.low_ends e r) ∙ ap (λ z. verdict_of (rule_in judge t) (n.value e) z) (h.high_ends e r)
 
-  end_extreme : (e : List ℤ) → IsReached n n.count e → is_inside (n.verdict tail n.count e) ≡ passes rule (n.value e)
-  end_extreme e r = ap is_inside (end_verdict e r) ∙ verdict-point rule (n.value e)
-
-  inside_here : (g : ℕ) (k : List ℤ) → IsReached n g k → g ≤ n.count → n.verdict tail g k ≡ Inside → AllByRecursion (λ cs. is_extreme n tail g k cs ≡ true) (completions n g k)
-  inside_here g k r l e =
-      all_weaker (λ cs. EndsBetween (h.low g k) (h.high g k) (path_end n g k cs)) (λ cs. is_extreme n tail g k cs ≡ true)
-      (λ cs w. end_extreme (path_end n g k cs) w.reached ∙ verdict-inside rule (h.low g k) (h.high g k) (n.value (path_end n g k cs)) w.above w.below (sym (h.verdicts g k r) ∙ e))
-      (completions n g k) (values_between g k r l)
-
-  outside_here : (g : ℕ) (k : List ℤ) → IsReached n g k → g ≤ n.count → n.verdict tail g k ≡ Outside → AllByRecursion (λ cs. is_extreme n tail g k cs ≡ false) (completions n g k)
-  outside_here g k r l e =
-      all_weaker (λ cs. EndsBetween (h.low g k) (h.high g k) (path_end n g k cs)) (λ cs. is_extreme n tail g k cs ≡ false)
-      (λ cs w. end_extreme (path_end n g k cs) w.reached ∙ verdict-outside rule (h.low g k) (h.high g k) (n.value (path_end n g k cs)) w.above w.below (sym (h.verdicts g k r) ∙ e))
-      (completions n g k) (values_between g k r l)
+  end_extreme : (t : Tail) (e : List ℤ) → IsReached n n.count e → is_inside (n.verdict t n.count e) ≡ passes (rule_in judge t) (n.value e)
+  end_extreme t e r = ap is_inside (end_verdict t e r) ∙ verdict-point (rule_in judge t) (n.value e)
 
   -- the laws of verdicts, for every tail
 
   pub intervals-inside : (t : Tail) (g : ℕ) (k : List ℤ) → IsReached n g k → g ≤ n.count → n.verdict t g k ≡ Inside → AllByRecursion (λ cs. is_extreme n t g k cs ≡ true) (completions n g k)
-  intervals-inside t g k r l e = elim (same_tail t tail) [
-    | inl same ↦ subst (λ s. n.verdict s g k ≡ Inside → AllByRecursion (λ cs. is_extreme n s g k cs ≡ true) (completions n g k)) (sym same) (inside_here g k r l) e
-    | inr other ↦ (let out : n.verdict t g k ≡ Outside = h.others t g k other in cc)
-  ]
+  intervals-inside t g k r l e =
+      all_weaker (λ cs. EndsBetween (h.low g k) (h.high g k) (path_end n g k cs)) (λ cs. is_extreme n t g k cs ≡ true)
+      (λ cs w. end_extreme t (path_end n g k cs) w.reached ∙ verdict-inside (rule_in judge t) (h.low g k) (h.high g k) (n.value (path_end n g k cs)) w.above w.below (sym (h.verdicts t g k r) ∙ e))
+      (completions n g k) (values_between g k r l)
 
   pub intervals-outside : (t : Tail) (g : ℕ) (k : List ℤ) → IsReached n g k → g ≤ n.count → n.verdict t g k ≡ Outside → AllByRecursion (λ cs. is_extreme n t g k cs ≡ false) (completions n g k)
-  intervals-outside t g k r l e = elim (same_tail t tail) [
-    | inl same ↦ subst (λ s. n.verdict s g k ≡ Outside → AllByRecursion (λ cs. is_extreme n s g k cs ≡ false) (completions n g k)) (sym same) (outside_here g k r l) e
-    | inr other ↦ all_of (λ cs. is_extreme n t g k cs ≡ false) (λ cs. ap is_inside (h.others t n.count (path_end n g k cs) other)) (completions n g k)
-  ]
+  intervals-outside t g k r l e =
+      all_weaker (λ cs. EndsBetween (h.low g k) (h.high g k) (path_end n g k cs)) (λ cs. is_extreme n t g k cs ≡ false)
+      (λ cs w. end_extreme t (path_end n g k cs) w.reached ∙ verdict-outside (rule_in judge t) (h.low g k) (h.high g k) (n.value (path_end n g k cs)) w.above w.below (sym (h.verdicts t g k r) ∙ e))
+      (completions n g k) (values_between g k r l)
 
   pub intervals-decided : (t : Tail) (k : List ℤ) → IsReached n n.count k → n.verdict t n.count k ≢ Undecided
-  intervals-decided t k r e = elim (same_tail t tail) [
-    | inl same ↦ verdict-decided rule (n.value k) (sym (end_verdict k r) ∙ ap (λ s. n.verdict s n.count k) (sym same) ∙ e)
-    | inr other ↦ (let out : n.verdict t n.count k ≡ Outside = h.others t n.count k other in cc)
-  ]
+  intervals-decided t k r e = verdict-decided (rule_in judge t) (n.value k) (sym (end_verdict t k r) ∙ e)
 
   -- the extreme completions are those whose value passes the rule
-  pub extreme-passes : extreme_weight n tail 0 n.first ≡ ending_weight n (λ k. passes rule (n.value k))
+  pub extreme-passes : (t : Tail) → extreme_weight n t 0 n.first ≡ ending_weight n (λ k. passes (rule_in judge t) (n.value k))
   unfolding extreme_weight ending_weight
-  extreme-passes =
+  extreme-passes t =
       ap (sum_by (path_weight n 0 n.first))
-      (filter-where (λ cs. EndsBetween (h.low 0 n.first) (h.high 0 n.first) (path_end n 0 n.first cs)) (is_extreme n tail 0 n.first) (λ cs. passes rule (n.value (path_end n 0 n.first cs)))
-      (λ cs w. end_extreme (path_end n 0 n.first cs) w.reached) (completions n 0 n.first) (values_between 0 n.first refl (omega arith)))
+      (filter-where (λ cs. EndsBetween (h.low 0 n.first) (h.high 0 n.first) (path_end n 0 n.first cs)) (is_extreme n t 0 n.first) (λ cs. passes (rule_in judge t) (n.value (path_end n 0 n.first cs)))
+      (λ cs w. end_extreme t (path_end n 0 n.first cs) w.reached) (completions n 0 n.first) (values_between 0 n.first refl (omega arith)))
 
   -- a reached key's interval lies in that of the first key
   pub narrowed : (g : ℕ) (k : List ℤ) → IsReached n g k → (h.low 0 n.first ≤ℤ h.low g k) × (h.high g k ≤ℤ h.high 0 n.first)
@@ -233,13 +198,13 @@ module _ (n : Network) (tail : Tail) (rule : Rule) (h : HasIntervals n tail rule
     ordered zero k r = ordered-from n.count zero k (omega arith) r
     ordered (suc g) k r = ordered-from (n.count - suc g) (suc g) k (omega (arith, r.3)) r
 
-    -- so a rule that fits both ends of the first key's interval fits those of every reached key
-    pub fits-low : RuleFits rule (h.low 0 n.first) → RuleFits rule (h.high 0 n.first) → (g : ℕ) (k : List ℤ) → IsReached n g k → RuleFits rule (h.low g k)
-    fits-low a b g k r =
-        fits-between rule (h.low 0 n.first) (h.low g k) (h.high 0 n.first) (narrowed g k r).0
-        (let l : h.low g k ≤ℤ h.high g k = ordered g k r in omega (arith, ints, l, (narrowed g k r).1)) a b
+    -- so rules that fit both ends of the first key's interval fit those of every reached key
+    pub fits-low : JudgeFits judge (h.low 0 n.first) → JudgeFits judge (h.high 0 n.first) → (t : Tail) (g : ℕ) (k : List ℤ) → IsReached n g k → RuleFits (rule_in judge t) (h.low g k)
+    fits-low a b t g k r =
+        fits-between (rule_in judge t) (h.low 0 n.first) (h.low g k) (h.high 0 n.first) (narrowed g k r).0
+        (let l : h.low g k ≤ℤ h.high g k = ordered g k r in omega (arith, ints, l, (narrowed g k r).1)) (a.fits t) (b.fits t)
 
-    pub fits-high : RuleFits rule (h.low 0 n.first) → RuleFits rule (h.high 0 n.first) → (g : ℕ) (k : List ℤ) → IsReached n g k → RuleFits rule (h.high g k)
-    fits-high a b g k r =
-        fits-between rule (h.low 0 n.first) (h.high g k) (h.high 0 n.first)
-        (let l : h.low g k ≤ℤ h.high g k = ordered g k r in omega (arith, ints, l, (narrowed g k r).0)) (narrowed g k r).1 a b
+    pub fits-high : JudgeFits judge (h.low 0 n.first) → JudgeFits judge (h.high 0 n.first) → (t : Tail) (g : ℕ) (k : List ℤ) → IsReached n g k → RuleFits (rule_in judge t) (h.high g k)
+    fits-high a b t g k r =
+        fits-between (rule_in judge t) (h.low 0 n.first) (h.high g k) (h.high 0 n.first)
+        (let l : h.low g k ≤ℤ h.high g k = ordered g k r in omega (arith, ints, l, (narrowed g k r).0)) (narrowed g k r).1 (a.fits t) (b.fits t)

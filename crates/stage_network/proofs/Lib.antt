@@ -19,6 +19,7 @@ pub mod RoomNodes
 pub mod Housing
 pub mod Gathered
 pub mod Carried
+pub mod Asked
 pub mod ToCome
 pub mod Listing
 pub mod Sweeps
@@ -37,8 +38,5 @@ pub mod Totals
 pub mod EndTables
 pub mod Adding
 pub mod EndsFitting
-pub mod Alike
 pub mod Steady
-pub mod Joined
-pub mod Shared
 pub mod Images

@@ -7,17 +7,20 @@ use Rattle.std.proofs.lemmas.Int.{ints}
 use Rattle.std.proofs.lemmas.List.Elements.{recursion_from_All, All-contains_itself}
 use Rattle.weights.specs.declared.tails.Tail.{Tail}
 use Rattle.weights.specs.declared.tails.Tail.TheVariants.{Less, Greater, Two}
+use Rattle.weights.specs.declared.tails.Tails.{Tails}
 use Rattle.weights.specs.declared.rules.Rule.{Rule}
 use Rattle.weights.specs.declared.rules.Rule.TheVariants.{AtMost, AtLeast, Far}
 use Rattle.weights.proofs.Filters.{all_append, all_map, all_weaker}
 use Rattle.node_pool.specs.Nodes.{key_eq}
 use Rattle.stage_network.specs.declared.stages.Verdict.{Verdict}
 use Rattle.stage_network.specs.declared.stages.Verdict.TheVariants.{Outside}
+use Rattle.stage_network.specs.declared.verdicts.Judge.{Judge}
 use Rattle.stage_network.specs.Network.{Network, IsReached}
 use Rattle.stage_network.specs.Opened.{is_undecided, is_open, reached_openly, opened_below, is_open_for_some, reached_by_some, opened_by_some}
-use Rattle.stage_network.specs.Judged.{offset, far_verdict, verdict_of, HasIntervals}
+use Rattle.stage_network.specs.Judged.{offset, far_verdict, rule_in, verdict_of, HasIntervals, IsJudged}
 use Rattle.stage_network.specs.Steady.{IsSteady}
-use Rattle.stage_network.specs.Alike.{with_verdicts}
+use Rattle.stage_network.specs.Asked.{asked, asks}
+use Rattle.stage_network.proofs.Asked.{asked-below, asked-else, asked-own}
 use Rattle.stage_network.proofs.Steps.{filter_none, filter-map, filter-flat_map, reached-next}
 use Rattle.stage_network.proofs.OpenKeys.{all_filter}
 use Rattle.stage_network.proofs.Judging.{offset-≤, same_tail}
@@ -121,22 +124,23 @@ verdict-narrows (Far q c d) low high low' high' l h e = far-narrows d (offset q 
 
 -- so a key that is open for the rule's tail is reached through keys that are open for it
 
-pub open-narrows : (n : Network) (t : Tail) (rule : Rule) → HasIntervals n t rule → (g : ℕ) (k : List ℤ) (c : List ℕ) → IsReached n g k → g < n.count → Contains (n.choices g k) c → is_open n t (g + 1) (n.next g k c) ≡ true → is_open n t g k ≡ true
-open-narrows n t rule i g k c r below allowed opened =
-    ap is_undecided (i.verdicts g k r)
-    ∙ verdict-narrows rule (i.low g k) (i.high g k) (i.low (g + 1) (n.next g k c)) (i.high (g + 1) (n.next g k c)) (i.low_rises g k c r below allowed) (i.high_falls g k c r below allowed)
-    (sym (ap is_undecided (i.verdicts (g + 1) (n.next g k c) (reached-next n g k c r below allowed))) ∙ opened)
+pub open-narrows : (n : Network) (judge : Judge) → HasIntervals n judge → (t : Tail) (g : ℕ) (k : List ℤ) (c : List ℕ) → IsReached n g k → g < n.count → Contains (n.choices g k) c → is_open n t (g + 1) (n.next g k c) ≡ true → is_open n t g k ≡ true
+open-narrows n judge i t g k c r below allowed opened =
+    ap is_undecided (i.verdicts t g k r)
+    ∙ verdict-narrows (rule_in judge t) (i.low g k) (i.high g k) (i.low (g + 1) (n.next g k c)) (i.high (g + 1) (n.next g k c)) (i.low_rises g k c r below allowed) (i.high_falls g k c r below allowed)
+    (sym (ap is_undecided (i.verdicts t (g + 1) (n.next g k c) (reached-next n g k c r below allowed))) ∙ opened)
 
-pub steady-intervals : (n : Network) (t : Tail) (rule : Rule) → HasIntervals n t rule → IsSteady n t
-steady-intervals n t rule i g k c r below allowed some opened = open-narrows n t rule i g k c r below allowed opened
+-- so the open keys of the asked tails, whatever the others'
 
--- whatever the verdicts for the other tails
+pub steady-asked : (tails : Tails) (n : Network) → IsJudged n → (t : Tail) → asks tails t ≡ true → IsSteady (asked tails n) t
+steady-asked tails n j t a g k c r below allowed some opened =
+    ap (λ (v : ℕ → List ℤ → Verdict). is_undecided (v g k)) (asked-own tails n t a)
+    ∙ open-narrows n j.judge j.intervals t g k c r below allowed (sym (ap (λ (v : ℕ → List ℤ → Verdict). is_undecided (v (g + 1) (n.next g k c))) (asked-own tails n t a)) ∙ opened)
 
-reached_without : (n : Network) (v : Tail → ℕ → List ℤ → Verdict) (g : ℕ) (k : List ℤ) → IsReached (with_verdicts n v) g k → IsReached n g k
-reached_without n v zero k r = r
-reached_without n v (suc g) k (j, c, r, below, allowed, e) = (j, c, reached_without n v g j r, below, allowed, e)
+pub opened-asked : (tails : Tails) (n : Network) → IsJudged n → (t : Tail) → asks tails t ≡ true → opened_by_some (asked tails n) t n.count ≡ opened_below n t n.count
+opened-asked tails n j t a = opened-steady (asked tails n) t (steady-asked tails n j t a) n.count (omega arith) ∙ asked-below tails n t a n.count
 
-pub steady-with : (n : Network) (v : Tail → ℕ → List ℤ → Verdict) (t : Tail) (rule : Rule) → HasIntervals n t rule → ((g : ℕ) (k : List ℤ) → v t g k ≡ n.verdict t g k) → IsSteady (with_verdicts n v) t
-steady-with n v t rule i same g k c r below allowed some opened =
-    ap is_undecided (same g k)
-    ∙ open-narrows n t rule i g k c (reached_without n v g k r) below allowed (sym (ap is_undecided (same (g + 1) (n.next g k c))) ∙ opened)
+pub opened-alone : (tails : Tails) (n : Network) (t : Tail) → asks tails t ≡ true → ((s : Tail) → asks tails s ≡ true → s ≡ t) → opened_by_some (asked tails n) t n.count ≡ opened_below n t n.count
+opened-alone tails n t a alone =
+    opened-steady (asked tails n) t (steady-alone (asked tails n) t (λ s g k ne. asked-else tails n s (not_true (asks tails s) (λ e. ne (alone s e))) g k)) n.count (omega arith)
+    ∙ asked-below tails n t a n.count

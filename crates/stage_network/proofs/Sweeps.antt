@@ -8,6 +8,7 @@ use Rattle.std.proofs.lemmas.List.Elements.{filter-append}
 use Rattle.std.proofs.lemmas.List.Sums.{sum_by-cons, sum_by-append}
 use Rattle.std.proofs.lemmas.Map.Made.{is_member-filter}
 use Rattle.weights.specs.declared.tails.Tail.{Tail}
+use Rattle.weights.specs.declared.tails.Tails.{Tails}
 use Rattle.node_pool.specs.Nodes.{Node, node, key_eq, keys, is_held, weighted}
 use Rattle.node_pool.proofs.Puts.{same_key, key_equiv}
 use Rattle.stage_network.specs.Network.{Network}
@@ -15,6 +16,7 @@ use Rattle.stage_network.specs.declared.stages.Verdict.{Verdict}
 use Rattle.stage_network.specs.declared.stages.Verdict.TheVariants.{Inside, Outside, Undecided}
 use Rattle.stage_network.specs.declared.tail_sums.Kept.{Kept}
 use Rattle.stage_network.specs.declared.tail_sums.Kept.TheVariants.{Open, All}
+use Rattle.stage_network.specs.Asked.{asked}
 use Rattle.stage_network.specs.Completions.{is_inside, total_weight}
 use Rattle.stage_network.specs.Opened.{is_open, is_open_for_some}
 use Rattle.stage_network.specs.NodeSteps.{all_successors, closes_inside, closed_part, closed_weight, AllHeavy}
@@ -69,7 +71,7 @@ closed-or false Undecided m = omega arith
 
 closed-or_stays : (n : Network) (keep : Kept) (t : Tail) (g : ℕ) (k : List ℤ) → closed_at n keep t g k + cond (stays n keep g k) (total_weight n g k) 0 ≤ total_weight n g k
 closed-or_stays n All t g k = omega arith
-closed-or_stays n Open t g k = closed-or (is_open_for_some n g k) (n.verdict t g k) (total_weight n g k)
+closed-or_stays n (Open tails) t g k = closed-or (is_open_for_some (asked tails n) g k) ((asked tails n).verdict t g k) (total_weight n g k)
 
 times-le : (w a b c : ℕ) → a + b ≤ c → w * a + w * b ≤ w * c
 times-le zero a b c h = omega arith
@@ -94,8 +96,9 @@ parted n keep t g (a ∷ nodes) =
 pub closed-le : (n : Network) (keep : Kept) (t : Tail) (g : ℕ) (nodes : List Node) → weighted (closed_at n keep t g) nodes ≤ weighted (total_weight n g) nodes
 closed-le n keep t g nodes = omega (arith, parted n keep t g nodes)
 
-pub closed-weighted : (n : Network) (t : Tail) (g : ℕ) (nodes : List Node) → closed_weight n t g nodes ≡ weighted (closed_at n Open t g) nodes
-closed-weighted n t g nodes = sum_by-same (closed_part n t g) _ (λ a. when (closes_inside n t g a.key) a.weight (total_weight n g a.key)) nodes
+pub closed-weighted : (n : Network) (tails : Tails) (t : Tail) (g : ℕ) (nodes : List Node) → closed_weight (asked tails n) t g nodes ≡ weighted (closed_at n (Open tails) t g) nodes
+unfolding total_weight
+closed-weighted n tails t g nodes = sum_by-same (closed_part (asked tails n) t g) _ (λ a. when (closes_inside (asked tails n) t g a.key) a.weight (total_weight n g a.key)) nodes
 
 pub closed-none : (n : Network) (t : Tail) (g : ℕ) (nodes : List Node) → weighted (closed_at n All t g) nodes ≡ 0
 closed-none n t g [] = refl
@@ -108,30 +111,31 @@ staying-none n g (a ∷ nodes) = ap (λ ns. a ∷ ns) (staying-none n g nodes)
 -- what is counted of nodes that stay is counted of all, and of two lists apart
 pub counted-more : (n : Network) (keep : Kept) (t : Tail) (g : ℕ) (kept work : List Node) → counted n keep t g (kept ++ staying n keep g work) ≡ counted n keep t g kept + counted n keep t g work
 counted-more n All t g kept work = refl
-counted-more n Open t g kept work =
-    let f : List ℤ → Bool = is_open n t g in
-    ap length (filter-append (λ (a : Node). f a.key) kept (staying n Open g work))
-    ∙ length-append (filter (λ (a : Node). f a.key) kept) (filter (λ (a : Node). f a.key) (staying n Open g work))
-    ∙ ap (λ ns. length (filter (λ (a : Node). f a.key) kept) + length ns) (filter-both f (is_open_for_some n g) (open-for n t g) work)
+counted-more n (Open tails) t g kept work =
+    let f : List ℤ → Bool = is_open (asked tails n) t g in
+    ap length (filter-append (λ (a : Node). f a.key) kept (staying n (Open tails) g work))
+    ∙ length-append (filter (λ (a : Node). f a.key) kept) (filter (λ (a : Node). f a.key) (staying n (Open tails) g work))
+    ∙ ap (λ ns. length (filter (λ (a : Node). f a.key) kept) + length ns) (filter-both f (is_open_for_some (asked tails n) g) (open-for (asked tails n) t g) work)
 
 pub counted-staying : (n : Network) (keep : Kept) (t : Tail) (g : ℕ) (nodes : List Node) → counted n keep t g (staying n keep g nodes) ≡ counted n keep t g nodes
 counted-staying n All t g nodes = refl
-counted-staying n Open t g nodes = ap length (filter-both (is_open n t g) (is_open_for_some n g) (open-for n t g) nodes)
+counted-staying n (Open tails) t g nodes = ap length (filter-both (is_open (asked tails n) t g) (is_open_for_some (asked tails n) g) (open-for (asked tails n) t g) nodes)
 
 pub counted-nothing : (n : Network) (keep : Kept) (t : Tail) (g : ℕ) (m : ℕ) → m ≡ m + counted n keep t g []
 counted-nothing n All t g m = omega arith
-counted-nothing n Open t g m = omega arith
+counted-nothing n (Open tails) t g m = omega arith
 
 pub counted-le : (n : Network) (keep : Kept) (t : Tail) (g : ℕ) (nodes : List Node) → counted n keep t g nodes ≤ length nodes
 counted-le n All t g nodes = omega arith
-counted-le n Open t g nodes = length-filter-le (λ (a : Node). is_open n t g a.key) nodes
+counted-le n (Open tails) t g nodes = length-filter-le (λ (a : Node). is_open (asked tails n) t g a.key) nodes
 
 -- the members of what is left of nodes
-pub stay-members : (n : Network) (g : ℕ) (kept all : List Node) → AllHeavy kept → AllHeavy all → ((f : List ℤ → ℕ) → weighted f kept ≡ weighted f (staying n Open g all)) → (q : List ℤ) → is_held kept q ≡ (is_held all q && is_open_for_some n g q)
-stay-members n g kept all heavy solid told q =
-    same-members kept (staying n Open g all) heavy (all_filter (λ (a : Node). 1 ≤ a.weight) (λ a. is_open_for_some n g a.key) all solid) told q
-    ∙ ap (λ ks. is_member key_eq ks q) (keys-filter (is_open_for_some n g) all)
-    ∙ is_member-filter key_equiv (is_open_for_some n g) q (λ x e. ap (is_open_for_some n g) (same_key q x e)) (keys all)
+pub stay-members : (n : Network) (tails : Tails) (g : ℕ) (kept all : List Node) → AllHeavy kept → AllHeavy all → ((f : List ℤ → ℕ) → weighted f kept ≡ weighted f (staying n (Open tails) g all)) → (q : List ℤ) → is_held kept q ≡ (is_held all q && is_open_for_some (asked tails n) g q)
+stay-members n tails g kept all heavy solid told q =
+    let some : List ℤ → Bool = is_open_for_some (asked tails n) g in
+    same-members kept (staying n (Open tails) g all) heavy (all_filter (λ (a : Node). 1 ≤ a.weight) (λ a. some a.key) all solid) told q
+    ∙ ap (λ ks. is_member key_eq ks q) (keys-filter some all)
+    ∙ is_member-filter key_equiv some q (λ x e. ap some (same_key q x e)) (keys all)
 
 -- the first node
 pub one : (f : List ℤ → ℕ) (k : List ℤ) → weighted f (node k 1 ∷ []) ≡ f k

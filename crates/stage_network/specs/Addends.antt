@@ -3,13 +3,11 @@
 -- are those of boxes: each sum ends between two numbers.
 use Rattle.std.specs.Prelude.{ℕ, zero, suc, ◌+◌, ◌-◌, ◌*◌, min, max, ℤ, pos, ◌+ℤ◌, nat_abs, List, [], ◌∷◌, Bool, true, false, replicate, nat_lt, slice_index_or, if◌then◌else◌}
 use Rattle.std.specs.List.{sum_by}
-use Rattle.weights.specs.declared.tails.Tail.{Tail}
-use Rattle.weights.specs.declared.rules.Rule.{Rule}
 use Rattle.stage_network.specs.declared.additive.SumValue.{SumValue}
 use Rattle.stage_network.specs.declared.additive.SumValue.TheVariants.{First, Squares}
+use Rattle.stage_network.specs.declared.verdicts.Judge.{Judge}
 use Rattle.stage_network.specs.Network.{Network}
-use Rattle.stage_network.specs.Alike.{Shape}
-use Rattle.stage_network.specs.Judged.{judged}
+use Rattle.stage_network.specs.Judged.{rule_in, verdict_of}
 use Rattle.stage_network.specs.PartialSums.{plus, kept}
 
 pub record Addends : Type 0 where
@@ -29,9 +27,8 @@ pub record Addends : Type 0 where
   -- whether the sums are kept ascending, and what is measured of the last ones
   pub sorted : Bool
   pub value : SumValue
-  -- the tail that the verdicts are for, and its rule
-  pub tail : Tail
-  pub rule : Rule
+  -- the rules that the verdicts go by
+  pub judge : Judge
 
 -- the sum over m stages from g on
 abbrev pub over_stages : (ℕ → ℤ) → ℕ → ℕ → ℤ
@@ -89,13 +86,9 @@ additive_network a = record {
   later = λ g k c. a.later g c;
   weight = λ g k c. a.weight g c;
   next = λ g k c. kept a.sorted (plus k (a.adds g c));
-  verdict = λ t g k. judged a.tail a.rule t (low a g k) (high a g k);
+  verdict = λ t g k. verdict_of (rule_in a.judge t) (low a g k) (high a g k);
   value = value_of a.value;
 }
-
--- what it is asked once for each room: its one room is empty
-abbrev pub additive_shape : Shape
-additive_shape = record { room_width = 0; outlook_width = 0; outlook = λ g room. [] }
 
 -- the choices that are still to come at a stage: from c on, or none
 abbrev pub choices_left : Addends → ℕ → Bool → List ℕ → List (List ℕ)

@@ -6,11 +6,11 @@ use Rattle.weights.specs.declared.tails.Tail.{Tail}
 use Rattle.weights.specs.declared.tails.Tail.TheVariants.{Less, Greater, Two}
 use Rattle.weights.specs.declared.tails.Tails.{Tails}
 use Rattle.weights.specs.Conditional.{ConditionalTest, numerator, observed_statistic, total}
-use Rattle.weights.specs.Rules.{measured, rule_of}
+use Rattle.weights.specs.Rules.{measured}
 use Rattle.stage_network.specs.Network.{Network}
-use Rattle.stage_network.specs.Alike.{AreAlike, Shape}
+use Rattle.stage_network.specs.Asked.{asks}
 use Rattle.stage_network.specs.Completions.{value_weights}
-use Rattle.stage_network.specs.Judged.{HasIntervals}
+use Rattle.stage_network.specs.Judged.{HasIntervals, judge_of}
 use Rattle.stage_network.specs.Opened.{opened_below}
 use Rattle.stage_network.specs.declared.tail_sums.TailSum.{TailSum}
 use Rattle.stage_network.specs.declared.answers.Answer.{Answer}
@@ -26,23 +26,20 @@ measured_weight test tail p =
 abbrev pub statistic_sums : ConditionalTest → (ℤ → Bool) → ℕ
 statistic_sums test p = sum_by test.weight (filter (λ r. p (test.statistic r)) test.reference)
 
--- the verdicts are those of the tail's rule over intervals, and as much weight ends at values that
--- pass as rearrangements have a measure that does
+-- the verdicts are those of the test's rules over intervals, and as much weight ends at values that
+-- pass as rearrangements have a measure for the tail that does
 pub record Follows (test : ConditionalTest) (tail : Tail) (n : Network) : Type 0 where
-  pub intervals : HasIntervals n tail (rule_of test tail)
+  pub intervals : HasIntervals n (judge_of test)
   pub ends : (p : ℤ → Bool) → value_weights n p ≡ measured_weight test tail p
 
--- the networks of the tails that a test has are the same but for their verdicts, and so are shaped
-abbrev pub AreShared : ConditionalTest → (Tail → Network) → (Tail → Shape) → Type 0
-AreShared test network shape = (s t : Tail)
-    → test.has_tail s ≡ true → test.has_tail t ≡ true
-    → AreAlike (network s) (network t) × (shape s ≡ shape t)
+-- each tail that a test has is followed by its network
+abbrev pub AllFollow : ConditionalTest → (Tail → Network) → Type 0
+AllFollow test network = (t : Tail) → test.has_tail t ≡ true → Follows test t (network t)
 
--- the tails that are asked
-abbrev pub asks : Tails → Tail → Bool
-asks tails Less = tails.less
-asks tails Greater = tails.greater
-asks tails Two = tails.two
+-- the tails that a test has are served by one network
+abbrev pub AreShared : ConditionalTest → (Tail → Network) → Type 0
+AreShared test network = (s t : Tail)
+    → test.has_tail s ≡ true → test.has_tail t ≡ true → network s ≡ network t
 
 abbrev pub HasTails : ConditionalTest → Tails → Type 0
 HasTails test tails = (tail : Tail) → asks tails tail ≡ true → test.has_tail tail ≡ true
@@ -50,6 +47,11 @@ HasTails test tails = (tail : Tail) → asks tails tail ≡ true → test.has_ta
 -- how many open keys the network of each tail has
 abbrev pub open_keys : (Tail → Network) → Tail → ℕ
 open_keys network tail = opened_below (network tail) tail (network tail).count
+
+-- two networks of each tail that a test has open as many keys
+abbrev pub OpenAlike : ConditionalTest → (Tail → Network) → (Tail → Network) → Type 0
+OpenAlike test one other = (t : Tail)
+    → test.has_tail t ≡ true → open_keys one t ≡ open_keys other t
 
 -- how many of them are counted on a way
 abbrev pub counted_by : Way → ℕ → ℕ

@@ -1,13 +1,16 @@
 -- What an interval that holds a value says of the value's rule, and networks whose verdicts come
 -- of intervals.
-use Rattle.std.specs.Prelude.{◌≡◌, ◌≢◌, ℕ, ◌+◌, ◌<◌, ℤ, pos, ◌-ℤ◌, ◌*ℤ◌, ◌≤ℤ◌, List, Bool, true, false, nat_eq, int_le, int_lt, ◌||◌, ◌&&◌, if◌then◌else◌}
+use Rattle.std.specs.Prelude.{◌≡◌, ℕ, ◌+◌, ◌<◌, ℤ, pos, ◌-ℤ◌, ◌*ℤ◌, ◌≤ℤ◌, List, Bool, true, false, nat_eq, int_le, int_lt, ◌||◌, ◌&&◌, if◌then◌else◌}
 use Rattle.std.specs.List.{Contains}
 use Rattle.weights.specs.declared.tails.Tail.{Tail}
 use Rattle.weights.specs.declared.tails.Tail.TheVariants.{Less, Greater, Two}
 use Rattle.weights.specs.declared.rules.Rule.{Rule}
 use Rattle.weights.specs.declared.rules.Rule.TheVariants.{AtMost, AtLeast, Far}
+use Rattle.weights.specs.Conditional.{ConditionalTest}
+use Rattle.weights.specs.Rules.{RuleFits, rule_of}
 use Rattle.stage_network.specs.declared.stages.Verdict.{Verdict}
 use Rattle.stage_network.specs.declared.stages.Verdict.TheVariants.{Inside, Outside, Undecided}
+use Rattle.stage_network.specs.declared.verdicts.Judge.{Judge}
 use Rattle.stage_network.specs.Network.{Network, IsReached}
 
 -- how far, and to which side, q times a value is from the centre
@@ -41,19 +44,28 @@ is_tail Greater Greater = true
 is_tail Two Two = true
 is_tail _ _ = false
 
--- the verdict for the tail t, where the rule is that of one tail
-abbrev pub judged : Tail → Rule → Tail → ℤ → ℤ → Verdict
-judged tail rule t low high = if is_tail tail t then verdict_of rule low high else Outside
+-- the rule of a tail
+abbrev pub rule_in : Judge → Tail → Rule
+rule_in judge Less = judge.less
+rule_in judge Greater = judge.greater
+rule_in judge Two = judge.two
+
+-- the rules of a test
+abbrev pub judge_of : ConditionalTest → Judge
+judge_of test =
+    record { less = rule_of test Less; greater = rule_of test Greater; two = rule_of test Two }
+
+-- the numbers that the rules compute of a value pass no limit
+pub record JudgeFits (judge : Judge) (v : ℤ) : Type 0 where
+  pub fits : (t : Tail) → RuleFits (rule_in judge t) v
 
 -- Each reached key has an interval, from low to high, that narrows along every arc, to the value
--- at the last stage; for the one tail its verdict is that of the rule over the interval, and for
--- any other it is Outside.
-pub record HasIntervals (n : Network) (tail : Tail) (rule : Rule) : Type 0 where
+-- at the last stage; its verdict for a tail is that of the tail's rule over the interval.
+pub record HasIntervals (n : Network) (judge : Judge) : Type 0 where
   pub low : ℕ → List ℤ → ℤ
   pub high : ℕ → List ℤ → ℤ
-  pub verdicts : (g : ℕ) (k : List ℤ)
-      → IsReached n g k → n.verdict tail g k ≡ verdict_of rule (low g k) (high g k)
-  pub others : (t : Tail) (g : ℕ) (k : List ℤ) → t ≢ tail → n.verdict t g k ≡ Outside
+  pub verdicts : (t : Tail) (g : ℕ) (k : List ℤ)
+      → IsReached n g k → n.verdict t g k ≡ verdict_of (rule_in judge t) (low g k) (high g k)
   pub low_rises : (g : ℕ) (k : List ℤ) (c : List ℕ)
       → IsReached n g k → g < n.count → Contains (n.choices g k) c
       → low g k ≤ℤ low (g + 1) (n.next g k c)
@@ -63,7 +75,7 @@ pub record HasIntervals (n : Network) (tail : Tail) (rule : Rule) : Type 0 where
   pub low_ends : (k : List ℤ) → IsReached n n.count k → low n.count k ≡ n.value k
   pub high_ends : (k : List ℤ) → IsReached n n.count k → high n.count k ≡ n.value k
 
--- the verdicts for a tail are those of some rule over intervals
-pub record IsJudged (n : Network) (t : Tail) : Type 0 where
-  pub rule : Rule
-  pub intervals : HasIntervals n t rule
+-- the verdicts are those of some rules over intervals
+pub record IsJudged (n : Network) : Type 0 where
+  pub judge : Judge
+  pub intervals : HasIntervals n judge

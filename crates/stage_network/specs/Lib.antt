@@ -3,7 +3,7 @@ pub mod Completions
 pub mod Laws
 pub mod Opened
 pub mod Steady
-pub mod Alike
+pub mod Asked
 pub mod Rooms
 pub mod Lines
 pub mod Judged

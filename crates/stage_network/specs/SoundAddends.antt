@@ -2,9 +2,9 @@
 use Rattle.std.specs.Prelude.{◌≡◌, ◌≢◌, ℕ, ◌<◌, ◌≤◌, ◌*◌, pos, ◌≤ℤ◌, nat_abs, List, [], length, AllPairs}
 use Rattle.std.specs.List.{Contains, AllByRecursion, sum_by}
 use Rattle.weights.specs.declared.TheConstants.{MAX}
-use Rattle.weights.specs.Rules.{RuleFits}
 use Rattle.stage_network.specs.declared.additive.SumValue.{SumValue}
 use Rattle.stage_network.specs.declared.additive.SumValue.TheVariants.{First, Squares}
+use Rattle.stage_network.specs.Judged.{JudgeFits}
 use Rattle.stage_network.specs.Addends.{Addends, zeros, low, high, totals, over_earlier, reach}
 
 -- a choice of stage g adds one number to each sum, from the stage's least to its greatest
@@ -42,6 +42,6 @@ pub record IsAdditive (a : Addends) : Type 0 where
   -- no sum passes MAX
   pub sums_fit : reach a ≤ MAX
   pub measured : IsMeasured a a.value
-  -- the rule fits both ends of the first interval
-  pub low_fits : RuleFits a.rule (low a 0 (zeros a))
-  pub high_fits : RuleFits a.rule (high a 0 (zeros a))
+  -- the rules fit both ends of the first interval
+  pub low_fits : JudgeFits a.judge (low a 0 (zeros a))
+  pub high_fits : JudgeFits a.judge (high a 0 (zeros a))

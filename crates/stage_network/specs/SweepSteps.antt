@@ -1,5 +1,5 @@
--- A sweep through the stages for all tails at once: of the keys those stay that are open for some
--- tail, or every key does.
+-- A sweep through the stages for the asked tails at once: of the keys those stay that are open for
+-- some of these, or every key does.
 use Rattle.std.specs.Prelude.{◌≡◌, ℕ, zero, suc, ℤ, ◌+◌, ◌*◌, ◌≤◌, ◌^◌, List, [], ◌∷◌, length, take, Bool, true, cond, ◌||◌}
 use Rattle.std.specs.List.{filter, IsDistinct}
 use Rattle.std.specs.Set.{distinct_count}
@@ -20,6 +20,7 @@ use Rattle.stage_network.specs.declared.sweep.Sweep.{Sweep}
 use Rattle.stage_network.specs.Network.{Network}
 use Rattle.stage_network.specs.Completions.{total_weight, extreme_weight, ending_weight}
 use Rattle.stage_network.specs.Laws.{IsLawful}
+use Rattle.stage_network.specs.Asked.{asked}
 use Rattle.stage_network.specs.Opened.{is_open, is_undecided, is_open_for_some, opened_by_some}
 use Rattle.stage_network.specs.Rooms.{IsRoomed}
 use Rattle.stage_network.specs.NodeSteps.{AllHeavy, AllReached, AreNodes, all_successors, closes_inside, opened_in}
@@ -44,7 +45,7 @@ some_undecided verdicts =
 
 -- whether a key of stage g stays
 abbrev pub stays : Network → Kept → ℕ → List ℤ → Bool
-stays n Open g k = is_open_for_some n g k
+stays n (Open tails) g k = is_open_for_some (asked tails n) g k
 stays n All g k = true
 
 -- the nodes that stay
@@ -53,17 +54,18 @@ staying n kept g nodes = filter (λ a. stays n kept g a.key) nodes
 
 -- the weight that is closed at a key for a tail: that of its completions, where all are extreme
 abbrev pub closed_at : Network → Kept → Tail → ℕ → List ℤ → ℕ
-closed_at n Open t g k = cond (closes_inside n t g k) (total_weight n g k) 0
+closed_at n (Open tails) t g k = cond (closes_inside (asked tails n) t g k) (total_weight n g k) 0
 closed_at n All t g k = 0
 
 -- how many nodes are counted as open for a tail
 abbrev pub counted : Network → Kept → Tail → ℕ → List Node → ℕ
-counted n Open t g nodes = opened_in n t g nodes
+counted n (Open tails) t g nodes = opened_in (asked tails n) t g nodes
 counted n All t g nodes = 0
 
 -- the same of their keys, each distinct one once
 abbrev pub counted_keys : Network → Kept → Tail → ℕ → List Node → ℕ
-counted_keys n Open t g nodes = distinct_count key_eq (filter (is_open n t g) (keys nodes))
+counted_keys n (Open tails) t g nodes =
+    distinct_count key_eq (filter (is_open (asked tails n) t g) (keys nodes))
 counted_keys n All t g nodes = 0
 
 -- where a sweep starts, with weighted keys of a stage, and which keys it keeps
@@ -188,12 +190,12 @@ pub record IsRoomful (n : Network) (width g : ℕ) (sums : TailSums) (room : Lis
   pub here : kept.room_width ≡ length room
   pub wide : kept.width ≡ n.width
 
--- what a sweep from the first key to the last stage comes to: of each tail the weight of the
+-- what a sweep from the first key to the last stage comes to: of each asked tail the weight of the
 -- extreme completions, and how many keys were open for it; or nodes at whose keys all completions
 -- end
 abbrev pub IsSwept : Network → Kept → TailSums → List Node → Type 0
-IsSwept n Open sums nodes = (t : Tail)
-    → ((sum_for sums t).sum ≡ extreme_weight n t 0 n.first)
-    × ((sum_for sums t).opened ≡ opened_by_some n t n.count)
+IsSwept n (Open tails) sums nodes = (t : Tail)
+    → ((sum_for sums t).sum ≡ extreme_weight (asked tails n) t 0 n.first)
+    × ((sum_for sums t).opened ≡ opened_by_some (asked tails n) t n.count)
 IsSwept n All sums nodes =
     (p : List ℤ → Bool) → weighted (λ k. cond (p k) 1 0) nodes ≡ ending_weight n p

@@ -79,8 +79,7 @@ pub trait Additive {
     fn value(&self) -> SumValue
         ensures { result ≡ (addends self.now).value };
 
-    /// The tail that the verdicts are for, and its rule.
+    /// The rules that the verdicts go by.
     fn judge(&self) -> Judge
-        ensures tail { result.tail ≡ (addends self.now).tail }
-        ensures rule { result.rule ≡ (addends self.now).rule };
+        ensures { result ≡ (addends self.now).judge };
 }

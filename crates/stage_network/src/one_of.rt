@@ -1,11 +1,15 @@
-// One of two kinds of networks.
+// One of two kinds of networks, or of tests.
 
+use crate::prepared::Prepared;
 use crate::stages::{Roomed, Stages, Verdict};
-use weights::Tail;
+use enumerate::Plain;
+use std::alloc::Global;
+use weights::{Bytes, Frame, NoMemory, Tail};
 
-/// A network of one kind or of another, for tests whose tails have different networks.
+/// A value of one kind or of another: a network, where the tails of a test have networks of
+/// different kinds, or a test.
 #[derive(Drop)]
-pub enum OneOf<A: Stages, B: Stages> {
+pub enum OneOf<A, B> {
     /// Of the one kind.
     First(A),
     /// Of the other.
@@ -169,6 +173,92 @@ impl<A: Roomed, B: Roomed> Roomed for OneOf<A, B> {
         match self {
             OneOf::First(a) => a.verdict_by(stage, room, outlook, partial, tail),
             OneOf::Second(b) => b.verdict_by(stage, room, outlook, partial, tail),
+        }
+    }
+}
+
+impl<A: Plain, B: Plain> Plain for OneOf<A, B> {
+    ghost use Rattle.stage_network.specs.OneOf.{of_either};
+
+    ghost test = { of_either A.test B.test };
+
+    fn first(&self, alloc: Global) -> Result<Bytes, NoMemory> {
+        match self {
+            OneOf::First(a) => a.first(alloc),
+            OneOf::Second(b) => b.first(alloc),
+        }
+    }
+
+    fn next(&self, labels: &mut Bytes) -> bool {
+        match self {
+            OneOf::First(a) => a.next(labels),
+            OneOf::Second(b) => b.next(labels),
+        }
+    }
+
+    fn weight(&self, labels: &[u8]) -> u128 {
+        match self {
+            OneOf::First(a) => a.weight(labels),
+            OneOf::Second(b) => b.weight(labels),
+        }
+    }
+
+    fn value(&self, labels: &[u8]) -> i128 {
+        match self {
+            OneOf::First(a) => a.value(labels),
+            OneOf::Second(b) => b.value(labels),
+        }
+    }
+
+    fn frame(&self) -> Frame {
+        match self {
+            OneOf::First(a) => a.frame(),
+            OneOf::Second(b) => b.frame(),
+        }
+    }
+
+    fn measure(&self, labels: &[u8], tail: Tail) -> i128 {
+        match self {
+            OneOf::First(a) => a.measure(labels, tail),
+            OneOf::Second(b) => b.measure(labels, tail),
+        }
+    }
+
+    fn extreme(&self, labels: &[u8], tail: Tail) -> bool {
+        match self {
+            OneOf::First(a) => a.extreme(labels, tail),
+            OneOf::Second(b) => b.extreme(labels, tail),
+        }
+    }
+}
+
+impl<A: Prepared, B: Prepared> Prepared for OneOf<A, B> {
+    ghost use Rattle.stage_network.specs.OneOf.{of_either};
+
+    type Built = OneOf<A::Built, B::Built>;
+
+    ghost network = { of_either A.network B.network };
+
+    ghost runs = { of_either A.runs B.runs };
+
+    fn has_tail(&self, tail: Tail) -> bool {
+        match self {
+            OneOf::First(a) => a.has_tail(tail),
+            OneOf::Second(b) => b.has_tail(tail),
+        }
+    }
+
+    fn is_shared(&self) -> bool {
+        match self {
+            OneOf::First(a) => a.is_shared(),
+            OneOf::Second(b) => b.is_shared(),
+        }
+    }
+
+    fn stages_of(&self, alloc: Global, tail: Tail) -> Result<Self::Built, NoMemory> {
+        match self {
+            OneOf::First(a) => Ok(OneOf::First(a.stages_of(alloc, tail)?)),
+            OneOf::Second(b) => Ok(OneOf::Second(b.stages_of(alloc, tail)?)),
         }
     }
 }

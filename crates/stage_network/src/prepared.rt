@@ -1,13 +1,13 @@
 // The answer of a prepared test, by its network or by the plain walk.
-ghost use Rattle.std.specs.Prelude.{◌≡◌, ◌≤◌, true, false, None, IfOk};
+ghost use Rattle.std.specs.Prelude.{◌≡◌, ◌≤◌, true, false, None, IfOk, IfSome};
 ghost use Rattle.weights.specs.Conditional.{distribution, total};
 ghost use Rattle.weights.specs.Frames.{IsShown, first_tail};
 ghost use Rattle.weights.specs.declared.tails.Tail.{Tail};
 ghost use Rattle.stage_network.specs.Network.{Network};
 ghost use Rattle.stage_network.specs.Completions.{total_weight};
-ghost use Rattle.stage_network.specs.Alike.{IsBuilt, Shape, shape_by};
-ghost use Rattle.stage_network.specs.Follows.{AreShared, Follows, HasTails, answer_of, asked_tail};
-ghost use Rattle.stage_network.specs.Follows.{asks, open_keys, tail_of};
+ghost use Rattle.stage_network.specs.Asked.{asks};
+ghost use Rattle.stage_network.specs.Follows.{AllFollow, AreShared, HasTails, OpenAlike};
+ghost use Rattle.stage_network.specs.Follows.{answer_of, asked_tail, open_keys, tail_of};
 ghost use Rattle.stage_network.specs.Lines.{TailsFit, WeightsFit};
 ghost use Rattle.stage_network.specs.SweepSteps.{sum_for};
 
@@ -15,7 +15,7 @@ use crate::answers::{Answer, Way};
 use crate::lines::Spread;
 use crate::spreads::spread_by_rooms;
 use crate::stages::{Roomed, Stages};
-use crate::sums::{tail_sum_by_rooms, tail_sums_together};
+use crate::sums::{tail_sum_by_rooms, tail_sums_by_rooms};
 use crate::tail_sums::{TailSum, TailSums};
 use crate::walks::plain_spread;
 use enumerate::{Plain, plain_tail};
@@ -33,91 +33,74 @@ pub trait Prepared: Plain {
     /// The network of each tail that runs: it may write the same keys in fewer numbers.
     ghost runs: { Self → Tail → Network };
 
-    /// What it is asked once for each room.
-    ghost shape: { Self → Tail → Shape };
-
     /// Whether the test has a tail.
     fn has_tail(&self, tail: Tail) -> bool
         ensures has { result ≡ (Self.test self.now).has_tail tail }
         ensures shown { IsShown (Self.test self.now) };
 
-    /// Whether the networks of its tails are the same but for their verdicts, so that one sweep
-    /// serves them all.
+    /// Whether one network serves all tails that the test has, so that one sweep does.
     fn is_shared(&self) -> bool
-        ensures { result ≡ true
-            → AreShared (Self.test self.now) (runs self.now) (shape self.now) }
+        ensures { result ≡ true → AreShared (Self.test self.now) (runs self.now) }
     {
         false
     }
 
-    /// The network that runs for a tail that the test has. Its completions end at what the tail's
-    /// rule measures of the rearrangements, and it has as many open keys as the network that is
-    /// written down.
+    /// The network that runs for a tail that the test has. The completions of each tail's network
+    /// end at what the tail's rule measures of the rearrangements, and it has as many open keys as
+    /// the network that is written down.
     fn stages_of(&self, alloc: Global, tail: Tail) -> Result<Self::Built, NoMemory>
         requires { (Self.test self.now).has_tail tail ≡ true }
         ensures built { let n = runs self.now tail in
             IfOk result (λ built. Self.Built.Stages.network built ≡ n) }
-        ensures shape { let h = shape self.now tail in
-            IfOk result (λ built. shape_by Self.Built.Roomed.room_width
-            Self.Built.Roomed.outlook_width Self.Built.Roomed.outlook_of built ≡ h) }
-        ensures follows { Follows (Self.test self.now) tail (runs self.now tail) }
-        ensures counted { open_keys (runs self.now) tail ≡ open_keys (network self.now) tail };
+        ensures follows { AllFollow (Self.test self.now) (runs self.now) }
+        ensures counted { OpenAlike (Self.test self.now) (runs self.now) (network self.now) };
 }
 
-/// The network that runs for a tail that a test has: its completions end at what the tail's rule
-/// measures of the rearrangements, and all together weigh as much as these; and it has as many open
-/// keys as the network that is written down.
+/// The network that runs for a tail that a test has. Its completions end at what the tail's rule
+/// measures of the rearrangements, and all together weigh as much as these; and each tail's network
+/// has as many open keys as the one that is written down.
 pub fn network_of<P: Prepared>(alloc: Global, problem: &P, tail: Tail) -> Result<P::Built, NoMemory>
     requires { (P.test problem.now).has_tail tail ≡ true }
     ensures built { let n = P.runs problem.now tail in
         IfOk result (λ built. P.Built.Stages.network built ≡ n) }
-    ensures shape { let h = P.shape problem.now tail in
-        IfOk result (λ built. shape_by P.Built.Roomed.room_width
-        P.Built.Roomed.outlook_width P.Built.Roomed.outlook_of built ≡ h) }
-    ensures follows { Follows (P.test problem.now) tail (P.runs problem.now tail) }
+    ensures follows { AllFollow (P.test problem.now) (P.runs problem.now) }
     ensures whole { let n = P.runs problem.now tail in
         total_weight n 0 n.first ≡ total (P.test problem.now) }
-    ensures counted { open_keys (P.runs problem.now) tail ≡ open_keys (P.network problem.now) tail }
+    ensures counted { OpenAlike (P.test problem.now) (P.runs problem.now) (P.network problem.now) }
 {
     problem.stages_of(alloc, tail)
 }
 
-// The network of a tail, where it is asked.
-fn asked_stages<P: Prepared>(
-    alloc: Global,
-    problem: &P,
-    asked: bool,
-    tail: Tail,
-) -> Result<Option<P::Built>, NoMemory>
-    requires { asked ≡ true → (P.test problem.now).has_tail tail ≡ true }
-    ensures none { asked ≡ false → IfOk result (λ found. found ≡ None) }
-    ensures some { asked ≡ true → IfOk result (IsBuilt P.Built.Stages.network (shape_by
-        P.Built.Roomed.room_width P.Built.Roomed.outlook_width P.Built.Roomed.outlook_of)
-        (P.runs problem.now tail) (P.shape problem.now tail)) }
-    ensures follows { asked ≡ true
-        → Follows (P.test problem.now) tail (P.runs problem.now tail) }
-    ensures counted { asked ≡ true
-        → open_keys (P.runs problem.now) tail ≡ open_keys (P.network problem.now) tail }
+// The first of the asked tails.
+fn first_asked(tails: Tails) -> Option<Tail>
+    ensures asked { IfSome result (λ tail. asks tails tail ≡ true) }
+    ensures none { result ≡ None → (t : Tail) → asks tails t ≡ false }
 {
-    if !asked {
-        return Ok(None);
+    if tails.less {
+        Some(Tail::Less)
+    } else if tails.greater {
+        Some(Tail::Greater)
+    } else if tails.two {
+        Some(Tail::Two)
+    } else {
+        None
     }
-    let stages = network_of(alloc, problem, tail)?;
-    Ok(Some(stages))
 }
 
-// The sums of the asked tails by one sweep.
+// The sums of the asked tails by one sweep of the network that serves them all.
 fn by_one_sweep<P: Prepared>(alloc: Global, problem: &P, tails: Tails) -> Result<TailSums, NoMemory>
     requires has { HasTails (P.test problem.now) tails }
-    requires shared { AreShared (P.test problem.now) (P.runs problem.now) (P.shape problem.now) }
+    requires shared { AreShared (P.test problem.now) (P.runs problem.now) }
     ensures { let opened = open_keys (P.network problem.now) in
         IfOk result (λ sums. (t : Tail) → asks tails t ≡ true
         → sum_for sums t ≡ tail_of (P.test problem.now) opened t Way.Network) }
 {
-    let less = asked_stages(alloc, problem, tails.less, Tail::Less)?;
-    let greater = asked_stages(alloc, problem, tails.greater, Tail::Greater)?;
-    let two = asked_stages(alloc, problem, tails.two, Tail::Two)?;
-    let sums = tail_sums_together(alloc, &less, &greater, &two)?;
+    let tail = match first_asked(tails) {
+        Some(tail) => tail,
+        None => return Ok(TailSums::none()),
+    };
+    let stages = network_of(alloc, problem, tail)?;
+    let sums = tail_sums_by_rooms(alloc, &stages, tails)?;
     Ok(sums)
 }
 

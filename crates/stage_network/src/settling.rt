@@ -1,9 +1,11 @@
 // What is decided in a room, and which of its nodes stay open.
 ghost use Rattle.std.specs.Prelude.{◌≡◌, ◌+◌, ◌*◌, ◌<◌, ◌≤◌, [], ◌∷◌, ◌++◌, false, cond, length};
-ghost use Rattle.std.specs.Prelude.{OnOk, IfOk};
+ghost use Rattle.std.specs.Prelude.{OnOk, IfOk, if◌then◌else◌};
 ghost use Rattle.weights.specs.declared.tails.Tail.{Tail};
 ghost use Rattle.weights.specs.declared.TheConstants.{MAX};
 ghost use Rattle.node_pool.specs.Nodes.{node, weighted};
+ghost use Rattle.stage_network.specs.declared.stages.Verdict.TheVariants.{Outside};
+ghost use Rattle.stage_network.specs.Asked.{asked};
 ghost use Rattle.stage_network.specs.Network.{IsReached};
 ghost use Rattle.stage_network.specs.Completions.{is_inside, total_weight};
 ghost use Rattle.stage_network.specs.Opened.{is_undecided};
@@ -14,10 +16,10 @@ ghost use Rattle.stage_network.specs.SweepSteps.{some_undecided, sum_for, verdic
 
 use crate::keys::write_key;
 use crate::nodes::StageNodes;
-use crate::stages::{Roomed, Stages};
+use crate::stages::{Roomed, Stages, Verdict};
 use crate::tail_sums::{Kept, TailSums, Verdicts};
 use node_pool::NodePool;
-use weights::{Count, NoMemory, Tail};
+use weights::{Count, NoMemory, Tail, Tails};
 
 // Adds what a node closes or leaves open, and keeps it where it is open for some tail.
 #[inline(always)]
@@ -79,7 +81,34 @@ fn rest_of<S: Stages>(
     stages.rest(stage, key)
 }
 
-// What is known of a partial of a room for each tail, by the room's outlook.
+// What is known of a partial of a room for a tail, by the room's outlook: where the tail is not
+// asked, Outside.
+#[inline(always)]
+fn asked_verdict<S: Roomed>(
+    stages: &S,
+    stage: usize,
+    room: &[i128],
+    outlook: &[i128],
+    partial: &[i128],
+    is_asked: bool,
+    tail: Tail,
+) -> Verdict
+    requires room { length room.now ≡ S.room_width stages.now }
+    requires reached { let n = S.Stages.network stages.now in
+        IsReached n stage (room.now ++ partial.now) }
+    requires outlook { outlook.now ≡ S.outlook_of stages.now stage room.now }
+    ensures { let n = S.Stages.network stages.now in
+        let v = n.verdict tail stage (room.now ++ partial.now) in
+        result ≡ (if is_asked then v else Outside) }
+{
+    if is_asked {
+        stages.verdict_by(stage, room, outlook, partial, tail)
+    } else {
+        Verdict::Outside
+    }
+}
+
+// That for each tail.
 #[inline(always)]
 fn verdicts_of<S: Roomed>(
     stages: &S,
@@ -87,41 +116,59 @@ fn verdicts_of<S: Roomed>(
     room: &[i128],
     outlook: &[i128],
     partial: &[i128],
+    tails: Tails,
 ) -> Verdicts
     requires room { length room.now ≡ S.room_width stages.now }
     requires reached { let n = S.Stages.network stages.now in
         IsReached n stage (room.now ++ partial.now) }
     requires outlook { outlook.now ≡ S.outlook_of stages.now stage room.now }
-    ensures { (t : Tail) → let n = S.Stages.network stages.now in
-        verdict_for result t ≡ n.verdict t stage (room.now ++ partial.now) }
+    ensures { let n = asked tails (S.Stages.network stages.now) in (t : Tail)
+        → verdict_for result t ≡ n.verdict t stage (room.now ++ partial.now) }
 {
     Verdicts {
-        less: stages.verdict_by(stage, room, outlook, partial, Tail::Less),
-        greater: stages.verdict_by(stage, room, outlook, partial, Tail::Greater),
-        two: stages.verdict_by(stage, room, outlook, partial, Tail::Two),
+        less: asked_verdict(
+            stages,
+            stage,
+            room,
+            outlook,
+            partial,
+            tails.less,
+            Tail::Less,
+        ),
+        greater: asked_verdict(
+            stages,
+            stage,
+            room,
+            outlook,
+            partial,
+            tails.greater,
+            Tail::Greater,
+        ),
+        two: asked_verdict(stages, stage, room, outlook, partial, tails.two, Tail::Two),
     }
 }
 
-// Adds what is decided in a room, and keeps its open nodes.
+// Adds what is decided in a room for the asked tails, and keeps the nodes that are open for some.
 fn settle_room<C: Count, S: Roomed>(
     stages: &S,
     stage: usize,
+    tails: Tails,
     nodes: &NodePool<C>,
     room: &[i128],
     sums: TailSums,
     kept: &mut StageNodes<C>,
 ) -> Result<TailSums, NoMemory>
-    requires { let n = S.Stages.network stages.now in
+    requires { let n = asked tails (S.Stages.network stages.now) in
         IsRoomful n (S.room_width stages.now) stage sums room.now nodes.now kept.old }
     ensures here { OnOk result (kept.new.room_width ≡ length room.now) }
     ensures wide { OnOk result (kept.new.width ≡ kept.old.width) }
-    ensures nodes { let n = S.Stages.network stages.now in
+    ensures nodes { let n = asked tails (S.Stages.network stages.now) in
         let more = open_nodes n stage (lift room.now nodes.now.nodes) in
         OnOk result (kept.new.nodes ≡ kept.old.nodes ++ more) }
-    ensures sum { let n = S.Stages.network stages.now in
+    ensures sum { let n = asked tails (S.Stages.network stages.now) in
         IfOk result (λ all. (t : Tail) → (sum_for all t).sum
         ≡ (sum_for sums t).sum + closed_weight n t stage (lift room.now nodes.now.nodes)) }
-    ensures opened { let n = S.Stages.network stages.now in
+    ensures opened { let n = asked tails (S.Stages.network stages.now) in
         IfOk result (λ all. (t : Tail) → (sum_for all t).opened
         ≡ (sum_for sums t).opened + opened_in n t stage (lift room.now nodes.now.nodes)) }
 {
@@ -136,7 +183,7 @@ fn settle_room<C: Count, S: Roomed>(
     let mut inside = TailSums::none();
     for i in 0..nodes.len() {
         let partial = nodes.key(i);
-        let verdicts = verdicts_of(stages, stage, room, outlook, partial);
+        let verdicts = verdicts_of(stages, stage, room, outlook, partial, tails);
         settle_node(verdicts, partial, nodes.weight(i), &mut inside, kept)?;
     }
     let rest = rest_of(stages, stage, room, nodes.key(0), inside);
@@ -163,7 +210,7 @@ fn keep_room<C: Count>(
     Ok(())
 }
 
-/// Settles a room: its open nodes are kept, or all.
+/// Settles a room: its nodes are kept that are open for some asked tail, or all.
 pub fn settle<C: Count, S: Roomed>(
     stages: &S,
     stage: usize,
@@ -188,7 +235,7 @@ pub fn settle<C: Count, S: Roomed>(
         ≡ (sum_for sums t).opened + counted n keep t stage (lift room.now nodes.now.nodes)) }
 {
     match keep {
-        Kept::Open => settle_room(stages, stage, nodes, room, sums, kept),
+        Kept::Open(tails) => settle_room(stages, stage, tails, nodes, room, sums, kept),
         Kept::All => {
             keep_room(nodes, room, kept)?;
             Ok(sums)

@@ -1,7 +1,7 @@
-// The sum over the extreme completions, and the count of the open keys.
-ghost use Rattle.std.specs.Prelude.{◌≡◌, ◌≤◌, IfOk, IfSome};
+// The sums over the extreme completions, and the counts of the open keys.
+ghost use Rattle.std.specs.Prelude.{◌≡◌, ◌≤◌, true, IfOk};
+ghost use Rattle.stage_network.specs.Asked.{asked, asks};
 ghost use Rattle.stage_network.specs.Completions.{total_weight, extreme_weight};
-ghost use Rattle.stage_network.specs.Alike.{AreTwins, of_tail, shape_by};
 ghost use Rattle.stage_network.specs.Judged.{IsJudged};
 ghost use Rattle.stage_network.specs.Opened.{opened_below, opened_by_some};
 ghost use Rattle.stage_network.specs.SweepSteps.{sum_for};
@@ -10,21 +10,24 @@ ghost use Rattle.weights.specs.declared.tails.Tail.{Tail};
 use crate::stages::{Roomed, Stages};
 use crate::sweep::sweep_through;
 use crate::tail_sums::{Kept, TailSum, TailSums};
-use crate::together::Together;
 use crate::whole::Whole;
 use crate::widths::{Width, width_of};
 use std::alloc::Global;
-use weights::{Count, Narrow, NoMemory, Tail, Wide};
+use weights::{Count, Narrow, NoMemory, Tail, Tails, Wide};
 
-// The sums of all tails in counts of one width.
-fn tail_sums_in<C: Count, S: Roomed>(alloc: Global, stages: &S) -> Result<TailSums, NoMemory>
+// The sums of the asked tails in counts of one width.
+fn sums_in<C: Count, S: Roomed>(
+    alloc: Global,
+    stages: &S,
+    tails: Tails,
+) -> Result<TailSums, NoMemory>
     requires limit { let n = S.Stages.network stages.now in total_weight n 0 n.first ≤ C.LIMIT }
-    ensures sum { let n = S.Stages.network stages.now in
+    ensures sum { let n = asked tails (S.Stages.network stages.now) in
         IfOk result (λ all. (t : Tail) → (sum_for all t).sum ≡ extreme_weight n t 0 n.first) }
-    ensures opened { let n = S.Stages.network stages.now in
+    ensures opened { let n = asked tails (S.Stages.network stages.now) in
         IfOk result (λ all. (t : Tail) → (sum_for all t).opened ≡ opened_by_some n t n.count) }
 {
-    let swept = sweep_through::<C, S>(alloc, stages, Kept::Open)?;
+    let swept = sweep_through::<C, S>(alloc, stages, Kept::Open(tails))?;
     Ok(swept.sums)
 }
 
@@ -40,20 +43,53 @@ pub fn total_of<S: Stages>(alloc: Global, stages: &S) -> Result<u128, NoMemory>
     Ok(total)
 }
 
-/// The sums of all tails by one sweep: a key stays as long as it is open for some tail. For each
-/// tail, how many of the keys that stayed were open for it.
-pub fn tail_sums_by_rooms<S: Roomed>(alloc: Global, stages: &S) -> Result<TailSums, NoMemory>
-    ensures sum { let n = S.Stages.network stages.now in
+// The sums of the asked tails by one sweep: a key stays as long as it is open for some of these.
+// For each, how many of the keys that stayed were open for it.
+fn sums_by_rooms<S: Roomed>(alloc: Global, stages: &S, tails: Tails) -> Result<TailSums, NoMemory>
+    ensures sum { let n = asked tails (S.Stages.network stages.now) in
         IfOk result (λ all. (t : Tail) → (sum_for all t).sum ≡ extreme_weight n t 0 n.first) }
-    ensures opened { let n = S.Stages.network stages.now in
+    ensures opened { let n = asked tails (S.Stages.network stages.now) in
         IfOk result (λ all. (t : Tail) → (sum_for all t).opened ≡ opened_by_some n t n.count) }
 {
     let _lawful = stages.stages();
     let total = total_of(alloc, stages)?;
     match width_of(total) {
-        Width::Narrow => tail_sums_in::<Narrow, S>(alloc, stages),
-        Width::Wide => tail_sums_in::<Wide, S>(alloc, stages),
+        Width::Narrow => sums_in::<Narrow, S>(alloc, stages, tails),
+        Width::Wide => sums_in::<Wide, S>(alloc, stages, tails),
     }
+}
+
+/// The tail sums of the asked tails by one sweep, where the verdicts go by rules over intervals: so
+/// a key that is open for a tail is reached through keys that are open for it.
+pub fn tail_sums_by_rooms<S: Roomed>(
+    alloc: Global,
+    stages: &S,
+    tails: Tails,
+) -> Result<TailSums, NoMemory>
+    requires { IsJudged (S.Stages.network stages.now) }
+    ensures sum { let n = S.Stages.network stages.now in
+        IfOk result (λ all. (t : Tail) → asks tails t ≡ true
+        → (sum_for all t).sum ≡ extreme_weight n t 0 n.first) }
+    ensures opened { let n = S.Stages.network stages.now in
+        IfOk result (λ all. (t : Tail) → asks tails t ≡ true
+        → (sum_for all t).opened ≡ opened_below n t n.count) }
+{
+    let _lawful = stages.stages();
+    let sums = sums_by_rooms(alloc, stages, tails)?;
+    Ok(sums)
+}
+
+// One tail alone.
+fn only(tail: Tail) -> Tails
+    ensures asked { asks result tail ≡ true }
+    ensures alone { (t : Tail) → asks result t ≡ true → t ≡ tail }
+{
+    let (less, greater, two) = match tail {
+        Tail::Less => (true, false, false),
+        Tail::Greater => (false, true, false),
+        Tail::Two => (false, false, true),
+    };
+    Tails { less, greater, two }
 }
 
 /// The tail sum, room by room: what a room decides is asked once per room.
@@ -68,44 +104,8 @@ pub fn tail_sum_by_rooms<S: Roomed>(
         IfOk result (λ all. all.opened ≡ opened_below n tail n.count) }
 {
     let _lawful = stages.stages();
-    let alone = Together::alone(stages, tail);
-    let sums = tail_sums_by_rooms(alloc, &alone)?;
+    let sums = sums_by_rooms(alloc, stages, only(tail))?;
     Ok(sums.of(tail))
-}
-
-/// The sums of the tails that have a network, where these differ in their verdicts alone, by one
-/// sweep.
-pub fn tail_sums_together<S: Roomed>(
-    alloc: Global,
-    less: &Option<S>,
-    greater: &Option<S>,
-    two: &Option<S>,
-) -> Result<TailSums, NoMemory>
-    requires twins { let shape = shape_by S.room_width S.outlook_width S.outlook_of in
-        let own = of_tail less.now greater.now two.now in
-        (s t : Tail) → IfSome (own s) (λ m. IfSome (own t)
-        (λ n. AreTwins S.Stages.network shape m n)) }
-    requires judged { let own = of_tail less.now greater.now two.now in
-        (t : Tail) → IfSome (own t) (λ m. IsJudged (S.Stages.network m) t) }
-    ensures sum { let own = of_tail less.now greater.now two.now in
-        IfOk result (λ all. (t : Tail) → IfSome (own t) (λ m.
-        (sum_for all t).sum
-        ≡ extreme_weight (S.Stages.network m) t 0 (S.Stages.network m).first)) }
-    ensures opened { let own = of_tail less.now greater.now two.now in
-        IfOk result (λ all. (t : Tail) → IfSome (own t) (λ m.
-        (sum_for all t).opened
-        ≡ opened_below (S.Stages.network m) t (S.Stages.network m).count)) }
-{
-    let less = less.as_ref();
-    let greater = greater.as_ref();
-    let two = two.as_ref();
-    let lead = match less.or(greater).or(two) {
-        Some(lead) => lead,
-        None => return Ok(TailSums::none()),
-    };
-    let _lawful = lead.stages();
-    let sums = tail_sums_by_rooms(alloc, &Together::new(lead, less, greater, two))?;
-    Ok(sums)
 }
 
 /// The summed weight of the extreme completions of the first key, and the number of the undecided

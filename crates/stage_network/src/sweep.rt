@@ -1,5 +1,5 @@
-// A sweep through the stages, room by room, for all tails at once: the keys are kept that are open
-// for some tail, or every key is.
+// A sweep through the stages, room by room, for the asked tails at once: the keys are kept that are
+// open for some of these, or every key is.
 ghost use Rattle.std.specs.Prelude.{◌≡◌, ◌+◌, ◌<◌, ◌≤◌, [], ◌∷◌, length, OnOk, IfOk};
 ghost use Rattle.weights.specs.declared.TheConstants.{MAX};
 ghost use Rattle.node_pool.specs.Nodes.{node, weighted};
@@ -19,8 +19,8 @@ use std::alloc::Global;
 use std::mem;
 use weights::{Count, NoMemory};
 
-/// A sweep that stands at a stage: the nodes there that are kept, and of each tail the weight that
-/// was closed on the way and how many keys were open. Its stores serve every stage.
+/// A sweep that stands at a stage: the nodes there that are kept, and of each asked tail the weight
+/// that was closed on the way and how many keys were open. Its stores serve every stage.
 #[derive(Drop)]
 pub struct Sweep<C: Count> {
     pub keep: Kept,

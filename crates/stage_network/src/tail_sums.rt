@@ -7,7 +7,7 @@ ghost use Rattle.stage_network.specs.Opened.{is_undecided};
 ghost use Rattle.stage_network.specs.SweepSteps.{some_undecided, sum_for, verdict_for};
 
 use crate::stages::Verdict;
-use weights::Tail;
+use weights::{Tail, Tails};
 
 /// The summed weight of the extreme completions, and the number of open keys.
 #[derive(Clone, Copy, Debug, Drop, PartialEq, Eq)]
@@ -32,10 +32,10 @@ pub struct Verdicts {
     pub two: Verdict,
 }
 
-/// Which keys a sweep keeps: those that are open for some tail, or all.
-#[derive(Clone, Copy, Debug, Drop, PartialEq, Eq)]
+/// Which keys a sweep keeps: those that are open for some of these tails, or all.
+#[derive(Clone, Copy, Debug, PartialEq, Eq)]
 pub enum Kept {
-    Open,
+    Open(Tails),
     All,
 }
 

@@ -1,11 +1,14 @@
 // What an interval that holds a value says of the value's rule.
 ghost use Rattle.std.specs.Prelude.{◌≡◌, ◌≤◌};
+ghost use Rattle.weights.specs.Conditional.{ConditionalTest};
 ghost use Rattle.weights.specs.declared.TheConstants.{MAX};
+ghost use Rattle.weights.specs.Frames.{IsFrameOf};
 ghost use Rattle.weights.specs.Rules.{RuleFits};
-ghost use Rattle.stage_network.specs.Judged.{far_inside, far_outside, far_verdict, settled, verdict_of, judged};
+ghost use Rattle.stage_network.specs.Judged.{far_inside, far_outside, far_verdict, judge_of};
+ghost use Rattle.stage_network.specs.Judged.{rule_in, settled, verdict_of};
 
 use crate::stages::Verdict;
-use weights::{Rule, Tail, from_centre};
+use weights::{Frame, Rule, Tail, from_centre};
 
 /// Two numbers between which the value of each completion of a key lies; both may be reached.
 #[derive(Clone, Copy, Debug, PartialEq, Eq)]
@@ -14,11 +17,12 @@ pub struct Interval {
     pub high: i128,
 }
 
-/// Gives verdicts for one tail by that tail's rule.
+/// Gives verdicts by the rule of each tail.
 #[derive(Clone, Copy, Debug, PartialEq, Eq)]
 pub struct Judge {
-    pub tail: Tail,
-    pub rule: Rule,
+    pub less: Rule,
+    pub greater: Rule,
+    pub two: Rule,
 }
 
 fn settled(inside: bool, outside: bool) -> Verdict
@@ -69,33 +73,46 @@ fn verdict_from_centre(factor: u128, centre: i128, distance: u128, low: i128, hi
     far_verdict(distance, a, b)
 }
 
+// The verdict of a rule over the numbers from one to another.
+#[inline(always)]
+fn verdict_of(rule: &Rule, low: i128, high: i128) -> Verdict
+    requires low { RuleFits rule.now low }
+    requires high { RuleFits rule.now high }
+    ensures { result ≡ verdict_of rule.now low high }
+{
+    match *rule {
+        Rule::AtMost(most) => settled(high <= most, most < low),
+        Rule::AtLeast(least) => settled(least <= low, high < least),
+        Rule::Far(factor, centre, distance) => {
+            verdict_from_centre(factor, centre, distance, low, high)
+        }
+    }
+}
+
 impl Judge {
-    fn decide(&self, low: i128, high: i128) -> Verdict
-        requires low { RuleFits self.now.rule low }
-        requires high { RuleFits self.now.rule high }
-        ensures { result ≡ verdict_of self.now.rule low high }
+    /// The rules of a test, of which a frame is said.
+    pub fn of(frame: &Frame) -> Judge
+        ensures { (test : ConditionalTest) → IsFrameOf test frame.now → result ≡ judge_of test }
     {
-        match self.rule {
-            Rule::AtMost(most) => settled(high <= most, most < low),
-            Rule::AtLeast(least) => settled(least <= low, high < least),
-            Rule::Far(factor, centre, distance) => {
-                verdict_from_centre(factor, centre, distance, low, high)
-            }
+        Judge {
+            less: frame.rule(Tail::Less),
+            greater: frame.rule(Tail::Greater),
+            two: frame.rule(Tail::Two),
         }
     }
 
-    /// The verdict for a tail over an interval: Inside where every value in it passes the rule,
-    /// Outside where none does, else Undecided; for a tail that is not the judge's, Outside. It
-    /// needs that the numbers which the rule computes of the two ends pass no limit.
+    /// The verdict for a tail over an interval: Inside where every value in it passes the tail's
+    /// rule, Outside where none does, else Undecided. It needs that the numbers which the rule
+    /// computes of the two ends pass no limit.
     pub fn verdict(&self, tail: Tail, interval: Interval) -> Verdict
-        requires low { RuleFits self.now.rule interval.low }
-        requires high { RuleFits self.now.rule interval.high }
-        ensures { result ≡ judged self.now.tail self.now.rule tail interval.low interval.high }
+        requires low { RuleFits (rule_in self.now tail) interval.low }
+        requires high { RuleFits (rule_in self.now tail) interval.high }
+        ensures { result ≡ verdict_of (rule_in self.now tail) interval.low interval.high }
     {
-        match (self.tail, tail) {
-            (Tail::Less, Tail::Less) | (Tail::Greater, Tail::Greater) | (Tail::Two, Tail::Two) =>
-                self.decide(interval.low, interval.high),
-            _ => Verdict::Outside,
+        match tail {
+            Tail::Less => verdict_of(&self.less, interval.low, interval.high),
+            Tail::Greater => verdict_of(&self.greater, interval.low, interval.high),
+            Tail::Two => verdict_of(&self.two, interval.low, interval.high),
         }
     }
 }

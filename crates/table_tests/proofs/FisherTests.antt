@@ -9,7 +9,6 @@ use Rattle.std.proofs.lemmas.List.FromFn.{get_or-map-range_with_len}
 use Rattle.std.proofs.lemmas.List.Sums.{get_or-le-sum_by, sum-map, sum_by-cons}
 use Rattle.weights.specs.declared.tails.Tail.{Tail}
 use Rattle.weights.specs.declared.tails.Tail.TheVariants.{Less, Greater, Two}
-use Rattle.weights.specs.declared.rules.Rule.{Rule}
 use Rattle.weights.specs.declared.rules.Rule.TheVariants.{AtMost}
 use Rattle.weights.specs.declared.TheConstants.{MAX}
 use Rattle.weights.specs.declared.wide.WideOf.TheVariants.{Total}
@@ -26,6 +25,10 @@ use Rattle.weights.proofs.Sized.{first_and}
 use Rattle.weights.proofs.Sums.{sum_by-one}
 use Rattle.weights.proofs.Tables as tables
 use Rattle.completion_bounds.proofs.TableWeights.{table-all}
+use Rattle.stage_network.specs.declared.verdicts.Judge.{Judge}
+use Rattle.stage_network.specs.Judged.{JudgeFits, judge_of}
+use Rattle.stage_network.proofs.Following.{judge-fits}
+use Rattle.label_network.specs.LabelNetwork.{label_network}
 use Rattle.stage_network.specs.Follows.{Follows}
 use Rattle.label_network.specs.Endings.{labelling_value, partial_after}
 use Rattle.label_network.specs.Linear.{IsLinear, linear_meaning, row_sum, so_far}
@@ -145,11 +148,6 @@ observed-first t rows columns =
 pub square : (t : TableData) → is_two_by_two t ≡ true → (t.rows ≡ 2) × (t.columns ≡ 2)
 square t e = let both = first_and (nat_eq t.rows 2) (nat_eq t.columns 2) e in (eqb-true t.rows 2 both.0, eqb-true t.columns 2 both.1)
 
-pub both-tails : (t : TableData) (tail : Tail) → is_two_by_two t ≡ true → has_fisher_tail (is_two_by_two t) tail ≡ true
-both-tails t Less e = e
-both-tails t Greater e = e
-both-tails t Two e = refl
-
 -- what is said of the test
 pub framed : (t : TableData) (b : Bool) (weight first all : ℕ) (frame : Frame) → IsTable t → b ≡ is_two_by_two t → weight ≡ table_weight (columns_in t) → first ≡ get_or t.cells 0 0 → all ≡ number_of_labellings (row_sums t)
     → frame.statistic ≡ cond b (pos first) (pos weight) → frame.scale ≡ cond b 1 all → frame.total ≡ all → frame.two ≡ AtMost (pos weight) → IsFrameOf (fisher_test t) frame
@@ -166,21 +164,21 @@ framed t b weight first all frame i two e f g statistic scale whole both =
     }
 
 -- what a network of weights ends at
-weight-from : (rows columns : List ℕ) (tail : Tail) (rule : Rule) (table : List (List ℕ)) (g : ℕ) (r : List ℕ) (p : List ℤ) → so_far p ≡ pos (past_of p)
-    → so_far (partial_after (weight_meaning rows columns tail rule) g r p table) ≡ pos (past_of p * table_weight table)
-weight-from rows columns tail rule [] g r p e = e ∙ ap pos (times-one (past_of p))
+weight-from : (rows columns : List ℕ) (judge : Judge) (table : List (List ℕ)) (g : ℕ) (r : List ℕ) (p : List ℤ) → so_far p ≡ pos (past_of p)
+    → so_far (partial_after (weight_meaning rows columns judge) g r p table) ≡ pos (past_of p * table_weight table)
+weight-from rows columns judge [] g r p e = e ∙ ap pos (times-one (past_of p))
   where
     times-one : (a : ℕ) → a ≡ a * 1
     times-one a = omega arith
-weight-from rows columns tail rule (x ∷ table) g r p e =
-    weight-from rows columns tail rule table (g + 1) (minus r x) (pos (past_of p * number_of_labellings x) ∷ []) refl
+weight-from rows columns judge (x ∷ table) g r p e =
+    weight-from rows columns judge table (g + 1) (minus r x) (pos (past_of p * number_of_labellings x) ∷ []) refl
     ∙ ap pos (grouped (past_of p) (number_of_labellings x) (table_weight table))
   where
     grouped : (a b c : ℕ) → (a * b) * c ≡ a * (b * c)
     grouped a b c = grind arith
 
-weight-value : (rows columns : List ℕ) (tail : Tail) (rule : Rule) (xs : List ℕ) → labelling_value (weight_meaning rows columns tail rule) xs ≡ pos (table_weight (columns_of (length rows) columns xs))
-weight-value rows columns tail rule xs = weight-from rows columns tail rule (columns_of (length rows) columns xs) 0 rows (pos 1 ∷ []) refl ∙ ap pos (one-times (table_weight (columns_of (length rows) columns xs)))
+weight-value : (rows columns : List ℕ) (judge : Judge) (xs : List ℕ) → labelling_value (weight_meaning rows columns judge) xs ≡ pos (table_weight (columns_of (length rows) columns xs))
+weight-value rows columns judge xs = weight-from rows columns judge (columns_of (length rows) columns xs) 0 rows (pos 1 ∷ []) refl ∙ ap pos (one-times (table_weight (columns_of (length rows) columns xs)))
   where
     one-times : (a : ℕ) → 1 * a ≡ a
     one-times a = omega arith
@@ -238,57 +236,53 @@ module _ (t : TableData) (i : IsTable t) where
     pub first-within : get_or (column_sums t) 0 0 ≤ length xs
     first-within = omega (arith, get_or-le-sum_by (λ v. v) (column_sums t) 0 0 some-columns, are-columns.level)
 
-  pub weighing : (rule : Rule) → rule ≡ rule_of (fisher_test t) Two → IsWeighing (row_sums t) (column_sums t) rule
-  weighing rule e = record {
+  pub weighing : (judge : Judge) → judge ≡ judge_of (fisher_test t) → IsWeighing (row_sums t) (column_sums t) judge
+  weighing judge e = record {
     some = omega (arith, some-labels);
     few = few-labels;
     level = even;
     units = omega (arith, subjects-few t i);
     total_fits = i.total_fits;
-    rule_fits = λ v h. subst (λ x. RuleFits x v) (sym e) (rule-fits t Two v);
+    rules_fit = λ v h. judge-fits (fisher_test t) judge e v (λ tail. rule-fits t tail v);
   }
 
-  pub linear-by : (rule : Rule) → is_two_by_two t ≡ true → ((v : ℤ) → RuleFits rule v) → IsLinear first_scores (row_sums t) first_scores (column_sums t) rule
-  linear-by rule two fits =
+  pub linear-by : (judge : Judge) → is_two_by_two t ≡ true → ((v : ℤ) → JudgeFits judge v) → IsLinear first_scores (row_sums t) first_scores (column_sums t) judge
+  linear-by judge two fits =
       is-linear (row_sums t) (column_sums t) first_scores first_scores (observed_labels t) even (subjects-few t i) (omega arith) (omega arith)
-      (omega (arith, length-rows t, (square t two).0)) (omega (arith, length-columns t, (square t two).1)) few-labels rule (λ v h. fits v)
+      (omega (arith, length-rows t, (square t two).0)) (omega (arith, length-columns t, (square t two).1)) few-labels judge (λ v h. fits v)
 
-  pub linear-of : (tail : Tail) (rule : Rule) → is_two_by_two t ≡ true → rule ≡ rule_of (fisher_test t) tail → IsLinear first_scores (row_sums t) first_scores (column_sums t) rule
-  linear-of tail rule two e = linear-by rule two (λ v. subst (λ x. RuleFits x v) (sym e) (rule-fits t tail v))
+  pub linear-of : (judge : Judge) → is_two_by_two t ≡ true → judge ≡ judge_of (fisher_test t) → IsLinear first_scores (row_sums t) first_scores (column_sums t) judge
+  linear-of judge two e = linear-by judge two (λ v. judge-fits (fisher_test t) judge e v (λ tail. rule-fits t tail v))
 
   follows-weight : Follows (fisher_test t) Two (fisher_network t Two)
   follows-weight =
-      label_follows (rarity_meaning t Two) (weight_measure (row_sums t) (column_sums t) Two (rule_of (fisher_test t) Two) even (omega (arith, some-labels)) (omega (arith, subjects-few t i))) (fisher_test t) Two (record {
-        tail_is = refl;
-        rule_is = refl;
+      let judge : Judge = judge_of (fisher_test t) in
+      label_follows (rarity_meaning t) (weight_measure (row_sums t) (column_sums t) judge even (omega (arith, some-labels)) (omega (arith, subjects-few t i))) (fisher_test t) Two (record {
+        judge_is = refl;
         reference = refl;
         alike = λ xs. refl;
-        values = λ xs m. ap pos (rarity-is t xs m) ∙ ap (λ k. pos (table_weight (columns_of k (column_sums t) xs))) (sym (length-rows t)) ∙ sym (weight-value (row_sums t) (column_sums t) Two (rule_of (fisher_test t) Two) xs);
+        values = λ xs m. ap pos (rarity-is t xs m) ∙ ap (λ k. pos (table_weight (columns_of k (column_sums t) xs))) (sym (length-rows t)) ∙ sym (weight-value (row_sums t) (column_sums t) judge xs);
       })
 
-  pub first-value : (tail : Tail) (rule : Rule) → is_two_by_two t ≡ true → (xs : List ℕ) → pos (first_cell (column_sums t) xs) ≡ labelling_value (linear_meaning first_scores (row_sums t) first_scores (column_sums t) tail rule) xs
-  first-value tail rule two xs =
+  pub first-value : (judge : Judge) → is_two_by_two t ≡ true → (xs : List ℕ) → pos (first_cell (column_sums t) xs) ≡ labelling_value (linear_meaning first_scores (row_sums t) first_scores (column_sums t) judge) xs
+  first-value judge two xs =
       sym (product-table first_scores first_scores (column_sums t) xs ∙ first-two (column_sums t) xs (length-columns t ∙ (square t two).1))
-      ∙ product-value first_scores (row_sums t) first_scores (column_sums t) tail rule (omega (arith, length-rows t, (square t two).0)) (omega (arith, length-columns t, (square t two).1)) xs
+      ∙ product-value first_scores (row_sums t) first_scores (column_sums t) judge (omega (arith, length-rows t, (square t two).0)) (omega (arith, length-columns t, (square t two).1)) xs
 
   pub statistic-first : is_two_by_two t ≡ true → (xs : List ℕ) → (fisher_test t).statistic xs ≡ pos (first_cell (column_sums t) xs)
   statistic-first two xs = rw two refl
 
+  follows-cell : (tail : Tail) → ((xs : List ℕ) → measured (fisher_test t) tail xs ≡ (fisher_test t).statistic xs) → is_two_by_two t ≡ true → Follows (fisher_test t) tail (label_network (first_cell_meaning t))
+  follows-cell tail statistic two =
+      let judge : Judge = judge_of (fisher_test t) in
+      label_follows (first_cell_meaning t) (linear_measure first_scores (row_sums t) first_scores (column_sums t) judge (linear-of judge two refl)) (fisher_test t) tail (record {
+        judge_is = refl;
+        reference = refl;
+        alike = λ xs. refl;
+        values = λ xs m. statistic xs ∙ statistic-first two xs ∙ first-value judge two xs;
+      })
+
   pub follows : (tail : Tail) → has_fisher_tail (is_two_by_two t) tail ≡ true → Follows (fisher_test t) tail (fisher_network t tail)
-  follows Less two =
-      label_follows (first_cell_meaning t Less) (linear_measure first_scores (row_sums t) first_scores (column_sums t) Less (rule_of (fisher_test t) Less) (linear-of Less (rule_of (fisher_test t) Less) two refl)) (fisher_test t) Less (record {
-        tail_is = refl;
-        rule_is = refl;
-        reference = refl;
-        alike = λ xs. refl;
-        values = λ xs m. statistic-first two xs ∙ first-value Less (rule_of (fisher_test t) Less) two xs;
-      })
-  follows Greater two =
-      label_follows (first_cell_meaning t Greater) (linear_measure first_scores (row_sums t) first_scores (column_sums t) Greater (rule_of (fisher_test t) Greater) (linear-of Greater (rule_of (fisher_test t) Greater) two refl)) (fisher_test t) Greater (record {
-        tail_is = refl;
-        rule_is = refl;
-        reference = refl;
-        alike = λ xs. refl;
-        values = λ xs m. statistic-first two xs ∙ first-value Greater (rule_of (fisher_test t) Greater) two xs;
-      })
+  follows Less two = follows-cell Less (λ xs. refl) two
+  follows Greater two = follows-cell Greater (λ xs. refl) two
   follows Two two = follows-weight

@@ -8,7 +8,6 @@ use Rattle.std.proofs.lemmas.Bool.{le-ltb, lt-ltb}
 use Rattle.std.proofs.lemmas.Int.{ints, unsigned_abs-mul}
 use Rattle.weights.specs.declared.tails.Tail.{Tail}
 use Rattle.weights.specs.declared.tails.Tail.TheVariants.{Less, Greater, Two}
-use Rattle.weights.specs.declared.rules.Rule.{Rule}
 use Rattle.weights.specs.declared.rules.Rule.TheVariants.{AtLeast, AtMost, Far}
 use Rattle.weights.specs.declared.TheConstants.{MAX}
 use Rattle.weights.specs.declared.wide.WideOf.TheVariants.{Total}
@@ -22,6 +21,9 @@ use Rattle.weights.proofs.FirstLabel.{number_of_labellings-positive}
 use Rattle.weights.proofs.Members.{labelling_from}
 use Rattle.weights.proofs.Sums.{sum_by-one}
 use Rattle.completion_bounds.specs.Pairings.{greatest_score}
+use Rattle.stage_network.specs.declared.verdicts.Judge.{Judge}
+use Rattle.stage_network.specs.Judged.{JudgeFits, judge_of}
+use Rattle.stage_network.proofs.Following.{judge-fits}
 use Rattle.stage_network.specs.Follows.{Follows}
 use Rattle.label_network.specs.LaterSums.{subjects}
 use Rattle.weights.specs.Numbers.{absolute_sum}
@@ -134,8 +136,8 @@ module _ (rows columns : List ℕ) (us vs : List ℤ) (observed : List ℕ) wher
         omega (arith, mul-le-mul twice scores)
 
     module _ (wide : length us ≡ length rows) (long : length vs ≡ length columns) (few_rows : length rows ≤ 8) where
-      pub is-linear : (rule : Rule) → ((v : ℤ) → unsigned_abs v ≤ greatest_score us * absolute_sum (subjects vs columns) → RuleFits rule v) → IsLinear us rows vs columns rule
-      is-linear rule fits = record {
+      pub is-linear : (judge : Judge) → ((v : ℤ) → unsigned_abs v ≤ greatest_score us * absolute_sum (subjects vs columns) → JudgeFits judge v) → IsLinear us rows vs columns judge
+      is-linear judge fits = record {
         wide = wide;
         long = long;
         level = level;
@@ -145,7 +147,7 @@ module _ (rows columns : List ℕ) (us vs : List ℤ) (observed : List ℕ) wher
         columns_fit = omega (arith, columns-small);
         rows_fit = omega (arith, mul-le-mul small_us few);
         sums_fit = omega (arith, sums-small);
-        rule_fits = fits;
+        rules_fit = fits;
       }
 
 pub measured_at : (t : ScoredTable) (tail : Tail) (r : List ℕ) → measured (linear_test t) tail r ≡ (linear_test t).statistic r
@@ -196,21 +198,21 @@ module _ (t : ScoredTable) (f : AreFitting t) where
   pub far_fits : RuleFits (Far (sum (row_sums t.table)) (row_sum t.row_scores (row_sums t.table) *ℤ row_sum t.column_scores (column_sums t.table)) 0) ((linear_test t).statistic (observed_labels t.table))
   far_fits = far-fits (row_sums t.table) (column_sums t.table) t.row_scores t.column_scores (observed_labels t.table) even few-subjects f.row_sizes f.column_sizes 0 (omega arith) (product_sum t.row_scores (subjects t.column_scores (column_sums t.table)) (observed_labels t.table)) (product-size t.row_scores (subjects t.column_scores (column_sums t.table)) (observed_labels t.table))
 
-  pub linear-of : (tail : Tail) (rule : Rule) → rule ≡ rule_of (linear_test t) tail → IsLinear t.row_scores (row_sums t.table) t.column_scores (column_sums t.table) rule
-  linear-of tail rule e =
-      is-linear (row_sums t.table) (column_sums t.table) t.row_scores t.column_scores (observed_labels t.table) even few-subjects f.row_sizes f.column_sizes as-wide as-long few-labels rule
-      (λ v h. subst (λ x. RuleFits x v) (sym e) (rule-fits (row_sums t.table) (column_sums t.table) t.row_scores t.column_scores (observed_labels t.table) even few-subjects f.row_sizes f.column_sizes tail v h))
+  pub linear-of : (judge : Judge) → judge ≡ judge_of (linear_test t) → IsLinear t.row_scores (row_sums t.table) t.column_scores (column_sums t.table) judge
+  linear-of judge e =
+      is-linear (row_sums t.table) (column_sums t.table) t.row_scores t.column_scores (observed_labels t.table) even few-subjects f.row_sizes f.column_sizes as-wide as-long few-labels judge
+      (λ v h. judge-fits (linear_test t) judge e v (λ tail. rule-fits (row_sums t.table) (column_sums t.table) t.row_scores t.column_scores (observed_labels t.table) even few-subjects f.row_sizes f.column_sizes tail v h))
 
   pub follows : (tail : Tail) → Follows (linear_test t) tail (linear_network t tail)
   follows tail =
-      label_follows (product_meaning t tail) (linear_measure t.row_scores (row_sums t.table) t.column_scores (column_sums t.table) tail (rule_of (linear_test t) tail) (linear-of tail (rule_of (linear_test t) tail) refl)) (linear_test t) tail (record {
-        tail_is = refl;
-        rule_is = refl;
+      let judge : Judge = judge_of (linear_test t) in
+      label_follows (product_meaning t) (linear_measure t.row_scores (row_sums t.table) t.column_scores (column_sums t.table) judge (linear-of judge refl)) (linear_test t) tail (record {
+        judge_is = refl;
         reference = refl;
         alike = λ xs. refl;
         values = λ xs m.
             measured-is (row_sums t.table) (column_sums t.table) t.row_scores t.column_scores (observed_labels t.table) tail xs
-            ∙ product-value t.row_scores (row_sums t.table) t.column_scores (column_sums t.table) tail (rule_of (linear_test t) tail) as-wide as-long xs;
+            ∙ product-value t.row_scores (row_sums t.table) t.column_scores (column_sums t.table) judge as-wide as-long xs;
       })
 
   -- of a labelling

@@ -7,7 +7,6 @@ use Rattle.std.proofs.lemmas.Bool.{cases_lt, le-ltb, lt-ltb}
 use Rattle.std.proofs.lemmas.List.Sums.{sum_by-cons}
 use Rattle.weights.specs.declared.tails.Tail.{Tail}
 use Rattle.weights.specs.declared.tails.Tail.TheVariants.{Less, Greater, Two}
-use Rattle.weights.specs.declared.rules.Rule.{Rule}
 use Rattle.weights.specs.declared.TheConstants.{MAX}
 use Rattle.weights.specs.declared.odds.Odds.{Odds}
 use Rattle.weights.specs.declared.wide.PrepareFault.{PrepareFault}
@@ -21,6 +20,9 @@ use Rattle.weights.specs.Labellings.{labellings, number_of_labellings}
 use Rattle.weights.specs.Rules.{RuleFits, measured, rule_of}
 use Rattle.weights.specs.Wide.{Prepares, too_wide}
 use Rattle.weights.proofs.FirstLabel.{number_of_labellings-positive}
+use Rattle.stage_network.specs.declared.verdicts.Judge.{Judge}
+use Rattle.stage_network.specs.Judged.{judge_of}
+use Rattle.stage_network.proofs.Following.{judge-fits}
 use Rattle.stage_network.specs.Follows.{Follows}
 use Rattle.stage_network.proofs.Bounds.{term-le-sum_by}
 use Rattle.room_network.specs.Meanings.{way_value}
@@ -144,11 +146,11 @@ module _ (w : WeightedTable) (sum_of : ℕ) (i : IsWeightedTable w sum_of) where
     total_fits = i.total_fits;
   }
 
-  pub linear : (tail : Tail) (rule : Rule) → rule ≡ rule_of (odds_test w) tail → IsLinear first_scores (row_sums w.table) first_scores (column_sums w.table) rule
-  linear tail rule e = linear-by w.table i.fitting rule i.square (λ v. subst (λ x. RuleFits x v) (sym e) (rule-fits w tail v))
+  pub linear : (judge : Judge) → judge ≡ judge_of (odds_test w) → IsLinear first_scores (row_sums w.table) first_scores (column_sums w.table) judge
+  linear judge e = linear-by w.table i.fitting judge i.square (λ v. judge-fits (odds_test w) judge e v (λ tail. rule-fits w tail v))
 
-  pub housed : (tail : Tail) (m : Meaning) (odds : Odds) (columns rows : List ℕ) → m ≡ cell_meaning w tail → columns ≡ column_sums w.table → rows ≡ row_sums w.table → IsHoused (odds_plan odds columns rows) (over_rooms m)
-  housed tail m odds columns rows e f g =
+  pub housed : (m : Meaning) (odds : Odds) (columns rows : List ℕ) → m ≡ cell_meaning w → columns ≡ column_sums w.table → rows ≡ row_sums w.table → IsHoused (odds_plan odds columns rows) (over_rooms m)
+  housed m odds columns rows e f g =
       let wide : length (row_sums w.table) ≡ 2 = two-rows w.table i.square in
       subst (λ n. IsHoused (odds_plan odds columns rows) (over_rooms n)) (sym e) (rw (f, g) (record {
         floor_is = refl;
@@ -156,18 +158,17 @@ module _ (w : WeightedTable) (sum_of : ℕ) (i : IsWeightedTable w sum_of) where
         few = omega (arith, wide);
       }))
 
-  values : (tail : Tail) (xs : List ℕ) → measured (odds_test w) tail xs ≡ way_value (over_rooms (cell_meaning w tail)) (columns_of (length (row_sums w.table)) (column_sums w.table) xs)
+  values : (tail : Tail) (xs : List ℕ) → measured (odds_test w) tail xs ≡ way_value (over_rooms (cell_meaning w)) (columns_of (length (row_sums w.table)) (column_sums w.table) xs)
   values tail xs =
-      measured-is w tail xs ∙ statistic-first w.table i.fitting i.square xs ∙ first-value w.table i.fitting tail (rule_of (odds_test w) tail) i.square xs
-      ∙ sym (over_value (cell_meaning w tail) (columns_of (length (row_sums w.table)) (column_sums w.table) xs))
+      measured-is w tail xs ∙ statistic-first w.table i.fitting i.square xs ∙ first-value w.table i.fitting (judge_of (odds_test w)) i.square xs
+      ∙ sym (over_value (cell_meaning w) (columns_of (length (row_sums w.table)) (column_sums w.table) xs))
 
   pub follows : (tail : Tail) → Follows (odds_test w) tail (odds_network w tail)
   follows tail =
-      room_follows (over_rooms (cell_meaning w tail)) (odds_weights w.odds) (label_width (column_sums w.table) (row_sums w.table))
-      (over_measure (cell_meaning w tail) (linear_measure first_scores (row_sums w.table) first_scores (column_sums w.table) tail (rule_of (odds_test w) tail) (linear tail (rule_of (odds_test w) tail) refl)))
+      room_follows (over_rooms (cell_meaning w)) (odds_weights w.odds) (label_width (column_sums w.table) (row_sums w.table))
+      (over_measure (cell_meaning w) (linear_measure first_scores (row_sums w.table) first_scores (column_sums w.table) (judge_of (odds_test w)) (linear (judge_of (odds_test w)) refl)))
       (odds_test w) tail (columns_of (length (row_sums w.table)) (column_sums w.table)) (record {
-        tail_is = refl;
-        rule_is = refl;
+        judge_is = refl;
         gives = odds_give w.odds (column_sums w.table) (row_sums w.table) (two-columns w.table i.square) (two-rows w.table i.square) (sym (level w.table));
         values = λ xs m. values tail xs;
       })

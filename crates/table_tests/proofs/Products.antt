@@ -7,8 +7,7 @@ use Rattle.std.proofs.Math.Nat.{mul-le-mul}
 use Rattle.std.proofs.lemmas.Bool.{cases_eq}
 use Rattle.std.proofs.lemmas.Int.{ints, unsigned_abs-mul}
 use Rattle.std.proofs.lemmas.List.Sums.{sum_by-cons}
-use Rattle.weights.specs.declared.tails.Tail.{Tail}
-use Rattle.weights.specs.declared.rules.Rule.{Rule}
+use Rattle.stage_network.specs.declared.verdicts.Judge.{Judge}
 use Rattle.weights.specs.Grouped.{columns_of, minus}
 use Rattle.weights.specs.Labellings.{counts_of}
 use Rattle.completion_bounds.specs.Pairings.{greatest_score}
@@ -142,9 +141,9 @@ length-columns_of : (k : ℕ) (cs xs : List ℕ) → length (columns_of k cs xs)
 length-columns_of k [] xs = refl
 length-columns_of k (c ∷ cs) xs = ap suc (length-columns_of k cs (drop c xs))
 
-module _ (us : List ℤ) (rows : List ℕ) (vs : List ℤ) (columns : List ℕ) (tail : Tail) (rule : Rule) where
+module _ (us : List ℤ) (rows : List ℕ) (vs : List ℤ) (columns : List ℕ) (judge : Judge) where
   value-from : (table : List (List ℕ)) (ss : List ℤ) (g : ℕ) (r : List ℕ) (p : List ℤ) → drop g vs ≡ ss → length ss ≡ length table
-      → so_far (partial_after (linear_meaning us rows vs columns tail rule) g r p table) ≡ so_far p +ℤ table_sum us ss table
+      → so_far (partial_after (linear_meaning us rows vs columns judge) g r p table) ≡ so_far p +ℤ table_sum us ss table
   value-from [] [] g r p d e = sym (plus-zero (so_far p))
   value-from [] (s ∷ ss) g r p d e = absurd (omega (arith, e))
   value-from (x ∷ table) [] g r p d e = absurd (omega (arith, e))
@@ -157,7 +156,7 @@ module _ (us : List ℤ) (rows : List ℕ) (vs : List ℤ) (columns : List ℕ) 
       moved : (a y t : ℤ) → (a +ℤ y) +ℤ t ≡ a +ℤ (y +ℤ t)
       moved a y t = omega (arith, ints)
 
-  pub product-value : length us ≡ length rows → length vs ≡ length columns → (xs : List ℕ) → product_sum us (subjects vs columns) xs ≡ labelling_value (linear_meaning us rows vs columns tail rule) xs
+  pub product-value : length us ≡ length rows → length vs ≡ length columns → (xs : List ℕ) → product_sum us (subjects vs columns) xs ≡ labelling_value (linear_meaning us rows vs columns judge) xs
   product-value wide long xs =
       product-table us vs columns xs
       ∙ ap (λ k. table_sum us vs (columns_of k columns xs)) wide

@@ -5,11 +5,10 @@ use Rattle.std.specs.List.{sum, Contains}
 use Rattle.std.proofs.Math.IntN.{pos-*ℤ-pos}
 use Rattle.std.proofs.Math.Nat.{mul-le-mul_left}
 use Rattle.std.proofs.lemmas.List.Sums.{sum_by-take-drop}
-use Rattle.weights.specs.declared.tails.Tail.{Tail}
-use Rattle.weights.specs.declared.rules.Rule.{Rule}
+use Rattle.stage_network.specs.declared.verdicts.Judge.{Judge}
 use Rattle.weights.specs.declared.TheConstants.{MAX}
 use Rattle.weights.specs.Labellings.{number_of_labellings}
-use Rattle.weights.specs.Rules.{RuleFits}
+use Rattle.stage_network.specs.Judged.{JudgeFits}
 use Rattle.weights.proofs.ChoiceLists.{IsChoice}
 use Rattle.completion_bounds.specs.Fillings.{falling, greatest_weight, product_by}
 use Rattle.label_network.specs.LabelSteps.{AreSizes, IsHeld}
@@ -38,16 +37,16 @@ multiplied z n m e = rw e (product n m)
     product : (n m : ℕ) → pos n *ℤ pos m ≡ pos (n * m)
     product n m = pos-*ℤ-pos n m
 
-module _ (rows columns : List ℕ) (width falling_width : ℕ) (highs : List ℕ) (rule : Rule) (h : IsWeightMeasure rows columns width falling_width highs rule) (tail : Tail) where
-  module _ (g : ℕ) (f p : List ℤ) (a : IsPlace (weight_meaning rows columns tail rule) g f p) where
-    pub left : IsLeft (weight_meaning rows columns tail rule) g (sizes_in f)
-    left = reached_left rows columns tail rule h.weighing.level h.weighing.some g (sizes_in f) p a.reached
+module _ (rows columns : List ℕ) (width falling_width : ℕ) (highs : List ℕ) (judge : Judge) (h : IsWeightMeasure rows columns width falling_width highs judge) where
+  module _ (g : ℕ) (f p : List ℤ) (a : IsPlace (weight_meaning rows columns judge) g f p) where
+    pub left : IsLeft (weight_meaning rows columns judge) g (sizes_in f)
+    left = reached_left rows columns judge h.weighing.level h.weighing.some g (sizes_in f) p a.reached
 
     pub product_is : IsProduct rows g (sizes_in f) p
-    product_is = reached_product rows columns tail rule h.weighing.level h.weighing.some g (sizes_in f) p a.reached
+    product_is = reached_product rows columns judge h.weighing.level h.weighing.some g (sizes_in f) p a.reached
 
     pub within-stages : g ≤ length columns
-    within-stages = reached-stage (weight_meaning rows columns tail rule) g (sizes_in f) p a.reached
+    within-stages = reached-stage (weight_meaning rows columns judge) g (sizes_in f) p a.reached
 
     pub as-wide : length f ≡ length rows
     as-wide = sym (sizes-long f) ∙ fits-length (sizes_in f) rows left.within
@@ -77,16 +76,16 @@ module _ (rows columns : List ℕ) (width falling_width : ℕ) (highs : List ℕ
     product-fits m l = omega (arith, mul-le-mul_left (past_of p) l, product_is.small, h.weighing.total_fits)
 
     pub low-product : past_of p * least_factor columns g (sizes_in f) ≤ MAX
-    low-product = product-fits (least_factor columns g (sizes_in f)) (least-most rows columns tail rule h.weighing.level h.weighing.some g (sizes_in f) left)
+    low-product = product-fits (least_factor columns g (sizes_in f)) (least-most rows columns judge h.weighing.level h.weighing.some g (sizes_in f) left)
 
     pub high-product : past_of p * greatest_factor columns g (sizes_in f) ≤ MAX
-    high-product = product-fits (greatest_factor columns g (sizes_in f)) (greatest-most rows columns tail rule h.weighing.level h.weighing.some g (sizes_in f) left)
+    high-product = product-fits (greatest_factor columns g (sizes_in f)) (greatest-most rows columns judge h.weighing.level h.weighing.some g (sizes_in f) left)
 
-    pub low-rule : RuleFits rule (pos (past_of p * least_factor columns g (sizes_in f)))
-    low-rule = h.weighing.rule_fits (pos (past_of p * least_factor columns g (sizes_in f))) low-product
+    pub low-rule : JudgeFits judge (pos (past_of p * least_factor columns g (sizes_in f)))
+    low-rule = h.weighing.rules_fit (pos (past_of p * least_factor columns g (sizes_in f))) low-product
 
-    pub high-rule : RuleFits rule (pos (past_of p * greatest_factor columns g (sizes_in f)))
-    high-rule = h.weighing.rule_fits (pos (past_of p * greatest_factor columns g (sizes_in f))) high-product
+    pub high-rule : JudgeFits judge (pos (past_of p * greatest_factor columns g (sizes_in f)))
+    high-rule = h.weighing.rules_fit (pos (past_of p * greatest_factor columns g (sizes_in f))) high-product
 
     -- of the factors of its sizes
     module _ (low : ℤ) (e : low ≡ pos (least_factor columns g (sizes_in f))) where
@@ -104,7 +103,7 @@ module _ (rows columns : List ℕ) (width falling_width : ℕ) (highs : List ℕ
       high-is = rw e (multiplied (so_far p) (past_of p) (greatest_factor columns g (sizes_in f)) product_is.whole)
 
     pub factor-few : least_factor columns g (sizes_in f) ≤ MAX
-    factor-few = omega (arith, least-most rows columns tail rule h.weighing.level h.weighing.some g (sizes_in f) left, few-ways)
+    factor-few = omega (arith, least-most rows columns judge h.weighing.level h.weighing.some g (sizes_in f) left, few-ways)
 
     pub roomy-sizes : AreRoomy falling_width (falling (sizes_in f))
     roomy-sizes = roomy falling_width rows (sizes_in f) (omega (arith, sizes-long f, some-rows)) (omega (arith, sizes-long f, few-rows)) few-sizes few-ways left.within h.falling_held
@@ -118,7 +117,7 @@ module _ (rows columns : List ℕ) (width falling_width : ℕ) (highs : List ℕ
         ∙ ap (λ m. min (number_of_labellings (sizes_in f)) (product_by (greatest_weight m) (drop g columns))) (sym (fits-length (sizes_in f) rows left.within))
 
     -- a choice there
-    module _ (before : g < length columns) (x : List ℕ) (o : Contains (allowed (weight_meaning rows columns tail rule) g (sizes_in f)) x) where
+    module _ (before : g < length columns) (x : List ℕ) (o : Contains (allowed (weight_meaning rows columns judge) g (sizes_in f)) x) where
       pub choice : IsChoice (slice_index columns g) (sizes_in f) x
       choice = chosen (slice_index columns g) (sizes_in f) x o
 
@@ -137,5 +136,5 @@ module _ (rows columns : List ℕ) (width falling_width : ℕ) (highs : List ℕ
       pub step-is : so_far p *ℤ pos (number_of_labellings x) ≡ pos (past_of p * number_of_labellings x)
       step-is = multiplied (so_far p) (past_of p) (number_of_labellings x) product_is.whole
 
-  pub end-one : (p : List ℤ) → IsEnd (weight_meaning rows columns tail rule) p → length p ≡ 1
-  end-one p e = (reached_product rows columns tail rule h.weighing.level h.weighing.some (length columns) e.sizes p e.reached).one
+  pub end-one : (p : List ℤ) → IsEnd (weight_meaning rows columns judge) p → length p ≡ 1
+  end-one p e = (reached_product rows columns judge h.weighing.level h.weighing.some (length columns) e.sizes p e.reached).one

@@ -4,11 +4,10 @@ use Rattle.std.specs.Prelude.{ℕ, ◌*◌, ◌^◌, List, nat_eq, slice_index, 
 use Rattle.weights.specs.declared.odds.Odds.{Odds}
 use Rattle.weights.specs.declared.tails.Tail.{Tail}
 use Rattle.weights.specs.Labellings.{number_of_labellings}
-use Rattle.weights.specs.Rules.{rule_of}
+use Rattle.stage_network.specs.Judged.{judge_of}
 use Rattle.stage_network.specs.Network.{Network}
-use Rattle.stage_network.specs.Alike.{Shape}
 use Rattle.room_network.specs.Plans.{Plan, Weights}
-use Rattle.room_network.specs.RoomNetworks.{room_network, room_shape}
+use Rattle.room_network.specs.RoomNetworks.{room_network}
 use Rattle.label_network.specs.LabelNetwork.{over_rooms}
 use Rattle.label_network.specs.LabelRooms.{label_floor}
 use Rattle.label_network.specs.Linear.{linear_meaning}
@@ -30,14 +29,12 @@ odds_plan odds columns rows =
     record { floor = label_floor columns rows; weight = odds_weights odds }
 
 -- what is measured is the first cell
-abbrev pub cell_meaning : WeightedTable → Tail → Meaning
-cell_meaning weighted tail =
+abbrev pub cell_meaning : WeightedTable → Meaning
+cell_meaning weighted =
     linear_meaning first_scores (row_sums weighted.table)
-    first_scores (column_sums weighted.table) tail (rule_of (odds_test weighted) tail)
+    first_scores (column_sums weighted.table) (judge_of (odds_test weighted))
 
+-- one network for both tails
 abbrev pub odds_network : WeightedTable → Tail → Network
 odds_network weighted tail =
-    room_network (over_rooms (cell_meaning weighted tail)) (odds_weights weighted.odds)
-
-abbrev pub odds_shape : WeightedTable → Tail → Shape
-odds_shape weighted tail = room_shape (over_rooms (cell_meaning weighted tail))
+    room_network (over_rooms (cell_meaning weighted)) (odds_weights weighted.odds)

@@ -2,8 +2,7 @@
 -- JASA 78, 1983): the product of the columns' weights so far, times least and greatest weights of
 -- the later columns.
 use Rattle.std.specs.Prelude.{ℕ, ◌*◌, ℤ, pos, List, [], ◌∷◌, drop, length, min, nat_abs}
-use Rattle.weights.specs.declared.rules.Rule.{Rule}
-use Rattle.weights.specs.declared.tails.Tail.{Tail}
+use Rattle.stage_network.specs.declared.verdicts.Judge.{Judge}
 use Rattle.weights.specs.Labellings.{number_of_labellings}
 use Rattle.completion_bounds.specs.Fillings.{greatest_weight, least_weight, product_by}
 use Rattle.label_network.specs.Linear.{so_far}
@@ -23,8 +22,8 @@ greatest_factor columns g r =
     min (number_of_labellings r) (product_by (greatest_weight (length r)) (drop g columns))
 
 -- the weight of tables with these rows and columns
-abbrev pub weight_meaning : List ℕ → List ℕ → Tail → Rule → Meaning
-weight_meaning rows columns tail rule = record {
+abbrev pub weight_meaning : List ℕ → List ℕ → Judge → Meaning
+weight_meaning rows columns judge = record {
   columns = columns;
   rows = rows;
   slots = 1;
@@ -37,6 +36,5 @@ weight_meaning rows columns tail rule = record {
   value = so_far;
   low = λ g r p. pos (past_of p * least_factor columns g r);
   high = λ g r p. pos (past_of p * greatest_factor columns g r);
-  tail = tail;
-  rule = rule;
+  judge = judge;
 }

@@ -2,20 +2,20 @@
 use Rattle.std.specs.Prelude.{◌≡◌, ℕ, suc, ◌-◌, ◌^◌, ◌<◌, ◌≤◌, ℤ, List, length, drop, get_or, min, unsigned_abs}
 use Rattle.std.specs.List.{sum}
 use Rattle.weights.specs.declared.TheConstants.{MAX}
-use Rattle.weights.specs.declared.rules.Rule.{Rule}
+use Rattle.stage_network.specs.declared.verdicts.Judge.{Judge}
 use Rattle.weights.specs.Labellings.{number_of_labellings}
-use Rattle.weights.specs.Rules.{RuleFits}
+use Rattle.stage_network.specs.Judged.{JudgeFits}
 use Rattle.completion_bounds.specs.Fillings.{falling, greatest_weight, product_by}
 use Rattle.label_network.specs.LabelSteps.{IsHeld}
 
--- columns that fill the rows, of which there are few enough, and a rule of weights
-pub record IsWeighing (rows columns : List ℕ) (rule : Rule) : Type 0 where
+-- columns that fill the rows, of which there are few enough, and rules of weights
+pub record IsWeighing (rows columns : List ℕ) (judge : Judge) : Type 0 where
   pub some : 1 ≤ length rows
   pub few : length rows ≤ 8
   pub level : sum columns ≡ sum rows
   pub units : sum rows < 2 ^ 64
   pub total_fits : number_of_labellings rows ≤ MAX
-  pub rule_fits : (v : ℤ) → unsigned_abs v ≤ MAX → RuleFits rule v
+  pub rules_fit : (v : ℤ) → unsigned_abs v ≤ MAX → JudgeFits judge v
 
 -- the products of the later columns' greatest weights, cut off at MAX, from the last stage back to
 -- a column
@@ -27,8 +27,8 @@ pub record AreHighs (rows : ℕ) (columns : List ℕ) (from : ℕ) (highs : List
 
 -- what the measure keeps
 pub record IsWeightMeasure (rows columns : List ℕ) (width falling_width : ℕ) (highs : List ℕ)
-    (rule : Rule) : Type 0 where
-  pub weighing : IsWeighing rows columns rule
+    (judge : Judge) : Type 0 where
+  pub weighing : IsWeighing rows columns judge
   pub held : IsHeld width rows
   pub falling_held : IsHeld falling_width (falling rows)
   pub highs_are : AreHighs (length rows) columns 0 highs

@@ -5,7 +5,7 @@ ghost use Rattle.weights.specs.declared.tails.Tail.{Tail};
 ghost use Rattle.weights.specs.Frames.{IsFrameOf};
 ghost use Rattle.weights.specs.Labellings.{number_of_labellings};
 ghost use Rattle.weights.specs.Wide.{Prepares};
-ghost use Rattle.stage_network.specs.Follows.{asks};
+ghost use Rattle.stage_network.specs.Asked.{asks};
 ghost use Rattle.table_reader.specs.Data.{table_data_of};
 ghost use Rattle.table_tests.specs.FisherExact.{fisher_test};
 ghost use Rattle.table_tests.specs.Tables.{is_two_by_two, row_sums};

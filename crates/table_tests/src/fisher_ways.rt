@@ -1,8 +1,7 @@
 // Both ways to the answer of Fisher's test.
 ghost use Rattle.std.specs.Prelude.{◌≡◌, pos, true, IfOk, Contains};
-ghost use Rattle.weights.specs.declared.tails.Tail.TheVariants as side;
 ghost use Rattle.weights.specs.Labellings.{labellings};
-ghost use Rattle.stage_network.specs.Follows.{Follows};
+ghost use Rattle.stage_network.specs.Follows.{AllFollow};
 ghost use Rattle.label_network.specs.Linear.{linear_meaning};
 ghost use Rattle.table_tests.specs.FisherExact.{fisher_test, first_cell, rarity};
 ghost use Rattle.table_tests.specs.TableNetworks.{first_cell_meaning, fisher_network, rarity_meaning};
@@ -39,42 +38,32 @@ impl FisherTable {
     }
 
     // The network of the first cell.
-    fn by_first_cell(
-        &self,
-        alloc: Global,
-        tail: Tail,
-    ) -> Result<LabelStages<LinearMeasure>, NoMemory>
+    fn by_first_cell(&self, alloc: Global) -> Result<LabelStages<LinearMeasure>, NoMemory>
         requires { is_two_by_two self.now ≡ true }
-        ensures built { let meaning = first_cell_meaning self.now tail in
+        ensures built { let meaning = first_cell_meaning self.now in
             IfOk result (λ s. meaning ≡ linear_meaning s.1.scores.items s.1.rows.items
-            s.1.later.scores.items s.1.later.columns.items s.1.judge.tail s.1.judge.rule) }
-        ensures follows { Follows (fisher_test self.now) tail (fisher_network self.now tail) }
+            s.1.later.scores.items s.1.later.columns.items s.1.judge) }
+        ensures follows { AllFollow (fisher_test self.now) (fisher_network self.now) }
     {
         let made = self.made();
-        let rule = made.frame.rule(tail);
         let rows = made.margins.rows.as_slice();
         let columns = made.margins.columns.as_slice();
-        let judge = Judge { tail, rule };
+        let judge = Judge::of(&made.frame);
         let measure = LinearMeasure::new(alloc, &[1, 0], rows, &[1, 0], columns, judge)?;
         label_stages(alloc, columns, rows, measure)
     }
 
     // The network of the table's weight.
     fn by_weight(&self, alloc: Global) -> Result<LabelStages<WeightMeasure>, NoMemory>
-        ensures built { let meaning = rarity_meaning self.now side.Two in
+        ensures built { let meaning = rarity_meaning self.now in
             IfOk result (λ s. meaning ≡ weight_meaning s.1.rows.items s.1.columns.items
-            s.1.judge.tail s.1.judge.rule) }
-        ensures follows { let network = fisher_network self.now side.Two in
-            Follows (fisher_test self.now) side.Two network }
+            s.1.judge) }
+        ensures follows { AllFollow (fisher_test self.now) (fisher_network self.now) }
     {
         let made = self.made();
-        let rule = made.frame.two;
         let rows = made.margins.rows.as_slice();
         let columns = made.margins.columns.as_slice();
-        let judge = Judge {
-            tail: Tail::Two,
-            rule,
-        };
+        let judge = Judge::of(&made.frame);
         let measure = WeightMeasure::new(alloc, rows, columns, judge)?;
         label_stages(alloc, columns, rows, measure)
     }
@@ -118,15 +107,13 @@ impl Plain for FisherTable {
 }
 
 impl Prepared for FisherTable {
-    ghost use Rattle.table_tests.specs.TableNetworks.{fisher_network, fisher_shape};
+    ghost use Rattle.table_tests.specs.TableNetworks.{fisher_network};
 
     type Built = OneOf<LabelStages<LinearMeasure>, LabelStages<WeightMeasure>>;
 
     ghost network = { fisher_network };
 
     ghost runs = { fisher_network };
-
-    ghost shape = { fisher_shape };
 
     fn has_tail(&self, tail: Tail) -> bool {
         match tail {
@@ -137,8 +124,8 @@ impl Prepared for FisherTable {
 
     fn stages_of(&self, alloc: Global, tail: Tail) -> Result<Self::Built, NoMemory> {
         match tail {
-            Tail::Less => Ok(OneOf::First(self.by_first_cell(alloc, tail)?)),
-            Tail::Greater => Ok(OneOf::First(self.by_first_cell(alloc, tail)?)),
+            Tail::Less => Ok(OneOf::First(self.by_first_cell(alloc)?)),
+            Tail::Greater => Ok(OneOf::First(self.by_first_cell(alloc)?)),
             Tail::Two => Ok(OneOf::Second(self.by_weight(alloc)?)),
         }
     }

@@ -44,15 +44,13 @@ impl Plain for LinearTable {
 }
 
 impl Prepared for LinearTable {
-    ghost use Rattle.table_tests.specs.TableNetworks.{linear_network, linear_shape};
+    ghost use Rattle.table_tests.specs.TableNetworks.{linear_network};
 
     type Built = LabelStages<LinearMeasure>;
 
     ghost network = { linear_network };
 
     ghost runs = { linear_network };
-
-    ghost shape = { linear_shape };
 
     fn has_tail(&self, _tail: Tail) -> bool {
         true
@@ -62,14 +60,13 @@ impl Prepared for LinearTable {
         true
     }
 
-    fn stages_of(&self, alloc: Global, tail: Tail) -> Result<Self::Built, NoMemory> {
+    fn stages_of(&self, alloc: Global, _tail: Tail) -> Result<Self::Built, NoMemory> {
         let made = self.made();
-        let rule = made.frame.rule(tail);
         let rows = made.margins.rows.as_slice();
         let columns = made.margins.columns.as_slice();
         let row_scores = made.row_scores.as_slice();
         let column_scores = made.column_scores.as_slice();
-        let judge = Judge { tail, rule };
+        let judge = Judge::of(&made.frame);
         let measure = LinearMeasure::new(alloc, row_scores, rows, column_scores, columns, judge)?;
         label_stages(alloc, columns, rows, measure)
     }

@@ -49,15 +49,13 @@ impl Plain for OddsTable {
 }
 
 impl Prepared for OddsTable {
-    ghost use Rattle.table_tests.specs.OddsNetworks.{odds_network, odds_shape};
+    ghost use Rattle.table_tests.specs.OddsNetworks.{odds_network};
 
     type Built = RoomNetwork<OddsRooms, Labelled<LinearMeasure>>;
 
     ghost network = { odds_network };
 
     ghost runs = { odds_network };
-
-    ghost shape = { odds_shape };
 
     fn has_tail(&self, tail: Tail) -> bool {
         let _total = self.total();
@@ -67,13 +65,16 @@ impl Prepared for OddsTable {
         }
     }
 
-    fn stages_of(&self, alloc: Global, tail: Tail) -> Result<Self::Built, NoMemory> {
+    fn is_shared(&self) -> bool {
+        true
+    }
+
+    fn stages_of(&self, alloc: Global, _tail: Tail) -> Result<Self::Built, NoMemory> {
         let total = self.total();
-        let rule = self.frame().rule(tail);
+        let judge = Judge::of(&self.frame());
         let made = self.fisher().made();
         let rows = made.margins.rows.as_slice();
         let columns = made.margins.columns.as_slice();
-        let judge = Judge { tail, rule };
         let cell = LinearMeasure::new(alloc, &[1, 0], rows, &[1, 0], columns, judge)?;
         let rooms = OddsRooms::new(alloc, self.odds(), columns, rows, total)?;
         Ok(RoomNetwork::new(rooms, Labelled::new(cell)))

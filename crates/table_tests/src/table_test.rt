@@ -10,27 +10,15 @@ ghost use Rattle.table_tests.specs.TableSteps.{AreScores, scored_of};
 
 use crate::fisher_table::FisherTable;
 use crate::linear_table::LinearTable;
-use crate::odds_rooms::OddsRooms;
 use crate::odds_table::OddsTable;
-use crate::weight_measure::WeightMeasure;
-use enumerate::Plain;
-use label_network::{LabelStages, Labelled, LinearMeasure};
-use room_network::RoomNetwork;
-use stage_network::{OneOf, Prepared};
+use stage_network::OneOf;
 use std::alloc::Global;
 use table_reader::Table;
-use weights::{Bytes, Frame, NoMemory, Odds, PrepareFault, Tail};
+use weights::{Odds, PrepareFault};
 
-/// A test of a table whose data are checked.
-#[derive(Drop)]
-pub enum TableTest {
-    /// Fisher's exact test.
-    Fisher(FisherTable),
-    /// The linear-by-linear test.
-    Linear(LinearTable),
-    /// Fisher's exact test of a table of two rows and two columns with odds.
-    Odds(OddsTable),
-}
+/// A test of a table whose data are checked: Fisher's exact test, the linear-by-linear test, or
+/// Fisher's exact test of a table of two rows and two columns with odds.
+pub type TableTest = OneOf<OneOf<FisherTable, LinearTable>, OddsTable>;
 
 /// Prepares Fisher's exact test of a table.
 ///
@@ -38,9 +26,10 @@ pub enum TableTest {
 /// `TooWide(Total)` where there are more labellings of the subjects than `weights::MAX`. Or else
 /// `NoMemory` where memory runs out.
 pub fn prepare_fisher(alloc: Global, table: &Table) -> Result<TableTest, PrepareFault>
-    ensures { Prepares table_test (TableTest.Fisher (table_data_of table.now)) result }
+    ensures { Prepares table_test (OneOf.First (OneOf.First (table_data_of table.now))) result }
 {
-    Ok(TableTest::Fisher(FisherTable::prepare(alloc, table)?))
+    let fisher = FisherTable::prepare(alloc, table)?;
+    Ok(OneOf::First(OneOf::First(fisher)))
 }
 
 /// Prepares the linear-by-linear test of a table with these scores of its rows and its columns.
@@ -59,10 +48,10 @@ pub fn prepare_linear(
     requires rows { AreScores row_scores.now }
     requires columns { AreScores column_scores.now }
     ensures { let scored = scored_of (table_data_of table.now) row_scores.now column_scores.now in
-        Prepares table_test (TableTest.Linear scored) result }
+        Prepares table_test (OneOf.First (OneOf.Second scored)) result }
 {
     let linear = LinearTable::prepare(alloc, table, row_scores, column_scores)?;
-    Ok(TableTest::Linear(linear))
+    Ok(OneOf::First(OneOf::Second(linear)))
 }
 
 /// Prepares Fisher's exact test of a table of two rows and two columns with odds, its noncentral
@@ -78,102 +67,7 @@ pub fn prepare_odds(alloc: Global, odds: Odds, table: &Table) -> Result<TableTes
     requires square { is_two_by_two (table_data_of table.now) ≡ true }
     requires odds { IsOdds odds }
     ensures { let weighted = weighted_of (table_data_of table.now) odds in
-        Prepares table_test (TableTest.Odds weighted) result }
+        Prepares table_test (OneOf.Second weighted) result }
 {
-    Ok(TableTest::Odds(OddsTable::prepare(alloc, odds, table)?))
-}
-
-impl Plain for TableTest {
-    ghost use Rattle.table_tests.specs.TableTests.{table_test};
-
-    ghost test = { table_test };
-
-    fn first(&self, alloc: Global) -> Result<Bytes, NoMemory> {
-        match self {
-            TableTest::Fisher(table) => table.first(alloc),
-            TableTest::Linear(table) => table.first(alloc),
-            TableTest::Odds(table) => table.first(alloc),
-        }
-    }
-
-    fn next(&self, labels: &mut Bytes) -> bool {
-        match self {
-            TableTest::Fisher(table) => table.next(labels),
-            TableTest::Linear(table) => table.next(labels),
-            TableTest::Odds(table) => table.next(labels),
-        }
-    }
-
-    fn weight(&self, labels: &[u8]) -> u128 {
-        match self {
-            TableTest::Fisher(table) => table.weight(labels),
-            TableTest::Linear(table) => table.weight(labels),
-            TableTest::Odds(table) => table.weight(labels),
-        }
-    }
-
-    fn value(&self, labels: &[u8]) -> i128 {
-        match self {
-            TableTest::Fisher(table) => table.value(labels),
-            TableTest::Linear(table) => table.value(labels),
-            TableTest::Odds(table) => table.value(labels),
-        }
-    }
-
-    fn frame(&self) -> Frame {
-        match self {
-            TableTest::Fisher(table) => table.frame(),
-            TableTest::Linear(table) => table.frame(),
-            TableTest::Odds(table) => table.frame(),
-        }
-    }
-
-    fn measure(&self, labels: &[u8], tail: Tail) -> i128 {
-        match self {
-            TableTest::Fisher(table) => table.measure(labels, tail),
-            TableTest::Linear(table) => table.measure(labels, tail),
-            TableTest::Odds(table) => table.measure(labels, tail),
-        }
-    }
-}
-
-impl Prepared for TableTest {
-    ghost use Rattle.table_tests.specs.TableTests.{table_network, table_shape};
-
-    type Built = OneOf<
-        OneOf<LabelStages<LinearMeasure>, LabelStages<WeightMeasure>>,
-        RoomNetwork<OddsRooms, Labelled<LinearMeasure>>,
-    >;
-
-    ghost network = { table_network };
-
-    ghost runs = { table_network };
-
-    ghost shape = { table_shape };
-
-    fn has_tail(&self, tail: Tail) -> bool {
-        match self {
-            TableTest::Fisher(table) => table.has_tail(tail),
-            TableTest::Linear(table) => table.has_tail(tail),
-            TableTest::Odds(table) => table.has_tail(tail),
-        }
-    }
-
-    fn is_shared(&self) -> bool {
-        match self {
-            TableTest::Fisher(table) => table.is_shared(),
-            TableTest::Linear(table) => table.is_shared(),
-            TableTest::Odds(table) => table.is_shared(),
-        }
-    }
-
-    fn stages_of(&self, alloc: Global, tail: Tail) -> Result<Self::Built, NoMemory> {
-        match self {
-            TableTest::Fisher(table) => Ok(OneOf::First(table.stages_of(alloc, tail)?)),
-            TableTest::Linear(table) => {
-                Ok(OneOf::First(OneOf::First(table.stages_of(alloc, tail)?)))
-            }
-            TableTest::Odds(table) => Ok(OneOf::Second(table.stages_of(alloc, tail)?)),
-        }
-    }
+    Ok(OneOf::Second(OddsTable::prepare(alloc, odds, table)?))
 }

@@ -3,7 +3,7 @@ ghost use Rattle.std.specs.Prelude.{◌≡◌, ◌*◌, ◌^◌, ◌<◌, ◌≤
 ghost use Rattle.std.specs.List.{sum};
 ghost use Rattle.weights.specs.declared.TheConstants.{MAX};
 ghost use Rattle.weights.specs.Labellings.{number_of_labellings};
-ghost use Rattle.stage_network.specs.Judged.{judged};
+ghost use Rattle.stage_network.specs.Judged.{rule_in, verdict_of};
 ghost use Rattle.completion_bounds.specs.Fillings.{falling, least_weight, product_by};
 ghost use Rattle.label_network.specs.LabelSteps.{AreSizes, IsHeld};
 ghost use Rattle.label_network.specs.Linear.{so_far};
@@ -37,7 +37,7 @@ pub struct WeightMeasure {
     highs: Vec<u128>,
     judge: Judge,
     ghost right: { IsWeightMeasure rows.items columns.items binomials.width falling_binomials.width
-        highs.items judge.rule },
+        highs.items judge },
 }
 
 // A product with what it can be multiplied by, at least and at most.
@@ -95,17 +95,17 @@ fn factors_of(
 
 impl WeightMeasure {
     /// The measure of tables with these rows and columns (how many subjects each has), with
-    /// verdicts for the judge's tail.
+    /// verdicts by the judge's rules.
     pub fn new(
         alloc: Global,
         rows: &[u64],
         columns: &[u64],
         judge: Judge,
     ) -> Result<WeightMeasure, NoMemory>
-        requires { IsWeighing rows.now columns.now judge.rule }
+        requires { IsWeighing rows.now columns.now judge }
         ensures { IfOk result (λ m.
-            weight_meaning m.rows.items m.columns.items m.judge.tail m.judge.rule
-            ≡ weight_meaning rows.now columns.now judge.tail judge.rule) }
+            weight_meaning m.rows.items m.columns.items m.judge
+            ≡ weight_meaning rows.now columns.now judge) }
     {
         let binomials = Binomials::for_rows(alloc, rows)?;
         let mut room = [0u64; 8];
@@ -129,7 +129,7 @@ impl WeightMeasure {
     #[inline(always)]
     fn weight(&self, stage: usize, remaining: &[i128], choice: &[u64]) -> i128
         requires { let m = weight_meaning self.now.rows.items self.now.columns.items
-            self.now.judge.tail self.now.judge.rule in
+            self.now.judge in
             IsStep m stage remaining.now choice.now }
         ensures { result ≡ pos (number_of_labellings choice.now) }
     {
@@ -140,7 +140,7 @@ impl WeightMeasure {
     // By what the sizes that remain can still multiply a product.
     fn factors(&self, stage: usize, remaining: &[i128]) -> Interval
         requires { let m = weight_meaning self.now.rows.items self.now.columns.items
-            self.now.judge.tail self.now.judge.rule in
+            self.now.judge in
             IsRoom m stage remaining.now }
         ensures low { let low = least_factor self.now.columns.items stage in
             result.low ≡ pos (low (sizes_in remaining.now)) }
@@ -168,7 +168,7 @@ impl WeightMeasure {
         partial: &[i128],
     ) -> Interval
         requires place { let m = weight_meaning self.now.rows.items self.now.columns.items
-            self.now.judge.tail self.now.judge.rule in
+            self.now.judge in
             IsPlace m stage remaining.now partial.now }
         requires low { let low = least_factor self.now.columns.items stage in
             factors.low ≡ pos (low (sizes_in remaining.now)) }
@@ -193,7 +193,7 @@ impl WeightMeasure {
         tail: Tail,
     ) -> Verdict
         requires place { let m = weight_meaning self.now.rows.items self.now.columns.items
-            self.now.judge.tail self.now.judge.rule in
+            self.now.judge in
             IsPlace m stage remaining.now partial.now }
         requires low { let low = least_factor self.now.columns.items stage in
             factors.low ≡ pos (low (sizes_in remaining.now)) }
@@ -201,7 +201,7 @@ impl WeightMeasure {
             factors.high ≡ pos (high (sizes_in remaining.now)) }
         ensures { let low = least_factor self.now.columns.items stage in
             let high = greatest_factor self.now.columns.items stage in
-            result ≡ judged self.now.judge.tail self.now.judge.rule tail
+            result ≡ verdict_of (rule_in self.now.judge tail)
             (pos (past_of partial.now * low (sizes_in remaining.now)))
             (pos (past_of partial.now * high (sizes_in remaining.now))) }
     {
@@ -212,7 +212,7 @@ impl WeightMeasure {
 
 impl Measure for WeightMeasure {
     ghost meaning = { λ m.
-        weight_meaning m.rows.items m.columns.items m.judge.tail m.judge.rule };
+        weight_meaning m.rows.items m.columns.items m.judge };
 
     fn slots(&self) -> usize {
         1

@@ -5,8 +5,7 @@ use Rattle.std.specs.List.{count_by}
 use Rattle.std.proofs.Math.IntN.{*ℤ_comm, zero-*ℤ}
 use Rattle.std.proofs.lemmas.Int.{ints}
 use Rattle.std.proofs.lemmas.List.Sums.{sum_by-cons}
-use Rattle.weights.specs.declared.tails.Tail.{Tail}
-use Rattle.weights.specs.declared.rules.Rule.{Rule}
+use Rattle.stage_network.specs.declared.verdicts.Judge.{Judge}
 use Rattle.weights.specs.Labellings.{counts_of}
 use Rattle.weights.specs.Grouped.{columns_of, minus}
 use Rattle.label_network.specs.Endings.{partial_after, labelling_value}
@@ -56,9 +55,9 @@ drop-head (suc g) [] s ss d = absurd (cc d)
 drop-head zero (v ∷ vs) s ss d = (cc, cc)
 drop-head (suc g) (v ∷ vs) s ss d = let rest = drop-head g vs s ss d in (rest.0, rw (suc-add g 1) rest.1)
 
-module _ (rows : List ℕ) (scores : List ℤ) (columns : List ℕ) (tail : Tail) (rule : Rule) where
+module _ (rows : List ℕ) (scores : List ℤ) (columns : List ℕ) (judge : Judge) where
   value-from : (cs : List ℕ) (ss : List ℤ) (g : ℕ) (r : List ℕ) (p : List ℤ) (xs : List ℕ) → drop g scores ≡ ss → length ss ≡ length cs
-      → so_far (partial_after (linear_meaning row_scores rows scores columns tail rule) g r p (columns_of 2 cs xs)) ≡ so_far p +ℤ labelled_sum 1 (subjects ss cs) xs
+      → so_far (partial_after (linear_meaning row_scores rows scores columns judge) g r p (columns_of 2 cs xs)) ≡ so_far p +ℤ labelled_sum 1 (subjects ss cs) xs
   value-from [] [] g r p xs d e = plus-zero (so_far p)
     where
       plus-zero : (t : ℤ) → t ≡ t +ℤ pos 0
@@ -75,9 +74,9 @@ module _ (rows : List ℕ) (scores : List ℤ) (columns : List ℕ) (tail : Tail
       moved : (a y z t u : ℤ) → y ≡ z → u ≡ z +ℤ t → (a +ℤ y) +ℤ t ≡ a +ℤ u
       moved a y z t u b f = omega (arith, ints, b, f)
 
-  pub value-is : length scores ≡ length columns → length rows ≡ 2 → (xs : List ℕ) → labelling_value (linear_meaning row_scores rows scores columns tail rule) xs ≡ labelled_sum 1 (subjects scores columns) xs
+  pub value-is : length scores ≡ length columns → length rows ≡ 2 → (xs : List ℕ) → labelling_value (linear_meaning row_scores rows scores columns judge) xs ≡ labelled_sum 1 (subjects scores columns) xs
   value-is long two xs =
-      ap (λ n. so_far (partial_after (linear_meaning row_scores rows scores columns tail rule) 0 rows (pos 0 ∷ []) (columns_of n columns xs))) two
+      ap (λ n. so_far (partial_after (linear_meaning row_scores rows scores columns judge) 0 rows (pos 0 ∷ []) (columns_of n columns xs))) two
       ∙ value-from columns scores 0 rows (pos 0 ∷ []) xs refl long ∙ zero-plus (labelled_sum 1 (subjects scores columns) xs)
     where
       zero-plus : (t : ℤ) → pos 0 +ℤ t ≡ t

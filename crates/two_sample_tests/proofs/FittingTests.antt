@@ -8,12 +8,11 @@ use Rattle.std.proofs.lemmas.List.{length-map}
 use Rattle.std.proofs.lemmas.List.Elements.{recursion_from_All}
 use Rattle.std.proofs.lemmas.List.Sums.{sum_by-cons}
 use Rattle.weights.specs.declared.tails.Tail.{Tail}
-use Rattle.weights.specs.declared.rules.Rule.{Rule}
 use Rattle.weights.specs.declared.rules.Rule.TheVariants.{Far}
 use Rattle.weights.specs.declared.TheConstants.{MAX}
 use Rattle.weights.specs.Conditional.{total}
 use Rattle.weights.specs.Labellings.{counts_of, labellings, number_of_labellings}
-use Rattle.weights.specs.Rules.{RuleFits, rule_of}
+use Rattle.weights.specs.Rules.{RuleFits}
 use Rattle.weights.specs.Wide.{Prepares}
 use Rattle.weights.specs.declared.wide.WideOf.TheVariants.{Total, Statistic}
 use Rattle.weights.specs.declared.wide.PrepareFault.{PrepareFault}
@@ -32,7 +31,10 @@ use Rattle.sample_reader.specs.PooledSample.{labels_of, pooled}
 use Rattle.sample_reader.specs.Data.{data_of}
 use Rattle.sample_reader.specs.declared.samples.Groups.{Groups}
 use Rattle.sample_reader.specs.declared.subjects.Subject.{Subject}
+use Rattle.stage_network.specs.declared.verdicts.Judge.{Judge}
 use Rattle.stage_network.specs.Follows.{Follows}
+use Rattle.stage_network.specs.Judged.{judge_of}
+use Rattle.stage_network.proofs.Following.{judge-fits}
 use Rattle.label_network.specs.LaterSums.{total_score, subjects}
 use Rattle.label_network.specs.Linear.{IsLinear}
 use Rattle.label_network.proofs.LabelFollows.{label_follows}
@@ -124,8 +126,8 @@ module _ (samples : TwoSamples) (f : AreFitting samples) where
   pub two-sizes : length (group_sizes samples.groups) ≡ 2
   two-sizes = ap length f.sizes_are
 
-  pub is-linear : (tail : Tail) (rule : Rule) → rule ≡ rule_of (two_sample_test samples) tail → IsLinear row_scores (group_sizes samples.groups) (column_scores samples.kind (pooled_values samples.groups)) (column_sizes (pooled_values samples.groups)) rule
-  is-linear tail rule e = record {
+  pub is-linear : (judge : Judge) → judge ≡ judge_of (two_sample_test samples) → IsLinear row_scores (group_sizes samples.groups) (column_scores samples.kind (pooled_values samples.groups)) (column_sizes (pooled_values samples.groups)) judge
+  is-linear judge e = record {
     wide = sym two-sizes;
     long = columns-level;
     level = level;
@@ -135,19 +137,18 @@ module _ (samples : TwoSamples) (f : AreFitting samples) where
     columns_fit = omega (arith, column-total, sum-fits);
     rows_fit = omega (arith, f.whole, f.few);
     sums_fit = omega (arith, column-total, double, f.bound_fits);
-    rule_fits = λ v h. subst (λ x. RuleFits x v) (sym e) (rule-fits (two_sample_test samples) centred tail v (sum_fits v (omega (arith, h, column-total))));
+    rules_fit = λ v h. judge-fits (two_sample_test samples) judge e v (λ tail. rule-fits (two_sample_test samples) centred tail v (sum_fits v (omega (arith, h, column-total))));
   }
 
   pub follows : (tail : Tail) → Follows (two_sample_test samples) tail (two_sample_network samples tail)
   follows tail =
-      label_follows (two_sample_meaning samples tail) (linear_measure row_scores (group_sizes samples.groups) (column_scores samples.kind (pooled_values samples.groups)) (column_sizes (pooled_values samples.groups)) tail (rule_of (two_sample_test samples) tail) (is-linear tail (rule_of (two_sample_test samples) tail) refl)) (two_sample_test samples) tail (record {
-        tail_is = refl;
-        rule_is = refl;
+      label_follows (two_sample_meaning samples) (linear_measure row_scores (group_sizes samples.groups) (column_scores samples.kind (pooled_values samples.groups)) (column_sizes (pooled_values samples.groups)) (judge_of (two_sample_test samples)) (is-linear (judge_of (two_sample_test samples)) refl)) (two_sample_test samples) tail (record {
+        judge_is = refl;
         reference = refl;
         alike = λ xs. refl;
         values = λ xs m.
             measured-is (two_sample_test samples) refl tail xs ∙ ap (λ s. labelled_sum 1 s xs) (sym column-subjects)
-            ∙ sym (value-is (group_sizes samples.groups) (column_scores samples.kind (pooled_values samples.groups)) (column_sizes (pooled_values samples.groups)) tail (rule_of (two_sample_test samples) tail) columns-level two-sizes xs);
+            ∙ sym (value-is (group_sizes samples.groups) (column_scores samples.kind (pooled_values samples.groups)) (column_sizes (pooled_values samples.groups)) (judge_of (two_sample_test samples)) columns-level two-sizes xs);
       })
 
 -- ---- of groups with two labels

@@ -2,8 +2,8 @@
 -- that have it, and its choice says how many of them are of each sample.
 use Rattle.std.specs.Prelude.{ℤ, pos, List, [], ◌∷◌}
 use Rattle.weights.specs.declared.tails.Tail.{Tail}
-use Rattle.weights.specs.Rules.{rule_of}
 use Rattle.sample_reader.specs.Groups.{group_sizes}
+use Rattle.stage_network.specs.Judged.{judge_of}
 use Rattle.stage_network.specs.Network.{Network}
 use Rattle.label_network.specs.LabelNetwork.{label_network}
 use Rattle.label_network.specs.Linear.{linear_meaning}
@@ -15,12 +15,12 @@ use Rattle.two_sample_tests.specs.TwoSamples.{TwoSamples, two_sample_test}
 abbrev pub row_scores : List ℤ
 row_scores = pos 0 ∷ pos 1 ∷ []
 
-abbrev pub two_sample_meaning : TwoSamples → Tail → Meaning
-two_sample_meaning samples tail =
+abbrev pub two_sample_meaning : TwoSamples → Meaning
+two_sample_meaning samples =
     let values = pooled_values samples.groups in
     linear_meaning row_scores (group_sizes samples.groups)
-    (column_scores samples.kind values) (column_sizes values)
-    tail (rule_of (two_sample_test samples) tail)
+    (column_scores samples.kind values) (column_sizes values) (judge_of (two_sample_test samples))
 
+-- one network for all tails
 abbrev pub two_sample_network : TwoSamples → Tail → Network
-two_sample_network samples tail = label_network (two_sample_meaning samples tail)
+two_sample_network samples tail = label_network (two_sample_meaning samples)

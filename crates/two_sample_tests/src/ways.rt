@@ -38,16 +38,13 @@ impl Plain for TwoSample {
 }
 
 impl Prepared for TwoSample {
-    ghost use Rattle.label_network.specs.LabelNetwork.{label_shape};
-    ghost use Rattle.two_sample_tests.specs.Columns.{two_sample_meaning, two_sample_network};
+    ghost use Rattle.two_sample_tests.specs.Columns.{two_sample_network};
 
     type Built = LabelStages<LinearMeasure>;
 
     ghost network = { two_sample_network };
 
     ghost runs = { two_sample_network };
-
-    ghost shape = { λ s tail. label_shape (two_sample_meaning s tail) };
 
     fn has_tail(&self, _tail: Tail) -> bool {
         true
@@ -57,13 +54,12 @@ impl Prepared for TwoSample {
         true
     }
 
-    fn stages_of(&self, alloc: Global, tail: Tail) -> Result<Self::Built, NoMemory> {
+    fn stages_of(&self, alloc: Global, _tail: Tail) -> Result<Self::Built, NoMemory> {
         let made = self.made();
-        let rule = made.frame.rule(tail);
         let rows = made.sizes.as_slice();
         let columns = made.columns.sizes.as_slice();
         let scores = made.columns.scores.as_slice();
-        let judge = Judge { tail, rule };
+        let judge = Judge::of(&made.frame);
         let measure = LinearMeasure::new(alloc, &[0, 1], rows, scores, columns, judge)?;
         label_stages(alloc, columns, rows, measure)
     }

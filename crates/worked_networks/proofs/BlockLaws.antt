@@ -1,12 +1,27 @@
 -- The worked blocks keep the laws.
 use Rattle.std.proofs.Common.{◌≡◌, ℕ, ◌<◌, List, [], ◌∷◌, length, set, refl, ap, arith, lit≤}
-use Rattle.std.specs.Prelude.{slice_index}
+use Rattle.std.specs.Prelude.{pos, slice_index}
 use Rattle.std.specs.List.{Contains}
 use Rattle.std.proofs.lemmas.Int.{ints}
 use Rattle.std.proofs.lemmas.List.Elements.{All-contains, All-from_recursion}
+use Rattle.weights.specs.declared.tails.Tail.{Tail}
+use Rattle.weights.specs.declared.tails.Tail.TheVariants.{Less, Greater, Two}
+use Rattle.weights.specs.Rules.{RuleFits}
+use Rattle.stage_network.specs.Judged.{rule_in}
 use Rattle.stage_network.specs.SoundAddends.{IsAdditive}
 use Rattle.stage_network.proofs.Apart.{two_apart}
 use Rattle.worked_networks.specs.Blocks.{block_choices, worked_blocks}
+
+-- the rules fit the first interval
+low : (t : Tail) → RuleFits (rule_in worked_blocks.judge t) (pos 32)
+low Less = record { least_factor = lit≤ tt; observed = lit≤ tt; times = lit≤ tt; apart = lit≤ tt }
+low Greater = record { least_factor = lit≤ tt; observed = lit≤ tt; times = lit≤ tt; apart = lit≤ tt }
+low Two = record { least_factor = lit≤ tt; observed = lit≤ tt; times = lit≤ tt; apart = lit≤ tt }
+
+high : (t : Tail) → RuleFits (rule_in worked_blocks.judge t) (pos 128)
+high Less = record { least_factor = lit≤ tt; observed = lit≤ tt; times = lit≤ tt; apart = lit≤ tt }
+high Greater = record { least_factor = lit≤ tt; observed = lit≤ tt; times = lit≤ tt; apart = lit≤ tt }
+high Two = record { least_factor = lit≤ tt; observed = lit≤ tt; times = lit≤ tt; apart = lit≤ tt }
 
 pub blocks_additive : IsAdditive worked_blocks
 blocks_additive = record {
@@ -27,8 +42,8 @@ blocks_additive = record {
     bound_fits = lit≤ tt;
     squares_fit = lit≤ tt;
   };
-  low_fits = record { least_factor = lit≤ tt; observed = lit≤ tt; times = lit≤ tt; apart = lit≤ tt };
-  high_fits = record { least_factor = lit≤ tt; observed = lit≤ tt; times = lit≤ tt; apart = lit≤ tt };
+  low_fits = record { fits = low };
+  high_fits = record { fits = high };
 }
 
 -- a choice is one of the two

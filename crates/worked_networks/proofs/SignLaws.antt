@@ -6,13 +6,15 @@ use Rattle.std.proofs.lemmas.Int.{ints}
 use Rattle.std.proofs.lemmas.List.Elements.{All-contains, All-from_recursion}
 use Rattle.weights.specs.declared.tails.Tail.{Tail}
 use Rattle.weights.specs.declared.tails.Tail.TheVariants.{Less, Greater, Two}
-use Rattle.weights.specs.declared.rules.Rule.{Rule}
 use Rattle.weights.specs.Frames.{IsShown, RulesFit}
 use Rattle.weights.specs.Labellings.{sign_lists}
 use Rattle.weights.specs.Rules.{RuleFits, measured, rule_of}
 use Rattle.stage_network.specs.Addends.{value_of}
 use Rattle.stage_network.specs.SoundAddends.{IsAdditive}
+use Rattle.stage_network.specs.declared.verdicts.Judge.{Judge}
 use Rattle.stage_network.specs.Follows.{Follows}
+use Rattle.stage_network.specs.Judged.{JudgeFits, judge_of}
+use Rattle.stage_network.proofs.Following.{judge-fits}
 use Rattle.worked_networks.specs.SignedRanks.{rank_sum, worked_addends, worked_network, worked_test}
 use Rattle.stage_network.proofs.Apart.{two_apart}
 use Rattle.stage_network.proofs.Judging.{fits-between}
@@ -20,8 +22,8 @@ use Rattle.stage_network.proofs.Parts.{IsStage, Pieces, product_weight, summed}
 use Rattle.stage_network.proofs.Flat.{AllAt}
 use Rattle.stage_network.proofs.AdditiveFollows.{additive_follows}
 
-pub worked_additive : (tail : Tail) (rule : Rule) → RuleFits rule (pos 0) → RuleFits rule (pos 12) → IsAdditive (worked_addends tail rule)
-worked_additive tail rule low high = record {
+pub worked_additive : (judge : Judge) → JudgeFits judge (pos 0) → JudgeFits judge (pos 12) → IsAdditive (worked_addends judge)
+worked_additive judge low high = record {
   slots_some = omega arith;
   slots_few = omega arith;
   some_choice = λ g b e. cc;
@@ -49,6 +51,13 @@ pub fits-most : (tail : Tail) → RuleFits (rule_of worked_test tail) (pos 12)
 fits-most Less = record { least_factor = lit≤ tt; observed = lit≤ tt; times = lit≤ tt; apart = lit≤ tt }
 fits-most Greater = record { least_factor = lit≤ tt; observed = lit≤ tt; times = lit≤ tt; apart = lit≤ tt }
 fits-most Two = record { least_factor = lit≤ tt; observed = lit≤ tt; times = lit≤ tt; apart = lit≤ tt }
+
+-- so the test's rules fit the least and the greatest sum
+pub least : (judge : Judge) → judge ≡ judge_of worked_test → JudgeFits judge (pos 0)
+least judge e = judge-fits worked_test judge e (pos 0) fits-least
+
+pub most : (judge : Judge) → judge ≡ judge_of worked_test → JudgeFits judge (pos 12)
+most judge e = judge-fits worked_test judge e (pos 12) fits-most
 
 all_small : AllByRecursion (λ r. rank_sum r ≤ 12) (sign_lists 3)
 all_small = (lit≤ tt, (lit≤ tt, (lit≤ tt, (lit≤ tt, (lit≤ tt, (lit≤ tt, (lit≤ tt, (lit≤ tt, tt))))))))
@@ -78,11 +87,11 @@ record IsSign (g : ℕ) (x : List ℕ) : Type 0 where
 worked_parts : List (List (List ℕ))
 worked_parts = sign_lists 1 ∷ sign_lists 1 ∷ sign_lists 1 ∷ []
 
-stage : (tail : Tail) (rule : Rule) (g : ℕ) → IsStage (worked_addends tail rule) worked_pieces g (sign_lists 1)
+stage : (judge : Judge) (g : ℕ) → IsStage (worked_addends judge) worked_pieces g (sign_lists 1)
 unfolding worked_pieces
-stage tail rule g = record { same = λ f. refl; closed = λ s i f. cc; wide = (refl, (refl, tt)) }
+stage judge g = record { same = λ f. refl; closed = λ s i f. cc; wide = (refl, (refl, tt)) }
 
-joined : (xs : List (List ℕ)) → AllAt IsSign 0 xs → pos (rank_sum (concat xs)) ≡ value_of (worked_addends Less (rule_of worked_test Less)).value (summed worked_pieces.added 0 (pos 0 ∷ []) xs)
+joined : (xs : List (List ℕ)) → AllAt IsSign 0 xs → pos (rank_sum (concat xs)) ≡ value_of (worked_addends (judge_of worked_test)).value (summed worked_pieces.added 0 (pos 0 ∷ []) xs)
 unfolding worked_pieces
 joined [] h = refl
 joined ((a ∷ []) ∷ []) h = ap pos (omega arith)
@@ -107,13 +116,12 @@ both g early = (record { early = early; one = refl }, (record { early = early; o
 pub worked_follows : (tail : Tail) → Follows worked_test tail (worked_network tail)
 unfolding worked_pieces worked_parts
 worked_follows tail =
-    let rule : Rule = rule_of worked_test tail in
-    additive_follows worked_test tail (worked_addends tail rule) worked_pieces IsSign worked_parts (worked_additive tail rule (fits-least tail) (fits-most tail)) (record {
+    let judge : Judge = judge_of worked_test in
+    additive_follows worked_test tail (worked_addends judge) worked_pieces IsSign worked_parts (worked_additive judge (least judge refl) (most judge refl)) (record {
       reference = refl;
-      tail_is = refl;
-      rule_is = refl;
+      judge_is = refl;
       counted = refl;
-      stages = (stage tail rule 0, (stage tail rule 1, (stage tail rule 2, tt)));
+      stages = (stage judge 0, (stage judge 1, (stage judge 2, tt)));
       each = (both 0 (omega arith), (both 1 (omega arith), (both 2 (omega arith), tt)));
       joined = record { measures = λ xs h. measured-is tail (concat xs) ∙ joined xs h; weighs = λ xs h. weighs 0 xs };
     })

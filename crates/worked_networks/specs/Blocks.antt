@@ -1,8 +1,7 @@
 -- A worked example: two blocks of two treatments without ties. The sums of a treatment's doubled
 -- ranks are kept ascending, and their squares are added.
 use Rattle.std.specs.Prelude.{ℕ, ◌+◌, ◌*◌, pos, List, [], ◌∷◌, true, nat_eq, slice_index, if◌then◌else◌}
-use Rattle.weights.specs.declared.tails.Tail.TheVariants.{Greater}
-use Rattle.weights.specs.declared.rules.Rule.TheVariants.{AtLeast}
+use Rattle.weights.specs.declared.rules.Rule.TheVariants.{AtMost, AtLeast, Far}
 use Rattle.stage_network.specs.declared.additive.SumValue.TheVariants.{Squares}
 use Rattle.stage_network.specs.Addends.{Addends}
 
@@ -24,6 +23,5 @@ worked_blocks = record {
   most = λ g. pos 4;
   sorted = true;
   value = Squares 144;
-  tail = Greater;
-  rule = AtLeast (pos 80);
+  judge = record { less = AtMost (pos 80); greater = AtLeast (pos 80); two = Far 1 (pos 76) 4 };
 }

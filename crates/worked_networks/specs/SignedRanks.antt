@@ -2,11 +2,11 @@
 -- and the greatest are positive. Ranks are doubled.
 use Rattle.std.specs.Prelude.{ℕ, ◌+◌, ◌*◌, pos, List, [], ◌∷◌, false, nat_eq, slice_index, if◌then◌else◌}
 use Rattle.weights.specs.declared.tails.Tail.{Tail}
-use Rattle.weights.specs.declared.rules.Rule.{Rule}
 use Rattle.weights.specs.Conditional.{ConditionalTest, by_distance, every_tail, unit_weight}
 use Rattle.weights.specs.Labellings.{sign_lists}
-use Rattle.weights.specs.Rules.{rule_of}
 use Rattle.stage_network.specs.declared.additive.SumValue.TheVariants.{First}
+use Rattle.stage_network.specs.declared.verdicts.Judge.{Judge}
+use Rattle.stage_network.specs.Judged.{judge_of}
 use Rattle.stage_network.specs.Network.{Network}
 use Rattle.stage_network.specs.Addends.{Addends, additive_network}
 
@@ -27,8 +27,8 @@ worked_test = record {
 }
 
 -- a stage is a difference, ascending, and a choice its sign
-abbrev pub worked_addends : Tail → Rule → Addends
-worked_addends tail rule = record {
+abbrev pub worked_addends : Judge → Addends
+worked_addends judge = record {
   count = 3;
   slots = 1;
   choice_width = 1;
@@ -40,9 +40,9 @@ worked_addends tail rule = record {
   most = λ g. pos (2 * (g + 1));
   sorted = false;
   value = First;
-  tail = tail;
-  rule = rule;
+  judge = judge;
 }
 
+-- one network for all tails
 abbrev pub worked_network : Tail → Network
-worked_network tail = additive_network (worked_addends tail (rule_of worked_test tail))
+worked_network tail = additive_network (worked_addends (judge_of worked_test))

@@ -2,7 +2,7 @@
 ghost use Rattle.std.specs.Prelude.{◌≡◌, ◌+◌, ◌*◌, ◌<◌, pos};
 
 use stage_network::{Additive, Interval, Judge, SumValue};
-use weights::{Rule, Tail};
+use weights::Rule;
 
 /// Each block is a stage, and its ranks the choice.
 #[derive(Drop)]
@@ -71,8 +71,9 @@ impl Additive for Blocks {
 
     fn judge(&self) -> Judge {
         Judge {
-            tail: Tail::Greater,
-            rule: Rule::AtLeast(80),
+            less: Rule::AtMost(80),
+            greater: Rule::AtLeast(80),
+            two: Rule::Far(1, 76, 4),
         }
     }
 }

@@ -1,6 +1,6 @@
 // A signed rank test from end to end.
 ghost use Rattle.std.specs.Prelude.{◌≡◌, ◌+◌, ◌*◌, ◌<◌, pos, length, All};
-ghost use Rattle.weights.specs.Rules.{RuleFits};
+ghost use Rattle.stage_network.specs.Judged.{JudgeFits};
 ghost use Rattle.worked_networks.specs.SignedRanks.{rank_sum};
 
 use enumerate::{Plain, next_signs};
@@ -12,8 +12,8 @@ use weights::{Bytes, Frame, NoMemory, Rule, Tail};
 #[derive(Drop)]
 pub struct RankStages {
     judge: Judge,
-    ghost least: { RuleFits judge.rule (pos 0) },
-    ghost most: { RuleFits judge.rule (pos 12) },
+    ghost least: { JudgeFits judge (pos 0) },
+    ghost most: { JudgeFits judge (pos 12) },
 }
 
 fn addend(stage: usize, sign: u64) -> i128
@@ -31,7 +31,7 @@ fn addend(stage: usize, sign: u64) -> i128
 impl Additive for RankStages {
     ghost use Rattle.worked_networks.specs.SignedRanks.{worked_addends};
 
-    ghost addends = { λ s. worked_addends s.judge.tail s.judge.rule };
+    ghost addends = { λ s. worked_addends s.judge };
 
     fn stages(&self) -> usize {
         3
@@ -139,7 +139,6 @@ impl Plain for SignedRanks {
 }
 
 impl Prepared for SignedRanks {
-    ghost use Rattle.stage_network.specs.Addends.{additive_shape};
     ghost use Rattle.worked_networks.specs.SignedRanks.{worked_network};
 
     type Built = AdditiveStages<RankStages>;
@@ -147,8 +146,6 @@ impl Prepared for SignedRanks {
     ghost network = { λ _. worked_network };
 
     ghost runs = { λ _. worked_network };
-
-    ghost shape = { λ _ _. additive_shape };
 
     fn has_tail(&self, _tail: Tail) -> bool {
         true
@@ -158,13 +155,8 @@ impl Prepared for SignedRanks {
         true
     }
 
-    fn stages_of(&self, alloc: Global, tail: Tail) -> Result<Self::Built, NoMemory> {
-        let rule = self.frame().rule(tail);
-        AdditiveStages::new(
-            alloc,
-            RankStages {
-                judge: Judge { tail, rule },
-            },
-        )
+    fn stages_of(&self, alloc: Global, _tail: Tail) -> Result<Self::Built, NoMemory> {
+        let judge = Judge::of(&self.frame());
+        AdditiveStages::new(alloc, RankStages { judge })
     }
 }

@@ -1,5 +1,5 @@
 use Rattle.std.proofs.Common.{◌≡◌, ◌≤◌, ◌∙◌, refl, sym, ap, length, map, subst, arith}
-use Rattle.std.specs.List.{concat}
+use Rattle.std.specs.List.{concat, sum}
 use Rattle.std.specs.Prelude.{ℕ, List, ℤ}
 use Rattle.sample_reader.specs.Data.{block_data_of}
 use Rattle.weights.specs.declared.TheConstants.{MAX}
@@ -45,10 +45,11 @@ invariant_of-result c =
     let cells = c.as_slice-cells.ensures ∙ ranked-cells c.args.kind c.args.blocks.now.blocks c.args.blocks.now.treatments c.as_slice.result.now c.args.blocks.now.cells c.in_ok-ranked.ranked.cells c.as_slice.ensures c.in_ok-ranked.ensures.cells in
     let fit : AreFitting tests = fitting tests (blocks-read c.args.kind c.args.blocks.now c.requires) ways.0 in
     let sides = sides-are tests.kind tests.blocks.blocks tests.blocks.treatments in
-    subst (λ (values : List ℤ). IsPrepared (tests_of c.args.kind c.args.blocks.now.blocks c.args.blocks.now.treatments values) c.in_ok-ranked.ranked.blocks.items c.bound_of-bound.result c.frame_of-frame.result) (sym c.in_ok-copy.ensures)
+    subst (λ (values : List ℤ). IsPrepared (tests_of c.args.kind c.args.blocks.now.blocks c.args.blocks.now.treatments values) c.in_ok-ranked.ranked.blocks.items c.in_ok-lengths.lengths c.bound_of-bound.result c.frame_of-frame.result) (sym c.in_ok-copy.ensures)
     (record {
       fitting = fit;
       blocks_are = blocks;
+      lengths_are = ap (map sum) (sym (c.deref-2.ensures.value ∙ blocks)) ∙ c.in_ok-lengths.ensures;
       bound_is = c.bound_of-bound.ensures ∙ ap (bound_of c.args.kind c.args.blocks.now.blocks c.args.blocks.now.treatments) cells;
       frame_is = rw (c.frame_of-frame.ensures, cells) (framed _ _ (block_test tests) _ sides refl refl (ways.1 ∙ sym (total-is tests)) (ap (λ s. far_of s (block_statistic tests.kind tests.blocks.blocks tests.blocks.treatments (observed_cells tests))) sides));
     })

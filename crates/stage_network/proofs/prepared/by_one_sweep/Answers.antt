@@ -1,57 +1,29 @@
-use Rattle.std.proofs.Common.{◌≡◌, true, ◌∙◌}
+use Rattle.std.proofs.Common.{◌≡◌, true, sym, ◌∙◌, ap, subst}
 use Rattle.weights.specs.declared.tails.Tail.{Tail}
-use Rattle.weights.specs.Conditional.{numerator}
+use Rattle.weights.specs.Conditional.{ConditionalTest, numerator}
 use Rattle.stage_network.specs.Network.{Network}
-use Rattle.stage_network.specs.Alike.{Shape, of_tail, shape_by}
-use Rattle.stage_network.specs.Follows.{Follows, asks, open_keys}
+use Rattle.stage_network.specs.Completions.{extreme_weight}
+use Rattle.stage_network.specs.Opened.{opened_below}
+use Rattle.stage_network.specs.Follows.{open_keys}
+use Rattle.stage_network.specs.Judged.{IsJudged, judge_of}
 use Rattle.stage_network.specs.SweepSteps.{sum_for}
-use Rattle.stage_network.proofs.Shared.{for_each, asked-of, built-twins, built-judged, built-sum, built-opened, tail_sum_is}
+use Rattle.stage_network.proofs.Following.{extreme-is, tail_sum_is}
 use Rattle.stage_network.proofs.prepared.by_one_sweep.Goals as goal
 
-pub tail_sums_together-requires-clause-twins : goal.tail_sums_together-requires-clause-twins
-tail_sums_together-requires-clause-twins g c =
-    let test = g.P.Plain.test c.args.problem.now in
-    let n : Tail → Network = g.P.Prepared.runs c.args.problem.now in
-    let h : Tail → Shape = g.P.Prepared.shape c.args.problem.now in
-    let network = g.P.Built.Stages.network in
-    let shape = shape_by g.P.Built.Roomed.room_width g.P.Built.Roomed.outlook_width g.P.Built.Roomed.outlook_of in
-    let asked = asked-of network shape c.args.tails n h c.in_ok-less.less c.in_ok-greater.greater c.in_ok-two.two
-    (record { none = c.in_ok-less.ensures.none; some = c.in_ok-less.ensures.some })
-    (record { none = c.in_ok-greater.ensures.none; some = c.in_ok-greater.ensures.some })
-    (record { none = c.in_ok-two.ensures.none; some = c.in_ok-two.ensures.some }) in
-    let own = of_tail c.in_ok-less.less c.in_ok-greater.greater c.in_ok-two.two in
-    built-twins network shape test c.args.tails n h own asked c.requires.has c.requires.shared
-
-pub tail_sums_together-requires-clause-judged : goal.tail_sums_together-requires-clause-judged
-tail_sums_together-requires-clause-judged g c =
-    let test = g.P.Plain.test c.args.problem.now in
-    let n : Tail → Network = g.P.Prepared.runs c.args.problem.now in
-    let h : Tail → Shape = g.P.Prepared.shape c.args.problem.now in
-    let network = g.P.Built.Stages.network in
-    let shape = shape_by g.P.Built.Roomed.room_width g.P.Built.Roomed.outlook_width g.P.Built.Roomed.outlook_of in
-    let asked = asked-of network shape c.args.tails n h c.in_ok-less.less c.in_ok-greater.greater c.in_ok-two.two
-    (record { none = c.in_ok-less.ensures.none; some = c.in_ok-less.ensures.some })
-    (record { none = c.in_ok-greater.ensures.none; some = c.in_ok-greater.ensures.some })
-    (record { none = c.in_ok-two.ensures.none; some = c.in_ok-two.ensures.some }) in
-    let own = of_tail c.in_ok-less.less c.in_ok-greater.greater c.in_ok-two.two in
-    let follows : (t : Tail) → asks c.args.tails t ≡ true → Follows test t (n t) = for_each (λ t. asks c.args.tails t ≡ true → Follows test t (n t)) c.in_ok-less.ensures.follows c.in_ok-greater.ensures.follows c.in_ok-two.ensures.follows in
-    built-judged network shape test c.args.tails n h own asked follows
+pub tail_sums_by_rooms-requires : goal.tail_sums_by_rooms-requires
+tail_sums_by_rooms-requires g c =
+    let test : ConditionalTest = g.P.Plain.test c.args.problem.now in
+    let has : test.has_tail c.in-Some.tail ≡ true = c.requires.has c.in-Some.tail c.in-Some.ensures.asked in
+    subst IsJudged (sym c.in_ok-stages.ensures.built) (record { judge = judge_of test; intervals = (c.network_of.ensures.follows c.in-Some.tail has).intervals })
 
 pub returns : goal.returns
 returns g c t a =
-    let test = g.P.Plain.test c.args.problem.now in
-    let n : Tail → Network = g.P.Prepared.runs c.args.problem.now in
-    let h : Tail → Shape = g.P.Prepared.shape c.args.problem.now in
-    let network = g.P.Built.Stages.network in
-    let shape = shape_by g.P.Built.Roomed.room_width g.P.Built.Roomed.outlook_width g.P.Built.Roomed.outlook_of in
-    let asked = asked-of network shape c.args.tails n h c.in_ok-less.less c.in_ok-greater.greater c.in_ok-two.two
-    (record { none = c.in_ok-less.ensures.none; some = c.in_ok-less.ensures.some })
-    (record { none = c.in_ok-greater.ensures.none; some = c.in_ok-greater.ensures.some })
-    (record { none = c.in_ok-two.ensures.none; some = c.in_ok-two.ensures.some }) in
-    let own = of_tail c.in_ok-less.less c.in_ok-greater.greater c.in_ok-two.two in
-    let follows : (t : Tail) → asks c.args.tails t ≡ true → Follows test t (n t) = for_each (λ t. asks c.args.tails t ≡ true → Follows test t (n t)) c.in_ok-less.ensures.follows c.in_ok-greater.ensures.follows c.in_ok-two.ensures.follows in
+    let test : ConditionalTest = g.P.Plain.test c.args.problem.now in
+    let runs : Tail → Network = g.P.Prepared.runs c.args.problem.now in
     let written : Tail → Network = g.P.Prepared.network c.args.problem.now in
-    let counted : asks c.args.tails t ≡ true → open_keys n t ≡ open_keys written t = for_each (λ t. asks c.args.tails t ≡ true → open_keys n t ≡ open_keys written t) c.in_ok-less.ensures.counted c.in_ok-greater.ensures.counted c.in_ok-two.ensures.counted t in
+    let lead : test.has_tail c.in-Some.tail ≡ true = c.requires.has c.in-Some.tail c.in-Some.ensures.asked in
+    let has : test.has_tail t ≡ true = c.requires.has t a in
+    let same : g.P.Built.Stages.network c.in_ok-stages.stages ≡ runs t = c.in_ok-stages.ensures.built ∙ c.requires.shared c.in-Some.tail t lead has in
     tail_sum_is (sum_for c.in_ok-sums.sums t) (numerator test t) (open_keys written t)
-    (built-sum network shape test c.args.tails n h own asked follows t a _ (c.in_ok-sums.ensures.sum t))
-    (built-opened network shape test c.args.tails n h own asked t a _ (c.in_ok-sums.ensures.opened t) ∙ counted a)
+    (c.in_ok-sums.ensures.sum t a ∙ ap (λ (n : Network). extreme_weight n t 0 n.first) same ∙ extreme-is test t (runs t) (c.network_of.ensures.follows t has))
+    (c.in_ok-sums.ensures.opened t a ∙ ap (λ (n : Network). opened_below n t n.count) same ∙ c.network_of.ensures.counted t has)

@@ -12,7 +12,7 @@ pub returns-clause-lines : goal.returns-clause-lines
 returns-clause-lines g c =
     let test : ConditionalTest = g.P.Plain.test c.args.problem.now in
     let n : Network = g.P.Prepared.runs c.args.problem.now (first_tail test) in
-    let follows : Follows test (first_tail test) n = rw c.first_tail.ensures.first at c.network_of.ensures.follows in
+    let follows : Follows test (first_tail test) n = c.network_of.ensures.follows (first_tail test) c.first_tail.ensures.shown.has in
     let told = rw (c.in_ok-stages.ensures.built, c.first_tail.ensures.first) at c.in_ok-found.ensures in
     spread-follows test c.first_tail.ensures.shown n follows c.in_ok-found.found told
 
@@ -23,7 +23,7 @@ pub returns-clause-rules : goal.returns-clause-rules
 returns-clause-rules g c =
     let test : ConditionalTest = g.P.Plain.test c.args.problem.now in
     let n : Network = g.P.Prepared.runs c.args.problem.now (first_tail test) in
-    let follows : Follows test (first_tail test) n = rw c.first_tail.ensures.first at c.network_of.ensures.follows in
+    let follows : Follows test (first_tail test) n = c.network_of.ensures.follows (first_tail test) c.first_tail.ensures.shown.has in
     let told = rw (c.in_ok-stages.ensures.built, c.first_tail.ensures.first) at c.in_ok-found.ensures in
     let lines : c.in_ok-found.found ≡ distribution test = spread-follows test c.first_tail.ensures.shown n follows c.in_ok-found.found told in
     subst (TailsFit test) (sym lines) (tails-fit test c.frame-frame.ensures.fits)

@@ -1,17 +1,20 @@
-use Rattle.std.proofs.Common.{◌≡◌, ◌<◌, ◌≤◌, ◌+◌, ◌++◌, ◌∷◌, ℕ, List, [], length, take, false, cond, ap, sym, ◌∙◌, arith, refl, append-nil}
+use Rattle.std.proofs.Common.{◌≡◌, ◌<◌, ◌≤◌, ◌+◌, ◌*◌, ◌++◌, ◌∷◌, ℕ, List, [], length, take, false, cond, ap, sym, ◌∙◌, arith, refl, append-nil}
 use Rattle.std.specs.Prelude.{ℤ}
 use Rattle.std.proofs.lemmas.List.{length-append}
 use Rattle.node_pool.specs.Nodes.{Node, node}
+use Rattle.stage_network.specs.Asked.{asked}
 use Rattle.stage_network.specs.Network.{Network}
-use Rattle.stage_network.specs.Completions.{is_inside}
+use Rattle.stage_network.specs.Completions.{is_inside, total_weight}
 use Rattle.weights.specs.declared.tails.Tail.{Tail}
 use Rattle.weights.specs.declared.tails.Tail.TheVariants.{Less, Greater, Two}
+use Rattle.weights.specs.declared.tails.Tails.{Tails}
 use Rattle.stage_network.specs.declared.tail_sums.TailSum.{TailSum}
 use Rattle.stage_network.specs.declared.tail_sums.Verdicts.{Verdicts}
 use Rattle.stage_network.specs.Opened.{is_open_for_some, is_undecided}
 use Rattle.stage_network.specs.NodeSteps.{open_nodes, opened_in}
 use Rattle.stage_network.specs.SweepSteps.{some_undecided, sum_for, verdict_for}
 use Rattle.stage_network.specs.ArcSteps.{lift}
+use Rattle.stage_network.proofs.Asked.{asked-roomed, asked-total}
 use Rattle.stage_network.proofs.RoomNodes.{opened-le, next-open, next-inside, next-opened, opened-few, next-fits, in_room, first-place, all-nodes, closed_is, closed-fits}
 use Rattle.stage_network.proofs.settling.settle_room.Goals as goal
 
@@ -28,12 +31,12 @@ verdicts_of-verdicts-requires-clause-reached g c =
 pub settle_node-requires-clause-fits : goal.settle_node-requires-clause-fits
 settle_node-requires-clause-fits g c t =
     let few : c.loop-i.i < length c.args.nodes.now.nodes = omega (arith, c.loop-i-test.true, c.len-i-end.ensures.count) in
-    next-fits c.args.room.now c.args.nodes.now.nodes c.loop-i.i few _ _ c.key-partial.ensures.key c.weight.ensures (g.S.Stages.network c.args.stages.now) t c.args.stage c.requires.lawful c.requires.within c.requires.reached (sum_for c.args.sums t).sum (sum_for c.loop-i.inside t).sum (c.requires.fits t) (c.loop-i.invariant.inside t)
+    next-fits c.args.room.now c.args.nodes.now.nodes c.loop-i.i few _ _ c.key-partial.ensures.key c.weight.ensures (asked c.args.tails (g.S.Stages.network c.args.stages.now)) t c.args.stage c.requires.lawful c.requires.within c.requires.reached (sum_for c.args.sums t).sum (sum_for c.loop-i.inside t).sum (c.requires.fits t) (c.loop-i.invariant.inside t)
 
 pub settle_node-requires-clause-few : goal.settle_node-requires-clause-few
 settle_node-requires-clause-few g c t =
     let few : c.loop-i.i < length c.args.nodes.now.nodes = omega (arith, c.loop-i-test.true, c.len-i-end.ensures.count) in
-    omega (arith, opened-few c.args.room.now c.args.nodes.now.nodes c.loop-i.i few _ _ c.key-partial.ensures.key c.weight.ensures (g.S.Stages.network c.args.stages.now) t c.args.stage (sum_for c.loop-i.inside t).opened (c.loop-i.invariant.opened t))
+    omega (arith, opened-few c.args.room.now c.args.nodes.now.nodes c.loop-i.i few _ _ c.key-partial.ensures.key c.weight.ensures (asked c.args.tails (g.S.Stages.network c.args.stages.now)) t c.args.stage (sum_for c.loop-i.inside t).opened (c.loop-i.invariant.opened t))
 
 pub loop-i-init : goal.loop-i-init
 loop-i-init g c = record {
@@ -52,7 +55,7 @@ same_some v n g k e = rw (e Less, e Greater, e Two) refl
 
 pub loop-i-preserved : goal.loop-i-preserved
 loop-i-preserved g c =
-    let n : Network = g.S.Stages.network c.args.stages.now in
+    let n : Network = asked c.args.tails (g.S.Stages.network c.args.stages.now) in
     let r : List ℤ = c.args.room.now in
     let partials : List Node = c.args.nodes.now.nodes in
     let i : ℕ = c.loop-i.i in
@@ -79,6 +82,10 @@ loop-i-preserved g c =
       wide = c.in_ok-settle_node.ensures.wide ∙ c.loop-i.invariant.wide;
     }
 
+-- a weight times what remains
+by_rest : (tails : Tails) (n : Network) (g : ℕ) (k : List ℤ) (inside : ℕ) → inside * total_weight (asked tails n) g k ≡ inside * total_weight n g k
+by_rest tails n g k inside = ap (λ m. inside * m) (asked-total tails n g k)
+
 pub rest_of-rest-requires-clause-reached : goal.rest_of-rest-requires-clause-reached
 rest_of-rest-requires-clause-reached g c =
     let some : 0 < length c.args.nodes.now.nodes = omega (arith, c.if-len-eq0.false, c.len.ensures.count) in
@@ -86,13 +93,13 @@ rest_of-rest-requires-clause-reached g c =
 
 pub with_room-requires-clause-fits : goal.with_room-requires-clause-fits
 with_room-requires-clause-fits g c t =
-    let n : Network = g.S.Stages.network c.args.stages.now in
-    let closed = closed_is n t _ c.args.stage c.args.room.now c.args.nodes.now.nodes c.loop-i.i (sum_for c.loop-i.inside t).sum _ c.room_width-width.ensures.roomed c.requires.room_is c.requires.within c.requires.reached (omega (arith, c.if-len-eq0.false, c.len.ensures.count)) (omega (arith, c.loop-i-test.false, c.len-i-end.ensures.count)) (c.loop-i.invariant.inside t) c.key.ensures.key in
-    omega (arith, closed-fits n t c.args.stage (lift c.args.room.now c.args.nodes.now.nodes) (sum_for c.args.sums t).sum _ (c.requires.fits t) closed, c.rest_of-rest.ensures t)
+    let n : Network = asked c.args.tails (g.S.Stages.network c.args.stages.now) in
+    let closed = closed_is n t (g.S.Roomed.room_width c.args.stages.now) c.args.stage c.args.room.now c.args.nodes.now.nodes c.loop-i.i (sum_for c.loop-i.inside t).sum _ (asked-roomed c.args.tails (g.S.Stages.network c.args.stages.now) (g.S.Roomed.room_width c.args.stages.now) c.room_width-width.ensures.roomed) c.requires.room_is c.requires.within c.requires.reached (omega (arith, c.if-len-eq0.false, c.len.ensures.count)) (omega (arith, c.loop-i-test.false, c.len-i-end.ensures.count)) (c.loop-i.invariant.inside t) c.key.ensures.key in
+    omega (arith, closed-fits n t c.args.stage (lift c.args.room.now c.args.nodes.now.nodes) (sum_for c.args.sums t).sum _ (c.requires.fits t) closed, c.rest_of-rest.ensures t, by_rest c.args.tails (g.S.Stages.network c.args.stages.now) c.args.stage (c.args.room.now ++ c.key.result.now) (sum_for c.loop-i.inside t).sum)
 
 pub with_room-requires-clause-few : goal.with_room-requires-clause-few
 with_room-requires-clause-few g c t =
-    let n : Network = g.S.Stages.network c.args.stages.now in
+    let n : Network = asked c.args.tails (g.S.Stages.network c.args.stages.now) in
     let before : List Node = take c.loop-i.i (lift c.args.room.now c.args.nodes.now.nodes) in
     omega (
       arith,
@@ -106,18 +113,18 @@ with_room-requires-clause-few g c t =
 
 pub returns-clause-nodes : goal.returns-clause-nodes
 returns-clause-nodes g c =
-    let n : Network = g.S.Stages.network c.args.stages.now in
+    let n : Network = asked c.args.tails (g.S.Stages.network c.args.stages.now) in
     let last : length c.args.nodes.now.nodes ≤ c.loop-i.i = omega (arith, c.loop-i-test.false, c.len-i-end.ensures.count) in
     c.loop-i.invariant.nodes ∙ ap (λ ns. c.args.kept.now.nodes ++ open_nodes n c.args.stage ns) (all-nodes c.args.room.now c.args.nodes.now.nodes c.loop-i.i last)
 
 pub returns-clause-sum : goal.returns-clause-sum
 returns-clause-sum g c t =
-    let n : Network = g.S.Stages.network c.args.stages.now in
-    let closed = closed_is n t _ c.args.stage c.args.room.now c.args.nodes.now.nodes c.loop-i.i (sum_for c.loop-i.inside t).sum _ c.room_width-width.ensures.roomed c.requires.room_is c.requires.within c.requires.reached (omega (arith, c.if-len-eq0.false, c.len.ensures.count)) (omega (arith, c.loop-i-test.false, c.len-i-end.ensures.count)) (c.loop-i.invariant.inside t) c.key.ensures.key in
-    c.with_room.ensures.sum t ∙ ap (λ m. (sum_for c.args.sums t).sum + m) (c.rest_of-rest.ensures t ∙ sym closed)
+    let n : Network = asked c.args.tails (g.S.Stages.network c.args.stages.now) in
+    let closed = closed_is n t (g.S.Roomed.room_width c.args.stages.now) c.args.stage c.args.room.now c.args.nodes.now.nodes c.loop-i.i (sum_for c.loop-i.inside t).sum _ (asked-roomed c.args.tails (g.S.Stages.network c.args.stages.now) (g.S.Roomed.room_width c.args.stages.now) c.room_width-width.ensures.roomed) c.requires.room_is c.requires.within c.requires.reached (omega (arith, c.if-len-eq0.false, c.len.ensures.count)) (omega (arith, c.loop-i-test.false, c.len-i-end.ensures.count)) (c.loop-i.invariant.inside t) c.key.ensures.key in
+    c.with_room.ensures.sum t ∙ ap (λ m. (sum_for c.args.sums t).sum + m) (c.rest_of-rest.ensures t ∙ sym (by_rest c.args.tails (g.S.Stages.network c.args.stages.now) c.args.stage (c.args.room.now ++ c.key.result.now) (sum_for c.loop-i.inside t).sum) ∙ sym closed)
 
 pub returns-clause-opened : goal.returns-clause-opened
 returns-clause-opened g c t =
-    let n : Network = g.S.Stages.network c.args.stages.now in
+    let n : Network = asked c.args.tails (g.S.Stages.network c.args.stages.now) in
     let last : length c.args.nodes.now.nodes ≤ c.loop-i.i = omega (arith, c.loop-i-test.false, c.len-i-end.ensures.count) in
     c.with_room.ensures.opened t ∙ ap (λ m. (sum_for c.args.sums t).opened + m) (c.loop-i.invariant.opened t ∙ ap (opened_in n t c.args.stage) (all-nodes c.args.room.now c.args.nodes.now.nodes c.loop-i.i last))

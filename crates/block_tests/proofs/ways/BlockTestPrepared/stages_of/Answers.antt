@@ -1,47 +1,43 @@
-use Rattle.std.proofs.Common.{◌≡◌, ◌∙◌, sym, inl, inr}
-use Rattle.weights.specs.Rules.{rule_of}
-use Rattle.block_tests.specs.BlockTests.{block_test}
+use Rattle.std.proofs.Common.{◌∙◌, sym, inl, inr}
 use Rattle.block_tests.proofs.Fitting.{are-stages, bound-fits, bounded, follows}
 use Rattle.block_tests.proofs.PageImages.{counted}
 use Rattle.block_tests.proofs.ways.BlockTestPrepared.stages_of.Goals as goal
 
 pub page_stages-requires : goal.page_stages-requires
 page_stages-requires c =
-    let rule : c.rule-rule.result ≡ rule_of (block_test c.args.self.now) c.args.tail = c.rule-rule.ensures (block_test c.args.self.now) c.frame_made.ensures.frame in
-    rw rule (are-stages c.args.self.now c.frame_made.ensures.fitting c.args.tail)
+    rw c.judge-judge.ensures.judge (are-stages c.args.self.now c.judge-judge.ensures.fitting)
 
 pub square_stages-requires : goal.square_stages-requires
 square_stages-requires c =
-    let rule : c.rule-rule.result ≡ rule_of (block_test c.args.self.now) c.args.tail = c.rule-rule.ensures (block_test c.args.self.now) c.frame_made.ensures.frame in
     record {
-      stages = rw rule (are-stages c.args.self.now c.frame_made.ensures.fitting c.args.tail);
-      bounded = bounded c.args.self.now c.frame_made.ensures.fitting.blocks (elim c.in-Friedman.is [
+      stages = rw c.judge-judge.ensures.judge (are-stages c.args.self.now c.judge-judge.ensures.fitting);
+      bounded = bounded c.args.self.now c.judge-judge.ensures.fitting.blocks (elim c.in-Friedman.is [
         | inl e ↦ inl (sym c.kind.ensures ∙ e)
         | inr e ↦ inr (sym c.kind.ensures ∙ e)
       ]);
-      fits = bound-fits c.args.self.now c.frame_made.ensures.fitting;
+      fits = bound-fits c.args.self.now c.judge-judge.ensures.fitting;
     }
 
 pub returns-in_err-stages-in-Page-clause-follows : goal.returns-in_err-stages-in-Page-clause-follows
-returns-in_err-stages-in-Page-clause-follows c = follows c.args.self.now c.frame_made.ensures.fitting c.args.tail
+returns-in_err-stages-in-Page-clause-follows c t has = follows c.args.self.now c.judge-judge.ensures.fitting t
 
 pub returns-in_ok-stages-in-Page-clause-follows : goal.returns-in_ok-stages-in-Page-clause-follows
-returns-in_ok-stages-in-Page-clause-follows c = follows c.args.self.now c.frame_made.ensures.fitting c.args.tail
+returns-in_ok-stages-in-Page-clause-follows c t has = follows c.args.self.now c.judge-judge.ensures.fitting t
 
 pub returns-in_err-stages-in-Friedman-clause-follows : goal.returns-in_err-stages-in-Friedman-clause-follows
-returns-in_err-stages-in-Friedman-clause-follows c = follows c.args.self.now c.frame_made.ensures.fitting c.args.tail
+returns-in_err-stages-in-Friedman-clause-follows c t has = follows c.args.self.now c.judge-judge.ensures.fitting t
 
 pub returns-in_ok-stages-in-Friedman-clause-follows : goal.returns-in_ok-stages-in-Friedman-clause-follows
-returns-in_ok-stages-in-Friedman-clause-follows c = follows c.args.self.now c.frame_made.ensures.fitting c.args.tail
+returns-in_ok-stages-in-Friedman-clause-follows c t has = follows c.args.self.now c.judge-judge.ensures.fitting t
 
 pub returns-in_err-stages-in-Page-clause-counted : goal.returns-in_err-stages-in-Page-clause-counted
-returns-in_err-stages-in-Page-clause-counted c = counted c.args.self.now c.args.tail
+returns-in_err-stages-in-Page-clause-counted c t has = counted c.args.self.now t
 
 pub returns-in_ok-stages-in-Page-clause-counted : goal.returns-in_ok-stages-in-Page-clause-counted
-returns-in_ok-stages-in-Page-clause-counted c = counted c.args.self.now c.args.tail
+returns-in_ok-stages-in-Page-clause-counted c t has = counted c.args.self.now t
 
 pub returns-in_err-stages-in-Friedman-clause-counted : goal.returns-in_err-stages-in-Friedman-clause-counted
-returns-in_err-stages-in-Friedman-clause-counted c = counted c.args.self.now c.args.tail
+returns-in_err-stages-in-Friedman-clause-counted c t has = counted c.args.self.now t
 
 pub returns-in_ok-stages-in-Friedman-clause-counted : goal.returns-in_ok-stages-in-Friedman-clause-counted
-returns-in_ok-stages-in-Friedman-clause-counted c = counted c.args.self.now c.args.tail
+returns-in_ok-stages-in-Friedman-clause-counted c t has = counted c.args.self.now t

@@ -8,18 +8,18 @@ use Rattle.k_sample_tests.proofs.PairKeys.{around, few, left, long, room-of, siz
 use Rattle.k_sample_tests.proofs.pair_counts.PairCounts.added.Goals as goal
 
 pub read_sizes-requires-clause-sizes : goal.read_sizes-requires-clause-sizes
-read_sizes-requires-clause-sizes c = sizes c.args.self.now.pairs.items c.args.self.now.rows.items c.args.self.now.columns.items c.args.self.now.judge.tail c.args.self.now.judge.rule c.args.self.now.right c.args.stage c.args.remaining.now c.requires.partial c.requires.place
+read_sizes-requires-clause-sizes c = sizes c.args.self.now.pairs.items c.args.self.now.rows.items c.args.self.now.columns.items c.args.self.now.judge c.args.self.now.right c.args.stage c.args.remaining.now c.requires.partial c.requires.place
 
 pub read_sizes-requires-clause-room : goal.read_sizes-requires-clause-room
 read_sizes-requires-clause-room c =
     let rows : c.len.result ≡ length c.args.self.now.rows.items = search rules in
-    room-of c.len.result (omega (arith, rows, c.args.self.now.right.few_rows)) ∙ rows ∙ sym (long c.args.self.now.pairs.items c.args.self.now.rows.items c.args.self.now.columns.items c.args.self.now.judge.tail c.args.self.now.judge.rule c.args.self.now.right c.args.stage c.args.remaining.now c.requires.partial c.requires.place)
+    room-of c.len.result (omega (arith, rows, c.args.self.now.right.few_rows)) ∙ rows ∙ sym (long c.args.self.now.pairs.items c.args.self.now.rows.items c.args.self.now.columns.items c.args.self.now.judge c.args.self.now.right c.args.stage c.args.remaining.now c.requires.partial c.requires.place)
 
 pub subject_pairs-open-requires-clause-few : goal.subject_pairs-open-requires-clause-few
-subject_pairs-open-requires-clause-few c = rw c.read_sizes.ensures (few c.args.self.now.pairs.items c.args.self.now.rows.items c.args.self.now.columns.items c.args.self.now.judge.tail c.args.self.now.judge.rule c.args.self.now.right c.args.stage c.args.remaining.now c.requires.partial c.requires.place)
+subject_pairs-open-requires-clause-few c = rw c.read_sizes.ensures (few c.args.self.now.pairs.items c.args.self.now.rows.items c.args.self.now.columns.items c.args.self.now.judge c.args.self.now.right c.args.stage c.args.remaining.now c.requires.partial c.requires.place)
 
 pub column_points-middle-requires-clause-left : goal.column_points-middle-requires-clause-left
-column_points-middle-requires-clause-left c = rw (c.read_sizes.ensures, c.as_slice.ensures.value) (left c.args.self.now.pairs.items c.args.self.now.rows.items c.args.self.now.columns.items c.args.self.now.judge.tail c.args.self.now.judge.rule c.args.self.now.right c.args.stage c.args.remaining.now c.requires.partial c.requires.place).within
+column_points-middle-requires-clause-left c = rw (c.read_sizes.ensures, c.as_slice.ensures.value) (left c.args.self.now.pairs.items c.args.self.now.rows.items c.args.self.now.columns.items c.args.self.now.judge c.args.self.now.right c.args.stage c.args.remaining.now c.requires.partial c.requires.place).within
 
 pub column_points-middle-requires-clause-column : goal.column_points-middle-requires-clause-column
 column_points-middle-requires-clause-column c = fits-self c.read_sizes.new.sizes
@@ -38,8 +38,8 @@ overflow_add-middle c =
       arith,
       open_is,
       middle_is,
-      pairs-most c.args.self.now.pairs.items (sizes_in c.args.remaining.now) c.args.self.now.right.pairs_are.few (few c.args.self.now.pairs.items c.args.self.now.rows.items c.args.self.now.columns.items c.args.self.now.judge.tail c.args.self.now.judge.rule c.args.self.now.right c.args.stage c.args.remaining.now c.requires.partial c.requires.place),
-      points-most c.args.self.now.rows.items (sizes_in c.args.remaining.now) (sizes_in c.args.remaining.now) c.args.self.now.right.few (left c.args.self.now.pairs.items c.args.self.now.rows.items c.args.self.now.columns.items c.args.self.now.judge.tail c.args.self.now.judge.rule c.args.self.now.right c.args.stage c.args.remaining.now c.requires.partial c.requires.place).within (fits-self (sizes_in c.args.remaining.now)) c.args.self.now.pairs.items c.args.self.now.right.pairs_are.few,
+      pairs-most c.args.self.now.pairs.items (sizes_in c.args.remaining.now) c.args.self.now.right.pairs_are.few (few c.args.self.now.pairs.items c.args.self.now.rows.items c.args.self.now.columns.items c.args.self.now.judge c.args.self.now.right c.args.stage c.args.remaining.now c.requires.partial c.requires.place),
+      points-most c.args.self.now.rows.items (sizes_in c.args.remaining.now) (sizes_in c.args.remaining.now) c.args.self.now.right.few (left c.args.self.now.pairs.items c.args.self.now.rows.items c.args.self.now.columns.items c.args.self.now.judge c.args.self.now.right c.args.stage c.args.remaining.now c.requires.partial c.requires.place).within (fits-self (sizes_in c.args.remaining.now)) c.args.self.now.pairs.items c.args.self.now.right.pairs_are.few,
     )
 
 pub returns : goal.returns

@@ -4,6 +4,7 @@ use mir.Syntax.{w128}
 use mir.Val.{to_z, of_z}
 use Rattle.std.proofs.lemmas.Int.{to_z-of_z}
 use Rattle.weights.specs.Rules.{RuleFits}
+use Rattle.stage_network.specs.Judged.{rule_in}
 use Rattle.label_network.specs.Linear.{so_far}
 use Rattle.label_network.specs.Meanings.{sizes_in}
 use Rattle.k_sample_tests.specs.PairCounts.{open_points, sure_points}
@@ -11,23 +12,23 @@ use Rattle.k_sample_tests.proofs.PairKeys.{greatest-is, high-fits, high-rule, le
 use Rattle.k_sample_tests.proofs.pair_counts.PairCounts.judge_points.Goals as goal
 
 pub only-so_far-requires : goal.only-so_far-requires
-only-so_far-requires c = (partial_is c.args.self.now.pairs.items c.args.self.now.rows.items c.args.self.now.columns.items c.args.self.now.judge.tail c.args.self.now.judge.rule c.args.self.now.right c.args.stage c.args.remaining.now c.args.partial.now c.requires.place).one
+only-so_far-requires c = (partial_is c.args.self.now.pairs.items c.args.self.now.rows.items c.args.self.now.columns.items c.args.self.now.judge c.args.self.now.right c.args.stage c.args.remaining.now c.args.partial.now c.requires.place).one
 
 pub plus-requires : goal.plus-requires
 plus-requires c =
     let a : FitsSigned w128 c.only-so_far.result = search rules in
     let b : FitsSigned w128 c.args.added.low = search rules in
     let so : to_z w128 (of_z w128 c.only-so_far.result) ≡ so_far c.args.partial.now = to_z-of_z w128 c.only-so_far.result a ∙ c.only-so_far.ensures in
-    let low : to_z w128 (of_z w128 c.args.added.low) ≡ pos (sure_points c.args.self.now.pairs.items c.args.self.now.rows.items (sizes_in c.args.remaining.now)) = to_z-of_z w128 c.args.added.low b ∙ least-is c.args.self.now.pairs.items c.args.self.now.rows.items c.args.self.now.columns.items c.args.self.now.judge.tail c.args.self.now.judge.rule c.args.self.now.right (sizes_in c.args.remaining.now) c.args.added.low c.args.added.high c.requires.added in
-    rw (so, low) (omega (arith, low-fits c.args.self.now.pairs.items c.args.self.now.rows.items c.args.self.now.columns.items c.args.self.now.judge.tail c.args.self.now.judge.rule c.args.self.now.right c.args.stage c.args.remaining.now c.args.partial.now c.requires.place))
+    let low : to_z w128 (of_z w128 c.args.added.low) ≡ pos (sure_points c.args.self.now.pairs.items c.args.self.now.rows.items (sizes_in c.args.remaining.now)) = to_z-of_z w128 c.args.added.low b ∙ least-is c.args.self.now.pairs.items c.args.self.now.rows.items c.args.self.now.columns.items c.args.self.now.judge c.args.self.now.right (sizes_in c.args.remaining.now) c.args.added.low c.args.added.high c.requires.added in
+    rw (so, low) (omega (arith, low-fits c.args.self.now.pairs.items c.args.self.now.rows.items c.args.self.now.columns.items c.args.self.now.judge c.args.self.now.right c.args.stage c.args.remaining.now c.args.partial.now c.requires.place))
 
 pub plus-requires-2 : goal.plus-requires-2
 plus-requires-2 c =
     let a : FitsSigned w128 c.only-so_far.result = search rules in
     let b : FitsSigned w128 c.args.added.high = search rules in
     let so : to_z w128 (of_z w128 c.only-so_far.result) ≡ so_far c.args.partial.now = to_z-of_z w128 c.only-so_far.result a ∙ c.only-so_far.ensures in
-    let high : to_z w128 (of_z w128 c.args.added.high) ≡ pos (sure_points c.args.self.now.pairs.items c.args.self.now.rows.items (sizes_in c.args.remaining.now) + open_points c.args.self.now.pairs.items (sizes_in c.args.remaining.now)) = to_z-of_z w128 c.args.added.high b ∙ greatest-is c.args.self.now.pairs.items c.args.self.now.rows.items c.args.self.now.columns.items c.args.self.now.judge.tail c.args.self.now.judge.rule c.args.self.now.right (sizes_in c.args.remaining.now) c.args.added.low c.args.added.high c.requires.added in
-    rw (so, high) (omega (arith, high-fits c.args.self.now.pairs.items c.args.self.now.rows.items c.args.self.now.columns.items c.args.self.now.judge.tail c.args.self.now.judge.rule c.args.self.now.right c.args.stage c.args.remaining.now c.args.partial.now c.requires.place))
+    let high : to_z w128 (of_z w128 c.args.added.high) ≡ pos (sure_points c.args.self.now.pairs.items c.args.self.now.rows.items (sizes_in c.args.remaining.now) + open_points c.args.self.now.pairs.items (sizes_in c.args.remaining.now)) = to_z-of_z w128 c.args.added.high b ∙ greatest-is c.args.self.now.pairs.items c.args.self.now.rows.items c.args.self.now.columns.items c.args.self.now.judge c.args.self.now.right (sizes_in c.args.remaining.now) c.args.added.low c.args.added.high c.requires.added in
+    rw (so, high) (omega (arith, high-fits c.args.self.now.pairs.items c.args.self.now.rows.items c.args.self.now.columns.items c.args.self.now.judge c.args.self.now.right c.args.stage c.args.remaining.now c.args.partial.now c.requires.place))
 
 pub verdict-requires-clause-low : goal.verdict-requires-clause-low
 verdict-requires-clause-low c =
@@ -35,10 +36,10 @@ verdict-requires-clause-low c =
     let b : FitsSigned w128 c.args.added.low = search rules in
     let s : FitsSigned w128 c.plus.result = search rules in
     let so : to_z w128 (of_z w128 c.only-so_far.result) ≡ so_far c.args.partial.now = to_z-of_z w128 c.only-so_far.result a ∙ c.only-so_far.ensures in
-    let low : to_z w128 (of_z w128 c.args.added.low) ≡ pos (sure_points c.args.self.now.pairs.items c.args.self.now.rows.items (sizes_in c.args.remaining.now)) = to_z-of_z w128 c.args.added.low b ∙ least-is c.args.self.now.pairs.items c.args.self.now.rows.items c.args.self.now.columns.items c.args.self.now.judge.tail c.args.self.now.judge.rule c.args.self.now.right (sizes_in c.args.remaining.now) c.args.added.low c.args.added.high c.requires.added in
+    let low : to_z w128 (of_z w128 c.args.added.low) ≡ pos (sure_points c.args.self.now.pairs.items c.args.self.now.rows.items (sizes_in c.args.remaining.now)) = to_z-of_z w128 c.args.added.low b ∙ least-is c.args.self.now.pairs.items c.args.self.now.rows.items c.args.self.now.columns.items c.args.self.now.judge c.args.self.now.right (sizes_in c.args.remaining.now) c.args.added.low c.args.added.high c.requires.added in
     let given = rw (so, low) at c.plus.ensures in
-    subst (RuleFits c.args.self.now.judge.rule) (sym (to_z-of_z w128 c.plus.result s ∙ given))
-    (low-rule c.args.self.now.pairs.items c.args.self.now.rows.items c.args.self.now.columns.items c.args.self.now.judge.tail c.args.self.now.judge.rule c.args.self.now.right c.args.stage c.args.remaining.now c.args.partial.now c.requires.place)
+    subst (RuleFits (rule_in c.args.self.now.judge c.args.tail)) (sym (to_z-of_z w128 c.plus.result s ∙ given))
+    ((low-rule c.args.self.now.pairs.items c.args.self.now.rows.items c.args.self.now.columns.items c.args.self.now.judge c.args.self.now.right c.args.stage c.args.remaining.now c.args.partial.now c.requires.place).fits c.args.tail)
 
 pub verdict-requires-clause-high : goal.verdict-requires-clause-high
 verdict-requires-clause-high c =
@@ -46,7 +47,7 @@ verdict-requires-clause-high c =
     let b : FitsSigned w128 c.args.added.high = search rules in
     let s : FitsSigned w128 c.plus-2.result = search rules in
     let so : to_z w128 (of_z w128 c.only-so_far.result) ≡ so_far c.args.partial.now = to_z-of_z w128 c.only-so_far.result a ∙ c.only-so_far.ensures in
-    let high : to_z w128 (of_z w128 c.args.added.high) ≡ pos (sure_points c.args.self.now.pairs.items c.args.self.now.rows.items (sizes_in c.args.remaining.now) + open_points c.args.self.now.pairs.items (sizes_in c.args.remaining.now)) = to_z-of_z w128 c.args.added.high b ∙ greatest-is c.args.self.now.pairs.items c.args.self.now.rows.items c.args.self.now.columns.items c.args.self.now.judge.tail c.args.self.now.judge.rule c.args.self.now.right (sizes_in c.args.remaining.now) c.args.added.low c.args.added.high c.requires.added in
+    let high : to_z w128 (of_z w128 c.args.added.high) ≡ pos (sure_points c.args.self.now.pairs.items c.args.self.now.rows.items (sizes_in c.args.remaining.now) + open_points c.args.self.now.pairs.items (sizes_in c.args.remaining.now)) = to_z-of_z w128 c.args.added.high b ∙ greatest-is c.args.self.now.pairs.items c.args.self.now.rows.items c.args.self.now.columns.items c.args.self.now.judge c.args.self.now.right (sizes_in c.args.remaining.now) c.args.added.low c.args.added.high c.requires.added in
     let given = rw (so, high) at c.plus-2.ensures in
-    subst (RuleFits c.args.self.now.judge.rule) (sym (to_z-of_z w128 c.plus-2.result s ∙ given))
-    (high-rule c.args.self.now.pairs.items c.args.self.now.rows.items c.args.self.now.columns.items c.args.self.now.judge.tail c.args.self.now.judge.rule c.args.self.now.right c.args.stage c.args.remaining.now c.args.partial.now c.requires.place)
+    subst (RuleFits (rule_in c.args.self.now.judge c.args.tail)) (sym (to_z-of_z w128 c.plus-2.result s ∙ given))
+    ((high-rule c.args.self.now.pairs.items c.args.self.now.rows.items c.args.self.now.columns.items c.args.self.now.judge c.args.self.now.right c.args.stage c.args.remaining.now c.args.partial.now c.requires.place).fits c.args.tail)

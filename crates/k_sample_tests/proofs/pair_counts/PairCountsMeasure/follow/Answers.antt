@@ -16,7 +16,7 @@ plus-requires c =
     let b : FitsSigned w128 c.only-2.result = search rules in
     let one : to_z w128 (of_z w128 c.only.result) ≡ so_far c.args.partial.now = to_z-of_z w128 c.only.result a ∙ c.only.ensures in
     let two : to_z w128 (of_z w128 c.only-2.result) ≡ pos (column_points c.args.self.now.pairs.items c.args.self.now.rows.items (sizes_in c.args._remaining.now) c.args._choice.now) = to_z-of_z w128 c.only-2.result b ∙ c.only-2.ensures ∙ ap (λ ns. score_of ns 0) c.requires.step in
-    rw (one, two) (added-fits c.args.self.now.pairs.items c.args.self.now.rows.items c.args.self.now.columns.items c.args.self.now.judge.tail c.args.self.now.judge.rule c.args.self.now.right c.args._stage c.args._remaining.now c.args.partial.now c.requires.allowed.place c.args._choice.now c.requires.allowed.allowed)
+    rw (one, two) (added-fits c.args.self.now.pairs.items c.args.self.now.rows.items c.args.self.now.columns.items c.args.self.now.judge c.args.self.now.right c.args._stage c.args._remaining.now c.args.partial.now c.requires.allowed.place c.args._choice.now c.requires.allowed.allowed)
 
 pub returns : goal.returns
 returns c =

@@ -22,10 +22,10 @@ pub interval-interval-requires-clause-and_as_many : goal.interval-interval-requi
 interval-interval-requires-clause-and_as_many c = ap length (c.split_at.ensures.back ∙ back-is c.args.self.now c.args._stage c.args._remaining.now c.args.partial.now c.requires.place c.args.outlook.now c.requires.outlook) ∙ end-long c.args.self.now c.args._stage c.args._remaining.now c.args.partial.now c.requires.place Greatest
 
 pub verdict-requires-clause-low : goal.verdict-requires-clause-low
-verdict-requires-clause-low c = c.args.self.now.right.squaring.rule_fits c.interval-interval.result.low
+verdict-requires-clause-low c = (c.args.self.now.right.squaring.rules_fit c.interval-interval.result.low).fits c.args.tail
 
 pub verdict-requires-clause-high : goal.verdict-requires-clause-high
-verdict-requires-clause-high c = c.args.self.now.right.squaring.rule_fits c.interval-interval.result.high
+verdict-requires-clause-high c = (c.args.self.now.right.squaring.rules_fit c.interval-interval.result.high).fits c.args.tail
 
 pub returns : goal.returns
 returns c = c.verdict.ensures ∙ rw (c.interval-interval.ensures.low, c.interval-interval.ensures.high, c.split_at.ensures.front, c.split_at.ensures.back, front-is c.args.self.now c.args._stage c.args._remaining.now c.args.partial.now c.requires.place c.args.outlook.now c.requires.outlook, back-is c.args.self.now c.args._stage c.args._remaining.now c.args.partial.now c.requires.place c.args.outlook.now c.requires.outlook) refl

@@ -9,12 +9,12 @@ use Rattle.one_sample_tests.proofs.mark_stages.MarkStagesAdditive.adds.Goals as 
 pub times-requires : goal.times-requires
 times-requires c =
     let v : FitsSigned w128 (group_at c.as_slice.result.now c.args.stage).value = search rules in
-    let within = choice-within c.args.self.now.groups c.args.self.now.judge.tail c.args.self.now.judge.rule c.args.stage c.args.choice.now c.requires.allowed in
+    let within = choice-within c.args.self.now.groups c.args.self.now.judge c.args.stage c.args.choice.now c.requires.allowed in
     rw (to_z-of_z w128 (group_at c.as_slice.result.now c.args.stage).value v, c.as_slice.ensures)
-    (added-small c.args.self.now.groups c.args.self.now.judge.rule c.args.self.now.sound c.args.stage (get_or c.args.choice.now 0 0) within)
+    (added-small c.args.self.now.groups c.args.self.now.judge c.args.self.now.sound c.args.stage (get_or c.args.choice.now 0 0) within)
 
 pub ways-requires : goal.ways-requires
-ways-requires c = rw c.as_slice.ensures (ways-small c.args.self.now.groups c.args.self.now.judge.rule c.args.self.now.sound c.args.stage (get_or c.args.choice.now 0 0))
+ways-requires c = rw c.as_slice.ensures (ways-small c.args.self.now.groups c.args.self.now.judge c.args.self.now.sound c.args.stage (get_or c.args.choice.now 0 0))
 
 pub returns-clause-added : goal.returns-clause-added
 returns-clause-added c =

@@ -5,7 +5,7 @@ use Rattle.one_sample_tests.proofs.mark_stages.MarkStagesAdditive.next_choice.Go
 
 pub overflow_add-choice : goal.overflow_add-choice
 overflow_add-choice c =
-    let few = few-subjects c.args.self.now.groups c.args.self.now.judge.rule c.args.self.now.sound c.args.stage in
+    let few = few-subjects c.args.self.now.groups c.args.self.now.judge c.args.self.now.sound c.args.stage in
     let more : get_or c.args.choice.now 0 0 < (group_at c.args.self.now.groups c.args.stage).count = rw c.as_slice.ensures at c.if-choice-as_slice.true in
     omega (arith, few, more)
 

@@ -1,7 +1,7 @@
 use Rattle.std.proofs.Common.{◌≡◌, ◌∙◌, ap}
 use Rattle.std.proofs.lemmas.Result.{IfOk-weaker}
-use Rattle.weights.specs.Rules.{rule_of}
-use Rattle.label_network.specs.LabelNetwork.{label_network, label_shape}
+use Rattle.stage_network.specs.Judged.{judge_of}
+use Rattle.label_network.specs.LabelNetwork.{label_network}
 use Rattle.label_network.specs.Linear.{linear_meaning}
 use Rattle.label_network.specs.declared.linear.LinearMeasure.{LinearMeasure}
 use Rattle.two_sample_tests.specs.TwoSamples.{TwoSamples, two_sample_test}
@@ -12,25 +12,18 @@ pub new-requires : goal.new-requires
 new-requires c =
     let samples : TwoSamples = c.args.self.now in
     let made = c.made-made.ensures in
-    let rule : c.rule-rule.result ≡ rule_of (two_sample_test samples) c.args.tail = c.rule-rule.ensures (two_sample_test samples) made.frame in
-    rw (c.as_slice-rows.ensures ∙ made.sizes, c.as_slice-scores.ensures ∙ made.column_scores, c.as_slice-columns.ensures ∙ made.column_sizes) (is-linear samples made.fitting c.args.tail c.rule-rule.result rule)
+    let judge : c.of-judge.result ≡ judge_of (two_sample_test samples) = c.of-judge.ensures (two_sample_test samples) made.frame in
+    rw (c.as_slice-rows.ensures ∙ made.sizes, c.as_slice-scores.ensures ∙ made.column_scores, c.as_slice-columns.ensures ∙ made.column_sizes) (is-linear samples made.fitting c.of-judge.result judge)
 
 pub returns-in_err-measure-clause-follows : goal.returns-in_err-measure-clause-follows
-returns-in_err-measure-clause-follows c = follows c.args.self.now c.made-made.ensures.fitting c.args.tail
+returns-in_err-measure-clause-follows c t has = follows c.args.self.now c.made-made.ensures.fitting t
 
 pub returns-clause-follows : goal.returns-clause-follows
-returns-clause-follows c = follows c.args.self.now c.made-made.ensures.fitting c.args.tail
+returns-clause-follows c t has = follows c.args.self.now c.made-made.ensures.fitting t
 
 pub returns-clause-built : goal.returns-clause-built
 returns-clause-built c =
     let made = c.made-made.ensures in
-    let rule : c.rule-rule.result ≡ rule_of (two_sample_test c.args.self.now) c.args.tail = c.rule-rule.ensures (two_sample_test c.args.self.now) made.frame in
-    let given = rw (c.as_slice-rows.ensures ∙ made.sizes, c.as_slice-scores.ensures ∙ made.column_scores, c.as_slice-columns.ensures ∙ made.column_sizes, rule) at c.in_ok-measure.ensures in
-    IfOk-weaker c.label_stages.result (λ s. s.1 ≡ c.in_ok-measure.measure) _ (λ s e. ap (λ (m : LinearMeasure). label_network (linear_meaning m.scores.items m.rows.items m.later.scores.items m.later.columns.items m.judge.tail m.judge.rule)) e ∙ ap label_network given) c.label_stages.ensures
-
-pub returns-clause-shape : goal.returns-clause-shape
-returns-clause-shape c =
-    let made = c.made-made.ensures in
-    let rule : c.rule-rule.result ≡ rule_of (two_sample_test c.args.self.now) c.args.tail = c.rule-rule.ensures (two_sample_test c.args.self.now) made.frame in
-    let given = rw (c.as_slice-rows.ensures ∙ made.sizes, c.as_slice-scores.ensures ∙ made.column_scores, c.as_slice-columns.ensures ∙ made.column_sizes, rule) at c.in_ok-measure.ensures in
-    IfOk-weaker c.label_stages.result (λ s. s.1 ≡ c.in_ok-measure.measure) _ (λ s e. ap (λ (m : LinearMeasure). label_shape (linear_meaning m.scores.items m.rows.items m.later.scores.items m.later.columns.items m.judge.tail m.judge.rule)) e ∙ ap label_shape given) c.label_stages.ensures
+    let judge : c.of-judge.result ≡ judge_of (two_sample_test c.args.self.now) = c.of-judge.ensures (two_sample_test c.args.self.now) made.frame in
+    let given = rw (c.as_slice-rows.ensures ∙ made.sizes, c.as_slice-scores.ensures ∙ made.column_scores, c.as_slice-columns.ensures ∙ made.column_sizes, judge) at c.in_ok-measure.ensures in
+    IfOk-weaker c.label_stages.result (λ s. s.1 ≡ c.in_ok-measure.measure) _ (λ s e. ap (λ (m : LinearMeasure). label_network (linear_meaning m.scores.items m.rows.items m.later.scores.items m.later.columns.items m.judge)) e ∙ ap label_network given) c.label_stages.ensures

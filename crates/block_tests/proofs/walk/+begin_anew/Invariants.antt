@@ -1,5 +1,0 @@
-use Rattle.std.proofs.Common.{length}
-use Rattle.block_tests.proofs.walk.+begin_anew.Given as goal
-
-abbrev pub decreases-begin_anew : goal.decreases-begin_anew
-decreases-begin_anew l = length l.blocks.now
