@@ -1,7 +1,6 @@
 mod OddsLaws
 mod Multiples
 mod Different
-mod StrataWalk
 mod StrataLaws
 mod FittingStrata
 mod Loops

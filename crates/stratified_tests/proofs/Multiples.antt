@@ -1,15 +1,17 @@
 -- Common multiples of the sizes of strata: they do not fall with one stratum more.
-use Rattle.std.proofs.Common.{◌≡◌, ◌<◌, ◌≤◌, ◌+◌, ◌*◌, ◌/◌, ◌%◌, ℕ, zero, suc, Bool, true, false, cond, List, [], ◌∷◌, drop, nat_eq, refl, arith}
+use Rattle.std.proofs.Common.{◌≡◌, ◌<◌, ◌≤◌, ◌+◌, ◌*◌, ◌/◌, ◌%◌, ℕ, zero, suc, Bool, true, false, cond, List, [], ◌∷◌, drop, nat_eq, inl, inr, refl, arith}
 use Rattle.std.specs.Int.{IsGcd}
 use Rattle.std.specs.List.{sum_by}
-use Rattle.std.proofs.Math.Nat.{mul-le-mul_right}
+use Rattle.std.proofs.Math.Nat.{mul-le-mul_left, mul-le-mul_right}
+use Rattle.std.proofs.lemmas.Bool.{cases_lt}
 use Rattle.std.proofs.lemmas.Bool.Decides.{nat_tests}
 use Rattle.std.proofs.lemmas.List.Sums.{sum_by-cons}
 use Rattle.std.proofs.lemmas.Nat.Gcd.{IsGcd-from_mod, IsGcd-from_zero}
 use Rattle.weights.specs.Numbers.{lcm}
+use Rattle.weights.specs.declared.TheConstants.{MAX}
 use Rattle.weights.proofs.Divisors.{lcm-by_gcd, quotient-positive}
-use Rattle.stratified_tests.specs.declared.stratum.Stratum.{Stratum}
-use Rattle.stratified_tests.specs.Strata.{size}
+use Rattle.strata_cells.specs.declared.stratum.Stratum.{Stratum}
+use Rattle.strata_cells.specs.Strata.{size}
 use Rattle.stratified_tests.specs.StrataTests.{multiple_of}
 
 gcd-exists : (n a b : ℕ) → b ≤ n → (g : ℕ) × IsGcd a b g
@@ -59,3 +61,9 @@ multiple-many (s ∷ strata) h = by (nat_eq (size s) 0) refl (sum_by-cons size s
       where
         other : (n : ℕ) → nat_eq n 0 ≡ false → 0 < n
         other n z = grind (arith, nat_tests)
+
+pub multiple-fits : (strata : List Stratum) → multiple_of strata * sum_by size strata ≤ MAX → multiple_of strata ≤ MAX
+multiple-fits strata bound = elim (cases_lt 1 (multiple_of strata)) [
+  | inl l ↦ (let many = multiple-many strata l in let more : multiple_of strata * 1 ≤ multiple_of strata * sum_by size strata = mul-le-mul_left (multiple_of strata) many in omega (arith, more, bound))
+  | inr m ↦ omega (arith, m)
+]

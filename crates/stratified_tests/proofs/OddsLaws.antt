@@ -1,14 +1,15 @@
 -- Weights by odds: they multiply where subjects are put together, and each is at least 1.
 use Rattle.std.proofs.Common.{◌≡◌, ℕ, ◌+◌, ◌-◌, ◌*◌, ◌^◌, ◌≤◌, refl, ◌∙◌, ap, subst, arith}
 use Rattle.std.specs.Prelude.{Option, Some, None}
-use Rattle.std.proofs.Math.Nat.{mul-le-mul, mul-le-mul_left, mul-le-mul_right, one-le-pow, pow-zero}
+use Rattle.std.proofs.Math.Nat.{mul-le-mul, one-le-pow, pow-zero}
 use Rattle.std.proofs.lemmas.Nat.{pow-add}
 use Rattle.weights.specs.declared.odds.Odds.{Odds}
-use Rattle.stratified_tests.specs.declared.stratum.Stratum.{Stratum}
+use Rattle.strata_cells.specs.declared.stratum.Stratum.{Stratum}
 use Rattle.weights.specs.Odds.{IsOdds, odds_weight}
-use Rattle.stratified_tests.specs.Strata.{first_row}
+use Rattle.strata_cells.specs.Strata.{cell_weight, first_row}
+use Rattle.strata_cells.proofs.FirstCells.{left-within}
 use Rattle.stratified_tests.specs.StrataTests.{weight_by}
-use Rattle.stratified_tests.specs.StrataNetwork.{cell_weight, weighed_cell}
+use Rattle.stratified_tests.specs.StrataNetwork.{weighed_cell}
 use Rattle.stratified_tests.specs.StrataSteps.{AreOdds}
 
 pub no-odds : AreOdds None
@@ -22,13 +23,6 @@ some-odds odds i = record { usable = λ o e. subst IsOdds (same odds o e) i }
 
 pub product-some : (a b : ℕ) → 1 ≤ a → 1 ≤ b → 1 ≤ a * b
 product-some a b h k = mul-le-mul h k
-
--- a factor is within a product of numbers that are not 0
-pub left-within : (a b : ℕ) → 1 ≤ b → a ≤ a * b
-left-within a b h = let more : a * 1 ≤ a * b = mul-le-mul_left a h in omega (arith, more)
-
-pub right-within : (a b : ℕ) → 1 ≤ a → b ≤ a * b
-right-within a b h = let more : 1 * b ≤ a * b = mul-le-mul_right b h in omega (arith, more)
 
 module _ (odds : Odds) (i : IsOdds odds) where
   pub above-some : (x : ℕ) → 1 ≤ odds.above ^ x
@@ -71,3 +65,6 @@ cell-is None s x = times-one (cell_weight s x)
     times-one : (n : ℕ) → n ≡ n * 1
     times-one n = omega arith
 cell-is (Some o) s x = refl
+
+pub weighed-least : (odds : Option Odds) → AreOdds odds → (s : Stratum) (x : ℕ) → cell_weight s x ≤ weighed_cell odds s x
+weighed-least odds o s x = omega (arith, cell-is odds s x, left-within (cell_weight s x) (weight_by odds (first_row s) x) (weight-least odds o (first_row s) x))

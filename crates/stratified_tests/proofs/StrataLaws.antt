@@ -1,71 +1,45 @@
 -- The network of strata keeps the laws, and its stages are the labellings of the strata, grouped by their first cells.
-use Rattle.std.proofs.Common.{◌≡◌, ℕ, zero, suc, ◌+◌, ◌-◌, ◌*◌, ◌<◌, ◌≤◌, cond, nat_eq, Bool, List, [], ◌∷◌, ◌++◌, length, drop, take, map, get_or, set, refl, sym, ◌∙◌, ap, subst, arith, add-one, suc-add}
+use Rattle.std.proofs.Common.{◌≡◌, ℕ, zero, suc, ◌+◌, ◌-◌, ◌*◌, ◌<◌, ◌≤◌, cond, Bool, List, [], ◌∷◌, ◌++◌, length, drop, map, get_or, set, refl, sym, ◌∙◌, ap, subst, arith, add-one}
 use Rattle.std.specs.Prelude.{ℤ, pos, ◌+ℤ◌, slice_index, Contains, Option, Some, None}
 use Rattle.std.specs.List.{AllByRecursion, concat, filter, range_with_len, sum_by}
-use Rattle.std.proofs.Math.Nat.{mul-le-mul}
-use Rattle.std.proofs.Math.Seq.{drop-append_seam}
 use Rattle.std.proofs.lemmas.Int.{ints}
-use Rattle.std.proofs.lemmas.List.{length-map, take-append-le}
+use Rattle.std.proofs.lemmas.List.{length-map}
 use Rattle.std.proofs.lemmas.List.Elements.{All-contains, All-from_recursion}
-use Rattle.std.proofs.lemmas.List.Sums.{sum_by-append, sum_by-cons, sum_by-take-le}
+use Rattle.std.proofs.lemmas.List.Sums.{sum_by-cons}
 use Rattle.weights.specs.declared.odds.Odds.{Odds}
-use Rattle.weights.specs.declared.rules.Rule.{Rule}
-use Rattle.weights.specs.declared.rules.Rule.TheVariants.{AtMost}
 use Rattle.weights.specs.declared.tails.Tail.{Tail}
-use Rattle.weights.specs.declared.tails.Tail.TheVariants.{Less, Greater, Two}
 use Rattle.weights.specs.declared.TheConstants.{MAX}
-use Rattle.weights.specs.Conditional.{total}
-use Rattle.weights.specs.Numbers.{binomial}
-use Rattle.weights.specs.Rules.{RuleFits, measured, rule_of}
-use Rattle.weights.proofs.Binomials.{binomial-positive}
+use Rattle.weights.specs.Conditional.{ConditionalTest, total}
+use Rattle.weights.specs.Labellings.{labellings}
+use Rattle.weights.specs.Rules.{measured}
+use Rattle.weights.proofs.CellSums.{zeros_in}
+use Rattle.weights.proofs.Centred.{measured-is}
 use Rattle.weights.proofs.Filters.{all_map, all_weaker}
 use Rattle.weights.proofs.Members.{range-below}
-use Rattle.weights.proofs.Sums.{sum_by-filter, sum_by-map, sum_by-one, sum_by-same, sum_by-same_where}
+use Rattle.weights.proofs.Sums.{sum_by-filter, sum_by-map, sum_by-same, sum_by-same_where}
+use Rattle.enumerate.proofs.JoinedMembers.{own}
 use Rattle.stage_network.specs.Addends.{Addends, first_sum, high, low, over_earlier, over_stages, reach, stage_total, stride, totals, zeros}
 use Rattle.stage_network.specs.Follows.{Follows}
+use Rattle.stage_network.specs.Judged.{JudgeFits, judge_of}
 use Rattle.stage_network.specs.SoundAddends.{AddsBetween, IsAdditive}
+use Rattle.stage_network.specs.declared.verdicts.Judge.{Judge}
 use Rattle.stage_network.proofs.AdditiveLaws.{additive_intervals, value_even}
 use Rattle.stage_network.proofs.Flat.{AllAt, AllParts, IsJoined, ends_flat, total_flat}
 use Rattle.stage_network.proofs.Parts.{AreStages as AreParts, IsStage, Pieces, product_weight, summed}
-use Rattle.stratified_tests.specs.declared.stratum.Stratum.{Stratum}
-use Rattle.stratified_tests.specs.Strata.{first_column, first_row, greatest_cell, least_cell, second_row, size}
-use Rattle.stratified_tests.specs.StrataTests.{first_cell, first_cells, row_labellings, strata_labellings, stratified_test, weight_by}
-use Rattle.stratified_tests.specs.StrataNetwork.{cell_weight, cells_from, strata_addends, stratified_network, stratum_at, weighed_cell}
-use Rattle.stratified_tests.specs.StrataSteps.{AreOdds, AreStages, IsSmall, greatest_sum, strata_total, stratum_total}
+use Rattle.strata_cells.specs.declared.stratum.Stratum.{Stratum}
+use Rattle.strata_cells.specs.Strata.{cell_weight, cells_in, first_cell, first_cells, first_row, greatest_cell, least_cell, row_counts, row_labellings, size, strata_labellings, stratum_at}
+use Rattle.strata_cells.proofs.FirstCells.{IsRowed, cell-zeros, cells-joined, cells-meet, cells-same, cells-total, each-rowed, left-within, member-zeros, no-labels, right-within, term-within, weight-some, zeros-joined}
+use Rattle.strata_cells.proofs.StrataSums.{drop-head, past-end}
+use Rattle.stratified_tests.specs.StrataTests.{stratified_test, weight_by}
+use Rattle.stratified_tests.specs.StrataNetwork.{cell_choices, cells_from, strata_addends, stratified_network, weighed_cell}
+use Rattle.stratified_tests.specs.StrataSteps.{AreOdds, AreStages, greatest_sum, strata_total, stratum_total}
 use Rattle.stratified_tests.proofs.Different.{cells-different}
-use Rattle.weights.proofs.CellSums.{allowed_cells, by_cells, divided, zeros_in}
-use Rattle.stratified_tests.proofs.OddsLaws.{cell-is, left-within, product-some, right-within, weight-joined, weight-least, weight-none}
-use Rattle.stratified_tests.proofs.StrataWalk.{IsRowed, each-rowed, member-zeros, own}
-
-pub drop-head : (g : ℕ) (strata : List Stratum) (t : Stratum) (ts : List Stratum) → drop g strata ≡ t ∷ ts → (stratum_at strata g ≡ t) × (drop (g + 1) strata ≡ ts)
-drop-head zero [] t ts d = absurd (cc d)
-drop-head (suc g) [] t ts d = absurd (cc d)
-drop-head zero (u ∷ us) t ts d = (cc, cc)
-drop-head (suc g) (u ∷ us) t ts d = let rest = drop-head g us t ts d in (rest.0, rw (suc-add g 1) rest.1)
-
-past-end : (g : ℕ) (strata : List Stratum) → drop g strata ≡ [] → length strata ≤ g
-past-end g [] d = omega arith
-past-end zero (u ∷ us) d = absurd (cc d)
-past-end (suc g) (u ∷ us) d = omega (arith, past-end g us d)
+use Rattle.stratified_tests.proofs.OddsLaws.{cell-is, product-some, weight-joined, weight-least, weight-none}
 
 -- ---- one stratum
 
-pub cells-meet : (s : Stratum) → least_cell s ≤ greatest_cell s
-cells-meet s = omega arith
-
-cells-same : (s : Stratum) (f : ℕ → ℕ) → sum_by (λ x. f (first_cell s x)) (row_labellings s) ≡ sum_by (λ x. cell_weight s x * f x) (range_with_len (least_cell s) (greatest_cell s + 1 - least_cell s))
-cells-same s f =
-    let c : ℕ = first_column s in
-    let k : ℕ = size s - first_column s in
-    let n : ℕ = first_row s in
-    let all : c + k ≡ n + second_row s = omega arith in
-    let within : n ≤ c + k = omega arith in
-    let low : n - k ≡ least_cell s = omega arith in
-    by_cells c k n (second_row s) f all ∙ allowed_cells c k n f within
-    ∙ ap (λ l. sum_by (λ x. cell_weight s x * f x) (range_with_len l (greatest_cell s + 1 - l))) low
-
 module _ (odds : Option Odds) where
-  stage-same : (s : Stratum) (f : List ℤ → ℕ) → sum_by (λ x. weight_by odds (first_row s) (first_cell s x) * f (pos (first_cell s x) ∷ [])) (row_labellings s) ≡ sum_by (λ c. weighed_cell odds s (slice_index c 0) * f (pos (slice_index c 0) ∷ [])) (cells_from (least_cell s) (greatest_cell s + 1 - least_cell s))
+  stage-same : (s : Stratum) (f : List ℤ → ℕ) → sum_by (λ x. weight_by odds (first_row s) (first_cell s x) * f (pos (first_cell s x) ∷ [])) (row_labellings s) ≡ sum_by (λ c. weighed_cell odds s (slice_index c 0) * f (pos (slice_index c 0) ∷ [])) (cell_choices s)
   stage-same s f =
       let cells : List ℕ = range_with_len (least_cell s) (greatest_cell s + 1 - least_cell s) in
       cells-same s (λ x. weight_by odds (first_row s) x * f (pos x ∷ []))
@@ -75,23 +49,15 @@ module _ (odds : Option Odds) where
       each : (m n w k : ℕ) → w ≡ m * n → m * (n * k) ≡ w * k
       each m n w k e = rw e (omega arith)
 
-range-total : (odds : Option Odds) (s : Stratum) → sum_by (weighed_cell odds s) (range_with_len (least_cell s) (greatest_cell s + 1 - least_cell s)) ≡ stratum_total odds s
-range-total None s =
-    sum_by-same (cell_weight s) (λ x. cell_weight s x * 1) (λ x. omega arith) (range_with_len (least_cell s) (greatest_cell s + 1 - least_cell s))
-    ∙ sym (cells-same s (λ x. 1)) ∙ sum_by-one (row_labellings s)
+range-total : (odds : Option Odds) (s : Stratum) → sum_by (weighed_cell odds s) (cells_in s) ≡ stratum_total odds s
+range-total None s = cells-total s
 range-total (Some o) s = refl
 
 -- so much in all
-cells-total : (odds : Option Odds) (s : Stratum) → sum_by (λ c. weighed_cell odds s (slice_index c 0)) (cells_from (least_cell s) (greatest_cell s + 1 - least_cell s)) ≡ stratum_total odds s
-cells-total odds s =
-    sum_by-map (λ c. weighed_cell odds s (slice_index c 0)) (λ x. x ∷ []) (range_with_len (least_cell s) (greatest_cell s + 1 - least_cell s))
+choices-total : (odds : Option Odds) (s : Stratum) → sum_by (λ c. weighed_cell odds s (slice_index c 0)) (cell_choices s) ≡ stratum_total odds s
+choices-total odds s =
+    sum_by-map (λ c. weighed_cell odds s (slice_index c 0)) (λ x. x ∷ []) (cells_in s)
     ∙ range-total odds s
-
-pub weight-some : (s : Stratum) (x : ℕ) → least_cell s ≤ x → x ≤ greatest_cell s → 1 ≤ cell_weight s x
-weight-some s x l h =
-    let one : 1 ≤ binomial (first_column s) x = binomial-positive (first_column s) x (omega (arith, h)) in
-    let two : 1 ≤ binomial (size s - first_column s) (first_row s - x) = binomial-positive (size s - first_column s) (first_row s - x) (omega (arith, l)) in
-    mul-le-mul one two
 
 pub weighed-some : (odds : Option Odds) → AreOdds odds → (s : Stratum) (x : ℕ) → least_cell s ≤ x → x ≤ greatest_cell s → 1 ≤ weighed_cell odds s x
 weighed-some odds o s x l h = omega (arith, cell-is odds s x, product-some (cell_weight s x) (weight_by odds (first_row s) x) (weight-some s x l h) (weight-least odds o (first_row s) x))
@@ -109,7 +75,7 @@ pub record IsCell (s : Stratum) (c : List ℕ) : Type 0 where
   pub low : least_cell s ≤ slice_index c 0
   pub high : slice_index c 0 ≤ greatest_cell s
 
-all-cells : (s : Stratum) → AllByRecursion (IsCell s) (cells_from (least_cell s) (greatest_cell s + 1 - least_cell s))
+all-cells : (s : Stratum) → AllByRecursion (IsCell s) (cell_choices s)
 all-cells s = both (cells_from (least_cell s) n) (choice-low (least_cell s) n) (choice-high (least_cell s) n)
   where
     n : ℕ
@@ -126,43 +92,17 @@ pub record IsPart (strata : List Stratum) (g : ℕ) (x : List ℕ) : Type 0 wher
   pub early : g < length strata
   pub rowed : IsRowed (stratum_at strata g) x
 
-take-none : (n : ℕ) → take {A = ℕ} n [] ≡ []
-take-none zero = refl
-take-none (suc n) = refl
-
-drop-none : (n : ℕ) → drop {A = ℕ} n [] ≡ []
-drop-none zero = refl
-drop-none (suc n) = refl
-
-pub no-labels : (ts : List Stratum) → first_cells ts [] ≡ 0
-no-labels [] = refl
-no-labels (t ∷ ts) = rw (take-none (first_column t), drop-none (size t)) (omega (arith, no-labels ts))
-
--- the cells of a stratum's labels, and those of the next
-pub cells-joined : (t : Stratum) (ts : List Stratum) (x ys : List ℕ) → length x ≡ size t → first_cells (t ∷ ts) (x ++ ys) ≡ first_cell t x + first_cells ts ys
-cells-joined t ts x ys long =
-    let column : take (first_column t) (x ++ ys) ≡ take (first_column t) x = take-append-le (first_column t) x ys (omega (arith, long)) in
-    let rest : drop (size t) (x ++ ys) ≡ ys = ap (λ n. drop n (x ++ ys)) (sym long) ∙ drop-append_seam x ys in
-    rw (column, rest) refl
-
--- a first cell has at most the first row's labels
-cell-zeros : (t : Stratum) (x : List ℕ) → first_cell t x ≤ zeros_in x
-cell-zeros t x = sum_by-take-le (λ l. cond (nat_eq l 0) 1 0) x (first_column t)
-
-zeros-joined : (x ys : List ℕ) → zeros_in (x ++ ys) ≡ zeros_in x + zeros_in ys
-zeros-joined x ys = sum_by-append (λ l. cond (nat_eq l 0) 1 0) x ys
-
-module _ (odds : Option Odds) (strata : List Stratum) (tail : Tail) (rule : Rule) where
+module _ (odds : Option Odds) (strata : List Stratum) (judge : Judge) where
   abbrev a : Addends
-  a = strata_addends odds strata tail rule
+  a = strata_addends odds strata judge
 
   pub choice-cell : (g : ℕ) (c : List ℕ) → Contains (a.choices g) c → IsCell (stratum_at strata g) c
   choice-cell g c m =
       let s = stratum_at strata g in
-      All-contains (IsCell s) (cells_from (least_cell s) (greatest_cell s + 1 - least_cell s)) c (All-from_recursion (IsCell s) (cells_from (least_cell s) (greatest_cell s + 1 - least_cell s)) (all-cells s)) m
+      All-contains (IsCell s) (cell_choices s) c (All-from_recursion (IsCell s) (cell_choices s) (all-cells s)) m
 
   pub stage-total : (g : ℕ) → stage_total a g ≡ stratum_total odds (stratum_at strata g)
-  stage-total g = cells-total odds (stratum_at strata g)
+  stage-total g = choices-total odds (stratum_at strata g)
 
   total-from : (ts : List Stratum) (g : ℕ) → drop g strata ≡ ts → totals a (length ts) g ≡ strata_total odds ts
   total-from [] g d = refl
@@ -210,7 +150,7 @@ module _ (odds : Option Odds) (strata : List Stratum) (tail : Tail) (rule : Rule
   low-is : low a 0 (zeros a) ≡ pos (sum_by least_cell strata)
   low-is = ends-at least_cell
 
-  pub sound_stages : AreStages odds strata rule → IsAdditive a
+  pub sound_stages : AreStages odds strata judge → IsAdditive a
   sound_stages s = record {
     slots_some = omega arith;
     slots_few = omega arith;
@@ -221,8 +161,8 @@ module _ (odds : Option Odds) (strata : List Stratum) (tail : Tail) (rule : Rule
     between = λ g h. all_weaker (IsCell (stratum_at strata g)) (AddsBetween a g) (λ c i. adds-between g c i) (a.choices g) (all-cells (stratum_at strata g));
     sums_fit = omega (arith, reach-is, s.sums_fit);
     measured = refl;
-    low_fits = subst (RuleFits rule) (sym low-is) s.low_fits;
-    high_fits = subst (RuleFits rule) (sym high-is) s.high_fits;
+    low_fits = subst (JudgeFits judge) (sym low-is) s.low_fits;
+    high_fits = subst (JudgeFits judge) (sym high-is) s.high_fits;
   }
     where
       no-choice : (s : Stratum) → cells_from (least_cell s) (greatest_cell s + 1 - least_cell s) ≡ [] → ⊥
@@ -241,7 +181,7 @@ module _ (odds : Option Odds) (strata : List Stratum) (tail : Tail) (rule : Rule
   all-one g [] = tt
   all-one g (x ∷ xs) = (refl, all-one g xs)
 
-  stages-from : (ts : List Stratum) (g : ℕ) → drop g strata ≡ ts → AreParts a pieces g (map row_labellings ts)
+  stages-from : (ts : List Stratum) (g : ℕ) → drop g strata ≡ ts → AreParts a pieces g (map labellings (map row_counts ts))
   unfolding pieces
   stages-from [] g d = tt
   stages-from (t ∷ ts) g d =
@@ -254,7 +194,7 @@ module _ (odds : Option Odds) (strata : List Stratum) (tail : Tail) (rule : Rule
         stages-from ts (g + 1) here.1,
       )
 
-  parts-from : (ts : List Stratum) (g : ℕ) → drop g strata ≡ ts → g + length ts ≡ length strata → AllParts (IsPart strata) g (map row_labellings ts)
+  parts-from : (ts : List Stratum) (g : ℕ) → drop g strata ≡ ts → g + length ts ≡ length strata → AllParts (IsPart strata) g (map labellings (map row_counts ts))
   parts-from [] g d e = tt
   parts-from (t ∷ ts) g d e =
       let here = drop-head g strata t ts d in
@@ -313,13 +253,8 @@ module _ (odds : Option Odds) (strata : List Stratum) (tail : Tail) (rule : Rule
   pub all-weighed : totals a (length strata) 0 ≡ strata_total odds strata
   all-weighed = total-from strata 0 refl
 
-  pub all-parts : AllParts (IsPart strata) 0 (map row_labellings strata)
+  pub all-parts : AllParts (IsPart strata) 0 (map labellings (map row_counts strata))
   all-parts = parts-from strata 0 refl (omega arith)
-
-pub measured-is : (odds : Option Odds) (strata : List Stratum) (tail : Tail) (r : List ℕ) → measured (stratified_test odds strata) tail r ≡ pos (first_cells strata r)
-measured-is odds strata Less r = refl
-measured-is odds strata Greater r = refl
-measured-is odds strata Two r = refl
 
 module _ (odds : Option Odds) (strata : List Stratum) where
   -- a member has all its labels, and so weighs what the test says
@@ -329,13 +264,16 @@ module _ (odds : Option Odds) (strata : List Stratum) where
   all-same : AllByRecursion WeighsSame (strata_labellings strata)
   all-same = all_weaker (Contains (strata_labellings strata)) WeighsSame (λ r m. ap (λ n. weight_by odds n (first_cells strata r)) (member-zeros strata r m)) (strata_labellings strata) (own (strata_labellings strata))
 
+  pub parts-many : length (map labellings (map row_counts strata)) ≡ length strata
+  parts-many = length-map (map row_counts strata) labellings ∙ length-map strata row_counts
+
   pub total-is : total (stratified_test odds strata) ≡ strata_total odds strata
   total-is =
-      let rule : Rule = AtMost (pos 0) in
-      let whole : totals (a odds strata Less rule) (length strata) 0 ≡ sum_by (own_weight odds strata Less rule) (strata_labellings strata) =
-      total_flat (a odds strata Less rule) (pieces odds strata Less rule) (IsPart strata) (λ r. pos (first_cells strata r)) (own_weight odds strata Less rule) (joined odds strata Less rule (λ r. pos (first_cells strata r)) (λ r. refl)) (map row_labellings strata) (length-map strata row_labellings) (stages-from odds strata Less rule strata 0 refl) (all-parts odds strata Less rule) in
-      sym (sum_by-same_where WeighsSame (own_weight odds strata Less rule) (stratified_test odds strata).weight (λ r e. e) (strata_labellings strata) all-same)
-      ∙ sym whole ∙ all-weighed odds strata Less rule
+      let judge : Judge = judge_of (stratified_test odds strata) in
+      let whole : totals (a odds strata judge) (length strata) 0 ≡ sum_by (own_weight odds strata judge) (strata_labellings strata) =
+      total_flat (a odds strata judge) (pieces odds strata judge) (IsPart strata) (λ r. pos (first_cells strata r)) (own_weight odds strata judge) (joined odds strata judge (λ r. pos (first_cells strata r)) (λ r. refl)) (map labellings (map row_counts strata)) parts-many (stages-from odds strata judge strata 0 refl) (all-parts odds strata judge) in
+      sym (sum_by-same_where WeighsSame (own_weight odds strata judge) (stratified_test odds strata).weight (λ r e. e) (strata_labellings strata) all-same)
+      ∙ sym whole ∙ all-weighed odds strata judge
 
   filtered : (q : List ℕ → Bool) (rs : List (List ℕ)) → AllByRecursion WeighsSame rs → sum_by (λ r. weight_by odds (zeros_in r) (first_cells strata r)) (filter q rs) ≡ sum_by (stratified_test odds strata).weight (filter q rs)
   filtered q rs all =
@@ -345,26 +283,20 @@ module _ (odds : Option Odds) (strata : List Stratum) where
       ∙ sum_by-same_where WeighsSame (λ r. cond (q r) (w r) 0) (λ r. cond (q r) (v r) 0) (λ r e. ap (λ n. cond (q r) n 0) e) rs all
       ∙ sym (sum_by-filter v q rs)
 
-  pub strata-follow : (tail : Tail) → AreStages odds strata (rule_of (stratified_test odds strata) tail) → Follows (stratified_test odds strata) tail (stratified_network odds strata tail)
+  pub strata-follow : (tail : Tail) → AreStages odds strata (judge_of (stratified_test odds strata)) → Follows (stratified_test odds strata) tail (stratified_network odds strata tail)
   strata-follow tail s =
-      let rule : Rule = rule_of (stratified_test odds strata) tail in
-      let sound : IsAdditive (a odds strata tail rule) = sound_stages odds strata tail rule s in
-      let measure : List ℕ → ℤ = measured (stratified_test odds strata) tail in
+      let test : ConditionalTest = stratified_test odds strata in
+      let judge : Judge = judge_of test in
+      let sound : IsAdditive (a odds strata judge) = sound_stages odds strata judge s in
+      let measure : List ℕ → ℤ = measured test tail in
       record {
-        intervals = additive_intervals (a odds strata tail rule) sound;
+        intervals = additive_intervals (a odds strata judge) sound;
         ends = λ p.
-            ends_flat (a odds strata tail rule) (pieces odds strata tail rule) (IsPart strata) measure (own_weight odds strata tail rule) (joined odds strata tail rule measure (measured-is odds strata tail)) (map row_labellings strata) (length-map strata row_labellings) (stages-from odds strata tail rule strata 0 refl) (λ sorted. value_even (a odds strata tail rule) sound) (all-parts odds strata tail rule) p
+            ends_flat (a odds strata judge) (pieces odds strata judge) (IsPart strata) measure (own_weight odds strata judge) (joined odds strata judge measure (measured-is test refl tail)) (map labellings (map row_counts strata)) parts-many (stages-from odds strata judge strata 0 refl) (λ sorted. value_even (a odds strata judge) sound) (all-parts odds strata judge) p
             ∙ filtered (λ r. p (measure r)) (strata_labellings strata) all-same;
       }
 
 -- ---- what its functions compute
-
--- a stratum has at most what all have
-pub at-most : (f : Stratum → ℕ) → f (record { a = 0; b = 0; c = 0; d = 0 }) ≡ 0 → (ts : List Stratum) (g : ℕ) → f (stratum_at ts g) ≤ sum_by f ts
-at-most f e [] zero = omega (arith, e)
-at-most f e [] (suc g) = omega (arith, e)
-at-most f e (t ∷ ts) zero = omega (arith, sum_by-cons f t ts)
-at-most f e (t ∷ ts) (suc g) = omega (arith, sum_by-cons f t ts, at-most f e ts g)
 
 range-some : (f : ℕ → ℕ) (l n k : ℕ) → n ≡ suc k → 1 ≤ f l → 1 ≤ sum_by f (range_with_len l n)
 range-some f l n k e h = subst (λ m. 1 ≤ sum_by f (range_with_len l m)) (sym e) (omega (arith, sum_by-cons f l (range_with_len (l + 1) k), h))
@@ -374,7 +306,7 @@ module _ (odds : Option Odds) (o : AreOdds odds) where
   stratum-some s =
       let meet : least_cell s ≤ greatest_cell s = cells-meet s in
       let long : greatest_cell s + 1 - least_cell s ≡ suc (greatest_cell s - least_cell s) = omega (arith, meet) in
-      let some : 1 ≤ sum_by (weighed_cell odds s) (range_with_len (least_cell s) (greatest_cell s + 1 - least_cell s)) = range-some (weighed_cell odds s) (least_cell s) (greatest_cell s + 1 - least_cell s) (greatest_cell s - least_cell s) long (weighed-some odds o s (least_cell s) (omega arith) meet) in
+      let some : 1 ≤ sum_by (weighed_cell odds s) (cells_in s) = range-some (weighed_cell odds s) (least_cell s) (greatest_cell s + 1 - least_cell s) (greatest_cell s - least_cell s) long (weighed-some odds o s (least_cell s) (omega arith) meet) in
       omega (arith, some, range-total odds s)
 
   pub all-some : (ts : List Stratum) → 1 ≤ strata_total odds ts
@@ -391,40 +323,9 @@ module _ (odds : Option Odds) (o : AreOdds odds) where
   pub cell-fits : (strata : List Stratum) (g : ℕ) → g < length strata → strata_total odds strata ≤ MAX → stratum_total odds (stratum_at strata g) ≤ MAX
   cell-fits strata g h m = omega (arith, one-within strata g h, m)
 
-pub small-at : (ts : List Stratum) (g : ℕ) → AllByRecursion IsSmall ts → IsSmall (stratum_at ts g)
-small-at [] zero h = (omega arith, omega arith, omega arith, omega arith)
-small-at [] (suc g) h = (omega arith, omega arith, omega arith, omega arith)
-small-at (t ∷ ts) zero h = h.0
-small-at (t ∷ ts) (suc g) h = small-at ts g h.1
-
--- one of a range's terms is within their sum
-pub term-within : (f : ℕ → ℕ) (low high x : ℕ) → low ≤ x → x ≤ high → f x ≤ sum_by f (range_with_len low (high + 1 - low))
-term-within f low high x l h =
-    let before : ℕ = x - low in
-    let after : ℕ = high - x in
-    let long : high + 1 - low ≡ before + (1 + after) = omega (arith, l, h) in
-    let at : low + before ≡ x = omega (arith, l) in
-    let cut : sum_by f (range_with_len low (before + (1 + after))) ≡ sum_by f (range_with_len low before) + sum_by f (range_with_len (low + before) (1 + after)) = divided f low before (1 + after) in
-    let here : sum_by f (range_with_len x (1 + after)) ≡ sum_by f (range_with_len x 1) + sum_by f (range_with_len (x + 1) after) = divided f x 1 after in
-    let one : sum_by f (range_with_len x 1) ≡ f x = sum_by-cons f x [] ∙ omega arith in
-    rw long (omega (arith, rw at at cut, here, one))
-
 -- one of the weights is within them all
 pub weight-within : (odds : Option Odds) (s : Stratum) (x : ℕ) → least_cell s ≤ x → x ≤ greatest_cell s → weighed_cell odds s x ≤ stratum_total odds s
 weight-within odds s x l h = omega (arith, term-within (weighed_cell odds s) (least_cell s) (greatest_cell s) x l h, range-total odds s)
-
-pub record AreWays (s : Stratum) (x : ℕ) : Type 0 where
-  pub cell : x ≤ first_row s
-  pub column : 1 ≤ binomial (first_column s) x
-  pub others : 1 ≤ binomial (size s - first_column s) (first_row s - x)
-
--- there are ways to fill a stratum with a first cell
-pub are-ways : (s : Stratum) (x : ℕ) → least_cell s ≤ x → x ≤ greatest_cell s → AreWays s x
-are-ways s x l h = record {
-  cell = omega (arith, h);
-  column = binomial-positive (first_column s) x (omega (arith, h));
-  others = binomial-positive (size s - first_column s) (first_row s - x) (omega (arith, l));
-}
 
 pub next-cells : (n : ℕ) (choice : List ℕ) → length choice ≡ 1 → get_or choice 0 0 < n
     → let next = set choice 0 (get_or choice 0 0 + 1) in cells_from (get_or choice 0 0 + 1) (n - get_or choice 0 0) ≡ next ∷ cells_from (slice_index next 0 + 1) (n - slice_index next 0)

@@ -1,4 +1,3 @@
-pub mod Strata
 pub mod StrataTests
 pub mod StrataNetwork
 pub mod StrataSteps

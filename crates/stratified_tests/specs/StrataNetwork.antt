@@ -1,28 +1,20 @@
 -- The network of a test of strata: a stage is a stratum, in the order of the file, and its choice
 -- is the first cell.
-use Rattle.std.specs.Prelude.{ℕ, pos, ◌+◌, ◌-◌, ◌*◌, List, [], ◌∷◌, length, map, slice_index, slice_index_or, false, Option, Some, None}
+use Rattle.std.specs.Prelude.{ℕ, pos, ◌+◌, ◌-◌, ◌*◌, List, [], ◌∷◌, length, map, slice_index}
+use Rattle.std.specs.Prelude.{false, Option, Some, None}
 use Rattle.std.specs.List.{range_with_len}
-use Rattle.weights.specs.Numbers.{binomial}
+use Rattle.weights.specs.Odds.{odds_weight}
 use Rattle.weights.specs.declared.odds.Odds.{Odds}
-use Rattle.weights.specs.Rules.{rule_of}
-use Rattle.weights.specs.declared.rules.Rule.{Rule}
 use Rattle.weights.specs.declared.tails.Tail.{Tail}
 use Rattle.stage_network.specs.declared.additive.SumValue.TheVariants.{First}
 use Rattle.stage_network.specs.Addends.{Addends, additive_network}
+use Rattle.stage_network.specs.Judged.{judge_of}
 use Rattle.stage_network.specs.Network.{Network}
-use Rattle.stratified_tests.specs.declared.stratum.Stratum.{Stratum}
-use Rattle.weights.specs.Odds.{odds_weight}
-use Rattle.stratified_tests.specs.Strata.{first_column, first_row, greatest_cell, least_cell, size, strata_of}
+use Rattle.stage_network.specs.declared.verdicts.Judge.{Judge}
+use Rattle.strata_cells.specs.declared.stratum.Stratum.{Stratum}
+use Rattle.strata_cells.specs.Strata.{cell_weight, first_row, greatest_cell, least_cell, strata_of}
+use Rattle.strata_cells.specs.Strata.{stratum_at}
 use Rattle.stratified_tests.specs.StrataTests.{StrataData, stratified_test}
-
-abbrev pub stratum_at : List Stratum → ℕ → Stratum
-stratum_at strata stage = slice_index_or strata stage (record { a = 0; b = 0; c = 0; d = 0 })
-
--- how many labellings give a first cell: so many of the first column's subjects, and of the
--- others, are in the first row
-abbrev pub cell_weight : Stratum → ℕ → ℕ
-cell_weight s x =
-    binomial (first_column s) x * binomial (size s - first_column s) (first_row s - x)
 
 -- what a first cell weighs: so many labellings, each by the odds where they are given
 abbrev pub weighed_cell : Option Odds → Stratum → ℕ → ℕ
@@ -33,13 +25,16 @@ weighed_cell (Some odds) s x = cell_weight s x * odds_weight odds (first_row s) 
 abbrev pub cells_from : ℕ → ℕ → List (List ℕ)
 cells_from least n = map (λ x. x ∷ []) (range_with_len least n)
 
-abbrev pub strata_addends : Option Odds → List Stratum → Tail → Rule → Addends
-strata_addends odds strata tail rule = record {
+-- those of a stratum
+abbrev pub cell_choices : Stratum → List (List ℕ)
+cell_choices s = cells_from (least_cell s) (greatest_cell s + 1 - least_cell s)
+
+abbrev pub strata_addends : Option Odds → List Stratum → Judge → Addends
+strata_addends odds strata judge = record {
   count = length strata;
   slots = 1;
   choice_width = 1;
-  choices = λ g. let s = stratum_at strata g in
-      cells_from (least_cell s) (greatest_cell s + 1 - least_cell s);
+  choices = λ g. cell_choices (stratum_at strata g);
   later = λ g c. let s = stratum_at strata g in
       cells_from (slice_index c 0 + 1) (greatest_cell s - slice_index c 0);
   weight = λ g c. weighed_cell odds (stratum_at strata g) (slice_index c 0);
@@ -48,13 +43,12 @@ strata_addends odds strata tail rule = record {
   most = λ g. pos (greatest_cell (stratum_at strata g));
   sorted = false;
   value = First;
-  tail = tail;
-  rule = rule;
+  judge = judge;
 }
 
 abbrev pub stratified_network : Option Odds → List Stratum → Tail → Network
 stratified_network odds strata tail =
-    additive_network (strata_addends odds strata tail (rule_of (stratified_test odds strata) tail))
+    additive_network (strata_addends odds strata (judge_of (stratified_test odds strata)))
 
 abbrev pub strata_network : StrataData → Tail → Network
 strata_network strata tail = stratified_network strata.odds (strata_of strata.cells) tail

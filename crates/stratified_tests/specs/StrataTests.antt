@@ -2,39 +2,18 @@
 -- Haenszel, Journal of the National Cancer Institute 22, 1959; Birch, Journal of the Royal
 -- Statistical Society B 26, 1964). It is conditional on the sums of each table's rows and columns.
 -- With given odds it has two tails alone, on one side each.
-use Rattle.std.specs.Prelude.{ℕ, pos, ◌+◌, ◌*◌, ◌/◌, List, [], ◌∷◌, ◌++◌, map, take, drop, replicate, nat_eq, Bool, true, false, Option, Some, None, if◌then◌else◌}
-use Rattle.std.specs.List.{concat, count_by, sum_by}
+use Rattle.std.specs.Prelude.{ℕ, pos, ◌*◌, ◌/◌, List, [], ◌∷◌, map, nat_eq, Bool, true, false}
+use Rattle.std.specs.Prelude.{Option, Some, None, if◌then◌else◌}
+use Rattle.std.specs.List.{concat, sum_by}
 use Rattle.weights.specs.declared.odds.Odds.{Odds}
 use Rattle.weights.specs.declared.tails.Tail.{Tail}
 use Rattle.weights.specs.declared.tails.Tail.TheVariants.{Less, Greater, Two}
 use Rattle.weights.specs.Conditional.{ConditionalTest, by_distance, every_tail}
-use Rattle.weights.specs.Labellings.{labellings, product}
 use Rattle.weights.specs.Numbers.{lcm}
-use Rattle.stratified_tests.specs.declared.stratum.Stratum.{Stratum}
 use Rattle.weights.specs.Odds.{odds_weight}
-use Rattle.stratified_tests.specs.Strata.{first_column, first_row, second_row, size, strata_of}
-
--- all ways to label a stratum's subjects, in the order of its columns, by its rows
-abbrev pub row_labellings : Stratum → List (List ℕ)
-row_labellings s = labellings (first_row s ∷ second_row s ∷ [])
-
--- those of all strata, each followed by those of the next
-abbrev pub strata_labellings : List Stratum → List (List ℕ)
-strata_labellings strata = map concat (product (map row_labellings strata))
-
--- the first cell of the table that a stratum's labels give: its first column's subjects with the
--- first row's label
-abbrev pub first_cell : Stratum → List ℕ → ℕ
-first_cell s labels = count_by (λ l. nat_eq l 0) (take (first_column s) labels)
-
--- the sum of the first cells of all strata
-abbrev pub first_cells : List Stratum → List ℕ → ℕ
-first_cells [] labels = 0
-first_cells (s ∷ strata) labels = first_cell s labels + first_cells strata (drop (size s) labels)
-
--- the labels of a stratum as it is, column by column
-abbrev pub own_labels : Stratum → List ℕ
-own_labels s = (replicate s.a 0 ++ replicate s.c 1) ++ (replicate s.b 0 ++ replicate s.d 1)
+use Rattle.strata_cells.specs.declared.stratum.Stratum.{Stratum}
+use Rattle.strata_cells.specs.Strata.{first_cells, first_column, first_row, own_labels, size}
+use Rattle.strata_cells.specs.Strata.{strata_labellings, strata_of}
 
 -- the least common multiple of the sizes that are not 0, and 1 for none
 abbrev pub multiple_of : List Stratum → ℕ

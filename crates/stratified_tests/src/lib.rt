@@ -12,10 +12,8 @@ ghost use Rattle.stratified_tests.specs.StrataNetwork.{strata_network};
 mod odds;
 mod strata_stages;
 mod strata_test;
-mod stratum;
 mod sums;
 mod totals;
-mod walk;
 mod ways;
 
 use stage_network::{Answer, Spread, Way};

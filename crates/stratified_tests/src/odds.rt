@@ -1,17 +1,17 @@
 // What labellings weigh by given odds.
-ghost use Rattle.std.specs.Prelude.{◌≡◌, ◌≤◌, length, Some, SomeIff};
+ghost use Rattle.std.specs.Prelude.{◌≡◌, ◌≤◌, length, SomeIff};
 ghost use Rattle.std.specs.List.{sum_by};
 ghost use Rattle.weights.specs.declared.TheConstants.{MAX};
 ghost use Rattle.record_reader.specs.declared.TheConstants.{MOST_ROWS};
 ghost use Rattle.weights.specs.Odds.{IsOdds, odds_weight};
-ghost use Rattle.stratified_tests.specs.Strata.{first_row, greatest_cell, least_cell};
+ghost use Rattle.strata_cells.specs.Strata.{first_cells, first_row, greatest_cell, least_cell};
+ghost use Rattle.strata_cells.specs.StrataLimits.{AreSmall, IsSmall};
 ghost use Rattle.stratified_tests.specs.StrataNetwork.{weighed_cell};
-ghost use Rattle.stratified_tests.specs.StrataTests.{first_cells, weight_by};
-ghost use Rattle.stratified_tests.specs.StrataSteps.{AreOdds, AreSmall, IsSmall};
+ghost use Rattle.stratified_tests.specs.StrataTests.{weight_by};
+ghost use Rattle.stratified_tests.specs.StrataSteps.{AreOdds};
 
-use crate::stratum::Stratum;
-use crate::sums::{first_cells, first_rows};
-use weights::{Odds, binomial, bounded_product, power};
+use strata_cells::{Stratum, cell_weight, first_cells, first_rows};
+use weights::{Odds, bounded_product, power};
 
 // What a sum of first cells weighs, of so many subjects in the first rows, or None exactly where
 // that passes the greatest weight.
@@ -25,19 +25,17 @@ fn odds_weight(odds: Odds, subjects: u64, cell: u64) -> Option<u128>
 }
 
 /// What a first cell of a stratum weighs, or None exactly where that passes the greatest weight.
-pub(crate) fn weighed_cell(odds: Odds, stratum: Stratum, cell: u64) -> Option<u128>
-    requires odds { IsOdds odds }
+pub(crate) fn weighed_cell(odds: Option<Odds>, stratum: Stratum, cell: u64) -> Option<u128>
+    requires odds { AreOdds odds }
     requires small { IsSmall stratum }
     requires least { least_cell stratum ≤ cell }
     requires greatest { cell ≤ greatest_cell stratum }
-    ensures { let weight = weighed_cell (Some odds) stratum cell in
-        SomeIff result (weight ≤ MAX) weight }
+    ensures { let weight = weighed_cell odds stratum cell in SomeIff result (weight ≤ MAX) weight }
 {
-    let column = stratum.first_column();
-    let left = stratum.first_row() - cell;
-    let chosen = binomial(column, cell)?;
-    let others = binomial(stratum.size() - column, left)?;
-    let ways = bounded_product(chosen, others)?;
+    let ways = cell_weight(stratum, cell)?;
+    let Some(odds) = odds else {
+        return Some(ways);
+    };
     let weight = odds_weight(odds, stratum.first_row(), cell)?;
     bounded_product(ways, weight)
 }

@@ -1,16 +1,16 @@
 // The stages of a network of strata.
 ghost use Rattle.std.specs.Prelude.{◌≡◌, ◌≤◌, pos};
-ghost use Rattle.weights.specs.Numbers.{binomial};
 ghost use Rattle.weights.specs.declared.TheConstants.{MAX};
-ghost use Rattle.stratified_tests.specs.Strata.{greatest_cell, least_cell};
-ghost use Rattle.stratified_tests.specs.StrataNetwork.{cell_weight, weighed_cell};
-ghost use Rattle.stratified_tests.specs.StrataSteps.{AreOdds, AreStages, IsSmall};
+ghost use Rattle.strata_cells.specs.Strata.{greatest_cell, least_cell};
+ghost use Rattle.strata_cells.specs.StrataLimits.{IsSmall};
+ghost use Rattle.stratified_tests.specs.StrataNetwork.{weighed_cell};
+ghost use Rattle.stratified_tests.specs.StrataSteps.{AreOdds, AreStages};
 
 use crate::odds::weighed_cell;
-use crate::stratum::Stratum;
 use crate::totals::stratum_total;
 use stage_network::{Additive, Interval, Judge, SumValue};
-use weights::{List, Odds, binomial};
+use strata_cells::Stratum;
+use weights::{List, Odds};
 
 /// Each stratum is a stage, and its first cell the choice.
 #[derive(Drop)]
@@ -18,30 +18,7 @@ pub struct StrataStages {
     pub(crate) odds: Option<Odds>,
     pub(crate) strata: List<Stratum>,
     pub(crate) judge: Judge,
-    ghost sound: { AreStages odds strata judge.rule },
-}
-
-// How many ways there are to choose.
-fn ways(subjects: u64, chosen: u64) -> u128
-    requires { binomial subjects chosen ≤ MAX }
-    ensures { result ≡ binomial subjects chosen }
-{
-    match binomial(subjects, chosen) {
-        Some(ways) => ways,
-        None => unreachable!(),
-    }
-}
-
-// How many labellings give a first cell.
-fn labellings(stratum: Stratum, cell: u64) -> u128
-    requires small { IsSmall stratum }
-    requires least { least_cell stratum ≤ cell }
-    requires greatest { cell ≤ greatest_cell stratum }
-    requires fits { cell_weight stratum cell ≤ MAX }
-    ensures { result ≡ cell_weight stratum cell }
-{
-    let column = stratum.first_column();
-    ways(column, cell) * ways(stratum.size() - column, stratum.first_row() - cell)
+    ghost sound: { AreStages odds strata judge },
 }
 
 // What a first cell weighs.
@@ -53,9 +30,6 @@ fn weight(odds: Option<Odds>, stratum: Stratum, cell: u64) -> u128
     requires fits { weighed_cell odds stratum cell ≤ MAX }
     ensures { result ≡ weighed_cell odds stratum cell }
 {
-    let Some(odds) = odds else {
-        return labellings(stratum, cell);
-    };
     match weighed_cell(odds, stratum, cell) {
         Some(weight) => weight,
         None => unreachable!(),
@@ -65,7 +39,7 @@ fn weight(odds: Option<Odds>, stratum: Stratum, cell: u64) -> u128
 impl Additive for StrataStages {
     ghost use Rattle.stratified_tests.specs.StrataNetwork.{strata_addends};
 
-    ghost addends = { λ s. strata_addends s.odds s.strata s.judge.tail s.judge.rule };
+    ghost addends = { λ s. strata_addends s.odds s.strata s.judge };
 
     fn stages(&self) -> usize {
         self.strata.len()

@@ -6,15 +6,18 @@ ghost use Rattle.weights.specs.Wide.{Prepares};
 ghost use Rattle.weights.specs.declared.TheConstants.{MAX};
 ghost use Rattle.record_reader.specs.declared.TheConstants.{MOST_ROWS};
 ghost use Rattle.weights.specs.Odds.{IsOdds};
-ghost use Rattle.stratified_tests.specs.Strata.{size, strata_of};
+ghost use Rattle.stage_network.specs.Judged.{judge_of};
+ghost use Rattle.strata_cells.specs.Strata.{size, strata_of};
+ghost use Rattle.strata_cells.specs.StrataLimits.{AreSmall};
 ghost use Rattle.stratified_tests.specs.StrataTests.{centre_by, data_of, multiple_of, strata_test};
-ghost use Rattle.stratified_tests.specs.StrataSteps.{AreMade, AreOdds, AreSmall};
+ghost use Rattle.stratified_tests.specs.StrataSteps.{AreMade, AreOdds};
 
-use crate::stratum::{Stratum, strata_of};
-use crate::sums::{centre_by, multiple_of, own_sum, subjects};
+use crate::sums::{centre_by, multiple_of};
 use crate::totals::strata_total;
+use stage_network::Judge;
 use std::alloc::Global;
 use std::marker::Model;
+use strata_cells::{Stratum, own_sum, sizes, strata_of, subjects};
 use table_reader::Strata;
 use weights::{Frame, List, Nums, Odds, PrepareFault, Rule, WideOf, bounded_product};
 
@@ -22,6 +25,8 @@ use weights::{Frame, List, Nums, Odds, PrepareFault, Rule, WideOf, bounded_produ
 #[derive(Drop)]
 pub(crate) struct MadeStrata {
     pub strata: List<Stratum>,
+    /// Their sizes, for the walk.
+    pub sizes: Nums,
     /// The observed statistic, its scale, the total and the rule of both sides.
     pub frame: Frame,
 }
@@ -37,7 +42,7 @@ pub struct StrataTest {
 }
 
 impl Model for StrataTest {
-    ghost use Rattle.stratified_tests.specs.Strata.{strata_of};
+    ghost use Rattle.strata_cells.specs.Strata.{strata_of};
     ghost use Rattle.stratified_tests.specs.StrataTests.{StrataData, data_of};
     ghost use Rattle.stratified_tests.specs.StrataSteps.{AreMade};
 
@@ -89,12 +94,14 @@ fn prepared(alloc: Global, odds: Option<Odds>, strata: &Strata) -> Result<Strata
         return Err(PrepareFault::TooWide(WideOf::Statistic));
     };
     let frame = frame_of(tables.as_slice(), multiple, total);
+    let sizes = sizes(alloc, tables.as_slice())?;
     let cells = strata.cells.copy()?;
     Ok(StrataTest {
         cells,
         odds,
         made: MadeStrata {
             strata: tables,
+            sizes,
             frame,
         },
     })
@@ -143,5 +150,12 @@ impl StrataTest {
         ensures { AreMade self.now.odds (strata_of self.now.cells) result.now }
     {
         &self.made
+    }
+
+    /// The rules of its tails.
+    pub(crate) fn judge(&self) -> Judge
+        ensures { result ≡ judge_of (strata_test self.now) }
+    {
+        Judge::of(&self.made().frame)
     }
 }

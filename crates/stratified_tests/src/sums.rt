@@ -1,14 +1,13 @@
 // Sums and multiples over strata.
-ghost use Rattle.std.specs.Prelude.{◌≡◌, ◌<◌, ◌≤◌, ◌*◌, ◌/◌, length, nat_eq, if◌then◌else◌, SomeIff};
+ghost use Rattle.std.specs.Prelude.{◌≡◌, ◌<◌, ◌≤◌, ◌*◌, ◌/◌, nat_eq, if◌then◌else◌, SomeIff};
 ghost use Rattle.std.specs.List.{sum_by};
 ghost use Rattle.weights.specs.Numbers.{lcm};
 ghost use Rattle.weights.specs.declared.TheConstants.{MAX};
-ghost use Rattle.record_reader.specs.declared.TheConstants.{MOST_ROWS};
-ghost use Rattle.stratified_tests.specs.Strata.{first_column, first_row, size};
-ghost use Rattle.stratified_tests.specs.StrataTests.{centre_by, first_cell, first_cells, multiple_of};
-ghost use Rattle.stratified_tests.specs.StrataSteps.{AreSmall, IsSmall};
+ghost use Rattle.strata_cells.specs.Strata.{first_column, first_row, size};
+ghost use Rattle.strata_cells.specs.StrataLimits.{AreSmall, IsSmall};
+ghost use Rattle.stratified_tests.specs.StrataTests.{centre_by, multiple_of};
 
-use crate::stratum::Stratum;
+use strata_cells::Stratum;
 use weights::lcm;
 
 // A multiple with that of one more size, where it is not 0.
@@ -37,45 +36,6 @@ pub(crate) fn multiple_of(strata: &[Stratum]) -> Option<u128>
     Some(multiple)
 }
 
-/// How many subjects all strata have.
-pub(crate) fn subjects(strata: &[Stratum]) -> u64
-    requires small { AreSmall strata.now }
-    requires few { length strata.now ≤ MOST_ROWS }
-    ensures { result ≡ sum_by size strata.now }
-{
-    let mut all = 0;
-    for stratum in strata {
-        all += stratum.size();
-    }
-    all
-}
-
-/// How many subjects the first rows have.
-pub(crate) fn first_rows(strata: &[Stratum]) -> u64
-    requires small { AreSmall strata.now }
-    requires few { length strata.now ≤ MOST_ROWS }
-    ensures { result ≡ sum_by first_row strata.now }
-{
-    let mut all = 0;
-    for stratum in strata {
-        all += stratum.first_row();
-    }
-    all
-}
-
-/// The sum of the first cells.
-pub(crate) fn own_sum(strata: &[Stratum]) -> u64
-    requires small { AreSmall strata.now }
-    requires few { length strata.now ≤ MOST_ROWS }
-    ensures { result ≡ sum_by (λ s. s.a) strata.now }
-{
-    let mut all = 0;
-    for stratum in strata {
-        all += stratum.a;
-    }
-    all
-}
-
 // So many times the mean of a stratum's first cell.
 fn centre_of(multiple: u128, stratum: Stratum) -> u128
     requires small { IsSmall stratum }
@@ -101,28 +61,4 @@ pub(crate) fn centre_by(multiple: u128, strata: &[Stratum]) -> u128
         centre += centre_of(multiple, *stratum);
     }
     centre
-}
-
-// The first cell of the table that a stratum's labels give.
-fn first_cell(stratum: Stratum, labels: &[u8]) -> u64
-    requires { IsSmall stratum }
-    ensures { result ≡ first_cell stratum labels.now }
-{
-    let column = labels.len().min(stratum.first_column() as usize);
-    labels[..column].iter().filter(|label| **label == 0).count() as u64
-}
-
-/// The sum of the first cells of the tables that labels give.
-pub(crate) fn first_cells(strata: &[Stratum], labels: &[u8]) -> u64
-    requires small { AreSmall strata.now }
-    requires few { length strata.now ≤ MOST_ROWS }
-    ensures { result ≡ first_cells strata.now labels.now }
-{
-    let mut sum = 0;
-    let mut later = labels;
-    for stratum in strata {
-        sum += first_cell(*stratum, later);
-        later = &later[later.len().min(stratum.size() as usize)..];
-    }
-    sum
 }

@@ -2,20 +2,12 @@
 ghost use Rattle.std.specs.Prelude.{◌≡◌, ◌+◌, ◌≤◌, SomeIff};
 ghost use Rattle.weights.specs.declared.TheConstants.{MAX};
 ghost use Rattle.weights.specs.Odds.{IsOdds};
-ghost use Rattle.stratified_tests.specs.StrataSteps.{AreOdds, AreSmall, IsSmall, labelled};
-ghost use Rattle.stratified_tests.specs.StrataSteps.{strata_total, stratum_total, weighed};
+ghost use Rattle.strata_cells.specs.StrataLimits.{AreSmall, IsSmall};
+ghost use Rattle.stratified_tests.specs.StrataSteps.{AreOdds, strata_total, stratum_total, weighed};
 
 use crate::odds::weighed_cell;
-use crate::stratum::Stratum;
-use weights::{MAX, Odds, bounded_product, multinomial};
-
-// How many labellings a stratum has, or None exactly where they pass the greatest weight.
-fn labelled(stratum: Stratum) -> Option<u128>
-    requires { IsSmall stratum }
-    ensures { SomeIff result (labelled stratum ≤ MAX) (labelled stratum) }
-{
-    multinomial(&[stratum.first_row(), stratum.second_row()])
-}
+use strata_cells::{Stratum, labelled};
+use weights::{MAX, Odds, bounded_product};
 
 // The sum, or None exactly where it passes the greatest weight.
 fn bounded_sum(a: u128, b: u128) -> Option<u128>
@@ -38,7 +30,7 @@ fn weighed(odds: Odds, stratum: Stratum) -> Option<u128>
     let most = stratum.greatest_cell();
     let mut all = 0;
     for cell in least..most + 1 {
-        all = bounded_sum(all, weighed_cell(odds, stratum, cell)?)?;
+        all = bounded_sum(all, weighed_cell(Some(odds), stratum, cell)?)?;
     }
     Some(all)
 }

@@ -5,11 +5,10 @@ ghost use Rattle.stratified_tests.specs.StrataTests.{is_one_sided, tails_with};
 use crate::odds::labelling_weight;
 use crate::strata_stages::StrataStages;
 use crate::strata_test::StrataTest;
-use crate::sums::first_cells;
-use crate::walk::{first_member, next_member};
-use enumerate::Plain;
-use stage_network::{AdditiveStages, Judge, Prepared};
+use enumerate::{Plain, next_joined};
+use stage_network::{AdditiveStages, Prepared};
 use std::alloc::Global;
+use strata_cells::{first_cells, first_labels};
 use weights::{Bytes, Frame, NoMemory, Odds, Tail};
 
 fn is_one_sided(tail: Tail) -> bool
@@ -37,11 +36,11 @@ impl Plain for StrataTest {
     ghost test = { strata_test };
 
     fn first(&self, alloc: Global) -> Result<Bytes, NoMemory> {
-        first_member(alloc, self.made().strata.as_slice())
+        first_labels(alloc, self.made().strata.as_slice())
     }
 
     fn next(&self, labels: &mut Bytes) -> bool {
-        next_member(self.made().strata.as_slice(), labels.as_mut_slice())
+        next_joined(self.made().sizes.as_slice(), labels.as_mut_slice())
     }
 
     fn weight(&self, labels: &[u8]) -> u128 {
@@ -63,7 +62,6 @@ impl Plain for StrataTest {
 }
 
 impl Prepared for StrataTest {
-    ghost use Rattle.stage_network.specs.Addends.{additive_shape};
     ghost use Rattle.stratified_tests.specs.StrataNetwork.{strata_network};
 
     type Built = AdditiveStages<StrataStages>;
@@ -71,8 +69,6 @@ impl Prepared for StrataTest {
     ghost network = { strata_network };
 
     ghost runs = { strata_network };
-
-    ghost shape = { λ _ _. additive_shape };
 
     fn has_tail(&self, tail: Tail) -> bool {
         has_tail(self.odds(), tail)
@@ -82,14 +78,10 @@ impl Prepared for StrataTest {
         true
     }
 
-    fn stages_of(&self, alloc: Global, tail: Tail) -> Result<Self::Built, NoMemory> {
-        let made = self.made();
-        let judge = Judge {
-            tail,
-            rule: made.frame.rule(tail),
-        };
+    fn stages_of(&self, alloc: Global, _tail: Tail) -> Result<Self::Built, NoMemory> {
+        let judge = self.judge();
         let odds = self.odds();
-        let strata = made.strata.copy()?;
+        let strata = self.made().strata.copy()?;
         let stages = StrataStages {
             odds,
             strata,

@@ -1,5 +1,6 @@
 use Rattle.std.proofs.Common.{◌-◌, ◌^◌, arith}
-use Rattle.stratified_tests.proofs.OddsLaws.{above-some, below-some, left-within, right-within}
+use Rattle.strata_cells.proofs.FirstCells.{left-within, right-within}
+use Rattle.stratified_tests.proofs.OddsLaws.{above-some, below-some}
 use Rattle.stratified_tests.proofs.odds.odds_weight.Goals as goal
 
 pub returns-in_err-above : goal.returns-in_err-above

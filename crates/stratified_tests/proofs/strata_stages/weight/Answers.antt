@@ -1,4 +1,4 @@
 use Rattle.stratified_tests.proofs.strata_stages.weight.Goals as goal
 
 pub unreachable-requires : goal.unreachable-requires
-unreachable-requires c = c.in-None.ensures (rw c.in-Some.is at c.requires.fits)
+unreachable-requires c = c.in-None.ensures c.requires.fits

@@ -1,11 +1,11 @@
 use Rattle.std.proofs.Common.{◌*◌, ◌/◌, refl, arith}
 use Rattle.std.proofs.Math.Nat.{mul-le-mul_left}
 use Rattle.std.proofs.lemmas.List.Elements.{recursion_from_All}
-use Rattle.stratified_tests.specs.Strata.{first_column, first_row, size}
-use Rattle.stratified_tests.specs.StrataSteps.{IsSmall}
-use Rattle.stratified_tests.proofs.StrataLaws.{at-most, small-at}
+use Rattle.strata_cells.specs.Strata.{first_column, first_row, size}
+use Rattle.strata_cells.specs.StrataLimits.{IsSmall}
+use Rattle.strata_cells.proofs.StrataSums.{at-most, small-at}
 use Rattle.stratified_tests.proofs.FittingStrata.{centre-within}
-use Rattle.stratified_tests.proofs.Loops.{sum-first, sum-next, sum-room, sum-whole}
+use Rattle.strata_cells.proofs.StrataSums.{sum-first, sum-next, sum-room, sum-whole}
 use Rattle.stratified_tests.proofs.sums.centre_by.Goals as goal
 
 pub loop-stratum-init : goal.loop-stratum-init

@@ -1,6 +1,6 @@
 use Rattle.std.proofs.Common.{◌*◌, ◌/◌}
-use Rattle.stratified_tests.specs.Strata.{first_column, first_row, size}
-use Rattle.stratified_tests.proofs.Loops.{IsSummed}
+use Rattle.strata_cells.specs.Strata.{first_column, first_row, size}
+use Rattle.strata_cells.proofs.StrataSums.{IsSummed}
 use Rattle.stratified_tests.proofs.sums.centre_by.Given as goal
 
 abbrev pub invariant-loop-stratum : goal.invariant-loop-stratum

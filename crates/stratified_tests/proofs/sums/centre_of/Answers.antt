@@ -1,5 +1,5 @@
 use Rattle.std.proofs.Common.{◌≡◌, ◌*◌, ◌/◌, refl, arith}
-use Rattle.stratified_tests.specs.Strata.{first_column, first_row, size}
+use Rattle.strata_cells.specs.Strata.{first_column, first_row, size}
 use Rattle.stratified_tests.proofs.FittingStrata.{mean-within}
 use Rattle.stratified_tests.proofs.sums.centre_of.Goals as goal
 

@@ -1,10 +1,10 @@
 use Rattle.std.proofs.Common.{◌≡◌, arith}
 use Rattle.std.specs.Prelude.{Some}
-use Rattle.stratified_tests.specs.Strata.{greatest_cell, least_cell}
+use Rattle.strata_cells.specs.Strata.{greatest_cell, least_cell}
 use Rattle.stratified_tests.specs.StrataNetwork.{weighed_cell}
 use Rattle.stratified_tests.specs.StrataSteps.{weighed}
 use Rattle.stratified_tests.proofs.Loops.{weighing-first, weighing-next, weighing-whole, weighing-within}
-use Rattle.stratified_tests.proofs.StrataLaws.{cells-meet}
+use Rattle.strata_cells.proofs.FirstCells.{cells-meet}
 use Rattle.stratified_tests.proofs.totals.weighed.Goals as goal
 
 pub loop-cell-init : goal.loop-cell-init

@@ -1,5 +1,5 @@
 use Rattle.std.specs.Prelude.{Some}
-use Rattle.stratified_tests.specs.Strata.{greatest_cell, least_cell}
+use Rattle.strata_cells.specs.Strata.{greatest_cell, least_cell}
 use Rattle.stratified_tests.specs.StrataNetwork.{weighed_cell}
 use Rattle.stratified_tests.proofs.Loops.{IsWeighing}
 use Rattle.stratified_tests.proofs.totals.weighed.Given as goal

@@ -4,7 +4,8 @@ use Rattle.std.proofs.lemmas.Int.{ints}
 use mir.Syntax.{w128}
 use mir.Val.{to_z}
 use Rattle.weights.specs.declared.TheConstants.{MAX}
-use Rattle.stratified_tests.specs.StrataNetwork.{stratum_at, weighed_cell}
+use Rattle.strata_cells.specs.Strata.{stratum_at}
+use Rattle.stratified_tests.specs.StrataNetwork.{weighed_cell}
 use Rattle.stratified_tests.proofs.StrataLaws.{IsCell, cell-fits, choice-cell, one-number, weight-within}
 use Rattle.stratified_tests.proofs.strata_stages.StrataStagesAdditive.adds.Goals as goal
 use Rattle.stratified_tests.proofs.strata_stages.StrataStagesAdditive.adds.Goals.{After-as_slice}
@@ -13,7 +14,7 @@ use Rattle.stratified_tests.proofs.strata_stages.StrataStagesAdditive.adds.Goals
 cell : (c : After-as_slice) → IsCell (stratum_at c.args.self.now.strata c.args.stage) c.args.choice.now
 cell c =
     let s = c.args.self.now in
-    choice-cell s.odds s.strata s.judge.tail s.judge.rule c.args.stage c.args.choice.now c.requires.allowed
+    choice-cell s.odds s.strata s.judge c.args.stage c.args.choice.now c.requires.allowed
 
 fits : (c : After-as_slice) → weighed_cell c.args.self.now.odds (stratum_at c.args.self.now.strata c.args.stage) (slice_index c.args.choice.now 0) ≤ MAX
 fits c =

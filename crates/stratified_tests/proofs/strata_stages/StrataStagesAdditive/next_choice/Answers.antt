@@ -1,6 +1,6 @@
 use Rattle.std.proofs.Common.{◌≡◌, ◌∙◌, ◌<◌, get_or, ap}
-use Rattle.stratified_tests.specs.Strata.{greatest_cell}
-use Rattle.stratified_tests.specs.StrataNetwork.{stratum_at}
+use Rattle.strata_cells.specs.Strata.{greatest_cell}
+use Rattle.strata_cells.specs.Strata.{stratum_at}
 use Rattle.stratified_tests.proofs.StrataLaws.{next-cells}
 use Rattle.stratified_tests.proofs.strata_stages.StrataStagesAdditive.next_choice.Goals as goal
 

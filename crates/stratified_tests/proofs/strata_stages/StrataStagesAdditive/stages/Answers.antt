@@ -4,4 +4,4 @@ use Rattle.stratified_tests.proofs.strata_stages.StrataStagesAdditive.stages.Goa
 pub returns-clause-sound : goal.returns-clause-sound
 returns-clause-sound c =
     let s = c.args.self.now in
-    sound_stages s.odds s.strata s.judge.tail s.judge.rule s.sound
+    sound_stages s.odds s.strata s.judge s.sound

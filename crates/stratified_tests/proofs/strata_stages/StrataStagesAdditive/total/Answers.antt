@@ -1,5 +1,5 @@
 use Rattle.std.proofs.Common.{◌∙◌, ap, sym}
-use Rattle.stratified_tests.specs.StrataNetwork.{stratum_at}
+use Rattle.strata_cells.specs.Strata.{stratum_at}
 use Rattle.stratified_tests.specs.StrataSteps.{stratum_total}
 use Rattle.stratified_tests.proofs.StrataLaws.{cell-fits, stage-total}
 use Rattle.stratified_tests.proofs.strata_stages.StrataStagesAdditive.total.Goals as goal
@@ -12,4 +12,4 @@ unreachable-requires c =
 pub returns : goal.returns
 returns c =
     let s = c.args.self.now in
-    c.in-Some.ensures.1 ∙ ap (λ ss. stratum_total s.odds (stratum_at ss c.args.stage)) c.as_slice.ensures ∙ sym (stage-total s.odds s.strata s.judge.tail s.judge.rule c.args.stage)
+    c.in-Some.ensures.1 ∙ ap (λ ss. stratum_total s.odds (stratum_at ss c.args.stage)) c.as_slice.ensures ∙ sym (stage-total s.odds s.strata s.judge c.args.stage)

@@ -1,9 +1,9 @@
-use Rattle.std.proofs.Common.{◌∙◌, sym}
+use Rattle.std.proofs.Common.{◌∙◌, refl, sym}
 use mir.Syntax.{w128}
 use Rattle.std.proofs.lemmas.Int.{to_z-of_z}
-use Rattle.stratified_tests.specs.Strata.{strata_of}
-use Rattle.stratified_tests.proofs.StrataLaws.{measured-is}
+use Rattle.weights.proofs.Centred.{measured-is}
+use Rattle.stratified_tests.specs.StrataTests.{strata_test}
 use Rattle.stratified_tests.proofs.ways.StrataTestPlain.measure.Goals as goal
 
 pub returns : goal.returns
-returns c = to_z-of_z w128 c.value.result (record { sfits = c.value.type_inv }) ∙ c.value.ensures ∙ sym (measured-is c.args.self.now.odds (strata_of c.args.self.now.cells) c.args._tail c.args.labels.now)
+returns c = to_z-of_z w128 c.value.result (record { sfits = c.value.type_inv }) ∙ c.value.ensures ∙ sym (measured-is (strata_test c.args.self.now) refl c.args._tail c.args.labels.now)

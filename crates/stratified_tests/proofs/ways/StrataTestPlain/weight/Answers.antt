@@ -1,5 +1,5 @@
 use Rattle.std.proofs.Common.{◌∙◌}
-use Rattle.stratified_tests.specs.Strata.{strata_of}
+use Rattle.strata_cells.specs.Strata.{strata_of}
 use Rattle.stratified_tests.proofs.FittingStrata.{member-fits}
 use Rattle.stratified_tests.proofs.ways.StrataTestPlain.weight.Goals as goal
 

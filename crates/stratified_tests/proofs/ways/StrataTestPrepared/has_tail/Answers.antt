@@ -1,4 +1,4 @@
-use Rattle.stratified_tests.specs.Strata.{strata_of}
+use Rattle.strata_cells.specs.Strata.{strata_of}
 use Rattle.stratified_tests.proofs.FittingStrata.{shown}
 use Rattle.stratified_tests.proofs.ways.StrataTestPrepared.has_tail.Goals as goal
 

@@ -1,0 +1,4 @@
+pub mod StrataSums
+pub mod StrataReads
+pub mod FirstCells
+pub mod CellLaws

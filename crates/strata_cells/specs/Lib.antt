@@ -1,0 +1,2 @@
+pub mod Strata
+pub mod StrataLimits

@@ -1,5 +1,0 @@
-use Rattle.stratified_tests.proofs.Loops.{IsRead}
-use Rattle.stratified_tests.proofs.stratum.strata_of.Given as goal
-
-abbrev pub invariant-loop-number : goal.invariant-loop-number
-invariant-loop-number l = IsRead l.fn.cells l.number l.strata
