@@ -11,8 +11,12 @@ use Rattle.sample_reader.specs.CellLayouts.{binary_blocks_in, blocks_in, differe
 use Rattle.sample_reader.specs.Dropped.{dropped_of}
 use Rattle.sample_reader.specs.GroupLayout.{groups_in}
 use Rattle.sample_reader.specs.Groups.{GroupData, group_sizes}
-use Rattle.sample_reader.specs.declared.TheConstants.{MOST_LABELS}
-use Rattle.sample_reader.specs.declared.layout.Layout.TheVariants.{Pairs, Groups, Blocks, BinaryBlocks}
+use Rattle.sample_reader.specs.Orders.{reordered_strata}
+use Rattle.sample_reader.specs.Sequences.{sequence_in}
+use Rattle.sample_reader.specs.StrataGroups.{StrataGroupData, strata_groups_in}
+use Rattle.sample_reader.specs.Twins.{twins_in}
+use Rattle.sample_reader.specs.declared.TheConstants.{MOST_LABELS, MOST_TWINS}
+use Rattle.sample_reader.specs.declared.layout.Layout.TheVariants.{Pairs, Groups, Blocks, BinaryBlocks, StrataGroups, Sequence}
 use Rattle.record_reader.specs.Layouts.{field_fault, row_fault}
 
 -- a row of one field, of two and of three
@@ -116,6 +120,77 @@ turned_values = refl
 no_pairs : differences_in Refuse Natural (one (codes "d") ∷ []) ≡ Err (row_fault 1 kind.EndsEarly)
 no_pairs = refl
 
+-- ---- twins
+
+most_twins : MOST_TWINS ≡ 120
+most_twins = refl
+
+turned_twins : twins_in Refuse (Listed (3 ∷ 1 ∷ [])) (three (codes "a") (codes "b") (codes "c") ∷ three (codes "1") (codes "") (codes "2") ∷ three (codes "5") (codes "x") (codes "-4") ∷ [])
+    ≡ Ok (record { first = pos (2 * 10 ^ 18) ∷ negsuc (4 * 10 ^ 18 - 1) ∷ []; second = pos (10 ^ 18) ∷ pos (5 * 10 ^ 18) ∷ [] })
+unfolding units_of value_of
+turned_twins = refl
+
+-- a single value in each row makes no twins
+single_twins : twins_in Refuse Natural (one (codes "d") ∷ one (codes "1") ∷ []) ≡ Err (row_fault 1 kind.FieldCount)
+single_twins = refl
+
+-- ---- sequences
+
+labels_in_turn : sequence_in Drop Natural (one (codes "l") ∷ one (codes "b ") ∷ one (codes "NA") ∷ one (codes " ") ∷ one (codes "NA") ∷ one (codes "b") ∷ [])
+    ≡ Ok (record { labels = codes "b" ∷ codes "NA" ∷ []; members = 0 ∷ 1 ∷ 1 ∷ 0 ∷ [] })
+labels_in_turn = refl
+
+one_left_out : dropped_of Sequence Natural (one (codes "l") ∷ one (codes "b") ∷ one (codes " ") ∷ []) ≡ 1
+one_left_out = refl
+
+third_in_turn : sequence_in Refuse Natural (one (codes "l") ∷ one (codes "a") ∷ one (codes "b") ∷ one (codes "c") ∷ []) ≡ Err (field_fault 4 1 kind.GroupTooMany)
+third_in_turn = refl
+
+-- ---- groups in strata
+
+abbrev strata_rows : List (List ℕ) → List (List (List ℕ))
+strata_rows last = three (codes "s") (codes "g") (codes "v") ∷ three (codes "two") (codes "x") (codes "1") ∷ three (codes "one") (codes "y") (codes "2") ∷ last ∷ []
+
+abbrev two_strata : StrataGroupData
+two_strata = record {
+  strata = codes "two" ∷ codes "one" ∷ [];
+  labels = codes "x" ∷ codes "y" ∷ [];
+  places = 0 ∷ 1 ∷ 0 ∷ [];
+  members = 0 ∷ 1 ∷ 1 ∷ [];
+  values = pos (10 ^ 18) ∷ pos (2 * 10 ^ 18) ∷ pos (10 ^ 18) ∷ [];
+}
+
+strata_file : strata_groups_in Refuse Natural (strata_rows (three (codes " two") (codes "y\t") (codes "1"))) ≡ Ok two_strata
+unfolding units_of value_of
+strata_file = refl
+
+turned_groups : reordered_strata (codes "y" ∷ codes "x" ∷ []) two_strata ≡ record {
+  strata = two_strata.strata;
+  labels = codes "y" ∷ codes "x" ∷ [];
+  places = two_strata.places;
+  members = 1 ∷ 0 ∷ 0 ∷ [];
+  values = two_strata.values;
+}
+turned_groups = refl
+
+-- a third label of a group is one too many, at its field, and a third stratum is none
+third_group : strata_groups_in Refuse Natural (strata_rows (three (codes "three") (codes "z") (codes "NA"))) ≡ Err (field_fault 4 2 kind.GroupTooMany)
+unfolding units_of value_of
+third_group = refl
+
+no_stratum : strata_groups_in Refuse Natural (strata_rows (three (codes "") (codes "z") (codes "1"))) ≡ Err (field_fault 4 1 kind.Missing)
+unfolding units_of value_of
+no_stratum = refl
+
+-- a stratum in dropped rows alone is none
+stratum_left_out : strata_groups_in Drop Natural (strata_rows (three (codes "three") (codes "z") (codes "NA")))
+    ≡ Ok (record { strata = codes "two" ∷ codes "one" ∷ []; labels = codes "x" ∷ codes "y" ∷ []; places = 0 ∷ 1 ∷ []; members = 0 ∷ 1 ∷ []; values = pos (10 ^ 18) ∷ pos (2 * 10 ^ 18) ∷ [] })
+unfolding units_of value_of
+stratum_left_out = refl
+
+one_without_value : dropped_of StrataGroups Natural (strata_rows (three (codes "three") (codes "z") (codes "NA"))) ≡ 1
+one_without_value = refl
+
 -- ---- blocks
 
 two_blocks : blocks_in Refuse Natural (two (codes "a") (codes "b") ∷ two (codes "1") (codes "2") ∷ two (codes "3") (codes "4") ∷ [])
@@ -149,11 +224,8 @@ without_gaps : groups_in 2 Drop Natural gaps ≡ Ok (record { labels = codes "x"
 unfolding units_of value_of
 without_gaps = refl
 
-three_gaps : dropped_of Groups Drop Natural gaps ≡ 3
+three_gaps : dropped_of Groups Natural gaps ≡ 3
 three_gaps = refl
-
-no_gap_dropped : dropped_of Groups Refuse Natural gaps ≡ 0
-no_gap_dropped = refl
 
 first_gap : IsFaulty Natural gaps (field_fault 2 2 kind.Missing)
 unfolding units_of value_of
@@ -171,7 +243,7 @@ beside = three (codes "a") (codes "b") (codes "c") ∷ three (codes "1") (codes 
 gap_beside : binary_blocks_in Drop (Listed (3 ∷ 1 ∷ [])) beside ≡ Ok (record { blocks = 2; treatments = 2; cells = pos 0 ∷ pos 1 ∷ pos 1 ∷ pos 0 ∷ [] })
 gap_beside = refl
 
-one_gap : dropped_of BinaryBlocks Drop (Listed (3 ∷ 1 ∷ [])) beside ≡ 1
+one_gap : dropped_of BinaryBlocks (Listed (3 ∷ 1 ∷ [])) beside ≡ 1
 one_gap = refl
 
 block_left_out : blocks_in Drop Natural (two (codes "a") (codes "b") ∷ two (codes "1") (codes "2") ∷ two (codes "z") (codes "NA") ∷ two (codes "3") (codes "4") ∷ [])
@@ -186,9 +258,9 @@ all_gaps = one (codes "d") ∷ one (codes "NA") ∷ one [] ∷ []
 none_left : differences_in Drop Natural all_gaps ≡ Err (row_fault 3 kind.EndsEarly)
 none_left = refl
 
-all_dropped : dropped_of Pairs Drop Natural all_gaps ≡ 2
+all_dropped : dropped_of Pairs Natural all_gaps ≡ 2
 all_dropped = refl
 
 -- a header at fault drops no row
-narrow_header : dropped_of Blocks Drop Natural all_gaps ≡ 0
+narrow_header : dropped_of Blocks Natural all_gaps ≡ 0
 narrow_header = refl

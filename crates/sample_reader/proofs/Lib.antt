@@ -1,6 +1,7 @@
 mod Appearances
 mod BinaryBlocks
 mod DroppedGroups
+mod LabelSets
 mod LayoutVectors
 mod OrderLemmas
 mod PooledLemmas
@@ -10,3 +11,6 @@ mod SubjectLemmas
 mod WholeBlocks
 mod WholeGroups
 mod WholePairs
+mod WholeSequence
+mod WholeStrata
+mod WholeTwins

@@ -11,7 +11,9 @@ use Rattle.std.proofs.lemmas.List.Sorted.{Contains-permutation, IsPermutation-sy
 use Rattle.std.proofs.lemmas.List.Sums.{fails_before_first, passes_at_first, position_or_len_is, sum_by-cons}
 use Rattle.weights.specs.Labellings.{counts_of}
 use Rattle.sample_reader.specs.Groups.{number_among}
-use Rattle.sample_reader.proofs.Rearranged.{IsPermutation-from_contained}
+use Rattle.sample_reader.specs.Orders.{renumbered}
+use Rattle.sample_reader.proofs.Rearranged.{IsPermutation-from_contained, distinct-IsPermutation}
+use Rattle.sample_reader.proofs.Sizes.{none_empty-counts}
 use Rattle.sample_reader.proofs.SubjectLemmas.{equal_bytes, same_bytes}
 
 abbrev pub number : List (List ℕ) → List ℕ → ℕ
@@ -72,19 +74,15 @@ number-at order k d distinct within =
     (λ j before. differ (get_or order j d) label (distinct j k d before within))
     (λ _. same_bytes label)
 
--- the number in the order of the label that each member has
-abbrev pub renumber : List (List ℕ) → List (List ℕ) → List ℕ → List ℕ
-renumber labels order members = map (λ member. number order (get_or labels member [])) members
-
 pub renumber-is : (labels order : List (List ℕ)) (members : List ℕ) → All (λ member. member < length labels) members
-    → map (λ member. get_or (map (number order) labels) member 0) members ≡ renumber labels order members
+    → map (λ member. get_or (map (number order) labels) member 0) members ≡ renumbered order labels members
 renumber-is labels order [] below = refl
 renumber-is labels order (member ∷ members) below =
     let small : ℕ → Type 0 = λ m. m < length labels in
     rw (get_or-map (number order) labels member [] 0 (All-head small member members below), renumber-is labels order members (All-tail small member members below))
 
-pub renumber-below : (labels order : List (List ℕ)) (members : List ℕ) → All (λ member. member < length labels) members → AllThere labels order
-    → All (λ member. member < length order) (renumber labels order members)
+renumber-below : (labels order : List (List ℕ)) (members : List ℕ) → All (λ member. member < length labels) members → AllThere labels order
+    → All (λ member. member < length order) (renumbered order labels members)
 renumber-below labels order members below there =
     All-map (λ member. member < length order) (λ member. number order (get_or labels member [])) members (λ k d within. at_place order labels (get_or members k d) [] (below k d within) there.1)
 
@@ -110,9 +108,9 @@ size-at groups group members within sizes =
     let size = sizes group 0 (omega (arith, length-map-range_with_len count 0 groups)) in
     omega (arith, e, size)
 
-pub renumber-none_empty : (labels order : List (List ℕ)) (members : List ℕ) → AllPairs ◌≢◌ order → IsPermutation labels order
+renumber-none_empty : (labels order : List (List ℕ)) (members : List ℕ) → AllPairs ◌≢◌ order → IsPermutation labels order
     → All (λ size. 1 ≤ size) (counts_of (length labels) members)
-    → (group : ℕ) → group < length order → 0 < count_by (λ member. nat_eq member group) (renumber labels order members)
+    → (group : ℕ) → group < length order → 0 < count_by (λ member. nat_eq member group) (renumbered order labels members)
 renumber-none_empty labels order members distinct same sizes group within =
     let label = get_or order group [] in
     let has = Contains-permutation order labels label (IsPermutation-sym labels order same) (Contains-get_or order group [] within) in
@@ -121,3 +119,23 @@ renumber-none_empty labels order members distinct same sizes group within =
     let size = size-at (length labels) has.0 members has.1 sizes in
     let more = count-map (λ member. number order (get_or labels member [])) has.0 group members is in
     omega (arith, size, more)
+
+-- Groups whose labels are those of the order: what holds of them by the order.
+pub record AreReordered (labels order : List (List ℕ)) (members : List ℕ) : Type 0 where
+  pub many : length order ≡ length labels
+  pub distinct : AllPairs ◌≢◌ order
+  pub one_each : length (renumbered order labels members) ≡ length members
+  pub groups_exist : All (λ group. group < length order) (renumbered order labels members)
+  pub none_empty : All (λ size. 1 ≤ size) (counts_of (length order) (renumbered order labels members))
+
+pub are_reordered : (labels order : List (List ℕ)) (members sizes : List ℕ) → AllPairs ◌≢◌ labels → IsPermutation labels order → All (λ group. group < length labels) members
+    → sizes ≡ counts_of (length labels) members → All (λ size. 1 ≤ size) sizes → AreReordered labels order members
+are_reordered labels order members sizes distinct same exist counted none_empty =
+    let also_distinct = distinct-IsPermutation labels order same distinct in
+    record {
+      many = length_permutation labels order same;
+      distinct = also_distinct;
+      one_each = length-map members _;
+      groups_exist = renumber-below labels order members exist (all_there labels order same);
+      none_empty = none_empty-counts (length order) (renumbered order labels members) (renumber-none_empty labels order members also_distinct same (rw counted at none_empty));
+    }

@@ -4,7 +4,7 @@ use Rattle.std.proofs.lemmas.Bool.Decides.{nat_tests}
 use Rattle.std.proofs.lemmas.List.{length_push}
 use Rattle.record_reader.specs.declared.missing.Missing.{Missing}
 use Rattle.record_reader.specs.declared.picks.Picks.{Picks}
-use Rattle.sample_reader.specs.GroupLayout.{Subjects, different, group_layout, grouped, groups_in, group_shape, no_subjects, with_label, with_number}
+use Rattle.sample_reader.specs.GroupLayout.{Subjects, different, group_layout, grouped, groups_in, group_shape, no_subjects, with_label, with_number, with_subject_field}
 use Rattle.sample_reader.specs.Groups.{GroupData}
 use Rattle.record_reader.specs.Layouts.{MayPick, field_fault, read_in, text_of, with_fields}
 use Rattle.sample_reader.specs.Kept.{AreWhole}
@@ -17,14 +17,24 @@ record HaveRows (most rows : ℕ) (subjects : Subjects) : Type 0 where
   pub values : length subjects.values ≡ rows
   pub few : length (different subjects.labels) ≤ most
 
-one_label : (most rows : ℕ) (s t : Subjects) (label : List ℕ) → HaveRows most rows s → with_label most s label ≡ Ok t
-    → (length t.labels ≡ rows + 1) × (length t.values ≡ rows) × (length (different t.labels) ≤ most)
-one_label most rows s t label have e =
+-- one label more, where there are few enough different ones
+pub one_label : (most : ℕ) (s t : Subjects) (label : List ℕ) → with_label most s label ≡ Ok t
+    → (length t.labels ≡ length s.labels + 1) × (length t.values ≡ length s.values) × (length (different t.labels) ≤ most)
+one_label most s t label e =
     let few = unless_ok (nat_lt most (length (different (s.labels ++ label ∷ [])))) _ _ t e in
     let labels_are : s.labels ++ label ∷ [] ≡ t.labels = let k = few.1 in cc in
     let values_are : s.values ≡ t.values = let k = few.1 in cc in
     let low : length (different (s.labels ++ label ∷ [])) ≤ most = let test = few.0 in grind (arith, nat_tests) in
-    rw (← labels_are, ← values_are) (length_push s.labels label ∙ ap (λ n. n + 1) have.labels, have.values, low)
+    rw (← labels_are, ← values_are) (length_push s.labels label, refl, low)
+
+-- the subjects after the two fields of a row, by the text of each
+pub one_subject : (most : ℕ) (s t u : Subjects) (a b : List ℕ) → with_subject_field most 0 a s ≡ Ok t → with_subject_field most 1 b t ≡ Ok u
+    → (length u.labels ≡ length s.labels + 1) × (length u.values ≡ length s.values + 1) × (length (different u.labels) ≤ most)
+one_subject most s t u a b first second =
+    let label = and_then-ok (with_label most s) (label_in a) t first in
+    let said = one_label most s t label.0 label.2 in
+    let value = with_value-ok (with_number t) (value_in b) u second in
+    rw (← value.2) (said.0, length_push t.values value.0 ∙ ap (λ n. n + 1) said.1, said.2)
 
 one_row : (most number rows : ℕ) (fields : List ℕ) (row : List (List ℕ)) (s t : Subjects) → length fields ≡ 2 → HaveRows most rows s
     → with_fields (group_layout most) number row 0 fields s ≡ Ok t → HaveRows most (rows + 1) t
@@ -33,12 +43,10 @@ one_row most number rows (a ∷ []) row s t two have e = absurd (omega arith)
 one_row most number rows (a ∷ b ∷ []) row s t two have e =
     let layout = group_layout most in
     let label = and_then-ok (with_fields layout number row 1 (b ∷ [])) _ t e in
-    let labelled = and_then-ok (with_label most s) (label_in (text_of row a)) label.0 (with_fault-ok (field_fault number a) _ label.0 label.1) in
-    let said = one_label most rows s label.0 labelled.0 have labelled.2 in
     let value = and_then-ok (with_fields layout number row 2 []) _ t label.2 in
-    let valued = with_value-ok (with_number label.0) (value_in (text_of row b)) value.0 (with_fault-ok (field_fault number b) _ value.0 value.1) in
-    let all : with_number label.0 valued.0 ≡ t = let k = value.2 in valued.2 ∙ cc in
-    rw (← all) (record { labels = said.0; values = length_push label.0.values valued.0 ∙ ap (λ n. n + 1) said.1; few = said.2 })
+    let said = one_subject most s label.0 value.0 (text_of row a) (text_of row b) (with_fault-ok (field_fault number a) _ label.0 label.1) (with_fault-ok (field_fault number b) _ value.0 value.1) in
+    let all : value.0 ≡ t = let k = value.2 in cc in
+    rw (← all) (record { labels = said.0 ∙ ap (λ n. n + 1) have.labels; values = said.1 ∙ ap (λ n. n + 1) have.values; few = said.2 })
 one_row most number rows (a ∷ b ∷ d ∷ fields) row s t two have e = absurd (omega arith)
 
 -- what is true of the subjects of all rows: so many are kept

@@ -22,7 +22,7 @@ record HaveRows (width rows : ℕ) (pairs : PairValues) : Type 0 where
   pub first : length pairs.first ≡ rows
   pub second : OneOrTwo width rows (length pairs.second)
 
-one_value : (number place field : ℕ) (fields : List ℕ) (row : List (List ℕ)) (s t : PairValues) → with_fields pair_layout number row place (field ∷ fields) s ≡ Ok t
+pub one_value : (number place field : ℕ) (fields : List ℕ) (row : List (List ℕ)) (s t : PairValues) → with_fields pair_layout number row place (field ∷ fields) s ≡ Ok t
     → (value : ℤ) × (with_fields pair_layout number row (place + 1) fields (with_pair_value place s value) ≡ Ok t)
 one_value number place field fields row s t e =
     let next = and_then-ok (with_fields pair_layout number row (place + 1) fields) _ t e in

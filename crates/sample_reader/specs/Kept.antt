@@ -3,6 +3,8 @@ use Rattle.std.specs.Prelude.{◌≡◌, ◌⊎◌, ℕ, ◌*◌, ◌<◌, ◌�
 use Rattle.sample_reader.specs.CellLayouts.{PairValues}
 use Rattle.sample_reader.specs.GroupLayout.{Subjects, different}
 use Rattle.sample_reader.specs.Numbered.{IsNumbered}
+use Rattle.sample_reader.specs.StrataGroups.{StrataSubjects}
+use Rattle.sample_reader.specs.declared.TheConstants.{MOST_TWINS}
 use Rattle.record_reader.specs.declared.TheConstants.{MOST_ROWS}
 
 -- each value is in the range of values
@@ -19,6 +21,12 @@ pub record AreWholePairs (pairs : PairValues) : Type 0 where
   pub few_enough : length pairs.first ≤ MOST_ROWS
   pub one_or_two : (length pairs.second ≡ 0) ⊎ (length pairs.first ≡ length pairs.second)
 
+-- Values that make twins: all rows have two.
+pub record AreWholeTwins (pairs : PairValues) : Type 0 where
+  pub not_empty : 1 ≤ length pairs.first
+  pub few_enough : length pairs.first ≤ MOST_TWINS
+  pub two_each : length pairs.second ≡ length pairs.first
+
 -- Cells that make so many blocks of so many treatments.
 pub record AreWholeBlocks (blocks treatments : ℕ) (cells : List ℤ) : Type 0 where
   pub not_empty : 1 ≤ blocks
@@ -27,14 +35,18 @@ pub record AreWholeBlocks (blocks treatments : ℕ) (cells : List ℤ) : Type 0 
   pub at_most_eight : treatments ≤ 8
   pub one_each : length cells ≡ blocks * treatments
 
+-- the labels of these numbers
+abbrev pub labels_at : List (List ℕ) → List ℕ → List (List ℕ)
+labels_at labels members = map (λ member. slice_index_or labels member []) members
+
 -- the subjects that have the labels of these numbers, and these values
 abbrev pub subjects_of : List (List ℕ) → List ℕ → List ℤ → Subjects
 subjects_of labels members values =
-    record { labels = map (λ member. slice_index_or labels member []) members; values = values }
+    record { labels = labels_at labels members; values = values }
 
 -- Labels, numbers of labels and values that subjects have so far.
 pub record AreKept (labels : List (List ℕ)) (members : List ℕ) (values : List ℤ) : Type 0 where
-  pub numbered : IsNumbered bytes_eq (subjects_of labels members values).labels labels members
+  pub numbered : IsNumbered bytes_eq (labels_at labels members) labels members
   pub in_range : AreInRange values
 
 -- Subjects that make groups.
@@ -43,3 +55,14 @@ pub record AreWhole (subjects : Subjects) : Type 0 where
   pub at_most_eight : length (different subjects.labels) ≤ 8
   pub few_enough : length subjects.values ≤ MOST_ROWS
   pub one_label_each : length subjects.labels ≡ length subjects.values
+
+-- Subjects whose labels make a sequence.
+pub record IsWholeSequence (subjects : Subjects) : Type 0 where
+  pub two : length (different subjects.labels) ≡ 2
+  pub few_enough : length subjects.labels ≤ MOST_ROWS
+
+-- Subjects that make two groups, each in a stratum.
+pub record AreWholeInStrata (so_far : StrataSubjects) : Type 0 where
+  pub whole : AreWhole so_far.subjects
+  pub two : length (different so_far.subjects.labels) ≡ 2
+  pub one_stratum_each : length so_far.strata ≡ length so_far.subjects.values

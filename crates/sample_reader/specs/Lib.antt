@@ -8,4 +8,7 @@ pub mod Kept
 pub mod Numbered
 pub mod Orders
 pub mod PooledSample
+pub mod Sequences
+pub mod StrataGroups
+pub mod Twins
 pub mod Values

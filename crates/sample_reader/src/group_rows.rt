@@ -1,14 +1,15 @@
 // The groups of a file.
 ghost use Rattle.std.specs.Prelude.{◌≡◌, ◌^◌, ◌<◌, ◌≤◌, [], Ok, IfErr, IfOk, length, nat_abs};
 ghost use Rattle.record_reader.specs.Answers.{IsFaultOf, IsFieldAnswer};
-ghost use Rattle.sample_reader.specs.Data.{data_of};
+ghost use Rattle.sample_reader.specs.Data.{data_of, sequence_data_of};
 ghost use Rattle.sample_reader.specs.GroupLayout.{grouped, groups_in, no_subjects, with_label, with_number};
 ghost use Rattle.record_reader.specs.Layouts.{MayPick};
-ghost use Rattle.sample_reader.specs.Kept.{AreWhole};
+ghost use Rattle.sample_reader.specs.Kept.{AreWhole, IsWholeSequence};
+ghost use Rattle.sample_reader.specs.Sequences.{numbered};
 
 use crate::fields::{is_missing_label, is_missing_value, label_in, value_in};
-use crate::labels::Labels;
-use crate::samples::{Groups, sizes_of};
+use crate::label_set::LabelSet;
+use crate::samples::{Groups, Sequence, sizes_of};
 use record_reader::{
     FieldFault, Kind, Layout, LayoutFault, MOST_ROWS, Missing, Picks, Rows, Shape, read_in,
 };
@@ -20,7 +21,7 @@ use weights::{Ints, NoMemory, Nums};
 // subject's number of its label, and value.
 #[derive(Drop)]
 pub(crate) struct GroupsSoFar {
-    labels: Labels,
+    labels: LabelSet,
     members: Nums,
     values: Ints,
 }
@@ -37,18 +38,18 @@ impl Model for GroupsSoFar {
 }
 
 impl GroupsSoFar {
-    fn empty(alloc: Global) -> GroupsSoFar
+    pub(crate) fn empty(alloc: Global) -> GroupsSoFar
         ensures { result ≡ no_subjects }
     {
         GroupsSoFar {
-            labels: Labels::empty(alloc),
+            labels: LabelSet::empty(alloc),
             members: Nums::empty(alloc),
             values: Ints::empty(alloc),
         }
     }
 
     // These with one label more, where there are then at most so many different ones.
-    fn with_label(self, most: u64, label: &[u8]) -> Result<GroupsSoFar, FieldFault>
+    pub(crate) fn with_label(self, most: u64, label: &[u8]) -> Result<GroupsSoFar, FieldFault>
         ensures { IsFieldAnswer (with_label most self label.now) result }
     {
         let GroupsSoFar {
@@ -87,16 +88,29 @@ impl GroupsSoFar {
     }
 
     // The groups of these, where they are all.
-    fn into_groups(self, alloc: Global) -> Result<Groups, NoMemory>
+    pub(crate) fn into_groups(self, alloc: Global) -> Result<Groups, NoMemory>
         requires { AreWhole self }
         ensures { IfOk result (λ groups. data_of groups ≡ grouped self) }
     {
         let sizes = sizes_of(alloc, self.labels.len(), self.members.as_slice())?;
         Ok(Groups {
-            labels: self.labels,
+            labels: self.labels.into_labels(alloc)?,
             sizes,
             members: self.members,
             values: self.values,
+        })
+    }
+
+    // The sequence of the labels of these, where they are all.
+    pub(crate) fn into_sequence(self, alloc: Global) -> Result<Sequence, NoMemory>
+        requires { IsWholeSequence self }
+        ensures { IfOk result (λ sequence. sequence_data_of sequence ≡ numbered self) }
+    {
+        let sizes = sizes_of(alloc, self.labels.len(), self.members.as_slice())?;
+        Ok(Sequence {
+            labels: self.labels.into_labels(alloc)?,
+            sizes,
+            members: self.members,
         })
     }
 }

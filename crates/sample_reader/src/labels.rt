@@ -1,7 +1,7 @@
 // The names of groups.
 ghost use Rattle.std.specs.Prelude.{◌≡◌, ◌<◌, [], ◌∷◌, ◌++◌, bytes_eq, length, map, IfOk, OnOk, OnErr};
 ghost use Rattle.std.specs.List.{slice_index_or};
-ghost use Rattle.sample_reader.specs.Groups.{number_among, with_item};
+ghost use Rattle.sample_reader.specs.Groups.{number_among};
 
 use std::alloc::Global;
 use std::marker::Model;
@@ -29,6 +29,13 @@ impl Labels {
         Labels {
             labels: Vec::new(alloc),
         }
+    }
+
+    // These labels, each with its bytes.
+    pub(crate) fn from_vec(labels: Vec<Vec<u8>>) -> Labels
+        ensures { result ≡ map (λ label. label.items) labels.items }
+    {
+        Labels { labels }
     }
 
     /// Adds a label at the end. A list that is refused the memory stays as it was.
@@ -72,20 +79,6 @@ impl Labels {
             .iter()
             .position(|known| known.as_slice() == label)
             .unwrap_or(self.labels.len())
-    }
-
-    // The number of this label, which is added at the end where it is not there. Labels that are
-    // refused the memory stay as they were.
-    pub(crate) fn insert(&mut self, label: &[u8]) -> Result<usize, NoMemory>
-        ensures number { IfOk result (λ number. number ≡ number_among bytes_eq self.old label.now) }
-        ensures ok { OnOk result (self.new ≡ with_item bytes_eq self.old label.now) }
-        ensures err { OnErr result (self.new ≡ self.old) }
-    {
-        let number = self.number_of(label);
-        if number == self.labels.len() {
-            self.push(label)?;
-        }
-        Ok(number)
     }
 
     /// The same labels in memory of their own.

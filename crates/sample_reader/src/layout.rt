@@ -12,4 +12,11 @@ pub enum Layout {
     /// `0` or `1` for each treatment in each row, as [`binary_blocks`](crate::binary_blocks) reads
     /// them.
     BinaryBlocks,
+    /// A label of a stratum, a label of a group and a value in each row, as
+    /// [`strata_groups`](crate::strata_groups) reads them.
+    StrataGroups,
+    /// Two values in each row, as [`twins`](crate::twins) reads them.
+    Twins,
+    /// A label in each row, as [`sequence`](crate::sequence) reads them.
+    Sequence,
 }

@@ -1,11 +1,11 @@
 // Groups in another order.
 ghost use Rattle.std.specs.Prelude.{◌≡◌, ◌≢◌, ◌<◌, ◌↔◌, All, AllPairs, IfOk, IsErrOf, IsPermutation, IsTrue, OnOk, bytes_eq, length, map, slice_index};
-ghost use Rattle.sample_reader.specs.Data.{data_of};
+ghost use Rattle.sample_reader.specs.Data.{data_of, strata_data_of};
 ghost use Rattle.sample_reader.specs.Groups.{number_among};
-ghost use Rattle.sample_reader.specs.Orders.{reordered};
+ghost use Rattle.sample_reader.specs.Orders.{renumbered, reordered, reordered_strata};
 
 use crate::labels::Labels;
-use crate::samples::{Groups, sizes_of};
+use crate::samples::{Groups, StrataGroups, sizes_of};
 use std::alloc::Global;
 use thiserror::Error;
 use weights::Nums;
@@ -67,7 +67,7 @@ fn new_numbers(alloc: Global, labels: &Labels, order: &Labels) -> Result<Nums, O
 }
 
 // The members by the new numbers of their groups.
-fn renumbered(alloc: Global, members: &[u64], numbers: &[u64]) -> Result<Nums, weights::NoMemory>
+fn by_numbers(alloc: Global, members: &[u64], numbers: &[u64]) -> Result<Nums, weights::NoMemory>
     requires { All (λ member. member < length numbers.now) members.now }
     ensures { IfOk result (λ new.
         new ≡ map (λ member. slice_index numbers.now member) members.now) }
@@ -77,6 +77,23 @@ fn renumbered(alloc: Global, members: &[u64], numbers: &[u64]) -> Result<Nums, w
         new.push(numbers[*member as usize])?;
     }
     Ok(new)
+}
+
+// The members by the numbers of the labels in the order, where the order has the same labels.
+fn members_in_order(
+    alloc: Global,
+    labels: &Labels,
+    members: &[u64],
+    order: &Labels,
+) -> Result<Nums, OrderFault>
+    requires distinct { AllPairs ◌≢◌ labels.now }
+    requires groups_exist { All (λ group. group < length labels.now) members.now }
+    ensures members { IfOk result (λ new. new ≡ renumbered order.now labels.now members.now) }
+    ensures fit { OnOk result (IsPermutation labels.now order.now) }
+    ensures unfit { IsErrOf result OrderFault.Unfit → ¬ IsPermutation labels.now order.now }
+{
+    let numbers = new_numbers(alloc, labels, order)?;
+    Ok(by_numbers(alloc, members, numbers.as_slice())?)
 }
 
 /// The groups with their labels in this order: the labels, the sizes and the members' numbers
@@ -90,13 +107,41 @@ pub fn reorder(alloc: Global, groups: &Groups, order: &Labels) -> Result<Groups,
     ensures fit { OnOk result (IsPermutation groups.now.labels order.now) }
     ensures unfit { IsErrOf result OrderFault.Unfit → ¬ IsPermutation groups.now.labels order.now }
 {
-    let numbers = new_numbers(alloc, &groups.labels, order)?;
-    let members = renumbered(alloc, groups.members.as_slice(), numbers.as_slice())?;
+    let members = members_in_order(alloc, &groups.labels, groups.members.as_slice(), order)?;
     let sizes = sizes_of(alloc, order.len(), members.as_slice())?;
     Ok(Groups {
         labels: order.copy()?,
         sizes,
         members,
         values: groups.values.copy()?,
+    })
+}
+
+/// The groups in their strata with the labels of the groups in this order: these labels, the sizes
+/// and the members' numbers change, and the strata, the subjects and their values stand as they
+/// did.
+///
+/// # Errors
+/// As those of [`reorder`].
+pub fn reorder_strata(
+    alloc: Global,
+    samples: &StrataGroups,
+    order: &Labels,
+) -> Result<StrataGroups, OrderFault>
+    ensures ok { IfOk result (λ new.
+        strata_data_of new ≡ reordered_strata order.now (strata_data_of samples.now)) }
+    ensures fit { OnOk result (IsPermutation samples.now.labels order.now) }
+    ensures unfit { IsErrOf result OrderFault.Unfit
+        → ¬ IsPermutation samples.now.labels order.now }
+{
+    let members = members_in_order(alloc, &samples.labels, samples.members.as_slice(), order)?;
+    let sizes = sizes_of(alloc, order.len(), members.as_slice())?;
+    Ok(StrataGroups {
+        strata: samples.strata.copy()?,
+        labels: order.copy()?,
+        sizes,
+        places: samples.places.copy()?,
+        members,
+        values: samples.values.copy()?,
     })
 }

@@ -2,6 +2,7 @@
 ghost use Rattle.std.specs.Prelude.{◌≡◌, ◌≢◌, ◌<◌, ◌≤◌, ◌*◌, ◌^◌, nat_abs, length, All, AllPairs, IfOk};
 ghost use Rattle.weights.specs.Labellings.{counts_of};
 ghost use Rattle.record_reader.specs.declared.TheConstants.{MOST_ROWS};
+ghost use Rattle.sample_reader.specs.declared.TheConstants.{MOST_TWINS};
 
 use crate::labels::Labels;
 use std::alloc::Global;
@@ -56,6 +57,69 @@ pub struct Groups {
     pub ghost in_range: { All (λ value. nat_abs value < 10 ^ 36) values },
     pub ghost one_group_each: { length members ≡ length values },
     pub ghost groups_exist: { All (λ group. group < length labels) members },
+    pub ghost counted: { sizes ≡ counts_of (length labels) members },
+    pub ghost none_empty: { All (λ size. 1 ≤ size) sizes },
+}
+
+/// The values of a file, each with its stratum and its group.
+#[derive(Drop)]
+pub struct StrataGroups {
+    /// The labels of the strata, in the order in which they first appear.
+    pub strata: Labels,
+    /// The labels of the two groups, in the order in which they first appear.
+    pub labels: Labels,
+    /// How many subjects each group has.
+    pub sizes: Nums,
+    /// The number of each subject's stratum, from 0, in the order of the file.
+    pub places: Nums,
+    /// The number of each subject's group, from 0, in the order of the file.
+    pub members: Nums,
+    /// Each subject's value, in units of 10^-18, in the order of the file.
+    pub values: Ints,
+    pub ghost two: { length labels ≡ 2 },
+    pub ghost distinct: { AllPairs ◌≢◌ labels },
+    pub ghost strata_distinct: { AllPairs ◌≢◌ strata },
+    pub ghost few_enough: { length values ≤ MOST_ROWS },
+    pub ghost in_range: { All (λ value. nat_abs value < 10 ^ 36) values },
+    pub ghost one_group_each: { length members ≡ length values },
+    pub ghost groups_exist: { All (λ group. group < length labels) members },
+    pub ghost counted: { sizes ≡ counts_of (length labels) members },
+    pub ghost none_empty: { All (λ size. 1 ≤ size) sizes },
+    pub ghost one_stratum_each: { length places ≡ length values },
+    pub ghost strata_exist: { All (λ stratum. stratum < length strata) places },
+    pub ghost no_stratum_empty: { All (λ size. 1 ≤ size) (counts_of (length strata) places) },
+}
+
+/// The two values of each row of a file.
+#[derive(Drop)]
+pub struct Twins {
+    /// How many rows there are.
+    pub rows: u64,
+    /// Each row's first value, in units of 10^-18, in the order of the file.
+    pub first: Ints,
+    /// Each row's second value, in units of 10^-18, in the order of the file.
+    pub second: Ints,
+    pub ghost not_empty: { 1 ≤ rows },
+    pub ghost few_enough: { rows ≤ MOST_TWINS },
+    pub ghost one_first_each: { length first ≡ rows },
+    pub ghost one_second_each: { length second ≡ rows },
+    pub ghost first_in_range: { All (λ value. nat_abs value < 10 ^ 36) first },
+    pub ghost second_in_range: { All (λ value. nat_abs value < 10 ^ 36) second },
+}
+
+/// The labels of the rows of a file, in their order.
+#[derive(Drop)]
+pub struct Sequence {
+    /// The two different labels, in the order in which they first appear.
+    pub labels: Labels,
+    /// How many rows have each label.
+    pub sizes: Nums,
+    /// The number of each row's label, from 0, in the order of the file.
+    pub members: Nums,
+    pub ghost two: { length labels ≡ 2 },
+    pub ghost distinct: { AllPairs ◌≢◌ labels },
+    pub ghost few_enough: { length members ≤ MOST_ROWS },
+    pub ghost labels_exist: { All (λ label. label < length labels) members },
     pub ghost counted: { sizes ≡ counts_of (length labels) members },
     pub ghost none_empty: { All (λ size. 1 ≤ size) sizes },
 }

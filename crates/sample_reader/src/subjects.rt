@@ -1,7 +1,8 @@
 // The pooled sample of groups.
 ghost use Rattle.std.specs.Prelude.{◌≡◌, length, IfOk};
 ghost use Rattle.sample_reader.specs.Data.{data_of};
-ghost use Rattle.sample_reader.specs.PooledSample.{pooled, paired_subjects, values_of};
+ghost use Rattle.weights.specs.InOrder.{in_order};
+ghost use Rattle.sample_reader.specs.PooledSample.{may_precede, pooled, paired_subjects, values_of};
 
 use crate::samples::Groups;
 use std::alloc::Global;
@@ -33,18 +34,28 @@ fn subjects_in_order(
     Ok(subjects)
 }
 
+/// The subjects of these values and labels in ascending order of their values, those of one value
+/// in the order of their labels.
+pub fn ordered_subjects(
+    alloc: Global,
+    values: &[i128],
+    labels: &[u64],
+) -> Result<Vec<Subject>, NoMemory>
+    requires { length labels.now ≡ length values.now }
+    ensures { IfOk result (λ subjects.
+        subjects.items ≡ in_order may_precede (paired_subjects values.now labels.now)) }
+{
+    let mut subjects = subjects_in_order(alloc, values, labels)?;
+    subjects.sort_unstable();
+    Ok(subjects)
+}
+
 /// The pooled sample: the subjects of all groups in ascending order of their values, those of one
 /// value in the order of their groups.
 pub fn pooled_subjects(alloc: Global, groups: &Groups) -> Result<Vec<Subject>, NoMemory>
     ensures { IfOk result (λ subjects. subjects.items ≡ pooled (data_of groups.now)) }
 {
-    let mut subjects = subjects_in_order(
-        alloc,
-        groups.values.as_slice(),
-        groups.members.as_slice(),
-    )?;
-    subjects.sort_unstable();
-    Ok(subjects)
+    ordered_subjects(alloc, groups.values.as_slice(), groups.members.as_slice())
 }
 
 /// The values of subjects, in their order.

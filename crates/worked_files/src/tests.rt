@@ -218,7 +218,7 @@ fn drops_subjects_whatever_else_they_hold(rt: HostRuntime) -> Result<(), Fail> {
         b"group,value\nz,NA\nx,2\n ,text\nNA,1\nw,\nx,1\n",
         b',',
     )?;
-    let left_out = dropped(&rows, &Picks::Natural, Layout::Groups, Missing::Drop);
+    let left_out = dropped(&rows, &Picks::Natural, Layout::Groups);
     assert_eq!(rt; left_out, 3);
     let read = groups(rt.alloc(), &rows, &Picks::Natural, 2, Missing::Drop)?;
     assert!(rt; read.labels.label(1) == b"NA".as_slice());
@@ -233,7 +233,7 @@ fn drops_blocks_whatever_else_they_hold(rt: HostRuntime) -> Result<(), Fail> {
         b"a,b,c\n1,2,3\ntext,NA,3\n1,,text\n4,5,6\n",
         b',',
     )?;
-    let left_out = dropped(&rows, &Picks::Natural, Layout::Blocks, Missing::Drop);
+    let left_out = dropped(&rows, &Picks::Natural, Layout::Blocks);
     assert_eq!(rt; left_out, 2);
     let read = blocks(rt.alloc(), &rows, &Picks::Natural, Missing::Drop)?;
     assert_eq!(rt; read.blocks, 2);

@@ -9,18 +9,19 @@ pub invariant_of-result : goal.invariant_of-result
 invariant_of-result c =
     let kept = c.self.inside in
     let numbered = c.self.invariant.numbered in
-    let labels_are : kept.labels ≡ different c.args.self.labels = numbered.in_order ∙ ap (λ s. different s.labels) c.self.view_is in
+    let labels_are : c.in_ok-into_labels.field-0 ≡ kept.labels = c.in_ok-into_labels.ensures in
+    let different_are : kept.labels ≡ different c.args.self.labels = numbered.in_order ∙ ap (λ s. different s.labels) c.self.view_is in
     let values_are : kept.values ≡ c.args.self.values = ap (λ s. s.values) c.self.view_is in
     let many : length kept.members ≡ length c.args.self.labels = sym (length-map kept.members _) ∙ ap (λ s. length s.labels) c.self.view_is in
     let sizes_are : c.in_ok-sizes.sizes ≡ counts_of (length kept.labels) kept.members = c.in_ok-sizes.ensures ∙ rw (c.len.ensures, c.as_slice.ensures) in
     record {
-      at_least_two = rw labels_are c.requires.at_least_two;
-      at_most_eight = rw labels_are c.requires.at_most_eight;
-      distinct = numbered.distinct;
+      at_least_two = rw (labels_are, different_are) c.requires.at_least_two;
+      at_most_eight = rw (labels_are, different_are) c.requires.at_most_eight;
+      distinct = rw labels_are numbered.distinct;
       few_enough = rw values_are c.requires.few_enough;
       in_range = c.self.invariant.in_range;
       one_group_each = rw values_are (many ∙ c.requires.one_label_each);
-      groups_exist = numbered.below;
-      counted = sizes_are;
+      groups_exist = rw labels_are numbered.below;
+      counted = rw labels_are sizes_are;
       none_empty = rw sizes_are (none_empty-counts (length kept.labels) kept.members numbered.none_empty);
     }
