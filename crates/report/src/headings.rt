@@ -24,7 +24,8 @@ pub enum Sizes {
     Blocks { blocks: u64, treatments: u64 },
     /// How many rows and columns a table has, and the sum of its cells.
     Table { rows: u64, columns: u64, sum: u64 },
-    /// How many tables of two by two there are, and the sum of all their cells.
+    /// How many strata there are, and how many subjects all of them have: in tables, the sum of all
+    /// their cells.
     Strata { strata: u64, sum: u64 },
 }
 

@@ -229,3 +229,23 @@ separator_before_odds_of_two = refl
 two_sided_without_odds : meaning_of (codes "fisher" ∷ codes "f.csv" ∷ codes "--tail=two" ∷ [])
     ≡ Ok (Test (record (settings_without_options test.Fisher (codes "f.csv")) { tail = Two }))
 two_sided_without_odds = refl
+
+two_sided_of_strata : meaning_of (codes "zelen" ∷ codes "f.csv" ∷ codes "--tail=two" ∷ [])
+    ≡ Ok (Test (record (settings_without_options test.Zelen (codes "f.csv")) { tail = Two }))
+two_sided_of_strata = refl
+
+no_tail_of_one_side : meaning_of (codes "zelen" ∷ codes "f.csv" ∷ codes "--tail" ∷ codes "less" ∷ []) ≡ Err (Pairing option.Tail test.Zelen)
+no_tail_of_one_side = refl
+
+three_columns_in_another_order : meaning_of (codes "stratranksum" ∷ codes "f.csv" ∷ codes "--columns=3,1,2" ∷ codes "--order=b,a" ∷ codes "--missing=drop" ∷ [])
+    ≡ Ok (Test (record (settings_without_options test.StratRankSum (codes "f.csv")) { picks = Listed (3 ∷ 1 ∷ 2 ∷ []); order = codes "b" ∷ codes "a" ∷ []; missing = Drop }))
+unfolding list_of
+three_columns_in_another_order = refl
+
+one_column_is_too_few : meaning_of (codes "kendall" ∷ codes "f.csv" ∷ codes "--columns=1" ∷ []) ≡ Err (Value option.Columns)
+unfolding list_of
+one_column_is_too_few = refl
+
+order_of_a_sequence : meaning_of (codes "runs" ∷ codes "f.csv" ∷ codes "--columns=2" ∷ codes "--order=b,a" ∷ []) ≡ Err (Pairing option.Order test.Runs)
+unfolding list_of
+order_of_a_sequence = refl

@@ -5,6 +5,9 @@ use Rattle.std.specs.Str.{bytes_eq}
 use Rattle.record_reader.specs.declared.layouts.Shape.{Shape}
 use Rattle.sample_reader.specs.CellLayouts.{block_shape, pair_shape}
 use Rattle.sample_reader.specs.GroupLayout.{group_shape}
+use Rattle.sample_reader.specs.Sequences.{sequence_shape}
+use Rattle.sample_reader.specs.StrataGroups.{strata_shape as strata_group_shape}
+use Rattle.sample_reader.specs.Twins.{twin_shape}
 use Rattle.table_reader.specs.StrataLayout.{strata_shape}
 use Rattle.table_reader.specs.TableLayout.{any_table_shape, two_by_two_shape}
 use Rattle.weights.specs.declared.tails.Tails.{Tails}
@@ -41,6 +44,10 @@ all_tails = record { less = true; greater = true; two = true }
 -- the statistic is a measure of spread without a direction, so that great values alone are extreme
 abbrev pub greater_alone : Tails
 greater_alone = record { less = false; greater = true; two = false }
+
+-- the statistic has no direction and no centre, so that rare values alone are extreme
+abbrev pub two_alone : Tails
+two_alone = record { less = false; greater = false; two = true }
 
 abbrev pub no_tails : Tails
 no_tails = record { less = false; greater = false; two = false }
@@ -84,6 +91,11 @@ form test.Linear = record (plain_test (codes "linear") kind.Table) {
   own = option.RowScores ∷ option.ColumnScores ∷ [];
 }
 form test.Strata = record (plain_test (codes "strata") kind.Strata) { own = option.Odds ∷ [] }
+form test.Zelen = record (plain_test (codes "zelen") kind.Strata) { tails = two_alone }
+form test.StratRankSum =
+    record (plain_test (codes "stratranksum") kind.StrataGroups) { is_ordered = true }
+form test.Kendall = plain_test (codes "kendall") kind.Twins
+form test.Runs = plain_test (codes "runs") kind.Sequence
 form test.Drill = record (plain_test (codes "drill") kind.Made) {
   tails = no_tails;
   own = option.Number ∷ [];
@@ -116,6 +128,9 @@ are_samples kind.TwoGroups = true
 are_samples kind.Groups = true
 are_samples kind.Blocks = true
 are_samples kind.BinaryBlocks = true
+are_samples kind.StrataGroups = true
+are_samples kind.Twins = true
+are_samples kind.Sequence = true
 are_samples _ = false
 
 -- the shape of the layout: how many fields of a row are read
@@ -126,6 +141,9 @@ shape_in kind.Blocks = block_shape
 shape_in kind.BinaryBlocks = block_shape
 shape_in kind.Table = any_table_shape
 shape_in kind.Strata = strata_shape
+shape_in kind.StrataGroups = strata_group_shape
+shape_in kind.Twins = twin_shape
+shape_in kind.Sequence = sequence_shape
 shape_in _ = group_shape
 
 abbrev pub reads_file : TestName → Bool
@@ -161,17 +179,24 @@ is_test test = has_tail test All
 -- ---- rows of the help text
 
 -- the row of the tests of these data
-abbrev pub row_of : TestData → ℕ
-row_of kind.Pairs = 1
-row_of kind.TwoByTwo = 1
-row_of kind.TwoGroups = 2
-row_of kind.Groups = 3
-row_of kind.Blocks = 3
-row_of kind.BinaryBlocks = 3
-row_of _ = 4
+abbrev pub row_in : TestData → ℕ
+row_in kind.Pairs = 1
+row_in kind.TwoByTwo = 1
+row_in kind.TwoGroups = 2
+row_in kind.Groups = 3
+row_in kind.Blocks = 3
+row_in kind.BinaryBlocks = 3
+row_in kind.Table = 4
+row_in kind.Strata = 4
+row_in _ = 5
+
+abbrev pub row_of : TestName → ℕ
+row_of test.Zelen = 5
+row_of test = row_in (form test).of
 
 abbrev pub tests_of_row : ℕ → List TestName
-tests_of_row row = filter (λ test. is_test test && row_of (form test).of == row) listed_tests
+tests_of_row row = filter (λ test. is_test test && row_of test == row) listed_tests
 
 abbrev pub test_rows : List (List TestName)
-test_rows = tests_of_row 1 ∷ tests_of_row 2 ∷ tests_of_row 3 ∷ tests_of_row 4 ∷ []
+test_rows =
+    tests_of_row 1 ∷ tests_of_row 2 ∷ tests_of_row 3 ∷ tests_of_row 4 ∷ tests_of_row 5 ∷ []

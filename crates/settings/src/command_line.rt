@@ -43,6 +43,7 @@ pub fn help_text() -> &'static str
         "       ranksum ansari mood savage median raw\n",
         "       kw jt umbrella friedman page cochran\n",
         "       fisher linear strata\n",
+        "       zelen stratranksum kendall runs\n",
         "options: --tail all|less|greater|two\n",
         "         --scores KIND --order LABELS --peak P\n",
         "         --row-scores LIST --column-scores LIST\n",

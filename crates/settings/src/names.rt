@@ -53,6 +53,16 @@ pub enum TestName {
     Linear,
     /// The test of a common odds ratio of one in tables of two by two.
     Strata,
+    /// The test of equal odds ratios in tables of two by two of Zelen (Biometrika 58, 1971).
+    Zelen,
+    /// The rank sum test of two samples in strata (van Elteren, Bulletin of the International
+    /// Statistical Institute 37, 1960), by midranks within each stratum.
+    StratRankSum,
+    /// The test of rank correlation of Kendall (Biometrika 30, 1938).
+    Kendall,
+    /// The test of the number of runs in a sequence of two labels (Wald and Wolfowitz, Annals of
+    /// Mathematical Statistics 11, 1940).
+    Runs,
     /// The rank sum test of made data.
     Drill,
     /// The estimate of a shift between two samples with its limits, which is no test.

@@ -31,6 +31,12 @@ pub(crate) enum TestData {
     Table,
     // The counts of tables of two by two.
     Strata,
+    // The values of two groups in strata.
+    StrataGroups,
+    // Pairs of values, of which neither is taken from the other.
+    Twins,
+    // A label after another, of two.
+    Sequence,
     // Made data, which no file has.
     Made,
 }
@@ -53,7 +59,7 @@ pub(crate) struct TestForm {
 }
 
 // The tests that can be asked for.
-const TESTS: [TestName; 21] = [
+const TESTS: [TestName; 25] = [
     TestName::SignedRank,
     TestName::Sign,
     TestName::RawSigned,
@@ -73,6 +79,10 @@ const TESTS: [TestName; 21] = [
     TestName::Fisher,
     TestName::Linear,
     TestName::Strata,
+    TestName::Zelen,
+    TestName::StratRankSum,
+    TestName::Kendall,
+    TestName::Runs,
     TestName::Drill,
     TestName::Shift,
 ];
@@ -88,6 +98,13 @@ const GREATER_ALONE: Tails = Tails {
     less: false,
     greater: true,
     two: false,
+};
+
+// The statistic has no direction and no centre, so that rare values alone are extreme.
+const TWO_ALONE: Tails = Tails {
+    less: false,
+    greater: false,
+    two: true,
 };
 
 const NO_TAILS: Tails = Tails {
@@ -123,7 +140,13 @@ impl TestData {
             TestData::Blocks | TestData::BinaryBlocks => (2, 8),
             TestData::Table => (2, 64),
             TestData::Strata => (5, 5),
-            TestData::TwoByTwo | TestData::TwoGroups | TestData::Groups | TestData::Made => (2, 2),
+            TestData::StrataGroups => (3, 3),
+            TestData::Sequence => (1, 1),
+            TestData::TwoByTwo
+            | TestData::TwoGroups
+            | TestData::Groups
+            | TestData::Twins
+            | TestData::Made => (2, 2),
         };
         ListForm {
             low: 1,
@@ -226,6 +249,12 @@ impl TestName {
             TestName::Strata => {
                 TestForm::plain("strata", TestData::Strata).with_own(&[OptionName::Odds])
             }
+            TestName::Zelen => TestForm::plain("zelen", TestData::Strata).with_tails(TWO_ALONE),
+            TestName::StratRankSum => {
+                TestForm::plain("stratranksum", TestData::StrataGroups).ordered()
+            }
+            TestName::Kendall => TestForm::plain("kendall", TestData::Twins),
+            TestName::Runs => TestForm::plain("runs", TestData::Sequence),
             TestName::Drill => TestForm::plain("drill", TestData::Made)
                 .with_tails(NO_TAILS)
                 .with_own(&[OptionName::Number])
