@@ -1,0 +1,78 @@
+-- Products of the weights of first cells, stratum by stratum.
+use Rattle.std.proofs.Common.{◌≡◌, ℕ, ◌+◌, ◌*◌, ◌<◌, ◌≤◌, List, ◌∷◌, length, drop, sym, ◌∙◌, ap, subst, arith}
+use Rattle.std.specs.Prelude.{min}
+use Rattle.std.proofs.lemmas.List.{drop_min}
+use Rattle.strata_cells.specs.declared.stratum.Stratum.{Stratum}
+use Rattle.strata_cells.specs.Strata.{cell_weight, cells_of, cells_weight, first_cell, greatest_cell, least_cell, size, stratum_at}
+use Rattle.strata_cells.proofs.FirstCells.{left-within, right-within, weight-some}
+use Rattle.strata_cells.proofs.StrataSums.{next-drop, past-drop}
+use Rattle.homogeneity.specs.ZelenMade.{own_cells}
+use Rattle.homogeneity.proofs.EvenTests.{cells-some}
+use Rattle.homogeneity.proofs.Rarities.{AreCells}
+
+product-some : (a b : ℕ) → 1 ≤ a → 1 ≤ b → 1 ≤ a * b
+product-some a b h j = grind arith
+
+grouped : (a b c : ℕ) → (a * b) * c ≡ a * (b * c)
+grouped a b c = grind arith
+
+-- the product of the weights before stratum i, and the cells from it on
+pub record IsWeighing (strata : List Stratum) (all i product : ℕ) (cells : List ℕ) : Type 0 where
+  pub are : AreCells (drop i strata) cells
+  pub some : 1 ≤ product
+  pub weighing : product * cells_weight (drop i strata) cells ≡ all
+
+pub weigh-first : (strata : List Stratum) (cells : List ℕ) → AreCells strata cells → IsWeighing strata (cells_weight strata cells) 0 1 cells
+weigh-first strata cells a = record { are = a; some = omega arith; weighing = omega arith }
+
+module _ (strata : List Stratum) (all i product x : ℕ) (later : List ℕ) (h : i < length strata) (w : IsWeighing strata all i product (x ∷ later)) where
+  abbrev s : Stratum
+  s = stratum_at strata i
+
+  abbrev after : List Stratum
+  after = drop (i + 1) strata
+
+  here : AreCells (stratum_at strata i ∷ drop (i + 1) strata) (x ∷ later)
+  here = subst (λ ts. AreCells ts (x ∷ later)) (next-drop strata i h) w.are
+
+  step : product * (cell_weight s x * cells_weight after later) ≡ all
+  step = subst (λ ts. product * cells_weight ts (x ∷ later) ≡ all) (next-drop strata i h) w.weighing
+
+  pub weigh-least : least_cell s ≤ x
+  weigh-least = here.0
+
+  pub weigh-most : x ≤ greatest_cell s
+  weigh-most = here.1
+
+  weight : 1 ≤ cell_weight s x
+  weight = weight-some s x weigh-least weigh-most
+
+  pub weigh-product : product * cell_weight s x ≤ all
+  weigh-product = omega (arith, left-within (product * cell_weight s x) (cells_weight after later) (cells-some after later here.2), grouped product (cell_weight s x) (cells_weight after later), step)
+
+  pub weigh-cell : cell_weight s x ≤ all
+  weigh-cell = omega (arith, right-within product (cell_weight s x) w.some, weigh-product)
+
+  pub weigh-next : IsWeighing strata all (i + 1) (product * cell_weight s x) later
+  weigh-next = record {
+    are = here.2;
+    some = product-some product (cell_weight s x) w.some weight;
+    weighing = grouped product (cell_weight s x) (cells_weight after later) ∙ step;
+  }
+
+pub weigh-whole : (strata : List Stratum) (all i product : ℕ) (cells : List ℕ) → length strata ≤ i → IsWeighing strata all i product cells → product ≡ all
+weigh-whole strata all i product cells h w =
+    let last : product * 1 ≡ all = subst (λ ts. product * cells_weight ts cells ≡ all) (past-drop strata i h) w.weighing in
+    omega (arith, last)
+
+-- ---- the cells that are left
+
+pub own-step : (strata : List Stratum) (i : ℕ) → i < length strata → own_cells (drop i strata) ≡ (stratum_at strata i).a ∷ own_cells (drop (i + 1) strata)
+own-step strata i h = ap own_cells (next-drop strata i h)
+
+pub labels-step : (strata : List Stratum) (i : ℕ) (later : List ℕ) → i < length strata
+    → cells_of (drop i strata) later ≡ first_cell (stratum_at strata i) later ∷ cells_of (drop (i + 1) strata) (drop (min (length later) (size (stratum_at strata i))) later)
+labels-step strata i later h =
+    let least : min (length later) (size (stratum_at strata i)) ≡ min (size (stratum_at strata i)) (length later) = omega arith in
+    let rest : drop (min (length later) (size (stratum_at strata i))) later ≡ drop (size (stratum_at strata i)) later = ap (λ n. drop n later) least ∙ drop_min (size (stratum_at strata i)) later in
+    ap (λ ts. cells_of ts later) (next-drop strata i h) ∙ ap (λ (l : List ℕ). first_cell (stratum_at strata i) later ∷ cells_of (drop (i + 1) strata) l) (sym rest)

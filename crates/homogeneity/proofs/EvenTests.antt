@@ -1,0 +1,198 @@
+-- What holds of Zelen's test.
+use Rattle.std.proofs.Common.{◌≡◌, ℕ, ◌*◌, nat_eq, ◌+◌, ◌<◌, ◌≤◌, cond, List, [], ◌∷◌, ◌++◌, Some, None, length, length-append, map, replicate, append-nil, refl, sym, ◌∙◌, ap, subst, arith, lit≤}
+use Rattle.std.specs.Prelude.{ℤ, pos, ◌-ℤ◌, ◌*ℤ◌, nat_abs, Contains}
+use Rattle.std.specs.Cmp.Lexicographic.{pointwise}
+use Rattle.std.specs.List.{AllByRecursion, sum_by}
+use Rattle.std.proofs.Math.IntN.{zero-*ℤ}
+use Rattle.std.proofs.lemmas.Bool.{eqb-true, le-ltb, lt-ltb}
+use Rattle.std.proofs.lemmas.List.{length-replicate}
+use Rattle.std.proofs.lemmas.List.Sums.{count_by-le-length, sum_by-cons}
+use Rattle.weights.specs.declared.tails.Tail.{Tail}
+use Rattle.weights.specs.declared.tails.Tail.TheVariants.{Less, Greater, Two}
+use Rattle.weights.specs.declared.rules.Rule.TheVariants.{AtLeast, AtMost}
+use Rattle.weights.specs.declared.TheConstants.{MAX}
+use Rattle.weights.specs.declared.wide.WideOf.TheVariants.{Total}
+use Rattle.weights.specs.Conditional.{distance, observed_statistic, total, unit_weight}
+use Rattle.weights.specs.Frames.{IsShown, RulesFit}
+use Rattle.weights.specs.Rules.{RuleFits, measured, rule_of}
+use Rattle.weights.specs.Wide.{too_wide}
+use Rattle.weights.proofs.Sums.{sum_by-filter, sum_by-one}
+use Rattle.stage_network.specs.Follows.{AllFollow, Follows}
+use Rattle.stage_network.specs.Judged.{JudgeFits, judge_of, rule_in}
+use Rattle.room_network.proofs.RoomFollows.{room_follows}
+use Rattle.strata_cells.specs.declared.stratum.Stratum.{Stratum}
+use Rattle.strata_cells.specs.Strata.{cell_weight, cells_of, cells_weight, first_cell, first_cells, greatest_cell, least_cell, own_labels, size, strata_labellings}
+use Rattle.strata_cells.proofs.CellLaws.{cells_of-joined}
+use Rattle.strata_cells.proofs.FirstCells.{own-cells, weight-some}
+use Rattle.strata_cells.proofs.StrataSums.{sums-within}
+use Rattle.homogeneity.specs.Zelen.{even_labellings, even_test, has_sum, observed_labels, rarity}
+use Rattle.homogeneity.specs.ZelenNetwork.{even_meaning, even_network, even_weights, number_with, own_sum}
+use Rattle.homogeneity.specs.ZelenSteps.{CanHave}
+use Rattle.homogeneity.proofs.EvenMeasures.{even_measure, value-of}
+use Rattle.homogeneity.proofs.EvenWalk.{filter-in}
+use Rattle.homogeneity.proofs.EvenWays.{cut, even_gives, even_width}
+use Rattle.homogeneity.proofs.Rarities.{AreCells, cells-long, member-cells, rarity-by, rarity-is}
+use Rattle.homogeneity.proofs.Remaining.{number-some}
+
+-- ---- rules
+
+no-distance : (v : ℤ) → distance 0 (pos 0) v ≤ MAX
+no-distance v = subst (λ z. nat_abs (z -ℤ pos 0) ≤ MAX) (sym (zero-*ℤ v)) (omega arith)
+
+no-times : (v : ℤ) → nat_abs (pos 0 *ℤ v) ≤ MAX
+no-times v = subst (λ z. nat_abs z ≤ MAX) (sym (zero-*ℤ v)) (omega arith)
+
+at_most-fits : (t v : ℤ) → RuleFits (AtMost t) v
+at_most-fits t v = record { least_factor = lit≤ tt; observed = lit≤ tt; times = no-times v; apart = no-distance v }
+
+at_least-fits : (t v : ℤ) → RuleFits (AtLeast t) v
+at_least-fits t v = record { least_factor = lit≤ tt; observed = lit≤ tt; times = no-times v; apart = no-distance v }
+
+all-weigh : (rs : List (List ℕ)) → AllByRecursion (λ r. 1 ≤ unit_weight r) rs
+all-weigh [] = tt
+all-weigh (r ∷ rs) = (omega arith, all-weigh rs)
+
+-- ---- the labels as they are
+
+own-long : (s : Stratum) → length (own_labels s) ≡ size s
+own-long s =
+    omega (
+      arith,
+      length-append {A = ℕ} (replicate s.a 0 ++ replicate s.c 1) (replicate s.b 0 ++ replicate s.d 1),
+      length-append {A = ℕ} (replicate s.a 0) (replicate s.c 1),
+      length-append {A = ℕ} (replicate s.b 0) (replicate s.d 1),
+      length-replicate {A = ℕ} s.a 0,
+      length-replicate {A = ℕ} s.c 1,
+      length-replicate {A = ℕ} s.b 0,
+      length-replicate {A = ℕ} s.d 1,
+    )
+
+own-cell : (s : Stratum) → first_cell s (own_labels s) ≡ s.a
+own-cell s =
+    let whole : own_labels s ++ [] ≡ own_labels s = append-nil (own_labels s) in
+    let one : first_cells (s ∷ []) (own_labels s ++ []) ≡ sum_by (λ (t : Stratum). t.a) (s ∷ []) = own-cells (s ∷ []) in
+    let here : first_cell s (own_labels s) + 0 ≡ sum_by (λ (t : Stratum). t.a) (s ∷ []) = rw whole at one in
+    omega (arith, here, sum_by-cons (λ (t : Stratum). t.a) s [])
+
+-- the first cells of the strata as they are
+pub observed-cells : (strata : List Stratum) → cells_of strata (observed_labels strata) ≡ map (λ (s : Stratum). s.a) strata
+observed-cells [] = refl
+observed-cells (s ∷ strata) =
+    cells_of-joined s strata (own_labels s) (observed_labels strata) (own-long s)
+    ∙ ap (λ x. x ∷ cells_of strata (observed_labels strata)) (own-cell s) ∙ ap (λ xs. s.a ∷ xs) (observed-cells strata)
+
+pub own-cells_are : (strata : List Stratum) → AreCells strata (map (λ (s : Stratum). s.a) strata)
+own-cells_are [] = tt
+own-cells_are (s ∷ strata) = (least s, most s, own-cells_are strata)
+  where
+    least : (s : Stratum) → least_cell s ≤ s.a
+    least s = omega arith
+
+    most : (s : Stratum) → s.a ≤ greatest_cell s
+    most s = omega arith
+
+module _ (strata : List Stratum) where
+  -- the observed sum can be had
+  pub can-own : CanHave strata (own_sum strata)
+  can-own = record {
+    least = sums-within least_cell (λ s. s.a) (λ s. omega arith) strata;
+    most = sums-within (λ s. s.a) greatest_cell (λ s. omega arith) strata;
+  }
+
+  -- ---- the total
+
+  pub members-are : length (even_labellings strata) ≡ number_with strata (own_sum strata)
+  members-are =
+      sym (sum_by-one (even_labellings strata))
+      ∙ sum_by-filter (λ r. 1) (has_sum strata (first_cells strata (observed_labels strata))) (strata_labellings strata)
+      ∙ ap (λ n. sum_by (λ r. cond (has_sum strata n r) 1 0) (strata_labellings strata)) (own-cells strata)
+
+  pub total-is : total (even_test strata) ≡ number_with strata (own_sum strata)
+  total-is = sum_by-one (even_labellings strata) ∙ members-are
+
+  pub total-some : 1 ≤ total (even_test strata)
+  total-some = omega (arith, total-is, number-some strata (own_sum strata) can-own)
+
+  pub total-wide : MAX < number_with strata (own_sum strata) → too_wide (even_test strata) ≡ Some Total
+  total-wide wide = rw (lt-ltb MAX (total (even_test strata)) (omega (arith, wide, total-is))) refl
+
+  pub not-wide : number_with strata (own_sum strata) ≤ MAX → too_wide (even_test strata) ≡ None
+  not-wide fits = rw (le-ltb MAX (total (even_test strata)) (omega (arith, fits, total-is))) refl
+
+  -- ---- rarities
+
+  pub rarity-member : (r : List ℕ) → Contains (even_labellings strata) r → rarity strata r ≡ cells_weight strata (cells_of strata r)
+  rarity-member r m =
+      let given : ℕ = first_cells strata (observed_labels strata) in
+      let both = filter-in (has_sum strata given) r (strata_labellings strata) m in
+      rarity-is strata r both.0 (eqb-true (first_cells strata r) given both.1)
+
+  pub cells-member : (r : List ℕ) → Contains (even_labellings strata) r → AreCells strata (cells_of strata r)
+  cells-member r m = member-cells strata r (filter-in (has_sum strata (first_cells strata (observed_labels strata))) r (strata_labellings strata) m).0
+
+  pub observed-is : rarity strata (observed_labels strata) ≡ cells_weight strata (map (λ (s : Stratum). s.a) strata)
+  observed-is =
+      rarity-by strata (observed_labels strata) (subst (AreCells strata) (sym (observed-cells strata)) (own-cells_are strata)) refl
+      ∙ ap (cells_weight strata) (observed-cells strata)
+
+  -- ---- rules
+
+  pub rule-fits : (tail : Tail) (v : ℤ) → RuleFits (rule_of (even_test strata) tail) v
+  rule-fits Less v = at_most-fits (observed_statistic (even_test strata)) v
+  rule-fits Greater v = at_least-fits (observed_statistic (even_test strata)) v
+  rule-fits Two v = at_most-fits (pos (rarity strata (observed_labels strata))) v
+
+  pub rules-fit : RulesFit (even_test strata)
+  rules-fit = record { fits = λ tail r m. rule-fits tail (measured (even_test strata) tail r) }
+
+  judge-fits : (t : Tail) (v : ℤ) → RuleFits (rule_in (judge_of (even_test strata)) t) v
+  judge-fits Less v = rule-fits Less v
+  judge-fits Greater v = rule-fits Greater v
+  judge-fits Two v = rule-fits Two v
+
+  pub judges-fit : (v : ℤ) → JudgeFits (judge_of (even_test strata)) v
+  judges-fit v = record { fits = λ t. judge-fits t v }
+
+  pub shown : IsShown (even_test strata)
+  shown = record { has = refl; statistic_is = λ r. refl; weighty = all-weigh (even_labellings strata) }
+
+  -- ---- the network
+
+  follows-two : Follows (even_test strata) Two (even_network strata)
+  follows-two =
+      room_follows (even_meaning strata (own_sum strata) (judge_of (even_test strata))) (even_weights strata) (even_width strata (own_sum strata)) (even_measure strata (own_sum strata) can-own (judge_of (even_test strata)))
+      (even_test strata) Two (λ r. cut (cells_of strata r)) (record {
+        judge_is = refl;
+        gives = even_gives strata can-own;
+        values = λ r m. ap pos (rarity-member r m) ∙ sym (value-of strata (own_sum strata) can-own (judge_of (even_test strata)) (cells_of strata r) (cells-long strata (cells_of strata r) (cells-member r m)));
+      })
+
+  pub follows : AllFollow (even_test strata) (λ tail. even_network strata)
+  follows Less has = absurd (cc has)
+  follows Greater has = absurd (cc has)
+  follows Two has = follows-two
+
+-- ---- products of weights
+
+product-some : (a b : ℕ) → 1 ≤ a → 1 ≤ b → 1 ≤ a * b
+product-some a b h j = grind arith
+
+pub cells-some : (strata : List Stratum) (cells : List ℕ) → AreCells strata cells → 1 ≤ cells_weight strata cells
+cells-some [] [] a = omega arith
+cells-some [] (c ∷ cells) a = absurd a
+cells-some (s ∷ strata) [] a = absurd a
+cells-some (s ∷ strata) (c ∷ cells) a = product-some (cell_weight s c) (cells_weight strata cells) (weight-some s c a.0 a.1) (cells-some strata cells a.2)
+
+module _ (strata : List Stratum) (fits : number_with strata (own_sum strata) ≤ MAX) where
+  pub bounded : total (even_test strata) ≤ MAX
+  bounded = omega (arith, fits, total-is strata)
+
+  rarity-few : (r : List ℕ) → rarity strata r ≤ MAX
+  rarity-few r = omega (arith, count_by-le-length (λ other. pointwise nat_eq (cells_of strata r) (cells_of strata other)) (even_labellings strata), members-are strata, fits)
+
+  -- so no product of a member's weights passes a limit
+  pub member-weight : (r : List ℕ) → Contains (even_labellings strata) r → cells_weight strata (cells_of strata r) ≤ MAX
+  member-weight r m = omega (arith, rarity-few r, rarity-member strata r m)
+
+  pub observed-weight : cells_weight strata (map (λ (s : Stratum). s.a) strata) ≤ MAX
+  observed-weight = omega (arith, rarity-few (observed_labels strata), observed-is strata)

@@ -1,0 +1,212 @@
+-- The rooms of Zelen's test: their ways give the labellings with the observed sum, and what a reached room has.
+use Rattle.std.proofs.Common.{◌≡◌, ◌≢◌, ℕ, zero, suc, ◌+◌, ◌-◌, ◌*◌, ◌<◌, ◌≤◌, cond, List, [], ◌∷◌, length, drop, map, nat_eq, AllPairs, get_or, eq-eqb, refl, sym, ◌∙◌, ap, subst, arith, add-one, mul-one, length-drop}
+use Rattle.std.specs.Prelude.{ℤ, pos, Contains}
+use Rattle.std.specs.List.{AllByRecursion, range_with_len, sum, sum_by}
+use Rattle.std.proofs.lemmas.List.Elements.{All-contains, All-from_recursion}
+use Rattle.std.proofs.lemmas.List.FromFn.{get_or-map-range_with_len, length-map-range_with_len}
+use Rattle.weights.specs.declared.TheConstants.{MAX}
+use Rattle.weights.specs.Conditional.{unit_weight}
+use Rattle.weights.proofs.CellSums.{same-within}
+use Rattle.weights.proofs.Filters.{all_map, range-from}
+use Rattle.weights.proofs.Members.{range-below}
+use Rattle.weights.proofs.Sums.{sum_by-filter, sum_by-flat_map, sum_by-map, sum_by-same, sum_by-scaled}
+use Rattle.stage_network.specs.Completions.{path_weight, paths, total_weight}
+use Rattle.stage_network.specs.Network.{IsReached, Network}
+use Rattle.room_network.specs.Plans.{Gives, IsPlan, Plan, alone}
+use Rattle.room_network.proofs.RoomKeys.{KeepsWidth, choices_before, is_allowed}
+use Rattle.strata_cells.specs.declared.stratum.Stratum.{Stratum}
+use Rattle.strata_cells.specs.Strata.{cell_weight, cells_of, first_cells, greatest_cell, least_cell, strata_labellings, stratum_at}
+use Rattle.strata_cells.proofs.CellLaws.{by-cells}
+use Rattle.strata_cells.proofs.FirstCells.{cells-sum, own-cells, weight-some}
+use Rattle.strata_cells.proofs.StrataSums.{drop-head, next-drop}
+use Rattle.homogeneity.specs.Zelen.{even_labellings, has_sum, observed_labels}
+use Rattle.homogeneity.specs.ZelenNetwork.{choices_between, chosen, even_floor, even_plan, even_weights, greatest_choice, least_choice, number_with, own_sum, sum_left}
+use Rattle.homogeneity.specs.ZelenSteps.{CanHave}
+use Rattle.homogeneity.proofs.Given.{can-next, choice-range, number-is, over-none, with-choices, with_cell, with_sum}
+
+-- ---- choices
+
+-- a choice between two first cells
+pub record IsBetween (low high : ℕ) (c : List ℕ) : Type 0 where
+  pub one : c ≡ chosen c ∷ []
+  pub least : low ≤ chosen c
+  pub most : chosen c ≤ high
+
+between : (low high : ℕ) (c : List ℕ) → Contains (choices_between low high) c → IsBetween low high c
+between low high c m =
+    All-contains (IsBetween low high) (choices_between low high) c
+    (All-from_recursion (IsBetween low high) (choices_between low high) (all_map (IsBetween low high) (λ x. x ∷ []) (range_with_len low (high + 1 - low)) (both (range_with_len low (high + 1 - low)) (range-from low (high + 1 - low)) (range-below low (high + 1 - low))))) m
+  where
+    both : (xs : List ℕ) → AllByRecursion (λ i. low ≤ i) xs → AllByRecursion (λ i. i < low + (high + 1 - low)) xs → AllByRecursion (λ x. IsBetween low high (x ∷ [])) xs
+    both [] l h = tt
+    both (x ∷ xs) l h = (record { one = refl; least = l.0; most = omega (arith, l.0, h.0) }, both xs l.1 h.1)
+
+pub first-choice : (low high : ℕ) → low ≤ high → choices_between low high ≡ (low ∷ []) ∷ choices_between (low + 1) high
+first-choice low high h =
+    ap (λ n. map (λ x. x ∷ []) (range_with_len low n)) (let e : high + 1 - low ≡ suc (high - low) = omega (arith, h) in e)
+    ∙ ap (λ n. (low ∷ []) ∷ map (λ x. x ∷ []) (range_with_len (low + 1) n)) (let e : high - low ≡ high + 1 - (low + 1) = omega arith in e)
+
+pub no-choice : (low high : ℕ) → high < low → choices_between low high ≡ []
+no-choice low high h = ap (λ n. map (λ x. x ∷ []) (range_with_len low n)) (let e : high + 1 - low ≡ 0 = omega (arith, h) in e)
+
+ones-apart : (x y : ℕ) → x < y → x ∷ [] ≢ y ∷ []
+ones-apart x y l e = let same : x ≡ y = cc in omega arith
+
+different : (low high : ℕ) → AllPairs ◌≢◌ (choices_between low high)
+different low high i j d below inside e =
+    let n : ℕ = high + 1 - low in
+    let within : j < n = omega (arith, length-map-range_with_len (λ x. x ∷ []) low n) in
+    let first : get_or (choices_between low high) i d ≡ (low + i) ∷ [] = get_or-map-range_with_len (λ x. x ∷ []) low n i (low + i) d (omega arith) refl in
+    let second : get_or (choices_between low high) j d ≡ (low + j) ∷ [] = get_or-map-range_with_len (λ x. x ∷ []) low n j (low + j) d within refl in
+    ones-apart (low + i) (low + j) (omega arith) (sym first ∙ e ∙ second)
+
+-- ---- sums over the ways from a room
+
+abbrev gather : Network → ℕ → ℕ → List ℤ → (List (List ℕ) → ℕ) → ℕ
+gather n m g k f = sum_by (λ w. path_weight n g k w * f w) (paths n m g k)
+
+times : (a b c : ℕ) → (a * b) * c ≡ a * (b * c)
+times a b c = grind arith
+
+gather-choice : (n : Network) (m g : ℕ) (k : List ℤ) (f : List (List ℕ) → ℕ) (c : List ℕ) → sum_by (λ w. path_weight n g k w * f w) (map (λ cs. c ∷ cs) (paths n m (g + 1) (n.next g k c))) ≡ n.weight g k c * gather n m (g + 1) (n.next g k c) (λ w. f (c ∷ w))
+gather-choice n m g k f c =
+    sum_by-map (λ w. path_weight n g k w * f w) (λ cs. c ∷ cs) (paths n m (g + 1) (n.next g k c))
+    ∙ sum_by-same _ (λ w. n.weight g k c * (path_weight n (g + 1) (n.next g k c) w * f (c ∷ w))) (λ w. times (n.weight g k c) (path_weight n (g + 1) (n.next g k c) w) (f (c ∷ w))) (paths n m (g + 1) (n.next g k c))
+    ∙ sum_by-scaled (n.weight g k c) (λ w. path_weight n (g + 1) (n.next g k c) w * f (c ∷ w)) (paths n m (g + 1) (n.next g k c))
+
+gather-step : (n : Network) (m g : ℕ) (k : List ℤ) (f : List (List ℕ) → ℕ) → gather n (suc m) g k f ≡ sum_by (λ c. n.weight g k c * gather n m (g + 1) (n.next g k c) (λ w. f (c ∷ w))) (n.choices g k)
+gather-step n m g k f =
+    sum_by-flat_map (λ w. path_weight n g k w * f w) (λ c. map (λ cs. c ∷ cs) (paths n m (g + 1) (n.next g k c))) (n.choices g k)
+    ∙ sum_by-same _ _ (gather-choice n m g k f) (n.choices g k)
+
+gather-none : (n : Network) (g : ℕ) (k : List ℤ) (f : List (List ℕ) → ℕ) → gather n 0 g k f ≡ f []
+gather-none n g k f = omega arith
+
+-- the choices of a way that has these first cells
+abbrev pub cut : List ℕ → List (List ℕ)
+cut cells = map (λ x. x ∷ []) cells
+
+once : (n : ℕ) → n ≡ 1 * n
+once n = omega arith
+
+module _ (strata : List Stratum) (total : ℕ) where
+  abbrev plan : Plan
+  plan = even_plan strata total
+
+  -- the ways of a room are the labellings of the later strata that have its sum
+  module _ (t : Stratum) (ts : List Stratum) (g left : ℕ) (f : List (List ℕ) → ℕ) where
+    abbrev with_choice : ℕ → ℕ
+    with_choice x = cell_weight t x * gather (alone plan) (length ts) (g + 1) (pos (left - x) ∷ []) (λ w. f ((x ∷ []) ∷ w))
+
+    room-step : drop g strata ≡ t ∷ ts → g < length strata → gather (alone plan) (suc (length ts)) g (pos left ∷ []) f ≡ sum_by with_choice (range_with_len (least_choice t ts left) (greatest_choice t ts left + 1 - least_choice t ts left))
+    room-step d before =
+        let here = drop-head g strata t ts d in
+        let term : List ℕ → ℕ = λ c. even_weights strata g (pos left ∷ []) c * gather (alone plan) (length ts) (g + 1) (plan.floor.next g (pos left ∷ []) c) (λ w. f (c ∷ w)) in
+        gather-step (alone plan) (length ts) g (pos left ∷ []) f
+        ∙ ap (sum_by term) (choices_before plan g (pos left ∷ []) before)
+        ∙ ap (λ (s : Stratum). sum_by term (choices_between (least_choice s (drop (g + 1) strata) left) (greatest_choice s (drop (g + 1) strata) left))) here.0
+        ∙ ap (λ (later : List Stratum). sum_by term (choices_between (least_choice t later left) (greatest_choice t later left))) here.1
+        ∙ sum_by-map term (λ x. x ∷ []) (range_with_len (least_choice t ts left) (greatest_choice t ts left + 1 - least_choice t ts left))
+        ∙ sum_by-same (λ x. term (x ∷ [])) with_choice (λ x. ap (λ (s : Stratum). cell_weight s x * gather (alone plan) (length ts) (g + 1) (pos (left - x) ∷ []) (λ w. f ((x ∷ []) ∷ w))) here.0) (range_with_len (least_choice t ts left) (greatest_choice t ts left + 1 - least_choice t ts left))
+
+  ways-from : (ts : List Stratum) (g left done all : ℕ) (f : List (List ℕ) → ℕ) → drop g strata ≡ ts → g + length ts ≡ length strata → done + left ≡ all → CanHave ts left → gather (alone plan) (length ts) g (pos left ∷ []) f ≡ with_sum ts done all (λ cells. f (cut cells))
+  ways-from [] g left done all f d e sums can =
+      let same : done + 0 ≡ all = omega (arith, sums, can.most) in
+      gather-none (alone plan) g (pos left ∷ []) f
+      ∙ sym (over-none (λ cells. cond (nat_eq (done + sum cells) all) (f (cut cells)) 0) ∙ ap (λ b. cond b (f []) 0) (eq-eqb (done + 0) all same))
+  ways-from (t ∷ ts) g left done all f d e sums can =
+      let r = choice-range t ts left can in
+      let from : ℕ = least_choice t ts left in
+      let to : ℕ = greatest_choice t ts left in
+      let here = drop-head g strata t ts d in
+      room-step t ts g left f d (omega (arith, e))
+      ∙ same-within (with_choice t ts g left f) (with_cell t ts done all (λ cells. f (cut cells))) from (to + 1 - from) (λ x l m.
+      (let most : x ≤ to = omega (arith, m, r.some) in
+      ap (λ n. cell_weight t x * n) (ways-from ts (g + 1) (left - x) (done + x) all (λ w. f ((x ∷ []) ∷ w)) here.1 (omega (arith, e)) (omega (arith, sums, most, r.within)) (can-next t ts left can x l most))))
+      ∙ sym (with-choices t ts left can done all (λ cells. f (cut cells)) sums)
+
+  pub even_width : KeepsWidth (even_floor strata total)
+  even_width = record { first_long = refl; next_long = λ g room c e. refl }
+
+  module _ (start : CanHave strata total) where
+    -- what a reached room has
+    pub record IsEvenRoom (g : ℕ) (room : List ℤ) : Type 0 where
+      pub held : room ≡ pos (sum_left room) ∷ []
+      pub stage : g ≤ length strata
+      pub can : CanHave (drop g strata) (sum_left room)
+
+    room-of : (g : ℕ) (room : List ℤ) (left : ℕ) → room ≡ pos left ∷ [] → g ≤ length strata → CanHave (drop g strata) left → IsEvenRoom g room
+    room-of g room left e h can = rw e (record { held = refl; stage = h; can = can })
+
+    -- what is allowed there
+    pub record IsEvenChoice (g : ℕ) (room : List ℤ) (c : List ℕ) : Type 0 where
+      pub between : IsBetween (least_choice (stratum_at strata g) (drop (g + 1) strata) (sum_left room)) (greatest_choice (stratum_at strata g) (drop (g + 1) strata) (sum_left room)) c
+      pub can : CanHave (drop (g + 1) strata) (sum_left room - chosen c)
+      pub least : least_cell (stratum_at strata g) ≤ chosen c
+      pub most : chosen c ≤ greatest_cell (stratum_at strata g)
+      pub left : chosen c ≤ sum_left room
+
+    pub here-can : (g : ℕ) (room : List ℤ) → IsEvenRoom g room → g < length strata → CanHave (stratum_at strata g ∷ drop (g + 1) strata) (sum_left room)
+    here-can g room r before = subst (λ ts. CanHave ts (sum_left room)) (next-drop strata g before) r.can
+
+    pub choice-of : (g : ℕ) (room : List ℤ) (c : List ℕ) → IsEvenRoom g room → g < length strata → Contains (plan.floor.choices g room) c → IsEvenChoice g room c
+    choice-of g room c r before m =
+        let can = here-can g room r before in
+        let range = choice-range (stratum_at strata g) (drop (g + 1) strata) (sum_left room) can in
+        let b = between (least_choice (stratum_at strata g) (drop (g + 1) strata) (sum_left room)) (greatest_choice (stratum_at strata g) (drop (g + 1) strata) (sum_left room)) c m in
+        record {
+          between = b;
+          can = can-next (stratum_at strata g) (drop (g + 1) strata) (sum_left room) can (chosen c) b.least b.most;
+          least = omega (arith, range.low, b.least);
+          most = omega (arith, range.high, b.most);
+          left = omega (arith, range.within, b.most);
+        }
+
+    pub even-room : (g : ℕ) (room : List ℤ) → IsReached (alone plan) g room → IsEvenRoom g room
+    even-room zero room r = room-of 0 room total r (omega arith) start
+    even-room (suc g) room (j, c, r, before, o, e) =
+        let past = even-room g j r in
+        let choice = choice-of g j c past before (is_allowed plan g j c before o) in
+        room-of (suc g) room (sum_left j - chosen c) e (omega (arith, before)) (subst (λ n. CanHave (drop n strata) (sum_left j - chosen c)) (add-one g) choice.can)
+
+    pub rest-is : (g : ℕ) (room : List ℤ) → IsEvenRoom g room → total_weight (alone plan) g room ≡ number_with (drop g strata) (sum_left room)
+    unfolding total_weight
+    rest-is g room r =
+        let left : ℕ = sum_left room in
+        let stages : length strata - g ≡ length (drop g strata) = sym (length-drop g strata) in
+        ap (λ (k : List ℤ). sum_by (path_weight (alone plan) g k) (paths (alone plan) (length strata - g) g k)) r.held
+        ∙ ap (λ n. sum_by (path_weight (alone plan) g (pos left ∷ [])) (paths (alone plan) n g (pos left ∷ []))) stages
+        ∙ sum_by-same (path_weight (alone plan) g (pos left ∷ [])) (λ w. path_weight (alone plan) g (pos left ∷ []) w * 1) (λ w. sym (mul-one (path_weight (alone plan) g (pos left ∷ []) w))) (paths (alone plan) (length (drop g strata)) g (pos left ∷ []))
+        ∙ ways-from (drop g strata) g left 0 left (λ w. 1) refl (omega (arith, stages, r.stage)) (omega arith) r.can
+        ∙ sym (number-is (drop g strata) left)
+
+    first-room : IsEvenRoom 0 (pos total ∷ [])
+    first-room = even-room 0 (pos total ∷ []) refl
+
+    pub even_sound : number_with strata total ≤ MAX → IsPlan plan
+    even_sound fits = record {
+      first_long = even_width.first_long;
+      next_long = even_width.next_long;
+      some_choice = λ g room r before e. (let range = choice-range (stratum_at strata g) (drop (g + 1) strata) (sum_left room) (here-can g room (even-room g room r) before) in
+          let first = first-choice (least_choice (stratum_at strata g) (drop (g + 1) strata) (sum_left room)) (greatest_choice (stratum_at strata g) (drop (g + 1) strata) (sum_left room)) range.some in
+          absurd (cc (first, e)));
+      different = λ g room r before. different (least_choice (stratum_at strata g) (drop (g + 1) strata) (sum_left room)) (greatest_choice (stratum_at strata g) (drop (g + 1) strata) (sum_left room));
+      weighty = λ g room c r before o. (let choice = choice-of g room c (even-room g room r) before o in weight-some (stratum_at strata g) (chosen c) choice.least choice.most);
+      fits = omega (arith, rest-is 0 (pos total ∷ []) first-room, fits);
+    }
+
+-- the law
+module _ (strata : List Stratum) (can : CanHave strata (own_sum strata)) where
+  pub even_gives : Gives (even_plan strata (own_sum strata)) (even_labellings strata) unit_weight (λ xs. cut (cells_of strata xs))
+  even_gives = record {
+    law = λ f. (let all : ℕ = own_sum strata in
+        let given : ℕ = first_cells strata (observed_labels strata) in
+        ap (λ m. gather (alone (even_plan strata all)) m 0 (pos all ∷ []) f) (let e : length strata - 0 ≡ length strata = omega arith in e)
+        ∙ ways-from strata all strata 0 all 0 all f refl (omega arith) (omega arith) can
+        ∙ sym (by-cells strata (λ cells. cond (nat_eq (0 + sum cells) all) (f (cut cells)) 0))
+        ∙ sum_by-same (λ xs. cond (nat_eq (0 + sum (cells_of strata xs)) all) (f (cut (cells_of strata xs))) 0) (λ xs. cond (has_sum strata given xs) (1 * f (cut (cells_of strata xs))) 0) (λ xs.
+        ap (λ n. cond (nat_eq n all) (f (cut (cells_of strata xs))) 0) (let e : 0 + sum (cells_of strata xs) ≡ first_cells strata xs = omega (arith, cells-sum strata xs) in e)
+        ∙ ap (λ n. cond (nat_eq (first_cells strata xs) n) (f (cut (cells_of strata xs))) 0) (sym (own-cells strata))
+        ∙ ap (λ n. cond (has_sum strata given xs) n 0) (once (f (cut (cells_of strata xs))))) (strata_labellings strata)
+        ∙ sym (sum_by-filter (λ xs. 1 * f (cut (cells_of strata xs))) (has_sum strata given) (strata_labellings strata)));
+  }

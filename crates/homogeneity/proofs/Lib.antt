@@ -1,0 +1,29 @@
+mod TwoParts
+mod RankLaw
+mod RankSums
+mod RankPlans
+mod RankReads
+mod RankSeats
+mod RankPlaces
+mod RankData
+mod RankValues
+mod RankFitting
+mod RankVectors
+mod StrataReads
+mod StrataLoops
+mod StrataTotals
+pub mod Vectors
+pub mod Unimodal
+pub mod Given
+pub mod EvenWays
+pub mod Adding
+pub mod Remaining
+pub mod Windows
+pub mod Bodies
+pub mod EvenMeasures
+pub mod Rarities
+pub mod EvenWalk
+pub mod EvenTests
+pub mod CellProducts
+pub mod ZelenWays
+mod RankWays

@@ -1,0 +1,66 @@
+-- What the bodies of the measure read of a reached room and partial.
+use Rattle.std.proofs.Common.{◌≡◌, ℕ, zero, suc, ◌+◌, ◌*◌, ◌<◌, ◌≤◌, List, [], ◌∷◌, drop, length, refl, sym, ◌∙◌, ap, subst, arith}
+use Rattle.std.specs.Prelude.{ℤ, pos, ◌+ℤ◌, slice_index}
+use Rattle.std.specs.List.{Contains, sum}
+use Rattle.stage_network.specs.declared.verdicts.Judge.{Judge}
+use Rattle.room_network.specs.Meanings.{AreReached, IsMove}
+use Rattle.homogeneity.specs.RankRooms.{column_at, column_ranks, greatest_added, least_added, left, rank_floor, rank_meaning, remaining, so_far}
+use Rattle.homogeneity.specs.RankSteps.{AreColumns, AreFitColumns, IsOneCount, IsOneSum}
+use Rattle.homogeneity.specs.declared.rank_columns.Column.{Column}
+use Rattle.homogeneity.proofs.RankPlans.{IsChoiceAt, IsPlaceAt, choice_at, columns-from, place_at}
+use Rattle.homogeneity.proofs.RankSeats.{left-few}
+use Rattle.homogeneity.proofs.RankSums.{columns-sound_at, greatest-within, least-within}
+
+pub record Place (columns : List Column) (g : ℕ) (room p : List ℤ) : Type 0 where
+  pub one : IsOneCount room
+  pub sum_is : IsOneSum p
+  pub stage : g ≤ length columns
+  pub sound : AreColumns (drop g columns)
+  pub within : remaining room ≤ left (drop g columns)
+  pub ranks : sum (column_ranks (drop g columns)) ≤ sum (column_ranks columns)
+  pub least : remaining p + least_added (drop g columns) (remaining room) ≤ sum (column_ranks columns)
+  pub greatest : remaining p + greatest_added (drop g columns) (remaining room) ≤ sum (column_ranks columns)
+
+module _ (columns : List Column) (second : ℕ) (f : AreFitColumns columns second) (judge : Judge) where
+  s : AreColumns columns
+  s = columns-sound_at columns f.sound
+
+  stage-of : (g : ℕ) (room p : List ℤ) → AreReached (rank_meaning columns second judge) g room p → g ≤ length columns
+  stage-of zero room p r = omega arith
+  stage-of (suc g) room p (j, q, x, r, before, o, e, d) = omega (arith, before)
+
+  pub place : (g : ℕ) (room p : List ℤ) → AreReached (rank_meaning columns second judge) g room p → Place columns g room p
+  place g room p r =
+      let at : IsPlaceAt columns second s f.within judge g room p = place_at columns second s f.within judge g room p r in
+      let same : remaining room ≡ at.lies.count = ap remaining at.lies.is in
+      let sum_same : remaining p ≡ at.sum_so_far = ap remaining at.partial_is in
+      let sound : AreColumns (drop g columns) = columns-from columns g s in
+      let within : remaining room ≤ left (drop g columns) = omega (arith, same, at.lies.within) in
+      record {
+        one = record { is = at.lies.is ∙ ap (λ n. pos n ∷ []) (sym same); small = omega (arith, within, left-few (drop g columns) sound) };
+        sum_is = record { is = at.partial_is ∙ ap (λ n. pos n ∷ []) (sym sum_same) };
+        stage = stage-of g room p r;
+        sound = sound;
+        within = within;
+        ranks = omega (arith, at.within);
+        least = omega (arith, at.within, sum_same, least-within (drop g columns) (remaining room) sound within);
+        greatest = omega (arith, at.within, sum_same, greatest-within (drop g columns) (remaining room) sound);
+      }
+
+  pub record Moves (g : ℕ) (x : List ℕ) (p : List ℤ) : Type 0 where
+    pub long : 0 < length x
+    pub fits : remaining p + slice_index x 0 * (column_at columns g).rank ≤ sum (column_ranks columns)
+
+  pub moves : (g : ℕ) (room : List ℤ) (x : List ℕ) (p : List ℤ) → IsMove (rank_meaning columns second judge) g room x p → Moves g x p
+  moves g room x p v =
+      let here : IsPlaceAt columns second s f.within judge g room p = place_at columns second s f.within judge g room p v.reached in
+      let next : IsPlaceAt columns second s f.within judge (suc g) ((rank_floor columns second).next g room x) ((rank_meaning columns second judge).advance g room x p) = place_at columns second s f.within judge (suc g) _ _ (room, p, x, v.reached, v.before, v.allowed, refl, refl) in
+      let choice : IsChoiceAt columns g here.lies.count x = choice_at columns second s g here.lies.count x v.before here.lies.within (subst (λ k. Contains ((rank_floor columns second).choices g k) x) here.lies.is v.allowed) in
+      let long : length x ≡ 1 = ap length choice.is in
+      let sum_same : remaining p ≡ here.sum_so_far = ap remaining here.partial_is in
+      let told : remaining ((rank_meaning columns second judge).advance g room x p) ≡ here.sum_so_far + slice_index x 0 * (column_at columns g).rank = ap (λ q. remaining ((rank_meaning columns second judge).advance g room x q)) here.partial_is in
+      let next_same : remaining ((rank_meaning columns second judge).advance g room x p) ≡ next.sum_so_far = ap remaining next.partial_is in
+      record { long = omega (arith, long); fits = omega (arith, sum_same, told, next_same, next.within) }
+
+pub added-sum : (p : List ℤ) (t : ℕ) → IsOneSum p → so_far p +ℤ pos t ≡ pos (remaining p + t)
+added-sum p t e = ap (λ q. so_far q +ℤ pos t) e.is

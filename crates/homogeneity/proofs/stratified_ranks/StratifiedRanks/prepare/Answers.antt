@@ -1,0 +1,22 @@
+use Rattle.std.proofs.Common.{refl, arith}
+use Rattle.weights.proofs.Centred.{not-wide, total-wide}
+use Rattle.sample_reader.specs.Data.{strata_data_of}
+use Rattle.sample_reader.specs.StrataGroups.{StrataGroupData}
+use Rattle.homogeneity.specs.StratifiedRanks.{stratified_rank_test}
+use Rattle.homogeneity.proofs.RankFitting.{bound-fits}
+use Rattle.homogeneity.proofs.stratified_ranks.StratifiedRanks.prepare.Goals as goal
+
+pub returns-in_default : goal.returns-in_default
+returns-in_default c =
+    let samples : StrataGroupData = strata_data_of c.args.samples.now in
+    let wide = rw c.in_default.is at c.in_ok-made.ensures in
+    total-wide (stratified_rank_test samples) refl (λ fits. omega (arith, wide, fits))
+
+pub invariant_of-result : goal.invariant_of-result
+invariant_of-result c = rw (c.in_ok-copy.ensures, c.in_ok-copy-2.ensures, c.in_ok-copy-3.ensures, c.in_ok-copy-4.ensures, c.in_ok-copy-5.ensures) (rw c.in-Some.is at c.in_ok-made.ensures)
+
+pub returns : goal.returns
+returns c =
+    let samples : StrataGroupData = strata_data_of c.args.samples.now in
+    let made = rw c.in-Some.is at c.in_ok-made.ensures in
+    (rw (c.in_ok-copy.ensures, c.in_ok-copy-2.ensures, c.in_ok-copy-3.ensures, c.in_ok-copy-4.ensures, c.in_ok-copy-5.ensures) refl, not-wide (stratified_rank_test samples) refl made.total_fits (bound-fits samples made.usable))

@@ -1,0 +1,18 @@
+-- The tests over strata: whether the odds ratio is the same in all, or of two samples by ranks.
+use Rattle.std.specs.Prelude.{ℕ, List}
+use Rattle.weights.specs.Conditional.{ConditionalTest}
+use Rattle.weights.specs.declared.tails.Tail.{Tail}
+use Rattle.sample_reader.specs.StrataGroups.{StrataGroupData}
+use Rattle.stage_network.specs.declared.one_of.OneOf.{OneOf}
+use Rattle.stage_network.specs.Network.{Network}
+use Rattle.stage_network.specs.OneOf.{of_either}
+use Rattle.homogeneity.specs.RankNetworks.{stratified_rank_network}
+use Rattle.homogeneity.specs.StratifiedRanks.{stratified_rank_test}
+use Rattle.homogeneity.specs.Zelen.{zelen_test}
+use Rattle.homogeneity.specs.ZelenNetwork.{zelen_network}
+
+abbrev pub homogeneity_test : OneOf (List ℕ) StrataGroupData → ConditionalTest
+homogeneity_test = of_either zelen_test stratified_rank_test
+
+abbrev pub homogeneity_network : OneOf (List ℕ) StrataGroupData → Tail → Network
+homogeneity_network = of_either zelen_network stratified_rank_network

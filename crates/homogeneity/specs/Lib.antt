@@ -1,0 +1,12 @@
+pub mod Zelen
+pub mod StratifiedRanks
+pub mod ZelenNetwork
+pub mod RankRooms
+pub mod RankNetworks
+pub mod Homogeneities
+pub mod EvenSteps
+pub mod ZelenSteps
+pub mod ZelenMade
+pub mod RankSteps
+pub mod StrataSteps
+pub mod RankMade

@@ -1,0 +1,74 @@
+-- Words for the bodies: what columns owe each other, and what is kept of each stage.
+use Rattle.std.specs.Prelude.{◌≡◌, ⊤, ℕ, ℤ, pos, ◌+◌, ◌-◌, ◌*◌, ◌<◌, ◌≤◌, List, [], ◌∷◌, drop, get_or, length, nat_abs, nat_eq, slice_index_or, unsigned_abs, if◌then◌else◌}
+use Rattle.std.specs.List.{sum}
+use Rattle.weights.specs.declared.TheConstants.{MAX}
+use Rattle.midranks.specs.declared.TheConstants.{MOST_VALUES}
+use Rattle.stage_network.specs.Judged.{JudgeFits}
+use Rattle.stage_network.specs.declared.verdicts.Judge.{Judge}
+use Rattle.homogeneity.specs.RankRooms.{column_at, column_ranks, left, remaining, ways_of}
+use Rattle.homogeneity.specs.declared.rank_columns.Column.{Column}
+
+-- the rank of the first column, 0 where there is none
+abbrev pub first_rank : List Column → ℕ
+first_rank [] = 0
+first_rank (c ∷ columns) = c.rank
+
+-- a column and those behind it: the others of its stratum, whose ranks are not below its own, or
+-- behind the last one of the stratum those of the next
+pub record IsColumn (c : Column) (columns : List Column) : Type 0 where
+  pub small : c.size + c.later ≤ MOST_VALUES
+  pub on : 0 < c.later → left columns ≡ c.later
+  pub rises : 0 < c.later → c.rank ≤ first_rank columns
+  pub ahead : c.later ≡ 0 → c.ahead ≤ left columns
+
+abbrev pub AreColumns : List Column → Type 0
+AreColumns [] = ⊤
+AreColumns (c ∷ columns) = IsColumn c columns × AreColumns columns
+
+-- the same, stage by stage
+pub record AreSound (columns : List Column) : Type 0 where
+  pub each : (g : ℕ) → g < length columns → IsColumn (column_at columns g) (drop (g + 1) columns)
+
+-- how many labellings all later strata have
+abbrev pub later_ways : List Column → ℕ
+later_ways [] = 1
+later_ways (c ∷ columns) =
+    (if nat_eq c.later 0 then ways_of (left columns) c.ahead else 1) * later_ways columns
+
+-- that of the last stages: none, the last one, and so on
+pub record AreLaterWays (columns : List Column) (done : ℕ) (ways : List ℕ) : Type 0 where
+  pub long : length ways ≡ done + 1
+  pub within : done ≤ length columns
+  pub each : (i : ℕ) → i ≤ done
+      → get_or ways i 0 ≡ later_ways (drop (length columns - i) columns)
+
+-- columns whose labellings pass no limit, with so many of the second group in the first stratum
+pub record AreFitColumns (columns : List Column) (second : ℕ) : Type 0 where
+  pub sound : AreSound columns
+  pub within : second ≤ left columns
+  pub total_fits : ways_of (left columns) second * later_ways columns ≤ MAX
+  pub ranks_fit : sum (column_ranks columns) ≤ MAX
+
+pub record AreRankRooms (columns : List Column) (second : ℕ) (ways : List ℕ) : Type 0 where
+  pub fit : AreFitColumns columns second
+  pub ways_are : AreLaterWays columns (length columns) ways
+
+-- a room of one count
+pub record IsOneCount (room : List ℤ) : Type 0 where
+  pub is : room ≡ pos (remaining room) ∷ []
+  pub small : remaining room ≤ MOST_VALUES
+
+-- and rules that compute no great number of a sum of ranks
+pub record AreRankSums (columns : List Column) (second : ℕ) (judge : Judge) : Type 0 where
+  pub fit : AreFitColumns columns second
+  pub judge_fits : (v : ℤ) → unsigned_abs v ≤ sum (column_ranks columns) → JudgeFits judge v
+
+-- lists of one sum, and of two
+pub record IsOneSum (numbers : List ℤ) : Type 0 where
+  pub is : numbers ≡ pos (remaining numbers) ∷ []
+
+abbrev pub second_in : List ℤ → ℕ
+second_in numbers = nat_abs (slice_index_or numbers 1 (pos 0))
+
+pub record AreTwoSums (numbers : List ℤ) : Type 0 where
+  pub are : numbers ≡ pos (remaining numbers) ∷ pos (second_in numbers) ∷ []

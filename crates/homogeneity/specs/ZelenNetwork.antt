@@ -1,0 +1,105 @@
+-- The network of Zelen's test: a stage is a stratum, in the order of the file, and its choice is
+-- the first cell. A room has what is left of the sum of the first cells.
+use Rattle.std.specs.Prelude.{ℕ, ◌+◌, ◌-◌, ◌*◌, ℤ, pos, nat_abs, List, [], ◌∷◌, length, map, drop, max, min, slice_index, slice_index_or}
+use Rattle.std.specs.List.{count_by, range_with_len, sum_by}
+use Rattle.weights.specs.declared.tails.Tail.{Tail}
+use Rattle.stage_network.specs.Judged.{judge_of}
+use Rattle.stage_network.specs.Network.{Network}
+use Rattle.stage_network.specs.declared.verdicts.Judge.{Judge}
+use Rattle.room_network.specs.Meanings.{Meaning}
+use Rattle.room_network.specs.Plans.{Floor, Plan, Weights}
+use Rattle.room_network.specs.RoomNetworks.{room_network}
+use Rattle.strata_cells.specs.declared.stratum.Stratum.{Stratum}
+use Rattle.strata_cells.specs.Strata.{cell_weight, greatest_cell, least_cell, stratum_at, strata_labellings, strata_of}
+use Rattle.homogeneity.specs.Zelen.{even_test, has_sum}
+
+-- the sum of the first cells as they are, and the least and the greatest that labels can give
+abbrev pub own_sum : List Stratum → ℕ
+own_sum strata = sum_by (λ s. s.a) strata
+
+abbrev pub least_sum : List Stratum → ℕ
+least_sum strata = sum_by least_cell strata
+
+abbrev pub greatest_sum : List Stratum → ℕ
+greatest_sum strata = sum_by greatest_cell strata
+
+-- the first cells of a stratum after which the later ones can have the rest of a sum
+abbrev pub least_choice : Stratum → List Stratum → ℕ → ℕ
+least_choice s later sum = max (least_cell s) (sum - greatest_sum later)
+
+abbrev pub greatest_choice : Stratum → List Stratum → ℕ → ℕ
+greatest_choice s later sum = min (greatest_cell s) (sum - least_sum later)
+
+-- the choices from one first cell to another
+abbrev pub choices_between : ℕ → ℕ → List (List ℕ)
+choices_between least greatest = map (λ x. x ∷ []) (range_with_len least (greatest + 1 - least))
+
+-- the one number of a room, a choice and a partial
+abbrev pub sum_left : List ℤ → ℕ
+sum_left room = nat_abs (slice_index_or room 0 (pos 0))
+
+abbrev pub chosen : List ℕ → ℕ
+chosen choice = slice_index choice 0
+
+abbrev pub product_of : List ℤ → ℕ
+product_of partial = nat_abs (slice_index_or partial 0 (pos 0))
+
+abbrev pub even_floor : List Stratum → ℕ → Floor
+even_floor strata sum = record {
+  count = length strata;
+  width = 1;
+  choice_width = 1;
+  first = pos sum ∷ [];
+  choices = λ g room. let s = stratum_at strata g in let later = drop (g + 1) strata in
+      choices_between (least_choice s later (sum_left room))
+      (greatest_choice s later (sum_left room));
+  later = λ g room c. let s = stratum_at strata g in let later = drop (g + 1) strata in
+      choices_between (chosen c + 1) (greatest_choice s later (sum_left room));
+  next = λ g room c. pos (sum_left room - chosen c) ∷ [];
+}
+
+-- a first cell weighs as many labellings as give it
+abbrev pub even_weights : List Stratum → Weights
+even_weights strata g room c = cell_weight (stratum_at strata g) (chosen c)
+
+abbrev pub even_plan : List Stratum → ℕ → Plan
+even_plan strata sum = record { floor = even_floor strata sum; weight = even_weights strata }
+
+-- the lesser of what the least and the greatest first cell weigh; and the product over strata
+abbrev pub lesser_weight : Stratum → ℕ
+lesser_weight s = min (cell_weight s (least_cell s)) (cell_weight s (greatest_cell s))
+
+abbrev pub lesser_weights : List Stratum → ℕ
+lesser_weights [] = 1
+lesser_weights (s ∷ strata) = lesser_weight s * lesser_weights strata
+
+-- how many labellings of strata have a sum of their first cells
+abbrev pub number_with : List Stratum → ℕ → ℕ
+number_with strata sum = count_by (has_sum strata sum) (strata_labellings strata)
+
+-- What is measured is the product of the weights. The later strata multiply it at least by their
+-- lesser weights, and at most by the number of their labellings that have the sum that is left.
+abbrev pub even_meaning : List Stratum → ℕ → Judge → Meaning
+even_meaning strata sum judge = record {
+  floor = even_floor strata sum;
+  slots = 1;
+  step_width = 1;
+  outlook_width = 2;
+  first = pos 1 ∷ [];
+  step = λ g room c. pos (even_weights strata g room c) ∷ [];
+  advance = λ g room c p. pos (product_of p * even_weights strata g room c) ∷ [];
+  outlook = λ g room. pos (lesser_weights (drop g strata))
+      ∷ pos (number_with (drop g strata) (sum_left room)) ∷ [];
+  value = λ p. slice_index_or p 0 (pos 0);
+  low = λ g room p. pos (product_of p * lesser_weights (drop g strata));
+  high = λ g room p. pos (product_of p * number_with (drop g strata) (sum_left room));
+  judge = judge;
+}
+
+abbrev pub even_network : List Stratum → Network
+even_network strata =
+    room_network (even_meaning strata (own_sum strata) (judge_of (even_test strata)))
+    (even_weights strata)
+
+abbrev pub zelen_network : List ℕ → Tail → Network
+zelen_network cells tail = even_network (strata_of cells)

@@ -1,0 +1,121 @@
+-- What is kept of strata that are prepared for Zelen's test: for each stratum what can be left of
+-- the sum before it, and how many labellings from it on have each of these sums.
+use Rattle.std.specs.Prelude.{◌≡◌, ℕ, suc, ◌+◌, ◌-◌, ◌*◌, ◌<◌, ◌≤◌, List, length, drop, max, min, slice_index, slice_index_or, ℤ}
+use Rattle.std.specs.List.{range_with_len, sum_by}
+use Rattle.weights.specs.declared.TheConstants.{MAX}
+use Rattle.record_reader.specs.declared.TheConstants.{MOST_ROWS}
+use Rattle.stage_network.specs.Judged.{JudgeFits}
+use Rattle.stage_network.specs.declared.verdicts.Judge.{Judge}
+use Rattle.strata_cells.specs.declared.stratum.Stratum.{Stratum}
+use Rattle.strata_cells.specs.Strata.{cell_weight, greatest_cell, least_cell}
+use Rattle.strata_cells.specs.StrataLimits.{AreSmall, IsSmall}
+use Rattle.homogeneity.specs.ZelenNetwork.{greatest_sum, least_sum, lesser_weights, number_with}
+use Rattle.homogeneity.specs.declared.laters.Later.{Later}
+
+-- a sum that first cells of strata can have
+pub record CanHave (strata : List Stratum) (sum : ℕ) : Type 0 where
+  pub least : least_sum strata ≤ sum
+  pub most : sum ≤ greatest_sum strata
+
+-- what can be left of a sum before stratum g, where the strata before it and those from it on have
+-- their least and their greatest first cells
+abbrev pub least_left : List Stratum → ℕ → ℕ → ℕ
+least_left strata sum g =
+    let later = drop g strata in
+    max (sum + greatest_sum later - greatest_sum strata) (least_sum later)
+
+abbrev pub most_left : List Stratum → ℕ → ℕ → ℕ
+most_left strata sum g =
+    let later = drop g strata in
+    min (sum + least_sum later - least_sum strata) (greatest_sum later)
+
+pub record IsLeft (strata : List Stratum) (sum g left : ℕ) : Type 0 where
+  pub least : least_left strata sum g ≤ left
+  pub most : left ≤ most_left strata sum g
+
+-- what is kept of the strata from g on
+pub record IsLater (strata : List Stratum) (sum g : ℕ) (later : Later) : Type 0 where
+  pub least : later.least ≡ least_sum (drop g strata)
+  pub most : later.most ≡ greatest_sum (drop g strata)
+  pub first : later.first ≡ least_left strata sum g
+  pub long : length later.numbers ≡ most_left strata sum g + 1 - least_left strata sum g
+  pub each : (left : ℕ) → IsLeft strata sum g left
+      → slice_index later.numbers (left - later.first) ≡ number_with (drop g strata) left
+  pub fits : (left : ℕ) → IsLeft strata sum g left → number_with (drop g strata) left ≤ MAX
+
+-- strata of a file, and a sum that they can have
+pub record AreSummed (strata : List Stratum) (sum : ℕ) : Type 0 where
+  pub small : AreSmall strata
+  pub few : length strata ≤ MOST_ROWS
+  pub can : CanHave strata sum
+
+-- what is kept of all strata from g on, the last first
+pub record AreLaters (strata : List Stratum) (sum g : ℕ) (laters : List Later) : Type 0 where
+  pub long : length laters ≡ suc (length strata - g)
+  pub each : (i : ℕ) (d : Later) → i < length laters
+      → IsLater strata sum (length strata - i) (slice_index_or laters i d)
+
+-- and where their labellings with the sum are few enough
+pub record AreRests (strata : List Stratum) (sum : ℕ) (laters : List Later) : Type 0 where
+  pub summed : AreSummed strata sum
+  pub laters_are : AreLaters strata sum 0 laters
+  pub fits : number_with strata sum ≤ MAX
+
+-- the products of the lesser weights, from the last stratum back to stratum g
+pub record AreLesser (strata : List Stratum) (g : ℕ) (lesser : List ℕ) : Type 0 where
+  pub long : length lesser ≡ suc (length strata - g)
+  pub each : (i : ℕ) → i < length lesser
+      → slice_index lesser i ≡ lesser_weights (drop (length strata - i) strata)
+
+-- what a measure keeps: these products, and rules that compute no number past a limit
+pub record IsEvenMeasure (strata : List Stratum) (lesser : List ℕ) (judge : Judge) : Type 0 where
+  pub lesser_are : AreLesser strata 0 lesser
+  pub rules_fit : (v : ℤ) → JudgeFits judge v
+
+-- ---- what the bodies compute
+
+-- the first cells that can be chosen where so much is left, and how many labellings follow one
+abbrev pub choice_from : Stratum → Later → ℕ → ℕ
+choice_from s later left = max (least_cell s) (left - later.most)
+
+abbrev pub choice_to : Stratum → Later → ℕ → ℕ
+choice_to s later left = min (greatest_cell s) (left - later.least)
+
+abbrev pub kept_number : Later → ℕ → ℕ
+kept_number later left = slice_index later.numbers (left - later.first)
+
+abbrev pub counted_cell : Stratum → Later → ℕ → ℕ → ℕ
+counted_cell s later left x = cell_weight s x * kept_number later (left - x)
+
+abbrev pub counted : Stratum → Later → ℕ → ℕ
+counted s later left =
+    let from = choice_from s later left in
+    sum_by (counted_cell s later left) (range_with_len from (choice_to s later left + 1 - from))
+
+-- a first cell after which a number is kept for what is left
+pub record IsKept (s : Stratum) (later : Later) (left x : ℕ) : Type 0 where
+  pub least : least_cell s ≤ x
+  pub most : x ≤ greatest_cell s
+  pub left_some : x + later.first ≤ left
+  pub within : left - x - later.first < length later.numbers
+  pub some : 1 ≤ kept_number later (left - x)
+
+pub record IsCountable (s : Stratum) (later : Later) (left : ℕ) : Type 0 where
+  pub small : IsSmall s
+  pub choices : choice_from s later left ≤ choice_to s later left
+  pub kept : (x : ℕ) → choice_from s later left ≤ x → x ≤ choice_to s later left
+      → IsKept s later left x
+
+-- numbers for all that can be left, and one that passes MAX
+pub record AreNumbers (s : Stratum) (later : Later) (first end : ℕ) (numbers : List ℕ)
+    : Type 0 where
+  pub long : length numbers ≡ end - first
+  pub each : (left : ℕ) → first ≤ left → left < end
+      → slice_index numbers (left - first) ≡ counted s later left
+  pub fits : (left : ℕ) → first ≤ left → left < end → counted s later left ≤ MAX
+
+pub record IsPast (s : Stratum) (later : Later) (first last : ℕ) : Type 0 where
+  pub left : ℕ
+  pub least : first ≤ left
+  pub most : left ≤ last
+  pub past : MAX < counted s later left

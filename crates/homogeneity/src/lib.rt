@@ -1,0 +1,66 @@
+//! Tests over strata: `zelen`, whether the odds ratio is the same in all, and `stratranksum`, of
+//! two samples by ranks within strata.
+#![tactic(auto)]
+
+ghost use Rattle.std.specs.Prelude.{◌≡◌, ◌≤◌, IfOk};
+ghost use Rattle.weights.specs.Conditional.{distribution};
+ghost use Rattle.stage_network.specs.Follows.{HasTails, answer_of, open_keys};
+ghost use Rattle.stage_network.specs.Lines.{TailsFit, WeightsFit};
+ghost use Rattle.homogeneity.specs.Homogeneities.{homogeneity_network, homogeneity_test};
+
+mod cell_weights;
+mod even_walk;
+mod homogeneity_test;
+mod laters;
+mod rank_columns;
+mod rank_made;
+mod rank_measure;
+mod rank_rooms;
+mod rank_strata;
+mod rank_sums;
+mod rank_ways;
+mod ranked;
+mod rests;
+mod stratified_ranks;
+mod zelen;
+mod zelen_measure;
+mod zelen_rooms;
+mod zelen_ways;
+
+pub use homogeneity_test::{Homogeneity, prepare_ranks, prepare_zelen};
+pub use rank_measure::RankMeasure;
+pub use rank_rooms::RankRooms;
+use stage_network::{Answer, Spread, Way};
+use std::alloc::Global;
+pub use stratified_ranks::StratifiedRanks;
+use weights::{NoMemory, Tails};
+pub use zelen::Zelen;
+pub use zelen_measure::ZelenMeasure;
+pub use zelen_rooms::ZelenRooms;
+
+/// The answer of a test over strata for tails that it has, by either way: the observed statistic,
+/// its scale, the number of labellings, and of each asked tail how many labellings are at least as
+/// extreme.
+pub fn answer(
+    alloc: Global,
+    problem: &Homogeneity,
+    tails: Tails,
+    way: Way,
+) -> Result<Answer, NoMemory>
+    requires { HasTails (homogeneity_test problem.now) tails }
+    ensures answer { let opened = open_keys (homogeneity_network problem.now) in
+        IfOk result (λ answer. answer ≡ answer_of (homogeneity_test problem.now) opened tails way) }
+    ensures some { IfOk result (λ answer. 1 ≤ answer.total) }
+{
+    stage_network::answer(alloc, problem, tails, way)
+}
+
+/// The distribution of the statistic of a test over strata: each value that it takes, ascending,
+/// with the number of labellings that have it, by either way.
+pub fn distribution(alloc: Global, problem: &Homogeneity, way: Way) -> Result<Spread, NoMemory>
+    ensures lines { IfOk result (λ spread. spread ≡ distribution (homogeneity_test problem.now)) }
+    ensures weights { IfOk result WeightsFit }
+    ensures rules { IfOk result (TailsFit (homogeneity_test problem.now)) }
+{
+    stage_network::distribution(alloc, problem, way)
+}

@@ -1,0 +1,86 @@
+// What is made of samples in strata for the rank sum test.
+ghost use Rattle.std.specs.Prelude.{◌≡◌, ◌+◌, ◌<◌, ◌≤◌, pos, IfOk, MatchOption};
+ghost use Rattle.weights.specs.Conditional.{distance, total};
+ghost use Rattle.weights.specs.Numbers.{absolute_sum};
+ghost use Rattle.weights.specs.declared.TheConstants.{MAX};
+ghost use Rattle.scores.specs.Scores.{labelled_sum};
+ghost use Rattle.sample_reader.specs.Data.{strata_data_of};
+ghost use Rattle.homogeneity.specs.RankMade.{AreRanked};
+ghost use Rattle.homogeneity.specs.StratifiedRanks.{stratified_rank_test};
+
+use crate::rank_columns::Column;
+use crate::rank_strata::RankStrata;
+use crate::ranked::{
+    Part, centre_of, columns_of, labels_of, parts_of, parts_total, ranks_of, second_at, sizes_of,
+};
+use sample_reader::StrataGroups;
+use scores::labelled_sum;
+use std::alloc::Global;
+use weights::{Frame, Ints, List, NoMemory, Nums, Rule};
+
+/// What is made of the strata of samples.
+#[derive(Drop)]
+pub(crate) struct RankedStrata {
+    pub parts: List<Part>,
+    /// The strata's sizes, for the walk.
+    pub sizes: Nums,
+    pub columns: List<Column>,
+    /// The subjects' doubled midranks, stratum by stratum and by ascending value.
+    pub ranks: Ints,
+    /// How many subjects of the first stratum are of the second group.
+    pub second: u64,
+    /// The observed statistic, its scale, the total and the rule of both sides.
+    pub frame: Frame,
+}
+
+// What is said of the test of so many labellings.
+fn frame_of(ranks: &[i128], labels: &[u8], centre: u128, total: u128) -> Frame
+    requires fits { absolute_sum ranks.now + absolute_sum ranks.now ≤ MAX }
+    requires centre { centre ≤ absolute_sum ranks.now }
+    ensures { let statistic = labelled_sum 1 ranks.now labels.now in
+        result ≡ record {
+          statistic = statistic;
+          scale = 2;
+          total = total;
+          two = Rule.Far 1 (pos centre) (distance 1 (pos centre) statistic);
+        } }
+{
+    let statistic = labelled_sum(ranks, labels, 1);
+    Frame {
+        statistic,
+        scale: 2,
+        total,
+        two: Rule::far(1, centre as i128, statistic),
+    }
+}
+
+/// What is made of samples in strata, or None exactly where their labellings pass the greatest
+/// weight.
+pub(crate) fn made_of(
+    alloc: Global,
+    samples: &StrataGroups,
+) -> Result<Option<RankedStrata>, NoMemory>
+    ensures { let given = strata_data_of samples.now in IfOk result (λ found.
+        MatchOption found (MAX < total (stratified_rank_test given)) (AreRanked given)) }
+{
+    let strata = RankStrata::of(alloc, samples)?;
+    let parts = parts_of(alloc, &strata)?;
+    let Some(total) = parts_total(parts.as_slice()) else {
+        return Ok(None);
+    };
+    let sizes = sizes_of(alloc, parts.as_slice())?;
+    let columns = columns_of(alloc, &strata)?;
+    let ranks = ranks_of(alloc, &strata)?;
+    let labels = labels_of(alloc, &strata)?;
+    let centre = centre_of(parts.as_slice());
+    let frame = frame_of(ranks.as_slice(), labels.as_slice(), centre, total);
+    let second = second_at(&strata, 0);
+    Ok(Some(RankedStrata {
+        parts,
+        sizes,
+        columns,
+        ranks,
+        second,
+        frame,
+    }))
+}

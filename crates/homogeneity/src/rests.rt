@@ -1,0 +1,127 @@
+// Strata, a sum of their first cells, and what is known of the strata from each one on.
+ghost use Rattle.std.specs.Prelude.{◌≡◌, ◌∷◌, [], pos, ◌+◌, ◌<◌, ◌≤◌, ◌^◌, length, drop, IfOk, MatchOption};
+ghost use Rattle.weights.specs.declared.TheConstants.{MAX};
+ghost use Rattle.strata_cells.specs.Strata.{cell_weight, greatest_cell, least_cell, stratum_at};
+ghost use Rattle.homogeneity.specs.ZelenNetwork.{greatest_choice, least_choice, number_with, sum_left};
+ghost use Rattle.strata_cells.specs.StrataLimits.{IsSmall};
+ghost use Rattle.homogeneity.specs.ZelenSteps.{AreRests, AreSummed, IsLater, IsLeft};
+
+use crate::laters::{Later, choice_from, choice_to, laters_of};
+use std::alloc::Global;
+use strata_cells::{Stratum, cell_weight};
+use weights::{List, NoMemory};
+
+/// Strata whose first cells have a sum, and how many of their labellings have what can be left of
+/// it before each stratum.
+#[derive(Drop)]
+pub(crate) struct Rests {
+    pub strata: List<Stratum>,
+    pub sum: u64,
+    pub laters: Vec<Later>,
+    ghost right: { AreRests strata sum laters.items },
+}
+
+/// What is left of the sum in a room.
+#[inline(always)]
+pub(crate) fn left_in(room: &[i128]) -> u64
+    requires held { room.now ≡ pos (sum_left room.now) ∷ [] }
+    requires few { sum_left room.now < 2 ^ 64 }
+    ensures { result ≡ sum_left room.now }
+{
+    room[0] as u64
+}
+
+/// How many labellings give a first cell.
+pub(crate) fn weight_of(stratum: Stratum, cell: u64) -> u128
+    requires small { IsSmall stratum }
+    requires least { least_cell stratum ≤ cell }
+    requires greatest { cell ≤ greatest_cell stratum }
+    requires fits { cell_weight stratum cell ≤ MAX }
+    ensures { result ≡ cell_weight stratum cell }
+{
+    match cell_weight(stratum, cell) {
+        Some(weight) => weight,
+        None => unreachable!(),
+    }
+}
+
+impl Rests {
+    /// What is known of strata, or None exactly where their labellings with the sum pass the
+    /// greatest weight.
+    pub(crate) fn of(
+        alloc: Global,
+        strata: List<Stratum>,
+        sum: u64,
+    ) -> Result<Option<Rests>, NoMemory>
+        requires { AreSummed strata sum }
+        ensures { IfOk result (λ found. MatchOption found (MAX < number_with strata sum)
+            (λ rests. (rests.strata ≡ strata) × (rests.sum ≡ sum))) }
+    {
+        let Some(laters) = laters_of(alloc, strata.as_slice(), sum)? else {
+            return Ok(None);
+        };
+        Ok(Some(Rests {
+            strata,
+            sum,
+            laters,
+        }))
+    }
+
+    // What is known of the strata from a stage on.
+    fn later(&self, stage: usize) -> &Later
+        requires { stage ≤ length self.now.strata }
+        ensures { IsLater self.now.strata self.now.sum stage result.now }
+    {
+        &self.laters[self.strata.len() - stage]
+    }
+
+    fn stratum(&self, stage: usize) -> Stratum
+        requires { stage < length self.now.strata }
+        ensures is { result ≡ stratum_at self.now.strata stage }
+        ensures small { IsSmall result }
+    {
+        self.strata.as_slice()[stage]
+    }
+
+    /// The least first cell of a stage's stratum after which the later strata can have what is
+    /// left.
+    pub(crate) fn least_choice(&self, stage: usize, left: u64) -> u64
+        requires { stage < length self.now.strata }
+        ensures { let s = stratum_at self.now.strata stage in
+            result ≡ least_choice s (drop (stage + 1) self.now.strata) left }
+    {
+        choice_from(self.stratum(stage), self.later(stage + 1), left)
+    }
+
+    /// And the greatest.
+    pub(crate) fn greatest_choice(&self, stage: usize, left: u64) -> u64
+        requires { stage < length self.now.strata }
+        ensures { let s = stratum_at self.now.strata stage in
+            result ≡ greatest_choice s (drop (stage + 1) self.now.strata) left }
+    {
+        choice_to(self.stratum(stage), self.later(stage + 1), left)
+    }
+
+    /// How many labellings give a first cell of a stage's stratum.
+    #[inline(always)]
+    pub(crate) fn weight(&self, stage: usize, cell: u64) -> u128
+        requires stage { stage < length self.now.strata }
+        requires least { least_cell (stratum_at self.now.strata stage) ≤ cell }
+        requires greatest { cell ≤ greatest_cell (stratum_at self.now.strata stage) }
+        requires fits { cell_weight (stratum_at self.now.strata stage) cell ≤ MAX }
+        ensures { result ≡ cell_weight (stratum_at self.now.strata stage) cell }
+    {
+        weight_of(self.stratum(stage), cell)
+    }
+
+    /// How many labellings of the strata from a stage on have what is left.
+    #[inline(always)]
+    pub(crate) fn number(&self, stage: usize, left: u64) -> u128
+        requires stage { stage ≤ length self.now.strata }
+        requires left { IsLeft self.now.strata self.now.sum stage left }
+        ensures { result ≡ number_with (drop stage self.now.strata) left }
+    {
+        let later = self.later(stage);
+        later.numbers.as_slice()[(left - later.first) as usize]
+    }
+}

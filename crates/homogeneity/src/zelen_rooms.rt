@@ -1,0 +1,64 @@
+// The rooms of Zelen's test.
+ghost use Rattle.std.specs.Prelude.{◌≡◌};
+
+use crate::rests::{Rests, left_in};
+use room_network::Rooms;
+
+/// Each stratum is a stage, and its first cell the choice; a room has what is left of the sum of
+/// the first cells.
+#[derive(Drop)]
+pub struct ZelenRooms {
+    rests: Rests,
+}
+
+impl ZelenRooms {
+    pub(crate) fn new(rests: Rests) -> ZelenRooms
+        ensures { result.rests ≡ rests }
+    {
+        ZelenRooms { rests }
+    }
+}
+
+impl Rooms for ZelenRooms {
+    ghost use Rattle.homogeneity.specs.ZelenNetwork.{even_plan};
+
+    ghost plan = { λ s. even_plan s.rests.strata s.rests.sum };
+
+    fn stages(&self) -> usize {
+        self.rests.strata.len()
+    }
+
+    fn width(&self) -> usize {
+        1
+    }
+
+    fn choice_width(&self) -> usize {
+        1
+    }
+
+    fn first(&self, room: &mut [i128]) {
+        room[0] = self.rests.sum as i128;
+    }
+
+    fn first_choice(&self, stage: usize, room: &[i128], choice: &mut [u64]) {
+        choice[0] = self.rests.least_choice(stage, left_in(room));
+    }
+
+    fn next_choice(&self, stage: usize, room: &[i128], choice: &mut [u64]) -> bool {
+        if choice[0] < self.rests.greatest_choice(stage, left_in(room)) {
+            choice[0] += 1;
+            true
+        } else {
+            false
+        }
+    }
+
+    fn cross(&self, stage: usize, room: &[i128], choice: &[u64], next: &mut [i128]) -> u128 {
+        next[0] = (left_in(room) - choice[0]) as i128;
+        self.rests.weight(stage, choice[0])
+    }
+
+    fn rest(&self, stage: usize, room: &[i128]) -> u128 {
+        self.rests.number(stage, left_in(room))
+    }
+}

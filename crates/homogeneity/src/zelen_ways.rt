@@ -1,0 +1,105 @@
+// Both ways to the answer of Zelen's test.
+ghost use Rattle.std.specs.Prelude.{◌≡◌, ◌≤◌, IfOk};
+ghost use Rattle.weights.specs.declared.TheConstants.{MAX};
+ghost use Rattle.homogeneity.specs.ZelenNetwork.{number_with};
+ghost use Rattle.homogeneity.specs.ZelenSteps.{AreSummed};
+
+use crate::cell_weights::labels_weight;
+use crate::even_walk::{first_even, next_even};
+use crate::rests::Rests;
+use crate::zelen::Zelen;
+use crate::zelen_measure::{ZelenMeasure, held};
+use crate::zelen_rooms::ZelenRooms;
+use enumerate::Plain;
+use room_network::RoomNetwork;
+use stage_network::{Judge, Prepared};
+use std::alloc::Global;
+use strata_cells::Stratum;
+use weights::{Bytes, Frame, List, NoMemory, Tail};
+
+// What is known of strata whose labellings with the sum are few enough.
+fn rests_of(alloc: Global, strata: &List<Stratum>, sum: u64) -> Result<Rests, NoMemory>
+    requires summed { AreSummed strata.now sum }
+    requires fits { number_with strata.now sum ≤ MAX }
+    ensures strata { IfOk result (λ rests. rests.strata ≡ strata.now) }
+    ensures sum { IfOk result (λ rests. rests.sum ≡ sum) }
+{
+    match Rests::of(alloc, strata.copy()?, sum)? {
+        Some(rests) => Ok(rests),
+        None => unreachable!(),
+    }
+}
+
+impl Plain for Zelen {
+    ghost use Rattle.homogeneity.specs.Zelen.{zelen_test};
+
+    ghost test = { zelen_test };
+
+    fn first(&self, alloc: Global) -> Result<Bytes, NoMemory> {
+        let made = self.made();
+        first_even(
+            alloc,
+            made.strata.as_slice(),
+            made.sizes.as_slice(),
+            made.sum,
+        )
+    }
+
+    fn next(&self, labels: &mut Bytes) -> bool {
+        let made = self.made();
+        let strata = made.strata.as_slice();
+        let sizes = made.sizes.as_slice();
+        next_even(
+            strata,
+            sizes,
+            made.sum,
+            made.frame.total,
+            labels.as_mut_slice(),
+        )
+    }
+
+    fn weight(&self, _labels: &[u8]) -> u128 {
+        1
+    }
+
+    fn value(&self, labels: &[u8]) -> i128 {
+        held(labels_weight(self.made().strata.as_slice(), labels))
+    }
+
+    fn frame(&self) -> Frame {
+        self.made().frame
+    }
+
+    fn measure(&self, labels: &[u8], _tail: Tail) -> i128 {
+        self.value(labels)
+    }
+}
+
+impl Prepared for Zelen {
+    ghost use Rattle.homogeneity.specs.ZelenNetwork.{zelen_network};
+
+    type Built = RoomNetwork<ZelenRooms, ZelenMeasure>;
+
+    ghost network = { zelen_network };
+
+    ghost runs = { zelen_network };
+
+    fn has_tail(&self, tail: Tail) -> bool {
+        match tail {
+            Tail::Two => true,
+            Tail::Less | Tail::Greater => false,
+        }
+    }
+
+    fn is_shared(&self) -> bool {
+        true
+    }
+
+    fn stages_of(&self, alloc: Global, _tail: Tail) -> Result<Self::Built, NoMemory> {
+        let made = self.made();
+        let rooms = ZelenRooms::new(rests_of(alloc, &made.strata, made.sum)?);
+        let rests = rests_of(alloc, &made.strata, made.sum)?;
+        let measure = ZelenMeasure::new(alloc, rests, Judge::of(&made.frame))?;
+        Ok(RoomNetwork::new(rooms, measure))
+    }
+}
