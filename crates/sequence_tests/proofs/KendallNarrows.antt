@@ -1,0 +1,155 @@
+-- The intervals of Kendall's K narrow along every choice.
+use Rattle.std.proofs.Common.{◌≡◌, ℕ, zero, suc, ◌+◌, ◌*◌, ◌<◌, ◌≤◌, List, [], ◌∷◌, length, get_or, drop, refl, ap, arith, add-one, drop-cons, drop_of_length-le}
+use Rattle.std.specs.Prelude.{ℤ, pos, ◌+ℤ◌, ◌-ℤ◌, ◌≤ℤ◌, slice_index, unsigned_abs}
+use Rattle.std.specs.List.{sum, Contains}
+use Rattle.std.proofs.Math.Nat.{mul-le-mul}
+use Rattle.std.proofs.lemmas.Bool.{lt-ltb}
+use Rattle.std.proofs.lemmas.Int.{ints}
+use Rattle.std.proofs.lemmas.List.Sums.{sum_by-drop_more}
+use Rattle.weights.specs.Grouped.{minus}
+use Rattle.weights.proofs.ChoiceLists.{IsChoice}
+use Rattle.weights.proofs.Sized.{sum-minus}
+use Rattle.stage_network.specs.Network.{IsReached}
+use Rattle.stage_network.specs.declared.verdicts.Judge.{Judge}
+use Rattle.room_network.specs.Meanings.{AreReached, IsMeasure}
+use Rattle.room_network.specs.Plans.{alone}
+use Rattle.label_network.specs.Linear.{so_far}
+use Rattle.sequence_tests.specs.KendallNetwork.{added, kendall_meaning, open_pairs, pairs_among, rises, turn}
+use Rattle.sequence_tests.specs.KendallRooms.{counts_left, kendall_floor, kendall_plan}
+use Rattle.sequence_tests.specs.KendallSteps.{AreTwins}
+use Rattle.sequence_tests.proofs.CodeLaws.{sum-first}
+use Rattle.sequence_tests.proofs.KendallPlans.{after-few, choice, choice-few, left-sum}
+
+-- pairs of a subject here and a later one, whose second values are not equal
+pub rises-most : (x y : List ℕ) → rises x y + rises y x ≤ sum x * sum y
+rises-most [] [] = omega arith
+rises-most [] (b ∷ y) = omega arith
+rises-most (a ∷ x) [] = omega arith
+rises-most (a ∷ x) (b ∷ y) =
+    rw (sum-first a x, sum-first b y) (four a b (sum x) (sum y) (rises x y) (rises y x) (rises-most x y))
+  where
+    four : (a b s t u v : ℕ) → u + v ≤ s * t → (a * t + u) + (b * s + v) ≤ (a + s) * (b + t)
+    four a b s t u v h = omega (arith, h)
+
+turn-low : (x y : List ℕ) → (pos 0 -ℤ pos (sum x * sum y)) ≤ℤ turn x y
+turn-low x y = omega (arith, ints, rises-most x y)
+
+turn-high : (x y : List ℕ) → turn x y ≤ℤ pos (sum x * sum y)
+turn-high x y = omega (arith, ints, rises-most x y)
+
+pub pairs-few : (cs : List ℕ) → pairs_among cs ≤ sum cs * sum cs
+pairs-few [] = omega arith
+pairs-few (c ∷ cs) = rw (sum-first c cs) (more c (sum cs) (pairs_among cs) (pairs-few cs))
+  where
+    more : (c s n : ℕ) → n ≤ s * s → c * s + n ≤ (c + s) * (c + s)
+    more c s n h = omega (arith, h)
+
+pub all-pairs : (cs : List ℕ) → sum cs ≤ 120 → pairs_among cs ≤ 14400
+all-pairs cs h = omega (arith, pairs-few cs, mul-le-mul h h)
+
+open-next : (columns : List ℕ) (g : ℕ) → g < length columns → open_pairs columns g ≡ slice_index columns g * sum (drop (g + 1) columns) + open_pairs columns (g + 1)
+open-next columns g h =
+    let split : drop g columns ≡ get_or columns g 0 ∷ drop (g + 1) columns = rw add-one (drop-cons columns g 0 h) in
+    ap pairs_among split
+
+open-end : (columns : List ℕ) (g : ℕ) → length columns ≤ g → open_pairs columns g ≡ 0
+open-end columns g h = rw (drop_of_length-le columns {i = g} h) refl
+
+module _ (columns rows : List ℕ) (judge : Judge) where
+  -- rooms that are reached with a partial are reached
+  pub room-reached : (g : ℕ) (room p : List ℤ) → AreReached (kendall_meaning columns rows judge) g room p → IsReached (alone (kendall_plan columns rows)) g room
+  room-reached zero room p r = r.0
+  room-reached (suc g) room p (s, q, c, r, before, o, e, f) = (s, c, room-reached g s q r, before, rw (lt-ltb g (length columns) before) o, e)
+
+  partial-long : (g : ℕ) (room p : List ℤ) → AreReached (kendall_meaning columns rows judge) g room p → length p ≡ 1
+  partial-long zero room p r = ap length r.1
+  partial-long (suc g) room p (s, q, c, r, before, o, e, f) = ap length f
+
+  module _ (a : AreTwins columns rows) (g : ℕ) (room : List ℤ) (r : IsReached (alone (kendall_plan columns rows)) g room) (before : g < length columns) (c : List ℕ) (o : Contains ((kendall_floor columns rows).choices g room) c) where
+    abbrev left : List ℕ
+    left = counts_left columns (length rows) g room
+
+    chosen : IsChoice (slice_index columns g) left c
+    chosen = choice columns rows a g room r c o
+
+    pub turn-few : unsigned_abs (added columns (length rows) g room c) ≤ 14400
+    turn-few = bound (turn c (minus left c)) (sum c * sum (minus left c)) (turn-low c (minus left c)) (turn-high c (minus left c)) (mul-le-mul (choice-few columns rows a g room r c o) (after-few columns rows a g room r c o))
+      where
+        bound : (t : ℤ) (m : ℕ) → (pos 0 -ℤ pos m) ≤ℤ t → t ≤ℤ pos m → m ≤ 120 * 120 → unsigned_abs t ≤ 14400
+        bound t m l u e = omega (arith, ints, l, u, e)
+
+    placed : sum c * sum (minus left c) ≡ slice_index columns g * sum (drop (g + 1) columns)
+    placed =
+        let more : sum (drop g columns) ≡ get_or columns g 0 + sum (drop (g + 1) columns) = sum_by-drop_more (λ v. v) columns g 0 before in
+        let rest : sum (minus left c) ≡ sum (drop (g + 1) columns) = omega (arith, more, left-sum columns rows a g room r, chosen.whole, sum-minus left c chosen.fitting) in
+        rw (chosen.whole, rest) refl
+
+    narrower : open_pairs columns g ≡ sum c * sum (minus left c) + open_pairs columns (g + 1)
+    narrower = rw placed (open-next columns g before)
+
+    pub rising : (s : ℤ) → (s -ℤ pos (open_pairs columns g)) ≤ℤ ((s +ℤ added columns (length rows) g room c) -ℤ pos (open_pairs columns (g + 1)))
+    rising s = low s (turn c (minus left c)) (sum c * sum (minus left c)) (open_pairs columns g) (open_pairs columns (g + 1)) narrower (turn-low c (minus left c))
+      where
+        low : (s t : ℤ) (m e f : ℕ) → e ≡ m + f → (pos 0 -ℤ pos m) ≤ℤ t → (s -ℤ pos e) ≤ℤ ((s +ℤ t) -ℤ pos f)
+        low s t m e f h l = omega (arith, ints, h, l)
+
+    pub falling : (s : ℤ) → ((s +ℤ added columns (length rows) g room c) +ℤ pos (open_pairs columns (g + 1))) ≤ℤ (s +ℤ pos (open_pairs columns g))
+    falling s = high s (turn c (minus left c)) (sum c * sum (minus left c)) (open_pairs columns g) (open_pairs columns (g + 1)) narrower (turn-high c (minus left c))
+      where
+        high : (s t : ℤ) (m e f : ℕ) → e ≡ m + f → t ≤ℤ pos m → ((s +ℤ t) +ℤ pos f) ≤ℤ (s +ℤ pos e)
+        high s t m e f h l = omega (arith, ints, h, l)
+
+  less-none : (s : ℤ) → s -ℤ pos (open_pairs columns (length columns)) ≡ s
+  less-none s = rw (open-end columns (length columns) (omega arith)) (none s)
+    where
+      none : (s : ℤ) → s -ℤ pos 0 ≡ s
+      none s = omega (arith, ints)
+
+  more-none : (s : ℤ) → s +ℤ pos (open_pairs columns (length columns)) ≡ s
+  more-none s = rw (open-end columns (length columns) (omega arith)) (none s)
+    where
+      none : (s : ℤ) → s +ℤ pos 0 ≡ s
+      none s = omega (arith, ints)
+
+  module _ (a : AreTwins columns rows) where
+    pub kendall_measure : IsMeasure (kendall_meaning columns rows judge)
+    kendall_measure = record {
+      wide = partial-long;
+      low_rises = λ g room p c r before o. rising a g room (room-reached g room p r) before c o (so_far p);
+      high_falls = λ g room p c r before o. falling a g room (room-reached g room p r) before c o (so_far p);
+      low_ends = λ room p r. less-none (so_far p);
+      high_ends = λ room p r. more-none (so_far p);
+    }
+
+    columns-few : sum columns ≤ 120
+    columns-few = omega (arith, a.level, a.few)
+
+    -- K so far, with all pairs that are open
+    partial-within : (g : ℕ) (room p : List ℤ) → AreReached (kendall_meaning columns rows judge) g room p → unsigned_abs (so_far p) + open_pairs columns g ≤ open_pairs columns 0
+    partial-within zero room p r = rw r.1 (omega arith)
+    partial-within (suc g) room p (s, q, c, r, before, o, e, f) =
+        let past = partial-within g s q r in
+        let at : IsReached (alone (kendall_plan columns rows)) g s = room-reached g s q r in
+        rw (f, ← add-one) (within (so_far q) (added columns (length rows) g s c) (open_pairs columns g) (open_pairs columns (g + 1)) (open_pairs columns 0) past (rising a g s at before c o (so_far q)) (falling a g s at before c o (so_far q)))
+      where
+        within : (s t : ℤ) (e f all : ℕ) → unsigned_abs s + e ≤ all → (s -ℤ pos e) ≤ℤ ((s +ℤ t) -ℤ pos f) → ((s +ℤ t) +ℤ pos f) ≤ℤ (s +ℤ pos e) → unsigned_abs (s +ℤ t) + f ≤ all
+        within s t e f all h l u = omega (arith, ints, h, l, u)
+
+    module _ (g : ℕ) (room p : List ℤ) (r : AreReached (kendall_meaning columns rows judge) g room p) where
+      pub partial-one : length p ≡ 1
+      partial-one = partial-long g room p r
+
+      pub partial-few : unsigned_abs (so_far p) + open_pairs columns g ≤ 14400
+      partial-few = omega (arith, partial-within g room p r, all-pairs columns columns-few)
+
+      pub low-few : unsigned_abs (so_far p -ℤ pos (open_pairs columns g)) ≤ 14400
+      low-few = less (so_far p) (open_pairs columns g) partial-few
+        where
+          less : (s : ℤ) (a : ℕ) → unsigned_abs s + a ≤ 14400 → unsigned_abs (s -ℤ pos a) ≤ 14400
+          less s a m = omega (arith, ints, m)
+
+      pub high-few : unsigned_abs (so_far p +ℤ pos (open_pairs columns g)) ≤ 14400
+      high-few = more (so_far p) (open_pairs columns g) partial-few
+        where
+          more : (s : ℤ) (a : ℕ) → unsigned_abs s + a ≤ 14400 → unsigned_abs (s +ℤ pos a) ≤ 14400
+          more s a m = omega (arith, ints, m)

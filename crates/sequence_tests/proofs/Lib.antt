@@ -1,0 +1,18 @@
+pub mod CodeLaws
+pub mod Arranged
+pub mod KendallPlans
+pub mod Held
+pub mod KendallNarrows
+pub mod CountedPairs
+pub mod KendallValues
+pub mod PairLoops
+pub mod KendallParts
+pub mod PairSums
+pub mod Places
+pub mod KendallFitting
+pub mod RunNarrows
+pub mod RunKeys
+pub mod RunValues
+pub mod FittingRuns
+mod KendallVectors
+pub mod RunVectors

@@ -1,0 +1,107 @@
+-- What the measure of runs knows at each of its keys.
+use Rattle.std.proofs.Common.{◌≡◌, ℕ, zero, suc, ◌+◌, ◌*◌, ◌≤◌, List, [], ◌∷◌, length, get_or, set, refl, sym, ◌∙◌, arith}
+use Rattle.std.specs.Prelude.{ℤ, pos, ◌+ℤ◌, nat_abs, unsigned_abs}
+use Rattle.std.specs.List.{sum}
+use Rattle.std.proofs.lemmas.Int.{ints, clamps}
+use Rattle.std.proofs.lemmas.List.{length-replicate}
+use Rattle.std.proofs.lemmas.List.Sums.{sum_by-take-drop}
+use Rattle.stage_network.specs.declared.verdicts.Judge.{Judge}
+use Rattle.stage_network.specs.Judged.{JudgeFits}
+use Rattle.label_network.specs.Meanings.{IsMove, IsPlace, sizes_in}
+use Rattle.label_network.proofs.LinearKeys.{reached-stage}
+use Rattle.label_network.proofs.Narrowing.{IsLeft, chosen}
+use Rattle.label_network.proofs.Rows.{length-abs}
+use Rattle.label_network.proofs.Sizes.{sizes-of_pos}
+use Rattle.sequence_tests.specs.RunCounts.{firsts_in, last_in, least_to_come, most_to_come, runs_meaning, runs_outlook, runs_so_far, seconds_in}
+use Rattle.sequence_tests.specs.RunSteps.{AreRunNumbers, AreTwoSizes, IsRunning}
+use Rattle.sequence_tests.proofs.RunNarrows.{IsPartial, choice_long, reached_left, reached_partial, sum-ones, sum-two}
+
+-- the least and the greatest are few
+least-few : (last a b : ℕ) → least_to_come last a b ≤ 2
+least-few zero a b = grind arith
+least-few (suc zero) a b = grind arith
+least-few (suc (suc n)) a b = grind arith
+
+most-few : (last a b : ℕ) → most_to_come last a b ≤ 2 * (a + b) + 1
+most-few zero a b = grind arith
+most-few (suc zero) a b = grind arith
+most-few (suc (suc n)) a b = grind (arith, clamps)
+
+-- the two numbers of an outlook after each label
+pub least-at : (last a b : ℕ) → last ≤ 2 → get_or (runs_outlook a b) (2 * last) (pos 0) ≡ pos (least_to_come last a b)
+least-at zero a b h = refl
+least-at (suc zero) a b h = refl
+least-at (suc (suc zero)) a b h = refl
+least-at (suc (suc (suc n))) a b h = absurd (omega (arith, h))
+
+pub most-at : (last a b : ℕ) → last ≤ 2 → get_or (runs_outlook a b) (2 * last + 1) (pos 0) ≡ pos (most_to_come last a b)
+most-at zero a b h = refl
+most-at (suc zero) a b h = refl
+most-at (suc (suc zero)) a b h = refl
+most-at (suc (suc (suc n))) a b h = absurd (omega (arith, h))
+
+pub six_items : {X : Type 0} (xs : List X) (a b c d e f : X) → length xs ≡ 6 → set (set (set (set (set (set xs 0 a) 1 b) 2 c) 3 d) 4 e) 5 f ≡ a ∷ b ∷ c ∷ d ∷ e ∷ f ∷ []
+six_items (u ∷ v ∷ w ∷ x ∷ y ∷ z ∷ []) a b c d e f h = refl
+six_items [] a b c d e f h = absurd (omega (arith, h))
+six_items (u ∷ []) a b c d e f h = absurd (omega (arith, h))
+six_items (u ∷ v ∷ []) a b c d e f h = absurd (omega (arith, h))
+six_items (u ∷ v ∷ w ∷ []) a b c d e f h = absurd (omega (arith, h))
+six_items (u ∷ v ∷ w ∷ x ∷ []) a b c d e f h = absurd (omega (arith, h))
+six_items (u ∷ v ∷ w ∷ x ∷ y ∷ []) a b c d e f h = absurd (omega (arith, h))
+six_items (u ∷ v ∷ w ∷ x ∷ y ∷ z ∷ s ∷ xs) a b c d e f h = absurd (omega (arith, h))
+
+both-few : (r : List ℕ) (n : ℕ) → length r ≡ 2 → sum r ≤ n → firsts_in r + seconds_in r ≤ n
+both-few [] n e h = absurd (omega (arith, e))
+both-few (x ∷ []) n e h = absurd (omega (arith, e))
+both-few (x ∷ y ∷ []) n e h = omega (arith, h, sum-two x y)
+both-few (x ∷ y ∷ z ∷ r) n e h = absurd (omega (arith, e))
+
+whole-sum : (s : ℤ) (n : ℕ) → s ≡ pos (nat_abs s) → s +ℤ pos n ≡ pos (nat_abs s + n)
+whole-sum s n e = omega (arith, ints, e)
+
+module _ (a b : ℕ) (judge : Judge) (h : IsRunning a b judge) where
+  module _ (g : ℕ) (f p : List ℤ) (place : IsPlace (runs_meaning a b judge) g f p) where
+    partial_is : IsPartial g (sizes_in f) p
+    partial_is = reached_partial a b judge g (sizes_in f) p place.reached
+
+    left : IsLeft (runs_meaning a b judge) g (sizes_in f)
+    left = reached_left a b judge g (sizes_in f) p place.reached
+
+    stage-few : g ≤ 10000
+    stage-few = omega (arith, reached-stage (runs_meaning a b judge) g (sizes_in f) p place.reached, length-replicate {A = ℕ} (a + b) 1, h.few)
+
+    pub numbers : AreRunNumbers p
+    numbers = record {
+      two = partial_is.two;
+      last = partial_is.last;
+      label = partial_is.label;
+      runs = partial_is.runs;
+      few = omega (arith, partial_is.few, stage-few);
+    }
+
+    sizes-few : sum (sizes_in f) ≤ 10000
+    sizes-few = omega (arith, left.whole, sum-ones (a + b), h.few, sum_by-take-drop (λ v. v) (runs_meaning a b judge).columns g)
+
+    pub two_sizes : AreTwoSizes f
+    two_sizes = record {
+      two = sym (length-abs f) ∙ partial_is.sizes;
+      sizes = sizes-of_pos (sizes_in f) (omega (arith, sizes-few)) f place.whole;
+      few = both-few (sizes_in f) 10000 partial_is.sizes sizes-few;
+    }
+
+    pub low-fits : unsigned_abs (runs_so_far p) + least_to_come (last_in p) (firsts_in (sizes_in f)) (seconds_in (sizes_in f)) ≤ 40000
+    low-fits = omega (arith, numbers.few, least-few (last_in p) (firsts_in (sizes_in f)) (seconds_in (sizes_in f)))
+
+    pub high-fits : unsigned_abs (runs_so_far p) + most_to_come (last_in p) (firsts_in (sizes_in f)) (seconds_in (sizes_in f)) ≤ 40000
+    high-fits = omega (arith, numbers.few, two_sizes.few, most-few (last_in p) (firsts_in (sizes_in f)) (seconds_in (sizes_in f)))
+
+    pub low-rule : JudgeFits judge (runs_so_far p +ℤ pos (least_to_come (last_in p) (firsts_in (sizes_in f)) (seconds_in (sizes_in f))))
+    low-rule = rw (whole-sum (runs_so_far p) (least_to_come (last_in p) (firsts_in (sizes_in f)) (seconds_in (sizes_in f))) partial_is.runs) (h.rules_fit _ low-fits)
+
+    pub high-rule : JudgeFits judge (runs_so_far p +ℤ pos (most_to_come (last_in p) (firsts_in (sizes_in f)) (seconds_in (sizes_in f))))
+    high-rule = rw (whole-sum (runs_so_far p) (most_to_come (last_in p) (firsts_in (sizes_in f)) (seconds_in (sizes_in f))) partial_is.runs) (h.rules_fit _ high-fits)
+
+  pub choice-long : (g : ℕ) (f : List ℤ) (c : List ℕ) (p : List ℤ) → IsMove (runs_meaning a b judge) g f c p → length c ≡ 2
+  choice-long g f c p v =
+      let k : IsPartial g (sizes_in f) p = partial_is g f p v.place in
+      choice_long a b judge g (sizes_in f) c v.before (chosen _ (sizes_in f) c v.allowed) k.sizes

@@ -1,0 +1,16 @@
+use Rattle.std.proofs.Common.{rules, ℤ, ◌∷◌, [], ◌∙◌, ap, FitsSigned}
+use Rattle.std.specs.Prelude.{pos}
+use mir.Syntax.{w128}
+use mir.Val.{to_z, of_z}
+use Rattle.std.proofs.lemmas.Int.{to_z-of_z}
+use Rattle.label_network.proofs.LinearKeys.{one_item}
+use Rattle.sequence_tests.specs.Codes.{code}
+use Rattle.sequence_tests.proofs.kendall_rooms.KendallRoomsRooms.first.Goals as goal
+
+pub code_of-requires : goal.code_of-requires
+code_of-requires c = rw c.as_slice.ensures.value c.args.self.now.counts.right.few
+
+pub returns : goal.returns
+returns c =
+    let s : FitsSigned w128 c.code_of.result = search rules in
+    one_item c.args.room.now (to_z w128 (of_z w128 c.code_of.result)) c.requires ∙ ap (λ (z : ℤ). z ∷ []) (to_z-of_z w128 c.code_of.result s ∙ c.code_of.ensures ∙ ap (λ xs. pos (code xs)) c.as_slice.ensures.value)

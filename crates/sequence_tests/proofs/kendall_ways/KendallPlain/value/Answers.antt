@@ -1,0 +1,19 @@
+use Rattle.std.proofs.Common.{rules, ◌∙◌, ap, sym, length, FitsSigned}
+use mir.Syntax.{w128}
+use Rattle.std.proofs.lemmas.Int.{to_z-of_z}
+use Rattle.weights.proofs.Members.{labelling_from}
+use Rattle.pooled_columns.specs.PooledColumns.{column_sizes}
+use Rattle.sequence_tests.specs.Kendall.{kendall_statistic}
+use Rattle.sequence_tests.proofs.KendallFitting.{firsts-few, rows-sum}
+use Rattle.sequence_tests.proofs.kendall_ways.KendallPlain.value.Goals as goal
+
+pub kendall_sum-requires-clause-long : goal.kendall_sum-requires-clause-long
+kendall_sum-requires-clause-long c = (labelling_from (column_sizes c.args.self.now.second) c.args.labels.now c.requires).over.long ∙ rows-sum c.args.self.now c.made.ensures.long c.made.ensures.few ∙ sym (ap length (c.as_slice.ensures ∙ c.made.ensures.firsts))
+
+pub kendall_sum-requires-clause-few : goal.kendall_sum-requires-clause-few
+kendall_sum-requires-clause-few c = rw (c.as_slice.ensures ∙ c.made.ensures.firsts) (firsts-few c.args.self.now c.made.ensures.long c.made.ensures.few)
+
+pub returns : goal.returns
+returns c =
+    let s : FitsSigned w128 c.kendall_sum.result = search rules in
+    to_z-of_z w128 c.kendall_sum.result s ∙ c.kendall_sum.ensures ∙ ap (λ vs. kendall_statistic vs c.args.labels.now) (c.as_slice.ensures ∙ c.made.ensures.firsts)

@@ -1,0 +1,6 @@
+use Rattle.std.specs.Prelude.{pos}
+use Rattle.label_network.proofs.LinearKeys.{two_items}
+use Rattle.sequence_tests.proofs.run_counts.RunCountsMeasure.first.Goals as goal
+
+pub returns : goal.returns
+returns c = two_items c.args.partial.now (pos 2) (pos 0) c.requires

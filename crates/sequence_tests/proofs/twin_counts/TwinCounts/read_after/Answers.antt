@@ -1,0 +1,5 @@
+use Rattle.sequence_tests.proofs.KendallPlans.{choice}
+use Rattle.sequence_tests.proofs.twin_counts.TwinCounts.read_after.Goals as goal
+
+pub take_choice-requires : goal.take_choice-requires
+take_choice-requires c = rw c.read_left.ensures (choice c.args.self.now.columns.items c.args.self.now.rows.items c.args.self.now.right c.args.stage c.args.room.now c.requires.reached c.args.choice.now c.requires.allowed).fitting

@@ -1,0 +1,64 @@
+-- The network of Kendall's test: after the room comes K so far, of the pairs with a placed subject.
+use Rattle.std.specs.Prelude.{ℕ, ◌+◌, ◌*◌, ℤ, pos, ◌+ℤ◌, ◌-ℤ◌, List, [], ◌∷◌, length, drop}
+use Rattle.std.specs.List.{sum}
+use Rattle.weights.specs.declared.tails.Tail.{Tail}
+use Rattle.weights.specs.Grouped.{minus}
+use Rattle.sample_reader.specs.PooledSample.{values_of}
+use Rattle.sample_reader.specs.Twins.{TwinData}
+use Rattle.stage_network.specs.Judged.{judge_of}
+use Rattle.stage_network.specs.Network.{Network}
+use Rattle.stage_network.specs.declared.verdicts.Judge.{Judge}
+use Rattle.room_network.specs.Meanings.{Meaning}
+use Rattle.room_network.specs.RoomNetworks.{room_network}
+use Rattle.label_network.specs.LabelRooms.{label_weight}
+use Rattle.label_network.specs.Linear.{so_far}
+use Rattle.pooled_columns.specs.PooledColumns.{column_sizes}
+use Rattle.sequence_tests.specs.Kendall.{twin_subjects, twin_test}
+use Rattle.sequence_tests.specs.KendallRooms.{counts_left, kendall_floor}
+
+-- the pairs of a subject here and a later one whose second value is greater, by the counts of both
+abbrev pub rises : List ℕ → List ℕ → ℕ
+rises [] later = 0
+rises (a ∷ here) [] = 0
+rises (a ∷ here) (b ∷ later) = a * sum later + rises here later
+
+-- what subjects add with those that are placed later
+abbrev pub turn : List ℕ → List ℕ → ℤ
+turn here later = pos (rises here later) -ℤ pos (rises later here)
+
+-- the pairs of subjects of two columns
+abbrev pub pairs_among : List ℕ → ℕ
+pairs_among [] = 0
+pairs_among (c ∷ columns) = c * sum columns + pairs_among columns
+
+-- the pairs of subjects not yet placed before stage g that have distinct first values
+abbrev pub open_pairs : List ℕ → ℕ → ℕ
+open_pairs columns g = pairs_among (drop g columns)
+
+-- what a choice adds
+abbrev pub added : List ℕ → ℕ → ℕ → List ℤ → List ℕ → ℤ
+added columns m g room c = turn c (minus (counts_left columns m g room) c)
+
+abbrev pub kendall_meaning : List ℕ → List ℕ → Judge → Meaning
+kendall_meaning columns rows judge = record {
+  floor = kendall_floor columns rows;
+  slots = 1;
+  step_width = 1;
+  outlook_width = 1;
+  first = pos 0 ∷ [];
+  step = λ g room c. added columns (length rows) g room c ∷ [];
+  advance = λ g room c p. (so_far p +ℤ added columns (length rows) g room c) ∷ [];
+  outlook = λ g room. pos (open_pairs columns g) ∷ [];
+  value = so_far;
+  low = λ g room p. so_far p -ℤ pos (open_pairs columns g);
+  high = λ g room p. so_far p +ℤ pos (open_pairs columns g);
+  judge = judge;
+}
+
+abbrev pub twin_meaning : TwinData → Meaning
+twin_meaning twins = kendall_meaning (column_sizes (values_of (twin_subjects twins)))
+    (column_sizes twins.second) (judge_of (twin_test twins))
+
+-- one network for all tails
+abbrev pub twin_network : TwinData → Tail → Network
+twin_network twins tail = room_network (twin_meaning twins) label_weight

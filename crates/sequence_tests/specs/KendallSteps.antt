@@ -1,0 +1,43 @@
+-- Words for the bodies of Kendall's test.
+use Rattle.std.specs.Prelude.{◌≡◌, ℕ, ◌^◌, ◌<◌, ◌≤◌, ℤ, pos, Bool, List, length, int_lt, slice_index_or, unsigned_abs, if◌then◌else◌}
+use Rattle.std.specs.List.{sum, sum_by}
+use Rattle.weights.specs.declared.TheConstants.{MAX}
+use Rattle.weights.specs.Labellings.{number_of_labellings}
+use Rattle.sample_reader.specs.declared.subjects.Subject.{Subject}
+use Rattle.stage_network.specs.Judged.{JudgeFits}
+use Rattle.stage_network.specs.declared.verdicts.Judge.{Judge}
+use Rattle.sequence_tests.specs.Kendall.{one_where_greater, one_where_less}
+use Rattle.sequence_tests.specs.KendallRooms.{code_in}
+
+-- few subjects and labellings
+pub record AreTwins (columns rows : List ℕ) : Type 0 where
+  pub level : sum columns ≡ sum rows
+  pub few : sum rows ≤ 120
+  pub short : length rows ≤ 120
+  pub total : number_of_labellings rows ≤ MAX
+
+-- one number, which is a code
+pub record IsCode (room : List ℤ) : Type 0 where
+  pub one : length room ≡ 1
+  pub whole : slice_index_or room 0 (pos 0) ≡ pos (code_in room)
+  pub small : code_in room < 2 ^ 120
+
+-- a code of counts of the subjects of the columns from stage g on
+pub record IsCoded (columns : List ℕ) (g : ℕ) (room : List ℤ) : Type 0 where
+  pub is_code : IsCode room
+  pub stage : g ≤ length columns
+  pub few : sum columns ≤ 120
+
+-- and rules of which no number of K passes a limit
+pub record IsKendall (columns rows : List ℕ) (judge : Judge) : Type 0 where
+  pub twins : AreTwins columns rows
+  pub rules_fit : (v : ℤ) → unsigned_abs v ≤ 14400 → JudgeFits judge v
+
+-- 1 where the second of two numbers is greater, or where it is less
+abbrev pub ordered : Bool → ℕ → ℕ → ℕ
+ordered rises x y = if rises then one_where_less x y else one_where_greater x y
+
+-- what a subject adds with those that have a greater first value
+abbrev pub pairs_with : Bool → ℤ → ℕ → List Subject → ℕ
+pairs_with rises v x subjects =
+    sum_by (λ b. if int_lt v b.value then ordered rises x b.label else 0) subjects

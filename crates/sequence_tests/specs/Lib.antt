@@ -1,0 +1,10 @@
+pub mod Kendall
+pub mod Runs
+pub mod Codes
+pub mod KendallRooms
+pub mod KendallNetwork
+pub mod RunCounts
+pub mod SequenceTests
+pub mod KendallSteps
+pub mod TwinSteps
+pub mod RunSteps

@@ -1,0 +1,50 @@
+-- Words for the bodies of the runs test.
+use Rattle.std.specs.Prelude.{◌≡◌, ℕ, ◌+◌, ◌*◌, ◌≤◌, ℤ, pos, nat_abs, List, [], ◌∷◌, length, get_or}
+use Rattle.stage_network.specs.declared.verdicts.Judge.{Judge}
+use Rattle.stage_network.specs.Judged.{JudgeFits}
+use Rattle.weights.specs.declared.TheConstants.{MAX}
+use Rattle.weights.specs.declared.frames.Frame.{Frame}
+use Rattle.weights.specs.Frames.{IsFrameOf}
+use Rattle.weights.specs.Labellings.{number_of_labellings}
+use Rattle.record_reader.specs.declared.TheConstants.{MOST_ROWS}
+use Rattle.label_network.specs.LabelSteps.{AreSizes}
+use Rattle.label_network.specs.Meanings.{sizes_in}
+use Rattle.sample_reader.specs.Sequences.{SequenceData}
+use Rattle.sequence_tests.specs.Runs.{rows_with, runs_test}
+use Rattle.sequence_tests.specs.RunCounts.{begins_run, firsts_in, last_in, runs_so_far, seconds_in}
+
+-- the runs that labels begin after a label
+abbrev pub runs_after : ℕ → List ℕ → ℕ
+runs_after last [] = 0
+runs_after last (x ∷ xs) = begins_run last x + runs_after x xs
+
+-- a partial has a label, or 2, and a number of runs
+pub record AreRunNumbers (p : List ℤ) : Type 0 where
+  pub two : length p ≡ 2
+  pub last : get_or p 0 (pos 0) ≡ pos (last_in p)
+  pub label : last_in p ≤ 2
+  pub runs : runs_so_far p ≡ pos (nat_abs (runs_so_far p))
+  pub few : nat_abs (runs_so_far p) ≤ MOST_ROWS
+
+-- of few rows it is said how many are still to get the first label, and how many the second
+pub record AreTwoSizes (remaining : List ℤ) : Type 0 where
+  pub two : length remaining ≡ 2
+  pub sizes : AreSizes remaining
+  pub few : firsts_in (sizes_in remaining) + seconds_in (sizes_in remaining) ≤ MOST_ROWS
+
+-- few rows, and rules of which no number of runs passes a limit
+pub record IsRunning (a b : ℕ) (judge : Judge) : Type 0 where
+  pub few : a + b ≤ MOST_ROWS
+  pub rules_fit : (n : ℕ) → n ≤ 4 * MOST_ROWS → JudgeFits judge (pos n)
+
+abbrev pub sequence_of : List (List ℕ) → List ℕ → SequenceData
+sequence_of labels members = record { labels = labels; members = members }
+
+-- what is made of a sequence
+pub record AreRuns (sequence : SequenceData) (first second : ℕ) (frame : Frame) : Type 0 where
+  pub first_is : first ≡ rows_with sequence 0
+  pub second_is : second ≡ rows_with sequence 1
+  pub whole : first + second ≡ length sequence.members
+  pub few : length sequence.members ≤ MOST_ROWS
+  pub frame_is : IsFrameOf (runs_test sequence) frame
+  pub total_fits : number_of_labellings (first ∷ second ∷ []) ≤ MAX

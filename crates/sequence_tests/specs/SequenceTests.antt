@@ -1,0 +1,18 @@
+-- The tests of sequences: of two values of each subject, or of two labels in an order.
+use Rattle.weights.specs.Conditional.{ConditionalTest}
+use Rattle.weights.specs.declared.tails.Tail.{Tail}
+use Rattle.sample_reader.specs.Sequences.{SequenceData}
+use Rattle.sample_reader.specs.Twins.{TwinData}
+use Rattle.stage_network.specs.declared.one_of.OneOf.{OneOf}
+use Rattle.stage_network.specs.Network.{Network}
+use Rattle.stage_network.specs.OneOf.{of_either}
+use Rattle.sequence_tests.specs.Kendall.{twin_test}
+use Rattle.sequence_tests.specs.KendallNetwork.{twin_network}
+use Rattle.sequence_tests.specs.RunCounts.{runs_network}
+use Rattle.sequence_tests.specs.Runs.{runs_test}
+
+abbrev pub sequence_test : OneOf TwinData SequenceData → ConditionalTest
+sequence_test = of_either twin_test runs_test
+
+abbrev pub sequence_network : OneOf TwinData SequenceData → Tail → Network
+sequence_network = of_either twin_network runs_network
