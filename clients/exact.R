@@ -7,6 +7,8 @@
 #   exact_test("fisher", table(d$sex, d$answer))     a table of counts, or a matrix
 #   exact_test("fisher", m, odds = "3/2")            a table of 2 by 2 against an odds ratio of 3/2
 #   exact_test("friedman", d)                        a data frame: its columns are the fields
+#   exact_test("kendall", x, y, paired = TRUE)       two values of each subject
+#   exact_test("runs", d$sex)                        labels in their order
 #   exact_shift(x, y, miss = "1/20")                 the shift of y against x, with exact limits
 #
 # Further arguments are the options of the program, with _ for the dash: tail = "less", order = c("b", "a"),
@@ -63,7 +65,7 @@ exact_rows <- function(x, y, data, paired) {
     rows <- as.data.frame(lapply(seq_len(ncol(x)), function(column) exact_numbers(x[, column])),
                           col.names = paste0("column", seq_len(ncol(x))))
   } else if (is.null(y)) {
-    rows <- data.frame(value = exact_numbers(x))
+    rows <- data.frame(value = if (is.character(x) || is.factor(x)) as.character(x) else exact_numbers(x))
   } else if (paired) {
     rows <- data.frame(first = exact_numbers(x), second = exact_numbers(y))
   } else {

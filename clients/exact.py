@@ -129,8 +129,8 @@ def run(test: str, data: object = None, *, program: str | None = None, **options
     """The report of a test.
 
     data: a mapping from labels to samples (a label and a value in each row), or rows: a list of lists or tuples, a zip
-    of two lists, a numpy array, a pandas frame (whose columns are the fields); a list of numbers is one field a row. A
-    text or a path names a file that stands. Without data no file is named, as `drill` wants it.
+    of two lists, a numpy array, a pandas frame (whose columns are the fields); a list of numbers, or of labels, is one
+    field a row. A text or a path names a file that stands. Without data no file is named, as `drill` wants it.
     options: as the program has them, with `_` for the dash: tail="less", order=["x", "y"], columns=[2, 3], nodes=True,
     odds=Fraction(3, 2) or "3/2".
     program: its path; else that in the environment variable EXACT, else the one on the PATH.

@@ -2,7 +2,7 @@
 _exact() {
     local word=${COMP_WORDS[COMP_CWORD]} before=${COMP_WORDS[COMP_CWORD - 1]} test=${COMP_WORDS[1]} words=""
     if [ "$COMP_CWORD" -eq 1 ]; then
-        mapfile -t COMPREPLY < <(compgen -W "--help signedrank sign rawsigned mcnemar ranksum ansari mood savage median raw kw jt umbrella friedman page cochran fisher linear strata drill shift" -- "$word")
+        mapfile -t COMPREPLY < <(compgen -W "--help signedrank sign rawsigned mcnemar ranksum ansari mood savage median raw kw jt umbrella friedman page cochran fisher linear strata zelen stratranksum kendall runs drill shift" -- "$word")
         return
     fi
     case $before in
@@ -39,6 +39,10 @@ _exact() {
     fisher) words="--tail --columns --separator --odds --distribution --plain --nodes" ;;
     linear) words="--tail --row-scores --column-scores --columns --separator --distribution --plain --nodes" ;;
     strata) words="--tail --columns --separator --odds --distribution --plain --nodes" ;;
+    zelen) words="--tail --columns --separator --distribution --plain --nodes" ;;
+    stratranksum) words="--tail --order --columns --separator --missing --distribution --plain --nodes" ;;
+    kendall) words="--tail --columns --separator --missing --distribution --plain --nodes" ;;
+    runs) words="--tail --columns --separator --missing --distribution --plain --nodes" ;;
     drill) words="--number" ;;
     shift) words="--order --columns --separator --missing --miss" ;;
     esac

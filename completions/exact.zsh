@@ -2,7 +2,7 @@
 # zsh completion of exact; made by completions/make
 local -a rest
 if (( CURRENT == 2 )); then
-    compadd -- --help signedrank sign rawsigned mcnemar ranksum ansari mood savage median raw kw jt umbrella friedman page cochran fisher linear strata drill shift
+    compadd -- --help signedrank sign rawsigned mcnemar ranksum ansari mood savage median raw kw jt umbrella friedman page cochran fisher linear strata zelen stratranksum kendall runs drill shift
     return
 fi
 case $words[2] in
@@ -183,6 +183,42 @@ strata) rest=(
     '--columns=:list: '
     '--separator=:value:(comma semicolon tab)'
     '--odds=:p/q: '
+    '--distribution'
+    '--plain'
+    '--nodes'
+) ;;
+zelen) rest=(
+    '--tail=:value:(all less greater two)'
+    '--columns=:list: '
+    '--separator=:value:(comma semicolon tab)'
+    '--distribution'
+    '--plain'
+    '--nodes'
+) ;;
+stratranksum) rest=(
+    '--tail=:value:(all less greater two)'
+    '--order=:labels: '
+    '--columns=:list: '
+    '--separator=:value:(comma semicolon tab)'
+    '--missing=:value:(refuse drop)'
+    '--distribution'
+    '--plain'
+    '--nodes'
+) ;;
+kendall) rest=(
+    '--tail=:value:(all less greater two)'
+    '--columns=:list: '
+    '--separator=:value:(comma semicolon tab)'
+    '--missing=:value:(refuse drop)'
+    '--distribution'
+    '--plain'
+    '--nodes'
+) ;;
+runs) rest=(
+    '--tail=:value:(all less greater two)'
+    '--columns=:list: '
+    '--separator=:value:(comma semicolon tab)'
+    '--missing=:value:(refuse drop)'
     '--distribution'
     '--plain'
     '--nodes'

@@ -25,6 +25,11 @@ is_example("tea", exact_test("fisher", as.matrix(data_of("tea")), distribution =
 is_example("tea_odds", exact_test("fisher", as.matrix(data_of("tea")), odds = "2/1"))
 is_example("satisfaction", exact_test("linear", as.matrix(data_of("satisfaction")), row_scores = c(3, 10, 20, 35), column_scores = c(1, 3, 4, 5)))
 is_example("rabbits", exact_test("strata", data_of("rabbits")))
+is_example("rabbits_zelen", exact_test("zelen", data_of("rabbits")))
+is_example("teeth", exact_test("stratranksum", data_of("teeth"), order = c("VC", "OJ")))
+d <- data_of("tuna")
+is_example("tuna", exact_test("kendall", d$x, d$y, paired = TRUE))
+is_example("queue", exact_test("runs", data_of("queue")$sex))
 is_example("mucociliary", exact_test("kw", value ~ in_file_order(group), data = data_of("mucociliary")))
 is_example("diphtheria", exact_test("cochran", data_of("diphtheria"), nodes = TRUE))
 

@@ -62,6 +62,10 @@ runs = {
         "linear", counts(rows_of("satisfaction.csv")), row_scores=[3, 10, 20, 35], column_scores=[1, 3, 4, 5]
     ),
     "rabbits": lambda: exact.run("strata", rows_of("rabbits.csv")),
+    "rabbits_zelen": lambda: exact.run("zelen", rows_of("rabbits.csv")),
+    "teeth": lambda: exact.run("stratranksum", rows_of("teeth.csv"), order=["VC", "OJ"]),
+    "tuna": lambda: exact.run("kendall", zip(*columns(numbers(rows_of("tuna.csv"))))),
+    "queue": lambda: exact.run("runs", [label for (label,) in rows_of("queue.csv")]),
     "diphtheria": lambda: exact.run("cochran", counts(rows_of("diphtheria.csv")), nodes=True),
     "mucociliary": lambda: exact.run("kw", EXAMPLES / "mucociliary.csv"),
     "drill": lambda: exact.run("drill", number=1),

@@ -19,7 +19,12 @@ from fractions import Fraction
 PAIRS = ("signedrank", "sign", "rawsigned")
 TWO_SAMPLES = ("ranksum", "ansari", "mood", "savage", "median", "raw")
 BLOCKS = ("friedman", "page", "cochran")
-TESTS = (*PAIRS, "mcnemar", *TWO_SAMPLES, "kw", "jt", "umbrella", *BLOCKS, "fisher", "linear", "strata")
+STRATA = ("strata", "zelen")
+SEQUENCES = ("kendall", "runs")
+TESTS = (
+    *PAIRS, "mcnemar", *TWO_SAMPLES, "kw", "jt", "umbrella", *BLOCKS, "fisher", "linear", *STRATA, "stratranksum",
+    *SEQUENCES,
+)
 GROUPS = (*TWO_SAMPLES, "kw", "jt", "umbrella", "shift")
 LABELS = ("x", "y", "b c", "10%", "\u00e9", "NA", "7", "total 3", "less", "a,b", 'say "no"', "two\nlines")
 SEPARATORS = {"comma": ",", "semicolon": ";", "tab": "\t"}
@@ -62,13 +67,17 @@ class Problem:
         """The labels in the order that the test takes them in."""
         if "order" in self.options:
             return self.options["order"].split(",")
-        return list(dict.fromkeys(row[0] for row in self.rows))
+        return list(dict.fromkeys(self.label(row) for row in self.rows))
+
+    def label(self, row):
+        """The label of a row's group, which stands behind that of its stratum."""
+        return row[1] if self.test == "stratranksum" else row[0]
 
     def in_order(self, labels):
         """The same with its labels in this order: by the option, or where that cannot list them, by the rows."""
         if not any("," in label for label in labels):
             return self.asked(order=",".join(labels))
-        return replace(self, rows=sorted(self.rows, key=lambda row: labels.index(row[0])))
+        return replace(self, rows=sorted(self.rows, key=lambda row: labels.index(self.label(row))))
 
     def shuffled(self, dice):
         return replace(self, rows=dice.sample(self.rows, len(self.rows)))
@@ -199,12 +208,45 @@ def strata(test, dice):
             break
         rows.append([f"s{place}", *counts])
     problem = Problem(test, rows)
-    return problem.asked(odds=odds(dice)) if dice.random() < 0.4 else problem
+    return problem.asked(odds=odds(dice)) if test == "strata" and dice.random() < 0.4 else problem
+
+
+def strata_of_groups(test, dice):
+    """Two samples in strata, of which the first has some of both, and others may have none of one."""
+    value = values_of(dice)
+    labels = dice.sample(LABELS, 2)
+    rows = []
+    total = 1
+    for stratum in dice.sample(LABELS, dice.randint(1, 4)):
+        sizes = [dice.randint(0 if rows else 1, 3) for _ in labels]
+        total *= ways(sizes)
+        if total > 3000:
+            break
+        rows += [[stratum, label, value()] for label, size in zip(labels, sizes) for _ in range(size)]
+    problem = Problem(test, rows).shuffled(dice)
+    return problem.in_order(dice.sample(labels, 2)) if dice.random() < 0.3 else problem
+
+
+def twins(test, dice):
+    first, second = values_of(dice), values_of(dice)
+    rows = [[first(), second()] for _ in range(dice.randint(1, 8))]
+    while ways(Counter(row[1] for row in rows).values()) > 3000:
+        rows.pop()
+    return Problem(test, rows)
+
+
+def sequence(test, dice):
+    labels = dice.sample(LABELS, 2)
+    rows = [[label] for label in labels for _ in range(dice.randint(1, 6))]
+    return Problem(test, rows).shuffled(dice)
 
 
 def make(test, dice):
     """A problem of the test, in its layout."""
-    layouts = {pairs: PAIRS, groups: GROUPS, blocks: BLOCKS, strata: ["strata"], table: TESTS}
+    layouts = {
+        pairs: PAIRS, groups: GROUPS, blocks: BLOCKS, strata: STRATA, strata_of_groups: ["stratranksum"],
+        twins: ["kendall"], sequence: ["runs"], table: TESTS,
+    }
     layout = next(layout for layout, tests in layouts.items() if test in tests)
     problem = replace(layout(test, dice), spelling=dice.randrange(10**6))
     return problem.asked(separator=dice.choice(list(SEPARATORS))) if dice.random() < 0.3 else problem
@@ -330,9 +372,10 @@ def the_weights_of_the_distribution_sum_to_the_numerators(problem, _):
         "greater": lambda value, weight: value >= observed,
         "two": lambda value, weight: abs(value * total - moment) >= abs(observed * total - moment),
     }
-    if problem.test == "fisher":
-        # of a table of two by two a value stands for one table, of a greater one it is the weight of a table
-        two_by_two = problem.is_two_by_two()
+    if problem.test in ("fisher", "zelen"):
+        # of a table of two by two a value stands for one table, of a greater one it is the weight of a table, and of
+        # strata that of all tables
+        two_by_two = problem.test == "fisher" and problem.is_two_by_two()
         extreme["two"] = lambda value, weight: weight <= own if two_by_two else value <= observed
     return own is not None and sum(weight for _, weight in spread) == total and all(
         sum(weight for value, weight in spread if extreme[name](value, weight)) == count
@@ -358,6 +401,18 @@ def rearrangements(problem):
         return 2 ** (problem.rows[0][1] + problem.rows[1][0])
     if problem.test == "strata":
         return math.prod(ways([a + b, c + d]) for _, a, b, c, d in problem.rows)
+    if problem.test == "zelen":
+        # by the sum of first cells
+        members = Counter([0])
+        for _, a, b, c, d in problem.rows:
+            cells = {x: math.comb(a + c, x) * math.comb(b + d, a + b - x) for x in range(a + min(b, c) + 1)}
+            members = sum((Counter({x + m: n * k for m, k in members.items()}) for x, n in cells.items()), Counter())
+        return members[sum(row[1] for row in problem.rows)]
+    if problem.test == "stratranksum":
+        strata = {stratum for stratum, _, _ in problem.rows}
+        return math.prod(ways(Counter(g for s, g, _ in problem.rows if s == stratum).values()) for stratum in strata)
+    if problem.test in SEQUENCES:
+        return ways(Counter(row[-1] for row in problem.rows).values())
     return ways(map(sum, problem.rows))
 
 
@@ -391,12 +446,12 @@ def fields_picked_from_a_wider_file_have_the_same_report(problem, dice):
     return ask(replace(problem, rows=rows), columns=columns).text == ask(problem).text
 
 
-@holds_for(*PAIRS, *BLOCKS, "strata")
+@holds_for(*PAIRS, *BLOCKS, *STRATA, "kendall")
 def rows_in_any_order_have_the_same_report(problem, dice):
     return ask(problem.shuffled(dice)).text == ask(problem).text
 
 
-@holds_for(*GROUPS)
+@holds_for(*GROUPS, "stratranksum")
 def subjects_in_any_order_have_the_same_report(problem, dice):
     if problem.test == "kw":
         # which has no option for the order of its labels
@@ -404,7 +459,7 @@ def subjects_in_any_order_have_the_same_report(problem, dice):
     return ask(problem.shuffled(dice).in_order(problem.labels())).text == ask(problem).text
 
 
-@holds_for(*TWO_SAMPLES, "jt")
+@holds_for(*TWO_SAMPLES, "jt", "stratranksum")
 def labels_in_reverse_order_swap_less_and_greater(problem, _):
     return ask(problem.in_order(problem.labels()[::-1])).tails == swapped(ask(problem).tails)
 
@@ -473,13 +528,15 @@ def same_answer(problem, changed):
     return ask(changed).text == ask(problem).text
 
 
-@holds_for(*PAIRS, *GROUPS[:-1], "friedman", "page")
+@holds_for(*PAIRS, *GROUPS[:-1], "friedman", "page", "stratranksum", "kendall")
 def values_times_a_number_have_the_same_answer(problem, dice):
     factor = dice.randint(2, 5)
     return same_answer(problem, problem.changed(lambda value: value * factor))
 
 
-@holds_for(*PAIRS, *GROUPS[:-1], "friedman", "page", when=lambda problem: len(problem.rows[0]) > 1)
+@holds_for(
+    *PAIRS, *GROUPS[:-1], "friedman", "page", "stratranksum", "kendall", when=lambda problem: len(problem.rows[0]) > 1
+)
 def values_shifted_have_the_same_answer(problem, dice):
     values = [cell for row in problem.rows for cell in row if isinstance(cell, Decimal)]
     # a shift as great as the values, where others would be too wide
@@ -488,12 +545,14 @@ def values_shifted_have_the_same_answer(problem, dice):
     return same_answer(problem, problem.changed(lambda value: value + constant))
 
 
-@holds_for("ranksum", "raw", *PAIRS, "jt", "umbrella", "page")
+@holds_for("ranksum", "raw", *PAIRS, "jt", "umbrella", "page", "stratranksum")
 def values_negated_swap_less_and_greater(problem, _):
     return ask(problem.negated()).tails == swapped(ask(problem).tails)
 
 
-@holds_for("ansari", "mood", "kw", "friedman", when=lambda problem: scores_of(problem) not in ("savage", "median"))
+@holds_for(
+    "ansari", "mood", "kw", "friedman", "kendall", when=lambda problem: scores_of(problem) not in ("savage", "median")
+)
 def values_negated_have_the_same_report(problem, _):
     return ask(problem.negated()).text == ask(problem).text
 
@@ -540,6 +599,65 @@ def strata_of_one_stratum_are_fisher(problem, _):
     return one_sided(ask(stratum).tails) == one_sided(ask(problem).tails)
 
 
+@holds_for("ranksum")
+def stratranksum_of_one_stratum_is_ranksum(problem, _):
+    stratum = replace(problem, test="stratranksum", rows=[["s", *row] for row in problem.rows])
+    return ask(stratum).without("test", "strata") == ask(problem).without("test", "group")
+
+
+@holds_for("stratranksum")
+def a_stratum_of_one_sample_changes_no_ratio(problem, _):
+    label = problem.labels()[0]
+    longer = replace(problem, rows=[*problem.rows, *(["one more", label, Decimal(n)] for n in range(3))])
+    return ask(longer).counts == ask(problem).counts
+
+
+@holds_for(*STRATA)
+def strata_of_turned_tables_have_the_same_ratios(problem, _):
+    return ask(replace(problem, rows=[[s, a, c, b, d] for s, a, b, c, d in problem.rows])).tails == ask(problem).tails
+
+
+@holds_for("zelen")
+def columns_changed_in_all_strata_have_the_same_report(problem, _):
+    return ask(replace(problem, rows=[[s, b, a, d, c] for s, a, b, c, d in problem.rows])).text == ask(problem).text
+
+
+@holds_for(*STRATA)
+def a_stratum_of_one_row_changes_no_ratio(problem, _):
+    longer = replace(problem, rows=[*problem.rows, ["one more", 2, 1, 0, 0]])
+    return ask(longer).tails == ask(problem).tails
+
+
+@holds_for("jt")
+def kendall_of_the_numbers_of_labels_is_jt(problem, _):
+    labels = problem.labels()
+    rows = [[Decimal(labels.index(label)), value] for label, value in problem.rows]
+    return ask(Problem("kendall", rows)).tails == ask(problem).tails
+
+
+@holds_for("kendall")
+def twins_changed_have_the_same_ratios(problem, _):
+    turned = ask(replace(problem, rows=[row[::-1] for row in problem.rows]))
+    return turned.words["statistic"] == ask(problem).words["statistic"] and turned.tails == ask(problem).tails
+
+
+@holds_for("kendall")
+def second_values_negated_swap_less_and_greater(problem, _):
+    return ask(replace(problem, rows=[[x, -y] for x, y in problem.rows])).tails == swapped(ask(problem).tails)
+
+
+@holds_for("runs")
+def a_sequence_in_reverse_has_the_same_numbers(problem, _):
+    return ask(replace(problem, rows=problem.rows[::-1])).without("group") == ask(problem).without("group")
+
+
+@holds_for("runs")
+def labels_changed_have_the_same_numbers(problem, _):
+    one, other = problem.labels()
+    changed = replace(problem, rows=[[other if label == one else one] for (label,) in problem.rows])
+    return ask(changed).without("group") == ask(problem).without("group")
+
+
 @holds_for("fisher", "strata", when=lambda problem: problem.test == "strata" or problem.is_two_by_two())
 def odds_of_one_are_none(problem, _):
     problem = problem.without("odds")
@@ -561,7 +679,7 @@ def odds_not_in_lowest_terms_have_the_same_ratios(problem, _):
     return ask(problem, odds=f"{2 * p}/{2 * q}").tails == ask(problem).tails
 
 
-@holds_for(*PAIRS, *GROUPS, *BLOCKS)
+@holds_for(*PAIRS, *GROUPS, *BLOCKS, "stratranksum", *SEQUENCES)
 def rows_with_a_missing_field_are_dropped(problem, dice):
     rows = list(problem.rows)
     number = dice.randint(0, 3)

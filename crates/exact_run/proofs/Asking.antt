@@ -2,7 +2,7 @@
 use Rattle.std.proofs.Common.{◌≡◌, ◌∙◌, ℕ, Bool, IfOk, Option, Some, None, Result, Ok, Err, refl, sym, ap, subst}
 use Rattle.weights.specs.Conditional.{ConditionalTest}
 use Rattle.weights.specs.Wide.{Prepares, too_wide}
-use Rattle.stage_network.specs.Follows.{asks}
+use Rattle.stage_network.specs.Asked.{asks}
 use Rattle.weights.specs.declared.tails.Tail.{Tail}
 use Rattle.weights.specs.declared.tails.Tail.TheVariants.{Less, Greater, Two}
 use Rattle.weights.specs.declared.tails.Tails.{Tails}

@@ -18,8 +18,10 @@ use Rattle.report.specs.declared.refusals.Refusal.TheVariants as refusal
 use Rattle.two_sample_tests.specs.Columns.{two_sample_network}
 use Rattle.two_sample_tests.specs.TwoSamples.{two_sample_test}
 use Rattle.k_sample_tests.specs.KSamples.{k_sample_network, k_sample_test}
-use Rattle.k_sample_tests.specs.declared.k_sample.KSample.{KSample}
-use Rattle.k_sample_tests.specs.declared.k_sample.KSample.TheVariants.{Differing, Ordered}
+use Rattle.k_sample_tests.specs.KruskalWallis.{ScoredGroups}
+use Rattle.k_sample_tests.specs.Umbrella.{PeakedGroups}
+use Rattle.stage_network.specs.declared.one_of.OneOf.{OneOf}
+use Rattle.stage_network.specs.declared.one_of.OneOf.TheVariants.{First, Second}
 use Rattle.exact_run.specs.Question.{Question, dropped_told, layout_refusal, question_about}
 
 -- ---- groups
@@ -31,12 +33,16 @@ is_order_of labels order =
     nat_eq (length labels) (length order)
     && list_all (λ label. list_any (bytes_eq label) order) labels
 
--- the groups in the order that is asked, if one is asked; else in that of the file
-abbrev pub in_order : List (List ℕ) → GroupData → Result GroupData Refusal
-in_order [] groups = Ok groups
-in_order order groups =
-    if is_order_of groups.labels order then Ok (reordered order groups)
+-- samples in the order of their labels that is asked, if one is asked; else in that of the file
+abbrev pub in_order_by : {V : Type 0} → (V → List (List ℕ)) → (List (List ℕ) → V → V)
+    → List (List ℕ) → V → Result V Refusal
+in_order_by labels_of reordered_to [] samples = Ok samples
+in_order_by labels_of reordered_to order samples =
+    if is_order_of (labels_of samples) order then Ok (reordered_to order samples)
     else Err (refusal.Unfit option.Order)
+
+abbrev pub in_order : List (List ℕ) → GroupData → Result GroupData Refusal
+in_order = in_order_by (λ groups. groups.labels) reordered
 
 -- at most so many groups, in the order used
 abbrev pub groups_of : ℕ → Settings → List (List (List ℕ)) → Result GroupData Refusal
@@ -66,14 +72,15 @@ two_samples_of kind settings rows =
 
 -- ---- several samples
 
-abbrev pub k_sample_question : KSample → GroupData → Option ℕ → Extra → Question
+abbrev pub k_sample_question : OneOf ScoredGroups PeakedGroups → GroupData → Option ℕ → Extra
+    → Question
 k_sample_question samples groups dropped extra =
     question_about k_sample_test k_sample_network samples (group_rows groups) dropped extra
 
 -- whether they differ, by the scores of a kind
 abbrev pub kruskal_wallis_question : ScoreKind → Option ℕ → GroupData → Question
 kruskal_wallis_question kind dropped groups =
-    k_sample_question (Differing (record { kind = kind; groups = groups })) groups dropped
+    k_sample_question (First (record { kind = kind; groups = groups })) groups dropped
     (extra.Scores kind)
 
 abbrev pub kruskal_wallis_of : Settings → List (List (List ℕ)) → Result Question Refusal
@@ -84,7 +91,7 @@ kruskal_wallis_of settings rows =
 -- groups that are ordered have their peak at the last one
 abbrev pub ordered_question : Option ℕ → GroupData → Question
 ordered_question dropped groups =
-    k_sample_question (Ordered (record { peak = length groups.labels; groups = groups })) groups
+    k_sample_question (Second (record { peak = length groups.labels; groups = groups })) groups
     dropped extra.None
 
 abbrev pub ordered_of : Settings → List (List (List ℕ)) → Result Question Refusal
@@ -97,7 +104,7 @@ has_peak peak groups = nat_le 1 peak && nat_le peak (length groups.labels)
 
 abbrev pub peaked_question : ℕ → Option ℕ → GroupData → Question
 peaked_question peak dropped groups =
-    k_sample_question (Ordered (record { peak = peak; groups = groups })) groups dropped
+    k_sample_question (Second (record { peak = peak; groups = groups })) groups dropped
     (extra.Peak peak)
 
 -- the groups rise up to the peak and fall behind it

@@ -4,6 +4,8 @@ pub mod GroupQuestions
 pub mod BlockQuestions
 pub mod TableQuestions
 pub mod StrataQuestions
+pub mod StrataGroupQuestions
+pub mod SequenceQuestions
 pub mod ShiftReports
 pub mod Questions
 pub mod MadeData

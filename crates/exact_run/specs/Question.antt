@@ -43,7 +43,7 @@ question_about test_of network_of value sizes dropped extra = record {
 -- how many rows are left out, where those with a missing field are
 abbrev pub dropped_by : Missing → Picks → Layout → List (List (List ℕ)) → Option ℕ
 dropped_by Refuse picks layout rows = None
-dropped_by Drop picks layout rows = Some (dropped_of layout Drop picks rows)
+dropped_by Drop picks layout rows = Some (dropped_of layout picks rows)
 
 abbrev pub dropped_told : Settings → Layout → List (List (List ℕ)) → Option ℕ
 dropped_told settings = dropped_by settings.missing settings.picks

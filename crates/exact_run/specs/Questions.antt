@@ -13,7 +13,9 @@ use Rattle.exact_run.specs.BlockQuestions.{blocks_of}
 use Rattle.exact_run.specs.GroupQuestions.{kruskal_wallis_of, ordered_of, two_samples_of, umbrella_of}
 use Rattle.exact_run.specs.PairQuestions.{pairs_of}
 use Rattle.exact_run.specs.Question.{Question}
-use Rattle.exact_run.specs.StrataQuestions.{strata_of}
+use Rattle.exact_run.specs.SequenceQuestions.{kendall_of, runs_of}
+use Rattle.exact_run.specs.StrataGroupQuestions.{stratified_ranks_of}
+use Rattle.exact_run.specs.StrataQuestions.{strata_of, zelen_of}
 use Rattle.exact_run.specs.TableQuestions.{fisher_of, linear_of, mcnemar_of}
 
 -- What a test asks. Made data are in no file, and no words ask for the tests that are not named
@@ -38,4 +40,8 @@ question_for test.Cochran = blocks_of blocks.Cochran
 question_for test.Fisher = fisher_of
 question_for test.Linear = linear_of
 question_for test.Strata = strata_of
+question_for test.Zelen = zelen_of
+question_for test.StratRankSum = stratified_ranks_of
+question_for test.Kendall = kendall_of
+question_for test.Runs = runs_of
 question_for _ = λ settings rows. Err (refusal.Unfit option.Test)

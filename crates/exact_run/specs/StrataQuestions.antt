@@ -5,10 +5,12 @@ use Rattle.weights.specs.Results.{with_fault, with_value}
 use Rattle.weights.specs.declared.odds.Odds.{Odds}
 use Rattle.table_reader.specs.StrataLayout.{strata_in}
 use Rattle.settings.specs.declared.settings.Settings.{Settings}
+use Rattle.stage_network.specs.declared.one_of.OneOf.TheVariants.{First}
 use Rattle.report.specs.declared.headings.Extra.TheVariants as extra
 use Rattle.report.specs.declared.headings.Sizes.{Sizes}
 use Rattle.report.specs.declared.headings.Sizes.TheVariants as sizes
 use Rattle.report.specs.declared.refusals.Refusal.{Refusal}
+use Rattle.homogeneity.specs.Homogeneities.{homogeneity_network, homogeneity_test}
 use Rattle.stratified_tests.specs.StrataNetwork.{strata_network}
 use Rattle.stratified_tests.specs.StrataTests.{data_of, strata_test}
 use Rattle.exact_run.specs.Question.{Question, layout_refusal, question_about}
@@ -16,6 +18,12 @@ use Rattle.exact_run.specs.Question.{Question, layout_refusal, question_about}
 -- each stratum has four cells
 abbrev pub strata_sizes : List ℕ → Sizes
 strata_sizes cells = sizes.Strata (length cells / 4) (sum cells)
+
+-- the strata of the rows
+abbrev pub cells_of : Settings → List (List (List ℕ)) → Result (List ℕ) Refusal
+cells_of settings rows = with_fault layout_refusal (strata_in settings.picks rows)
+
+-- ---- common independence
 
 -- with odds, where they are given
 abbrev pub strata_question : Option Odds → List ℕ → Question
@@ -25,5 +33,14 @@ strata_question odds cells =
 
 abbrev pub strata_of : Settings → List (List (List ℕ)) → Result Question Refusal
 strata_of settings rows =
-    with_value (strata_question settings.odds)
-    (with_fault layout_refusal (strata_in settings.picks rows))
+    with_value (strata_question settings.odds) (cells_of settings rows)
+
+-- ---- equal odds ratios
+
+abbrev pub zelen_question : List ℕ → Question
+zelen_question cells =
+    question_about homogeneity_test homogeneity_network (First cells) (strata_sizes cells) None
+    extra.None
+
+abbrev pub zelen_of : Settings → List (List (List ℕ)) → Result Question Refusal
+zelen_of settings rows = with_value zelen_question (cells_of settings rows)

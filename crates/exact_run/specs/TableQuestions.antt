@@ -18,8 +18,10 @@ use Rattle.table_tests.specs.OddsSteps.{weighted_of}
 use Rattle.table_tests.specs.TableSteps.{scored_of}
 use Rattle.table_tests.specs.TableTests.{table_network, table_test}
 use Rattle.table_tests.specs.Tables.{is_two_by_two}
-use Rattle.table_tests.specs.declared.table_test.TableTest.{TableTest}
-use Rattle.table_tests.specs.declared.table_test.TableTest.TheVariants as kind
+use Rattle.table_tests.specs.FisherOdds.{WeightedTable}
+use Rattle.table_tests.specs.LinearByLinear.{ScoredTable}
+use Rattle.stage_network.specs.declared.one_of.OneOf.{OneOf}
+use Rattle.stage_network.specs.declared.one_of.OneOf.TheVariants.{First, Second}
 use Rattle.exact_run.specs.Question.{Question, layout_refusal, question_about}
 
 -- the table of the rows: one of two rows and two columns, or any
@@ -43,17 +45,18 @@ mcnemar_of settings rows = with_value mcnemar_question (table_of true settings r
 -- ---- Fisher's exact test
 
 -- what a test of a table asks
-abbrev pub table_question : TableData → TableTest → Question
+abbrev pub table_question : TableData → OneOf (OneOf TableData ScoredTable) WeightedTable
+    → Question
 table_question table test =
     question_about table_test table_network test (table_sizes table) None extra.None
 
 abbrev pub fisher_question : TableData → Question
-fisher_question table = table_question table (kind.Fisher table)
+fisher_question table = table_question table (First (First table))
 
 -- with odds it has the tails of one side, which are those of a table of two rows and two columns
 abbrev pub odds_question : Odds → TableData → Result Question Refusal
 odds_question odds table =
-    if is_two_by_two table then Ok (table_question table (kind.Odds (weighted_of table odds)))
+    if is_two_by_two table then Ok (table_question table (Second (weighted_of table odds)))
     else Err (refusal.Unfit option.Tail)
 
 -- with odds, where they are given
@@ -79,7 +82,7 @@ fitting_scores name count given =
 
 abbrev pub linear_question : TableData → List ℤ → List ℤ → Question
 linear_question table row_scores column_scores =
-    table_question table (kind.Linear (scored_of table row_scores column_scores))
+    table_question table (First (Second (scored_of table row_scores column_scores)))
 
 -- the scores of rows are looked at before those of columns
 abbrev pub scored_question : Settings → TableData → Result Question Refusal

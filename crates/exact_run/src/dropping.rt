@@ -14,6 +14,6 @@ pub(crate) fn dropped_told(settings: &Settings, layout: Layout, rows: &Rows) -> 
 {
     match settings.missing {
         Missing::Refuse => None,
-        Missing::Drop => Some(dropped(rows, &settings.picks, layout, Missing::Drop)),
+        Missing::Drop => Some(dropped(rows, &settings.picks, layout)),
     }
 }

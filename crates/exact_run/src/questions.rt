@@ -8,8 +8,10 @@ use crate::group_reports::{
     kruskal_wallis_report, ordered_report, two_sample_report, umbrella_report,
 };
 use crate::pair_reports::pair_report;
+use crate::sequence_reports::{kendall_report, runs_report};
 use crate::shift_reports::shift_report;
-use crate::strata_reports::strata_report;
+use crate::strata_group_reports::stratified_rank_report;
+use crate::strata_reports::{strata_report, zelen_report};
 use crate::table_reports::{fisher_report, linear_report, mcnemar_report};
 use block_tests::BlockKind;
 use one_sample_tests::SignKind;
@@ -46,6 +48,10 @@ pub(crate) fn report_in(alloc: Global, settings: &Settings, rows: &Rows) -> Resu
         TestName::Fisher => fisher_report(alloc, settings, rows),
         TestName::Linear => linear_report(alloc, settings, rows),
         TestName::Strata => strata_report(alloc, settings, rows),
+        TestName::Zelen => zelen_report(alloc, settings, rows),
+        TestName::StratRankSum => stratified_rank_report(alloc, settings, rows),
+        TestName::Kendall => kendall_report(alloc, settings, rows),
+        TestName::Runs => runs_report(alloc, settings, rows),
         TestName::Shift => shift_report(alloc, settings, rows),
         _ => Err(Refusal::Unfit(OptionName::Test)),
     }

@@ -42,6 +42,9 @@ pub(crate) const GREATER: Tails = Tails {
     ..NONE
 };
 
+/// The tail of both sides alone.
+pub(crate) const TWO: Tails = Tails { two: true, ..NONE };
+
 // The tails that are asked of those that a test has.
 fn asked(choice: TailChoice, has: Tails) -> Option<Tails>
     ensures { result ≡ asked choice has }
@@ -50,7 +53,7 @@ fn asked(choice: TailChoice, has: Tails) -> Option<Tails>
         TailChoice::All => Some(has),
         TailChoice::Less => only(has.less, Tails { less: true, ..NONE }),
         TailChoice::Greater => only(has.greater, GREATER),
-        TailChoice::Two => only(has.two, Tails { two: true, ..NONE }),
+        TailChoice::Two => only(has.two, TWO),
     }
 }
 

@@ -1,19 +1,18 @@
-// The report of the test of strata.
-ghost use Rattle.std.specs.Prelude.{◌≡◌, Ok, IfErr, IfOk, IfSome};
+// The reports of the tests of strata of tables of two by two.
+ghost use Rattle.std.specs.Prelude.{◌≡◌, None, Ok, IfErr, IfOk, IfSome};
 ghost use Rattle.record_reader.specs.Layouts.{MayPick};
 ghost use Rattle.weights.specs.Odds.{IsOdds};
-ghost use Rattle.weights.specs.Results.{and_then, with_fault};
+ghost use Rattle.weights.specs.Results.{and_then};
 ghost use Rattle.weights.specs.Wide.{Prepares};
-ghost use Rattle.table_reader.specs.StrataLayout.{strata_in};
 ghost use Rattle.stratified_tests.specs.StrataTests.{data_of, strata_test, tails_with};
 ghost use Rattle.exact_run.specs.CauseSteps.{IsCauseOf, Meets};
 ghost use Rattle.exact_run.specs.Outcome.{asking_of, outcome_of_question, tails_by};
-ghost use Rattle.exact_run.specs.Question.{layout_refusal};
-ghost use Rattle.exact_run.specs.StrataQuestions.{strata_of, strata_sizes};
+ghost use Rattle.exact_run.specs.StrataQuestions.{cells_of, strata_of, strata_sizes, zelen_of};
 
 use crate::refusing::layout_refusal;
-use crate::reports::{ALL, Asking, Heading, ONE_SIDED, report_on};
+use crate::reports::{ALL, Asking, Heading, ONE_SIDED, TWO, report_on};
 use crate::sums::cell_sum;
+use homogeneity::prepare_zelen;
 use record_reader::Rows;
 use report::{Extra, Refusal, Sizes};
 use settings::Settings;
@@ -25,20 +24,25 @@ use weights::{Bytes, Odds, PrepareFault, Tails};
 // The strata of the rows, or the refusal of their fault.
 fn strata_read(alloc: Global, settings: &Settings, rows: &Rows) -> Result<Strata, Refusal>
     requires { MayPick 5 5 settings.now.picks }
-    ensures ok { let found = strata_in settings.now.picks rows.now in
-        IfOk result (λ strata. with_fault layout_refusal found ≡ Ok strata.cells) }
-    ensures err { let found = strata_in settings.now.picks rows.now in
-        IfErr result (IsCauseOf (with_fault layout_refusal found)) }
+    ensures ok { IfOk result (λ strata. cells_of settings.now rows.now ≡ Ok strata.cells) }
+    ensures err { IfErr result (IsCauseOf (cells_of settings.now rows.now)) }
 {
     strata(alloc, rows, &settings.picks).map_err(layout_refusal)
 }
 
-fn sizes_of(strata: &Strata) -> Sizes
-    ensures { result ≡ strata_sizes strata.now.cells }
+// The sizes of strata of a file.
+fn heading_of(strata: &Strata) -> Heading
+    ensures sizes { result.sizes ≡ strata_sizes strata.now.cells }
+    ensures dropped { result.dropped ≡ None }
+    ensures extra { result.extra ≡ Extra.None }
 {
-    Sizes::Strata {
-        strata: strata.cells.len() as u64 / 4,
-        sum: cell_sum(strata.cells.as_slice()),
+    Heading {
+        sizes: Sizes::Strata {
+            strata: strata.cells.len() as u64 / 4,
+            sum: cell_sum(strata.cells.as_slice()),
+        },
+        dropped: None,
+        extra: Extra::None,
     }
 }
 
@@ -77,10 +81,32 @@ pub(crate) fn strata_report(
     let strata = strata_read(alloc, settings, rows)?;
     let problem = prepared(alloc, settings.odds, &strata);
     let tails = tails_of(settings.odds);
-    let heading = Heading {
-        sizes: sizes_of(&strata),
-        dropped: None,
-        extra: Extra::None,
-    };
-    report_on(alloc, Asking::of(settings), &heading, tails, problem)
+    report_on(
+        alloc,
+        Asking::of(settings),
+        &heading_of(&strata),
+        tails,
+        problem,
+    )
+}
+
+/// The report of the test of equal odds ratios in strata, or the refusal.
+pub(crate) fn zelen_report(
+    alloc: Global,
+    settings: &Settings,
+    rows: &Rows,
+) -> Result<Bytes, Refusal>
+    requires { MayPick 5 5 settings.now.picks }
+    ensures { let question = zelen_of settings.now rows.now in
+        Meets (and_then (outcome_of_question (asking_of settings.now)) question) result }
+{
+    let strata = strata_read(alloc, settings, rows)?;
+    let problem = prepare_zelen(alloc, &strata);
+    report_on(
+        alloc,
+        Asking::of(settings),
+        &heading_of(&strata),
+        TWO,
+        problem,
+    )
 }

@@ -17,4 +17,4 @@ returns c =
     let cells = c.in_ok-strata.strata.cells in
     rw c.in_ok-strata.ensures.ok
     (asked_outcome strata_test strata_network (asking_of c.args.settings.now) (strata_sizes cells) None extra.None
-    (data_of c.args.settings.now.odds cells) _ _ c.prepared-problem.ensures (rw (c.of.ensures, c.sizes_of.ensures, c.tails_of-tails.ensures) at c.report_on.ensures))
+    (data_of c.args.settings.now.odds cells) _ _ c.prepared-problem.ensures (rw (c.of.ensures, c.heading_of.ensures.sizes, c.heading_of.ensures.dropped, c.heading_of.ensures.extra, c.tails_of-tails.ensures) at c.report_on.ensures))

@@ -4,7 +4,7 @@ use Rattle.report.specs.declared.headings.Extra.TheVariants as extra
 use Rattle.table_tests.specs.OddsSteps.{weighted_of}
 use Rattle.table_tests.specs.Tables.{is_two_by_two}
 use Rattle.table_tests.specs.TableTests.{table_network, table_test}
-use Rattle.table_tests.specs.declared.table_test.TableTest.TheVariants.{Odds}
+use Rattle.stage_network.specs.declared.one_of.OneOf.TheVariants.{Second}
 use Rattle.exact_run.specs.Outcome.{asking_of}
 use Rattle.exact_run.specs.TableQuestions.{table_sizes}
 use Rattle.exact_run.proofs.Asking.{asked_outcome, prepared-tails}
@@ -13,7 +13,7 @@ use Rattle.exact_run.proofs.table_reports.odds_report.Goals as goal
 pub report_on-requires-clause-has : goal.report_on-requires-clause-has
 report_on-requires-clause-has c =
     let weighted = weighted_of (table_data_of c.args.table.now) c.args.odds in
-    prepared-tails table_test (Odds weighted) c.prepare_odds-problem.result _ refl c.prepare_odds-problem.ensures
+    prepared-tails table_test (Second weighted) c.prepare_odds-problem.result _ refl c.prepare_odds-problem.ensures
 
 pub returns : goal.returns
 returns c =
@@ -21,4 +21,4 @@ returns c =
     let here : is_two_by_two table ≡ true = cc in
     rw here
     (asked_outcome table_test table_network (asking_of c.args.settings.now) (table_sizes table) None extra.None
-    (Odds (weighted_of table c.args.odds)) _ _ c.prepare_odds-problem.ensures (rw (c.of.ensures, c.heading_of.ensures.sizes, c.heading_of.ensures.dropped, c.heading_of.ensures.extra) at c.report_on.ensures))
+    (Second (weighted_of table c.args.odds)) _ _ c.prepare_odds-problem.ensures (rw (c.of.ensures, c.heading_of.ensures.sizes, c.heading_of.ensures.dropped, c.heading_of.ensures.extra) at c.report_on.ensures))

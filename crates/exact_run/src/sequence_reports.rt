@@ -1,0 +1,98 @@
+// The reports of Kendall's test and of the runs test.
+ghost use Rattle.std.specs.Prelude.{◌≡◌, Ok, IfErr, IfOk};
+ghost use Rattle.record_reader.specs.Layouts.{MayPick};
+ghost use Rattle.weights.specs.Results.{and_then, with_fault};
+ghost use Rattle.sample_reader.specs.Data.{sequence_data_of, twin_data_of};
+ghost use Rattle.sample_reader.specs.Sequences.{sequence_in};
+ghost use Rattle.sample_reader.specs.Twins.{twins_in};
+ghost use Rattle.exact_run.specs.CauseSteps.{IsCauseOf, Meets};
+ghost use Rattle.exact_run.specs.Outcome.{asking_of, outcome_of_question};
+ghost use Rattle.exact_run.specs.Question.{layout_refusal};
+ghost use Rattle.exact_run.specs.SequenceQuestions.{kendall_of, runs_of, sequence_sizes, twin_sizes};
+
+use crate::dropping::dropped_told;
+use crate::refusing::layout_refusal;
+use crate::reports::{ALL, Asking, Heading, report_on};
+use record_reader::Rows;
+use report::{Extra, Refusal, Sizes};
+use sample_reader::{Layout, Sequence, Twins, sequence, twins};
+use sequence_tests::{prepare_kendall, prepare_runs};
+use settings::Settings;
+use std::alloc::Global;
+use weights::Bytes;
+
+// The twins of the rows, or the refusal of their fault.
+fn twins_read(alloc: Global, settings: &Settings, rows: &Rows) -> Result<Twins, Refusal>
+    requires { MayPick 2 2 settings.now.picks }
+    ensures ok { let found = twins_in settings.now.missing settings.now.picks rows.now in
+        IfOk result (λ twins. with_fault layout_refusal found ≡ Ok (twin_data_of twins)) }
+    ensures err { let found = twins_in settings.now.missing settings.now.picks rows.now in
+        IfErr result (IsCauseOf (with_fault layout_refusal found)) }
+{
+    twins(alloc, rows, &settings.picks, settings.missing).map_err(layout_refusal)
+}
+
+fn twin_sizes(twins: &Twins) -> Sizes
+    ensures { result ≡ twin_sizes (twin_data_of twins.now) }
+{
+    Sizes::Pairs {
+        rows: twins.rows,
+        used: twins.rows,
+    }
+}
+
+/// The report of Kendall's test, or the refusal.
+pub(crate) fn kendall_report(
+    alloc: Global,
+    settings: &Settings,
+    rows: &Rows,
+) -> Result<Bytes, Refusal>
+    requires { MayPick 2 2 settings.now.picks }
+    ensures { let question = kendall_of settings.now rows.now in
+        Meets (and_then (outcome_of_question (asking_of settings.now)) question) result }
+{
+    let twins = twins_read(alloc, settings, rows)?;
+    let problem = prepare_kendall(alloc, &twins);
+    let heading = Heading {
+        sizes: twin_sizes(&twins),
+        dropped: dropped_told(settings, Layout::Twins, rows),
+        extra: Extra::None,
+    };
+    report_on(alloc, Asking::of(settings), &heading, ALL, problem)
+}
+
+// The sequence of the rows, or the refusal of its fault.
+fn sequence_read(alloc: Global, settings: &Settings, rows: &Rows) -> Result<Sequence, Refusal>
+    requires { MayPick 1 1 settings.now.picks }
+    ensures ok { let found = sequence_in settings.now.missing settings.now.picks rows.now in
+        IfOk result (λ sequence. with_fault layout_refusal found ≡ Ok (sequence_data_of sequence)) }
+    ensures err { let found = sequence_in settings.now.missing settings.now.picks rows.now in
+        IfErr result (IsCauseOf (with_fault layout_refusal found)) }
+{
+    sequence(alloc, rows, &settings.picks, settings.missing).map_err(layout_refusal)
+}
+
+fn sequence_sizes(sequence: Sequence) -> Sizes
+    ensures { result ≡ sequence_sizes (sequence_data_of sequence) }
+{
+    Sizes::Groups {
+        labels: sequence.labels,
+        sizes: sequence.sizes,
+    }
+}
+
+/// The report of the runs test, or the refusal.
+pub(crate) fn runs_report(alloc: Global, settings: &Settings, rows: &Rows) -> Result<Bytes, Refusal>
+    requires { MayPick 1 1 settings.now.picks }
+    ensures { let question = runs_of settings.now rows.now in
+        Meets (and_then (outcome_of_question (asking_of settings.now)) question) result }
+{
+    let sequence = sequence_read(alloc, settings, rows)?;
+    let problem = prepare_runs(alloc, &sequence);
+    let heading = Heading {
+        sizes: sequence_sizes(sequence),
+        dropped: dropped_told(settings, Layout::Sequence, rows),
+        extra: Extra::None,
+    };
+    report_on(alloc, Asking::of(settings), &heading, ALL, problem)
+}
