@@ -2,7 +2,8 @@
 ghost use Rattle.std.specs.Prelude.{◌≡◌, ◌≤◌, ◌+◌, [], ◌∷◌, length, pos};
 ghost use Rattle.weights.specs.declared.TheConstants.{MAX};
 ghost use Rattle.stage_network.specs.Judged.{JudgeFits, rule_in, verdict_of};
-ghost use Rattle.homogeneity.specs.RankRooms.{remaining};
+ghost use Rattle.room_network.specs.Meanings.{AreReached};
+ghost use Rattle.homogeneity.specs.RankRooms.{rank_meaning, remaining};
 ghost use Rattle.homogeneity.specs.RankSteps.{AreRankSums, AreTwoSums, IsOneSum, second_in};
 
 use crate::rank_columns::Column;
@@ -84,9 +85,33 @@ fn signed(sum: u128) -> i128
     sum as i128
 }
 
-impl Measure for RankMeasure {
-    ghost use Rattle.homogeneity.specs.RankRooms.{rank_meaning};
+impl RankMeasure {
+    // Between which sums a partial of a room ends, by the room's outlook.
+    #[inline(always)]
+    fn interval(
+        &self,
+        _stage: usize,
+        _room: &[i128],
+        outlook: &[i128],
+        partial: &[i128],
+    ) -> Interval
+        requires reached { let m = rank_meaning self.now.columns self.now.second self.now.judge in
+            AreReached m _stage _room.now partial.now }
+        requires outlook { let m = rank_meaning self.now.columns self.now.second self.now.judge in
+            outlook.now ≡ m.outlook _stage _room.now }
+        ensures low { let m = rank_meaning self.now.columns self.now.second self.now.judge in
+            result.low ≡ m.low _stage _room.now partial.now }
+        ensures high { let m = rank_meaning self.now.columns self.now.second self.now.judge in
+            result.high ≡ m.high _stage _room.now partial.now }
+    {
+        let sum = sum_in(partial);
+        let low = signed(sum_of(sum, least_in(outlook)));
+        let high = signed(sum_of(sum, greatest_in(outlook)));
+        Interval { low, high }
+    }
+}
 
+impl Measure for RankMeasure {
     ghost meaning = { λ m. rank_meaning m.columns m.second m.judge };
 
     fn slots(&self) -> usize {
@@ -134,16 +159,30 @@ impl Measure for RankMeasure {
     #[inline(always)]
     fn verdict_by(
         &self,
-        _stage: usize,
-        _room: &[i128],
+        stage: usize,
+        room: &[i128],
         outlook: &[i128],
         partial: &[i128],
         tail: Tail,
     ) -> Verdict {
-        let sum = sum_in(partial);
-        let low = signed(sum_of(sum, least_in(outlook)));
-        let high = signed(sum_of(sum, greatest_in(outlook)));
-        self.judge.verdict(tail, Interval { low, high })
+        let interval = self.interval(stage, room, outlook, partial);
+        self.judge.verdict(tail, interval)
+    }
+
+    fn is_shift(&self) -> bool {
+        true
+    }
+
+    fn same_for(
+        &self,
+        stage: usize,
+        room: &[i128],
+        outlook: &[i128],
+        partial: i128,
+        tail: Tail,
+    ) -> u128 {
+        let interval = self.interval(stage, room, outlook, [partial].as_slice());
+        self.judge.same_for(tail, interval)
     }
 
     #[inline(always)]

@@ -1,9 +1,8 @@
 -- What holds of a test of Kruskal and Wallis whose total and bound pass no limit.
-use Rattle.std.proofs.Common.{◌≡◌, ℕ, zero, suc, ◌*◌, ◌/◌, ◌<◌, ◌≤◌, Bool, true, false, cond, List, [], ◌∷◌, length, map, Err, refl, sym, ◌∙◌, ap, subst, arith}
+use Rattle.std.proofs.Common.{◌≡◌, ℕ, zero, suc, ◌+◌, ◌*◌, ◌/◌, ◌<◌, ◌≤◌, List, [], ◌∷◌, length, map, Err, refl, sym, ◌∙◌, ap, subst, arith}
 use Rattle.std.specs.Prelude.{ℤ, pos, max}
 use Rattle.std.specs.List.{All, AllByRecursion}
 use Rattle.std.proofs.Math.Nat.{div-le_self, mul-le-mul, mul-le-mul_left, mul-le-mul_right}
-use Rattle.std.proofs.lemmas.Bool.{ltb-true}
 use Rattle.std.proofs.lemmas.List.{length-map}
 use Rattle.std.proofs.lemmas.List.Elements.{recursion_from_All}
 use Rattle.weights.specs.declared.tails.Tail.{Tail}
@@ -34,27 +33,23 @@ use Rattle.sample_reader.specs.declared.samples.Groups.{Groups}
 use Rattle.stage_network.specs.declared.verdicts.Judge.{Judge}
 use Rattle.stage_network.specs.Judged.{judge_of}
 use Rattle.stage_network.proofs.Following.{judge-fits}
-use Rattle.stage_network.specs.Follows.{Follows, open_keys}
-use Rattle.stage_network.specs.Network.{Network}
-use Rattle.stage_network.specs.Opened.{opened_below}
+use Rattle.stage_network.specs.Follows.{Follows}
 use Rattle.label_network.specs.Endings.{labelling_value}
-use Rattle.label_network.specs.LabelNetwork.{label_network}
+use Rattle.label_network.specs.LabelNetwork.{IsMargin, label_network}
 use Rattle.label_network.specs.LaterSums.{subjects}
-use Rattle.label_network.specs.Meanings.{IsMeasure}
+use Rattle.label_network.specs.Meanings.{IsMeasure, Meaning}
 use Rattle.label_network.proofs.LabelFollows.{label_follows}
 use Rattle.pooled_columns.specs.PooledColumns.{column_scores, column_sizes, pooled_values}
 use Rattle.pooled_columns.proofs.PooledValues.{pooled-rises}
 use Rattle.pooled_columns.proofs.TieColumns.{grouped}
 use Rattle.k_sample_tests.specs.KruskalWallis.{ScoredGroups, group_sums, kruskal_wallis_test, pooled_scores, size_factors, squares_statistic}
 use Rattle.k_sample_tests.specs.PackedSums.{packed_meaning}
-use Rattle.k_sample_tests.specs.RankSums.{fits_one, half_for, kruskal_wallis_meaning, kruskal_wallis_network, kruskal_wallis_runs, unpacked_meaning}
+use Rattle.k_sample_tests.specs.RankSums.{kruskal_wallis_network, unpacked_meaning}
 use Rattle.k_sample_tests.specs.RankSumSteps.{AreFitting, IsMadeOf, IsScoredBy, IsSquaring}
 use Rattle.k_sample_tests.proofs.FittingUmbrella.{columns-sum}
 use Rattle.k_sample_tests.proofs.GroupFacts.{few_rows, few_subjects, none-empty, sizes-whole, some_rows}
 use Rattle.k_sample_tests.proofs.GroupSums.{squares-most, sums-within}
-use Rattle.stage_network.proofs.Images.{OpensImages, opened-images}
-use Rattle.k_sample_tests.proofs.PackedImages.{packed-images}
-use Rattle.k_sample_tests.proofs.PackedKeys.{back, packed_squares}
+use Rattle.k_sample_tests.proofs.PackedKeys.{packed_squares}
 use Rattle.k_sample_tests.proofs.PackedValues.{packed-value}
 use Rattle.k_sample_tests.proofs.RankNarrows.{squares_measure}
 use Rattle.k_sample_tests.proofs.RankValues.{value-is}
@@ -141,64 +136,39 @@ module _ (samples : ScoredGroups) (f : AreFitting samples) where
       measured-is (kruskal_wallis_test samples) refl tail xs ∙ ap (λ s. squares_statistic (group_sizes samples.groups) s xs) (sym column-subjects)
       ∙ sym (value-is (size_factors (group_sizes samples.groups)) (kruskal_wallis_test samples).bound (column_scores samples.kind (pooled_values samples.groups)) (column_sizes (pooled_values samples.groups)) (group_sizes samples.groups) (judge_of (kruskal_wallis_test samples)) columns-level xs)
 
-  -- all scores together are less than half of the base
-  pub small-sums : fits_one samples ≡ true → absolute_sum (subjects (column_scores samples.kind (pooled_values samples.groups)) (column_sizes (pooled_values samples.groups))) < half_for (length (group_sizes samples.groups))
-  small-sums e = omega (arith, column-total, ltb-true (absolute_sum (pooled_scores samples)) (half_for (length (group_sizes samples.groups))) e)
-
-  follows-unpacked : (tail : Tail) → Follows (kruskal_wallis_test samples) tail (label_network (unpacked_meaning samples))
-  follows-unpacked tail = label_follows (unpacked_meaning samples) unpacked-measure (kruskal_wallis_test samples) tail (record {
+  pub follows : (tail : Tail) → Follows (kruskal_wallis_test samples) tail (kruskal_wallis_network samples tail)
+  follows tail = label_follows (unpacked_meaning samples) unpacked-measure (kruskal_wallis_test samples) tail (record {
     judge_is = refl;
     reference = refl;
     alike = λ xs. refl;
     values = λ xs m. unpacked-value tail xs;
   })
 
-  module _ (tail : Tail) (e : fits_one samples ≡ true) where
-    abbrev half : ℕ
-    half = half_for (length (group_sizes samples.groups))
+  -- what is measured has the groups' columns and sizes
+  pub margin : (m : Meaning) (columns rows : List ℕ) → m.columns ≡ column_sizes (pooled_values samples.groups) → m.rows ≡ group_sizes samples.groups → m.slots ≤ 8 → columns ≡ column_sizes (pooled_values samples.groups) → rows ≡ group_sizes samples.groups → IsMargin m columns rows
+  margin m columns rows mc mr slots c r = record {
+    columns_are = c ∙ sym mc;
+    rows_are = r ∙ sym mr;
+    some = subst (λ sizes. 2 ≤ length sizes) (sym r) f.some;
+    few = subst (λ sizes. length sizes ≤ 8) (sym r) f.few_rows;
+    wide = subst (λ sizes. length sizes + m.slots ≤ 16) (sym r) (omega (arith, f.few_rows, slots));
+    total = subst (λ sizes. number_of_labellings sizes ≤ MAX) (sym r) f.total_fits;
+  }
 
-    follows-packed : Follows (kruskal_wallis_test samples) tail (label_network (packed_meaning half (unpacked_meaning samples)))
-    follows-packed = label_follows (packed_meaning half (unpacked_meaning samples)) (packed_squares (size_factors (group_sizes samples.groups)) (kruskal_wallis_test samples).bound (column_scores samples.kind (pooled_values samples.groups)) (column_sizes (pooled_values samples.groups)) (group_sizes samples.groups) (judge_of (kruskal_wallis_test samples)) (is-squaring (judge_of (kruskal_wallis_test samples)) refl) half (small-sums e)) (kruskal_wallis_test samples) tail (record {
+  -- where all scores together are less than half of the base
+  module _ (tail : Tail) (half : ℕ) (e : absolute_sum (pooled_scores samples) < half) where
+    small-sums : absolute_sum (subjects (column_scores samples.kind (pooled_values samples.groups)) (column_sizes (pooled_values samples.groups))) < half
+    small-sums = omega (arith, column-total, e)
+
+    pub follows-packed : Follows (kruskal_wallis_test samples) tail (label_network (packed_meaning half (unpacked_meaning samples)))
+    follows-packed = label_follows (packed_meaning half (unpacked_meaning samples)) (packed_squares (size_factors (group_sizes samples.groups)) (kruskal_wallis_test samples).bound (column_scores samples.kind (pooled_values samples.groups)) (column_sizes (pooled_values samples.groups)) (group_sizes samples.groups) (judge_of (kruskal_wallis_test samples)) (is-squaring (judge_of (kruskal_wallis_test samples)) refl) half small-sums) (kruskal_wallis_test samples) tail (record {
       judge_is = refl;
       reference = refl;
       alike = λ xs. refl;
       values = λ xs m.
           unpacked-value tail xs
-          ∙ sym (packed-value (size_factors (group_sizes samples.groups)) (kruskal_wallis_test samples).bound (column_scores samples.kind (pooled_values samples.groups)) (column_sizes (pooled_values samples.groups)) (group_sizes samples.groups) (judge_of (kruskal_wallis_test samples)) half columns-level (small-sums e) xs);
+          ∙ sym (packed-value (size_factors (group_sizes samples.groups)) (kruskal_wallis_test samples).bound (column_scores samples.kind (pooled_values samples.groups)) (column_sizes (pooled_values samples.groups)) (group_sizes samples.groups) (judge_of (kruskal_wallis_test samples)) half columns-level small-sums xs);
     })
-
-    opened-packed : opened_below (label_network (packed_meaning half (unpacked_meaning samples))) tail (length (column_sizes (pooled_values samples.groups))) ≡ opened_below (label_network (unpacked_meaning samples)) tail (length (column_sizes (pooled_values samples.groups)))
-    opened-packed =
-        let judge : Judge = judge_of (kruskal_wallis_test samples) in
-        let images : OpensImages (label_network (packed_meaning half (unpacked_meaning samples))) (label_network (unpacked_meaning samples)) tail =
-        packed-images half (unpacked_meaning samples)
-        (back (size_factors (group_sizes samples.groups)) (kruskal_wallis_test samples).bound (column_scores samples.kind (pooled_values samples.groups)) (column_sizes (pooled_values samples.groups)) (group_sizes samples.groups) judge (is-squaring judge refl) half (small-sums e)) tail in
-        opened-images (label_network (packed_meaning half (unpacked_meaning samples))) (label_network (unpacked_meaning samples)) tail images (length (column_sizes (pooled_values samples.groups))) (omega arith)
-
-  abbrev running : Bool → Network
-  running b = label_network (cond b (packed_meaning (half_for (length (group_sizes samples.groups))) (unpacked_meaning samples)) (unpacked_meaning samples))
-
-  -- what runs opens as many keys as the network that is written, with a number for each group
-  pub counted : (tail : Tail) → open_keys (kruskal_wallis_runs samples) tail ≡ open_keys (kruskal_wallis_network samples) tail
-  counted tail = by (fits_one samples) refl
-    where
-      by : (b : Bool) → fits_one samples ≡ b → open_keys (λ t. running b) tail ≡ open_keys (kruskal_wallis_network samples) tail
-      by true e = opened-packed tail e
-      by false e = refl
-
-  pub follows : (tail : Tail) → Follows (kruskal_wallis_test samples) tail (kruskal_wallis_runs samples tail)
-  follows tail = by (fits_one samples) refl
-    where
-      by : (b : Bool) → fits_one samples ≡ b → Follows (kruskal_wallis_test samples) tail (label_network (cond b (packed_meaning (half_for (length (group_sizes samples.groups))) (unpacked_meaning samples)) (unpacked_meaning samples)))
-      by true e = follows-packed tail e
-      by false e = follows-unpacked tail
-
-  -- which of the two it is
-  pub meaning-packed : fits_one samples ≡ true → packed_meaning (half_for (length (group_sizes samples.groups))) (unpacked_meaning samples) ≡ kruskal_wallis_meaning samples
-  meaning-packed e = ap (λ b. cond b (packed_meaning (half_for (length (group_sizes samples.groups))) (unpacked_meaning samples)) (unpacked_meaning samples)) (sym e)
-
-  pub meaning-unpacked : fits_one samples ≡ false → unpacked_meaning samples ≡ kruskal_wallis_meaning samples
-  meaning-unpacked e = ap (λ b. cond b (packed_meaning (half_for (length (group_sizes samples.groups))) (unpacked_meaning samples)) (unpacked_meaning samples)) (sym e)
 
 -- ---- of the groups of a file
 

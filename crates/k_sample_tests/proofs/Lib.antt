@@ -19,5 +19,9 @@ mod PackedNarrows
 mod PackedKeys
 mod PackedValues
 mod FittingKruskalWallis
+mod ChoiceSwaps
+mod PlaceOrder
+mod PlaceWriting
+mod EqualKeys
+mod EqualParts
 mod Vectors
-mod PackedImages

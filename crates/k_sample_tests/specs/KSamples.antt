@@ -6,16 +6,12 @@ use Rattle.stage_network.specs.Network.{Network}
 use Rattle.stage_network.specs.OneOf.{of_either}
 use Rattle.k_sample_tests.specs.KruskalWallis.{ScoredGroups, kruskal_wallis_test}
 use Rattle.k_sample_tests.specs.PairCounts.{umbrella_network}
-use Rattle.k_sample_tests.specs.RankSums.{kruskal_wallis_network, kruskal_wallis_runs}
+use Rattle.k_sample_tests.specs.RankSums.{kruskal_wallis_network}
 use Rattle.k_sample_tests.specs.Umbrella.{PeakedGroups, umbrella_test}
 
 abbrev pub k_sample_test : OneOf ScoredGroups PeakedGroups → ConditionalTest
 k_sample_test = of_either kruskal_wallis_test umbrella_test
 
--- the network of a test, as it is written
+-- the network of a test
 abbrev pub k_sample_network : OneOf ScoredGroups PeakedGroups → Tail → Network
 k_sample_network = of_either kruskal_wallis_network umbrella_network
-
--- and the one that runs
-abbrev pub k_sample_runs : OneOf ScoredGroups PeakedGroups → Tail → Network
-k_sample_runs = of_either kruskal_wallis_runs umbrella_network

@@ -7,3 +7,5 @@ pub mod KSamples
 pub mod UmbrellaSteps
 pub mod RankSumSteps
 pub mod PackedSumSteps
+pub mod EqualGroups
+pub mod EqualGroupSteps

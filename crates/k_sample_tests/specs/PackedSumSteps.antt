@@ -4,7 +4,10 @@ use Rattle.weights.specs.declared.TheConstants.{MAX}
 use Rattle.label_network.specs.LaterSums.{subjects}
 use Rattle.weights.specs.Numbers.{absolute_sum}
 use Rattle.label_network.specs.Meanings.{Meaning}
-use Rattle.k_sample_tests.specs.RankSums.{squares_meaning}
+use Rattle.sample_reader.specs.Groups.{group_sizes}
+use Rattle.pooled_columns.specs.PooledColumns.{column_scores, pooled_values}
+use Rattle.k_sample_tests.specs.KruskalWallis.{ScoredGroups, size_factors}
+use Rattle.k_sample_tests.specs.RankSums.{squares_meaning, unpacked_meaning}
 use Rattle.k_sample_tests.specs.declared.rank_sums.RankSums.{RankSums}
 
 -- numbers that are digits in this base, negative ones too, and few enough
@@ -40,3 +43,10 @@ pub record ArePacked (m : RankSums) (bits half : ℕ) (narrow : Bool) : Type 0 w
   pub small : absolute_sum (subjects m.later.scores.items m.later.columns.items) < half
   pub wide : (2 * half) ^ length m.rows.items ≤ MAX + 1
   pub boxes : narrow ≡ true → HasNarrowBoxes m
+
+-- the sums of these groups
+pub record AreSums (samples : ScoredGroups) (m : RankSums) : Type 0 where
+  pub meaning : sums_meaning m ≡ unpacked_meaning samples
+  pub factors : m.factors.items ≡ size_factors (group_sizes samples.groups)
+  pub scores : m.later.scores.items
+      ≡ column_scores samples.kind (pooled_values samples.groups)

@@ -1,11 +1,9 @@
 -- The network of the test of Kruskal and Wallis: a stage is a distinct value, ascending, with the
 -- subjects that have it, and its choice says how many of them are of each group. A key's partial is
--- the sum of scores that each group has so far. What runs keeps the sums of all groups in one
--- number where they fit it.
-use Rattle.std.specs.Prelude.{ℕ, ◌-◌, ◌*◌, ◌/◌, ◌^◌, ℤ, pos, ◌+ℤ◌, ◌*ℤ◌, Bool, List, [], ◌∷◌, ◌++◌, length, map, min, nat_lt, replicate, if◌then◌else◌}
+-- the sum of scores that each group has so far.
+use Rattle.std.specs.Prelude.{ℕ, ◌-◌, ◌*◌, ◌/◌, ◌^◌, ℤ, pos, ◌+ℤ◌, ◌*ℤ◌, List, [], ◌∷◌, ◌++◌, length, map, min, replicate}
 use Rattle.weights.specs.declared.tails.Tail.{Tail}
 use Rattle.completion_bounds.specs.Boxes.{factored_squares, greatest_squares, least_squares}
-use Rattle.weights.specs.Numbers.{absolute_sum}
 use Rattle.sample_reader.specs.Groups.{group_sizes}
 use Rattle.stage_network.specs.declared.verdicts.Judge.{Judge}
 use Rattle.stage_network.specs.Judged.{judge_of}
@@ -15,8 +13,7 @@ use Rattle.label_network.specs.LaterSums.{greatest_sum, later_scores, least_sum}
 use Rattle.label_network.specs.Linear.{score_of}
 use Rattle.label_network.specs.Meanings.{Meaning}
 use Rattle.pooled_columns.specs.PooledColumns.{column_scores, column_sizes, pooled_values}
-use Rattle.k_sample_tests.specs.KruskalWallis.{ScoredGroups, kruskal_wallis_test, pooled_scores, size_factors}
-use Rattle.k_sample_tests.specs.PackedSums.{packed_meaning}
+use Rattle.k_sample_tests.specs.KruskalWallis.{ScoredGroups, kruskal_wallis_test, size_factors}
 
 -- what counts of subjects with one score add to the groups' sums
 abbrev pub score_parts : ℤ → List ℕ → List ℤ
@@ -70,7 +67,7 @@ squares_meaning factors bound scores columns rows judge = record {
   judge = judge;
 }
 
--- the network as it is written, with a number for each group
+-- a number for each group
 abbrev pub unpacked_meaning : ScoredGroups → Meaning
 unpacked_meaning samples =
     let test = kruskal_wallis_test samples in
@@ -85,19 +82,3 @@ kruskal_wallis_network samples tail = label_network (unpacked_meaning samples)
 -- half of the base in which 127 bits hold a digit of each of k groups
 abbrev pub half_for : ℕ → ℕ
 half_for k = 2 ^ (127 / k - 1)
-
--- whether one number holds the sums of all groups, since no sum comes to half of the base
-abbrev pub fits_one : ScoredGroups → Bool
-fits_one samples =
-    nat_lt (absolute_sum (pooled_scores samples)) (half_for (length (group_sizes samples.groups)))
-
--- one number for all groups where it holds their sums, or else a number for each
-abbrev pub kruskal_wallis_meaning : ScoredGroups → Meaning
-kruskal_wallis_meaning samples =
-    let half = half_for (length (group_sizes samples.groups)) in
-    if fits_one samples then packed_meaning half (unpacked_meaning samples)
-    else unpacked_meaning samples
-
--- the network that runs
-abbrev pub kruskal_wallis_runs : ScoredGroups → Tail → Network
-kruskal_wallis_runs samples tail = label_network (kruskal_wallis_meaning samples)

@@ -10,6 +10,7 @@ ghost use Rattle.stage_network.specs.Lines.{TailsFit, WeightsFit};
 ghost use Rattle.k_sample_tests.specs.KSamples.{k_sample_network, k_sample_test};
 
 mod counted_samples;
+mod equal_groups;
 mod group_scores;
 mod group_sums;
 mod k_sample;
@@ -18,6 +19,7 @@ mod kruskal_wallis_ways;
 mod packed_sums;
 mod pair_counts;
 mod pair_points;
+mod places;
 mod rank_sums;
 mod subjects;
 mod umbrella;

@@ -86,7 +86,36 @@ impl PairCounts {
         }
     }
 
-    // The verdict of a partial, to which this can still be added.
+    // Between which points a partial ends, to which this can still be added.
+    #[inline(always)]
+    fn interval(
+        &self,
+        stage: usize,
+        remaining: &[i128],
+        added: Interval,
+        partial: &[i128],
+    ) -> Interval
+        requires place { let m = pairs_meaning self.now.pairs.items self.now.rows.items
+            self.now.columns.items self.now.judge in
+            IsPlace m stage remaining.now partial.now }
+        requires added { let m = pairs_meaning self.now.pairs.items self.now.rows.items
+            self.now.columns.items self.now.judge in
+            added.low ∷ added.high ∷ [] ≡ m.outlook stage (sizes_in remaining.now) }
+        ensures low { let m = pairs_meaning self.now.pairs.items self.now.rows.items
+            self.now.columns.items self.now.judge in
+            result.low ≡ m.low stage (sizes_in remaining.now) partial.now }
+        ensures high { let m = pairs_meaning self.now.pairs.items self.now.rows.items
+            self.now.columns.items self.now.judge in
+            result.high ≡ m.high stage (sizes_in remaining.now) partial.now }
+    {
+        let so_far = only(partial);
+        Interval {
+            low: plus(so_far, added.low),
+            high: plus(so_far, added.high),
+        }
+    }
+
+    // The verdict of such a partial.
     #[inline(always)]
     fn judge_points(
         &self,
@@ -108,12 +137,8 @@ impl PairCounts {
             let high = m.high stage (sizes_in remaining.now) partial.now in
             result ≡ verdict_of (rule_in m.judge tail) low high }
     {
-        let so_far = only(partial);
-        let interval = Interval {
-            low: plus(so_far, added.low),
-            high: plus(so_far, added.high),
-        };
-        self.judge.verdict(tail, interval)
+        self.judge
+            .verdict(tail, self.interval(stage, remaining, added, partial))
     }
 }
 
@@ -174,6 +199,26 @@ impl Measure for PairCounts {
             high: outlook[1],
         };
         self.judge_points(stage, remaining, added, partial, tail)
+    }
+
+    fn is_shift(&self) -> bool {
+        true
+    }
+
+    fn same_for(
+        &self,
+        stage: usize,
+        remaining: &[i128],
+        outlook: &[i128],
+        partial: i128,
+        tail: Tail,
+    ) -> u128 {
+        let added = Interval {
+            low: outlook[0],
+            high: outlook[1],
+        };
+        let interval = self.interval(stage, remaining, added, [partial].as_slice());
+        self.judge.same_for(tail, interval)
     }
 
     #[inline(always)]

@@ -99,6 +99,7 @@ impl RankSums {
     ) -> Result<RankSums, NoMemory>
         requires subjects { subjects ≡ sum rows.now }
         requires fits { IsSquaring factors.now bound scores.now columns.now rows.now judge }
+        ensures factors { IfOk result (λ m. m.factors.items ≡ factors.now) }
         ensures bound { IfOk result (λ m. m.bound ≡ bound) }
         ensures scores { IfOk result (λ m. m.later.scores.items ≡ scores.now) }
         ensures columns { IfOk result (λ m. m.later.columns.items ≡ columns.now) }

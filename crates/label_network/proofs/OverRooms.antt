@@ -3,13 +3,13 @@ use Rattle.std.proofs.Common.{◌≡◌, ℕ, zero, suc, ◌+◌, ◌<◌, List,
 use Rattle.std.specs.Prelude.{ℤ, pos, ◌≤ℤ◌}
 use Rattle.std.specs.List.{Contains}
 use Rattle.weights.specs.Grouped.{minus}
-use Rattle.room_network.specs.Meanings.{AreReached, IsEnd, IsMeasure, IsMove, IsRoom, IsStep, partial_after, way_value}
+use Rattle.room_network.specs.Meanings.{AreReached, IsEnd, IsMeasure, IsMove, IsRoom, IsShift, IsStep, partial_after, way_value}
 use Rattle.label_network.specs.Endings.{table_value}
 use Rattle.label_network.specs.Endings.{partial_after as label_after}
 use Rattle.label_network.specs.LabelNetwork.{over_rooms}
 use Rattle.label_network.specs.LabelRooms.{label_floor}
 use Rattle.label_network.specs.Meanings.{Meaning, IsPlace, sizes_in}
-use Rattle.label_network.specs.Meanings.{AreReached as LabelReached, IsEnd as IsLabelEnd, IsMeasure as IsLabelMeasure, IsMove as IsLabelMove, IsRoom as IsLabelRoom, IsStep as IsLabelStep}
+use Rattle.label_network.specs.Meanings.{AreReached as LabelReached, IsEnd as IsLabelEnd, IsMeasure as IsLabelMeasure, IsMove as IsLabelMove, IsRoom as IsLabelRoom, IsShift as IsLabelShift, IsStep as IsLabelStep}
 use Rattle.label_network.proofs.LabelPlans.{sizes-back}
 
 module _ (m : Meaning) where
@@ -26,6 +26,13 @@ module _ (m : Meaning) where
 
   pub over_move : (g : ℕ) (room : List ℤ) (c : List ℕ) (p : List ℤ) → IsMove (over_rooms m) g room c p → IsLabelMove m g room c p
   over_move g room c p v = record { before = v.before; place = over_place g room p v.reached; allowed = v.allowed }
+
+  pub over_shift : IsLabelShift m → IsShift (over_rooms m)
+  over_shift h = record {
+    one = h.one;
+    step = h.step;
+    moves = λ g room p c v. h.moves g room p c (over_move g room c (p ∷ []) v);
+  }
 
   pub over_step : (g : ℕ) (room : List ℤ) (c : List ℕ) → IsStep (over_rooms m) g room c → IsLabelStep m g room c
   over_step g room c v = record { partial = v.partial; move = over_move g room c v.partial v.move }

@@ -1,8 +1,12 @@
 -- What a measure measures: a statistic of labellings, counted by columns, and an interval of what
 -- it can come to.
-use Rattle.std.specs.Prelude.{◌≡◌, ℕ, zero, suc, ◌+◌, ◌^◌, ◌<◌, ℤ, pos, ◌≤ℤ◌, nat_abs, List, length, map, slice_index}
+use Rattle.std.specs.Prelude.{◌≡◌, ℕ, zero, suc, ◌+◌, ◌^◌, ◌<◌, ℤ, pos, ◌+ℤ◌, ◌≤ℤ◌, nat_abs, List, [], ◌∷◌, length, map, slice_index}
 use Rattle.std.specs.List.{sum, Contains}
+use Rattle.std.proofs.Common.{get_or}
+use Rattle.weights.specs.declared.tails.Tail.{Tail}
+use Rattle.stage_network.specs.declared.stages.Verdict.{Verdict}
 use Rattle.stage_network.specs.declared.verdicts.Judge.{Judge}
+use Rattle.stage_network.specs.Judged.{rule_in, verdict_of}
 use Rattle.weights.specs.Grouped.{choices, minus}
 
 pub record Meaning : Type 0 where
@@ -81,6 +85,21 @@ pub record IsMove (m : Meaning) (g : ℕ) (remaining : List ℤ) (choice : List 
 pub record IsStep (m : Meaning) (g : ℕ) (remaining : List ℤ) (choice : List ℕ) : Type 0 where
   pub partial : List ℤ
   pub move : IsMove m g remaining choice partial
+
+-- what is known of sizes and a partial
+abbrev pub verdict_at : Meaning → Tail → ℕ → List ℤ → List ℤ → Verdict
+verdict_at m t g remaining partial =
+    verdict_of (rule_in m.judge t)
+    (m.low g (sizes_in remaining) partial) (m.high g (sizes_in remaining) partial)
+
+-- a partial is one number, which the one number of a step is added to
+pub record IsShift (m : Meaning) : Type 0 where
+  pub one : m.slots ≡ 1
+  pub step : m.step_width ≡ 1
+  pub moves : (g : ℕ) (remaining : List ℤ) (p : ℤ) (c : List ℕ)
+      → IsMove m g remaining c (p ∷ [])
+      → m.advance g (sizes_in remaining) c (p ∷ [])
+      ≡ (p +ℤ get_or (m.step g (sizes_in remaining) c) 0 (pos 0)) ∷ []
 
 -- a partial that is reached after the last column
 pub record IsEnd (m : Meaning) (partial : List ℤ) : Type 0 where

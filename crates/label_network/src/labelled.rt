@@ -86,6 +86,21 @@ impl<M: Measure> RoomMeasure for Labelled<M> {
         self.measure.verdict_by(stage, room, outlook, partial, tail)
     }
 
+    fn is_shift(&self) -> bool {
+        self.measure.is_shift()
+    }
+
+    fn same_for(
+        &self,
+        stage: usize,
+        room: &[i128],
+        outlook: &[i128],
+        partial: i128,
+        tail: Tail,
+    ) -> u128 {
+        self.measure.same_for(stage, room, outlook, partial, tail)
+    }
+
     #[inline(always)]
     fn value(&self, partial: &[i128]) -> i128 {
         self.measure.value(partial)

@@ -17,7 +17,7 @@ mod rooms;
 pub use binomials::Binomials;
 pub use choice_order::{first_counts, next_counts};
 pub use ends::End;
-pub use keys::{read_sizes, weight_in, write_sizes};
+pub use keys::{read_sizes, rest_in, take_away, weight_in, write_sizes};
 pub use labelled::Labelled;
 pub use later_scores::LaterScores;
 pub use linear::{LinearMeasure, score_choice};

@@ -1,7 +1,8 @@
 // What a statistic of labellings offers to the network of its columns.
-ghost use Rattle.std.specs.Prelude.{◌≡◌, ◌≤◌, List, length};
+ghost use Rattle.std.specs.Prelude.{◌≡◌, ℕ, ◌≤◌, ◌+ℤ◌, List, [], ◌∷◌, length, pos, true};
 ghost use Rattle.stage_network.specs.Judged.{rule_in, verdict_of};
 ghost use Rattle.label_network.specs.Meanings.{Meaning, IsMeasure, IsPlace, IsRoom, IsMove, IsStep, IsEnd, sizes_in};
+ghost use Rattle.label_network.specs.Meanings.{IsShift, verdict_at};
 
 use stage_network::Verdict;
 use weights::Tail;
@@ -118,6 +119,34 @@ pub trait Measure {
             let low = m.low stage (sizes_in remaining.now) partial.now in
             let high = m.high stage (sizes_in remaining.now) partial.now in
             result ≡ verdict_of (rule_in m.judge tail) low high };
+
+    /// Whether a partial is one number, which a step's one number is added to. It may be false of a
+    /// measure that has such steps.
+    fn is_shift(&self) -> bool
+        ensures { result ≡ true → IsShift (meaning self.now) }
+    {
+        false
+    }
+
+    /// How far above a partial of one number those of its sizes surely have its verdict for a tail.
+    fn same_for(
+        &self,
+        stage: usize,
+        remaining: &[i128],
+        outlook: &[i128],
+        partial: i128,
+        tail: Tail,
+    ) -> u128
+        requires place { IsPlace (meaning self.now) stage remaining.now (partial ∷ []) }
+        requires outlook { let m = meaning self.now in
+            outlook.now ≡ m.outlook stage (sizes_in remaining.now) }
+        ensures { let m = meaning self.now in
+            (d : ℕ) → d ≤ result
+            → verdict_at m tail stage remaining.now ((partial +ℤ pos d) ∷ [])
+            ≡ verdict_at m tail stage remaining.now (partial ∷ []) }
+    {
+        0
+    }
 
     /// The value of a partial after the last column.
     fn value(&self, partial: &[i128]) -> i128

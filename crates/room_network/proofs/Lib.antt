@@ -2,4 +2,5 @@ pub mod RoomKeys
 pub mod RoomLaws
 pub mod RoomFollows
 pub mod NetworkParts
+pub mod Raising
 pub mod Vectors

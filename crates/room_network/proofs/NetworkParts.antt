@@ -1,11 +1,13 @@
 -- The two parts of a reached key, as the bodies read them.
-use Rattle.std.proofs.Common.{◌≡◌, ℕ, ◌<◌, ◌≤◌, List, ◌++◌, take, drop, length, sym, ◌∙◌, ap, subst, arith}
-use Rattle.std.specs.Prelude.{ℤ}
+use Rattle.std.proofs.Common.{◌≡◌, ℕ, ◌+◌, ◌<◌, ◌≤◌, List, [], ◌∷◌, ◌++◌, get_or, take, drop, length, refl, sym, ◌∙◌, ap, subst, arith}
+use Rattle.std.specs.Prelude.{ℤ, pos, ◌+ℤ◌}
 use Rattle.std.specs.List.{Contains}
+use Rattle.weights.specs.declared.tails.Tail.{Tail}
 use Rattle.stage_network.specs.Completions.{total_weight}
 use Rattle.stage_network.specs.Network.{IsReached}
-use Rattle.room_network.specs.Meanings.{AreReached, IsMove, Meaning}
-use Rattle.room_network.specs.Plans.{Floor, Plan, alone}
+use Rattle.stage_network.specs.Shifts.{IsShifting}
+use Rattle.room_network.specs.Meanings.{AreReached, IsMove, IsShift, Meaning, verdict_at}
+use Rattle.room_network.specs.Plans.{Floor, Plan, Weights, alone}
 use Rattle.room_network.specs.RoomNetworks.{room_network, room_of}
 use Rattle.room_network.specs.RoomSteps.{IsFounded}
 use Rattle.room_network.proofs.RoomKeys.{IsKey, KeepsWidth, back_is, front_is, is_allowed, is_key, own_plan, room_total, weighed}
@@ -48,3 +50,20 @@ module _ (plan : Plan) (m : Meaning) (f : IsFounded plan m) where
       reached = room_reached;
       allowed = rw (front_is m.floor.width room partial long) at (is_allowed (weighed m plan.weight) g (room_of m (room ++ partial)) c before o);
     }
+
+  -- where the measure's steps shift, the network's do
+  pub room_shifting : IsShift m → IsShifting (room_network m plan.weight) m.floor.width m.step_width m.step
+  room_shifting h = record {
+    one = ap (λ n. m.floor.width + n) h.one;
+    step = h.step;
+    moves = λ g room p c long r before o. shifted g room p c long (h.moves g room p c (room_move g room (p ∷ []) long r before c o));
+  }
+    where
+      shifted : (g : ℕ) (room : List ℤ) (p : ℤ) (c : List ℕ) → length room ≡ m.floor.width → m.advance g room c (p ∷ []) ≡ (p +ℤ get_or (m.step g room c) 0 (pos 0)) ∷ [] → drop m.floor.width ((room_network m plan.weight).next g (room ++ p ∷ []) c) ≡ (p +ℤ get_or (m.step g room c) 0 (pos 0)) ∷ []
+      shifted g room p c long e =
+          rw (front_is m.floor.width room (p ∷ []) long, back_is m.floor.width room (p ∷ []) long)
+          (back_is m.floor.width (m.floor.next g room c) (m.advance g room c (p ∷ [])) (kept.next_long g room c long) ∙ e)
+
+-- the verdict of a key put together of a room and a partial
+pub room_verdict : (m : Meaning) (weight : Weights) (t : Tail) (g : ℕ) (room partial : List ℤ) → length room ≡ m.floor.width → (room_network m weight).verdict t g (room ++ partial) ≡ verdict_at m t g room partial
+room_verdict m weight t g room partial long = rw (front_is m.floor.width room partial long, back_is m.floor.width room partial long) refl

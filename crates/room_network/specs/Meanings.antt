@@ -1,7 +1,11 @@
 -- What a measure measures of the ways through rooms, and an interval of what it can come to.
-use Rattle.std.specs.Prelude.{◌≡◌, ℕ, zero, suc, ◌+◌, ◌<◌, ℤ, ◌≤ℤ◌, List, [], ◌∷◌, length}
+use Rattle.std.specs.Prelude.{◌≡◌, ℕ, zero, suc, ◌+◌, ◌<◌, ℤ, pos, ◌+ℤ◌, ◌≤ℤ◌, List, [], ◌∷◌, length}
 use Rattle.std.specs.List.{Contains}
+use Rattle.std.proofs.Common.{get_or}
+use Rattle.weights.specs.declared.tails.Tail.{Tail}
+use Rattle.stage_network.specs.declared.stages.Verdict.{Verdict}
 use Rattle.stage_network.specs.declared.verdicts.Judge.{Judge}
+use Rattle.stage_network.specs.Judged.{rule_in, verdict_of}
 use Rattle.room_network.specs.Plans.{Floor}
 
 pub record Meaning : Type 0 where
@@ -68,6 +72,18 @@ pub record IsStep (m : Meaning) (g : ℕ) (room : List ℤ) (choice : List ℕ) 
 pub record IsEnd (m : Meaning) (partial : List ℤ) : Type 0 where
   pub room : List ℤ
   pub reached : AreReached m m.floor.count room partial
+
+-- what is known of a room and a partial
+abbrev pub verdict_at : Meaning → Tail → ℕ → List ℤ → List ℤ → Verdict
+verdict_at m t g room partial =
+    verdict_of (rule_in m.judge t) (m.low g room partial) (m.high g room partial)
+
+-- a partial is one number, which the one number of a step is added to
+pub record IsShift (m : Meaning) : Type 0 where
+  pub one : m.slots ≡ 1
+  pub step : m.step_width ≡ 1
+  pub moves : (g : ℕ) (room : List ℤ) (p : ℤ) (c : List ℕ) → IsMove m g room c (p ∷ [])
+      → m.advance g room c (p ∷ []) ≡ (p +ℤ get_or (m.step g room c) 0 (pos 0)) ∷ []
 
 -- where the choices from stage g on lead a room and a partial
 abbrev pub partial_after : Meaning → ℕ → List ℤ → List ℤ → List (List ℕ) → List ℤ

@@ -1,8 +1,8 @@
 // What a statistic offers to the network of its rooms.
-ghost use Rattle.std.specs.Prelude.{◌≡◌, ◌≤◌, length};
+ghost use Rattle.std.specs.Prelude.{◌≡◌, ℕ, ◌≤◌, ◌+ℤ◌, [], ◌∷◌, length, pos, true};
 ghost use Rattle.stage_network.specs.Judged.{rule_in, verdict_of};
 ghost use Rattle.room_network.specs.Meanings.{AreReached, IsEnd, IsMeasure, IsMove, IsRoom};
-ghost use Rattle.room_network.specs.Meanings.{IsStep, Meaning};
+ghost use Rattle.room_network.specs.Meanings.{IsShift, IsStep, Meaning, verdict_at};
 
 use stage_network::Verdict;
 use weights::Tail;
@@ -114,6 +114,33 @@ pub trait Measure {
             let low = m.low stage room.now partial.now in
             let high = m.high stage room.now partial.now in
             result ≡ verdict_of (rule_in m.judge tail) low high };
+
+    /// Whether a partial is one number, which a step's one number is added to. It may be false of a
+    /// measure that has such steps.
+    fn is_shift(&self) -> bool
+        ensures { result ≡ true → IsShift (meaning self.now) }
+    {
+        false
+    }
+
+    /// How far above a partial of one number those of its room surely have its verdict for a tail.
+    fn same_for(
+        &self,
+        stage: usize,
+        room: &[i128],
+        outlook: &[i128],
+        partial: i128,
+        tail: Tail,
+    ) -> u128
+        requires reached { AreReached (meaning self.now) stage room.now (partial ∷ []) }
+        requires outlook { outlook.now ≡ (meaning self.now).outlook stage room.now }
+        ensures { let m = meaning self.now in
+            (d : ℕ) → d ≤ result
+            → verdict_at m tail stage room.now ((partial +ℤ pos d) ∷ [])
+            ≡ verdict_at m tail stage room.now (partial ∷ []) }
+    {
+        0
+    }
 
     /// The value of a partial after the last choice.
     fn value(&self, partial: &[i128]) -> i128

@@ -158,4 +158,19 @@ impl<R: Rooms, M: Measure> Roomed for RoomNetwork<R, M> {
     ) -> Verdict {
         self.measure.verdict_by(stage, room, outlook, partial, tail)
     }
+
+    fn is_shift(&self) -> bool {
+        self.measure.is_shift()
+    }
+
+    fn same_for(
+        &self,
+        stage: usize,
+        room: &[i128],
+        outlook: &[i128],
+        partial: i128,
+        tail: Tail,
+    ) -> u128 {
+        self.measure.same_for(stage, room, outlook, partial, tail)
+    }
 }

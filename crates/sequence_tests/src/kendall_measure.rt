@@ -106,6 +106,22 @@ impl Measure for KendallMeasure {
         self.judge.verdict(tail, interval)
     }
 
+    fn is_shift(&self) -> bool {
+        true
+    }
+
+    fn same_for(
+        &self,
+        _stage: usize,
+        _room: &[i128],
+        outlook: &[i128],
+        partial: i128,
+        tail: Tail,
+    ) -> u128 {
+        let interval = around(partial, only(outlook));
+        self.judge.same_for(tail, interval)
+    }
+
     #[inline(always)]
     fn value(&self, partial: &[i128]) -> i128 {
         only(partial)

@@ -4,8 +4,7 @@ use Rattle.std.specs.Prelude.{ℤ}
 use Rattle.std.specs.List.{AllByRecursion}
 use Rattle.weights.specs.declared.tails.Tail.{Tail}
 use Rattle.weights.specs.declared.tails.Tails.{Tails}
-use Rattle.node_pool.specs.Nodes.{Node, weighted}
-use Rattle.node_pool.specs.Pool.{Pool}
+use Rattle.node_pool.specs.Nodes.{Node, NodeRow, weighted}
 use Rattle.stage_network.specs.declared.stages.Verdict.{Verdict}
 use Rattle.stage_network.specs.declared.stages.Verdict.TheVariants.{Inside, Outside, Undecided}
 use Rattle.stage_network.specs.declared.tail_sums.TailSums.{TailSums}
@@ -67,7 +66,7 @@ module _ (tails : Tails) (n : Network) where
   }
 
   -- a room of it
-  pub asked-roomful : (width g : ℕ) (sums : TailSums) (room : List ℤ) (partials : Pool) (kept : Housed) → IsRoomful n width g sums room partials kept → IsRoomful (asked tails n) width g sums room partials kept
+  pub asked-roomful : (width g : ℕ) (sums : TailSums) (room : List ℤ) (partials : NodeRow) (kept : Housed) → IsRoomful n width g sums room partials kept → IsRoomful (asked tails n) width g sums room partials kept
   asked-roomful width g sums room partials kept r = record {
     lawful = asked-lawful r.lawful;
     within = r.within;
@@ -87,9 +86,12 @@ module _ (tails : Tails) (n : Network) where
   pub asked-else : (t : Tail) → asks tails t ≡ false → (g : ℕ) (k : List ℤ) → (asked tails n).verdict t g k ≡ Outside
   asked-else t a g k = ap (λ b. cond b (n.verdict t g k) Outside) a
 
-  pub asked-extreme : (t : Tail) → asks tails t ≡ true → extreme_weight (asked tails n) t 0 n.first ≡ extreme_weight n t 0 n.first
+  pub asked-extreme_at : (t : Tail) → asks tails t ≡ true → (g : ℕ) (k : List ℤ) → extreme_weight (asked tails n) t g k ≡ extreme_weight n t g k
   unfolding extreme_weight
-  asked-extreme t a = ap (λ (u : ℕ → List ℤ → Verdict). extreme_weight (with_verdicts n (λ s. u)) t 0 n.first) (asked-own t a)
+  asked-extreme_at t a g k = ap (λ (u : ℕ → List ℤ → Verdict). extreme_weight (with_verdicts n (λ s. u)) t g k) (asked-own t a)
+
+  pub asked-extreme : (t : Tail) → asks tails t ≡ true → extreme_weight (asked tails n) t 0 n.first ≡ extreme_weight n t 0 n.first
+  asked-extreme t a = asked-extreme_at t a 0 n.first
 
   pub asked-below : (t : Tail) → asks tails t ≡ true → (g : ℕ) → opened_below (asked tails n) t g ≡ opened_below n t g
   asked-below t a g = ap (λ (u : ℕ → List ℤ → Verdict). opened_below (with_verdicts n (λ s. u)) t g) (asked-own t a)

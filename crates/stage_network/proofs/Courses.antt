@@ -8,7 +8,7 @@ use Rattle.weights.specs.declared.tails.Tail.{Tail}
 use Rattle.weights.specs.declared.tails.Tail.TheVariants.{Less}
 use Rattle.weights.specs.declared.tails.Tails.{Tails}
 use Rattle.weights.specs.declared.TheConstants.{MAX}
-use Rattle.node_pool.specs.Nodes.{Node, key_eq, keys, weighted}
+use Rattle.node_pool.specs.Nodes.{Node, node, key_eq, keys, weighted}
 use Rattle.stage_network.specs.declared.tail_sums.TailSums.{TailSums}
 use Rattle.stage_network.specs.declared.tail_sums.Kept.{Kept}
 use Rattle.stage_network.specs.declared.tail_sums.Kept.TheVariants.{Open, All}
@@ -201,7 +201,7 @@ none-counted n l t [] r = refl
 none-counted n l t (a ∷ all) r = rw (not_undecided (n.verdict t n.count a.key) (l.decided t a.key r.0)) (none-counted n l t all r.1)
 
 -- from the first key
-keys-first : (n : Network) (tails : Tails) (m : ℕ) → keys (arriving n (first_course n (Open tails)) m) ≡ reached_by_some (asked tails n) m
+pub keys-first : (n : Network) (tails : Tails) (m : ℕ) → keys (arriving n (first_course n (Open tails)) m) ≡ reached_by_some (asked tails n) m
 keys-first n tails zero = refl
 keys-first n tails (suc m) =
     let e : 0 + m ≡ m = omega arith in
@@ -228,6 +228,34 @@ no-sum : (n : Network) (course : Course) (m : ℕ) → on_the_way (λ g all. 0) 
 no-sum n course zero = refl
 no-sum n course (suc m) = omega (arith, no-sum n course m)
 
+-- at the last stage what was closed is all that is extreme
+module _ (n : Network) (l : IsLawful n) (limit : ℕ) (tails : Tails) (stage : ℕ) (from : List Node) (starts : IsCourse n limit (record { keep = Open tails; stage = stage; nodes = from })) (m : ℕ) (last : stage + m ≡ n.count) where
+  abbrev pub starting : Course
+  starting = record { keep = Open tails; stage = stage; nodes = from }
+
+  to-last : stage + m ≤ n.count
+  to-last = omega (arith, last)
+
+  last-reached : AllReached n n.count (arriving n starting m)
+  last-reached = subst (λ g. AllReached n g (arriving n starting m)) last (arriving-reached n l limit starting starts m to-last)
+
+  none-left : staying n (Open tails) (stage + m) (arriving n starting m) ≡ []
+  none-left = ap (λ g. staying n (Open tails) g (arriving n starting m)) last ∙ none-stays n l tails (arriving n starting m) last-reached
+
+  pub swept-sum : (sums : TailSums) (nodes : List Node) → HasSwept n starting m sums nodes → (t : Tail) → (sum_for sums t).sum ≡ weighted (extreme_weight (asked tails n) t stage) from
+  swept-sum sums nodes swept t =
+      let v : ℕ → List ℤ → ℕ = extreme_weight (asked tails n) t in
+      let kept = conserved n l limit starting starts v (λ g all. weighted (closed_at n (Open tails) t g) all) (λ g k before. extreme_weight-step (asked tails n) t g k before) (λ g all. open-split n l tails t g all) m to-last in
+      let left : weighted (v (stage + m)) (staying n (Open tails) (stage + m) (arriving n starting m)) ≡ 0 = ap (weighted (v (stage + m))) none-left in
+      omega (arith, swept.sum t, kept, left)
+
+-- what was closed on the way from the first key, and what is left, is all that is extreme
+pub swept-kept : (n : Network) → IsLawful n → (limit : ℕ) (tails : Tails) → IsCourse n limit (first_course n (Open tails)) → (m : ℕ) → 0 + m ≤ n.count → (sums : TailSums) (nodes : List Node) → HasSwept n (first_course n (Open tails)) m sums nodes → (t : Tail) → (sum_for sums t).sum + weighted (extreme_weight (asked tails n) t (0 + m)) nodes ≡ extreme_weight (asked tails n) t 0 n.first
+swept-kept n l limit tails starts m h sums nodes swept t =
+    let v : ℕ → List ℤ → ℕ = extreme_weight (asked tails n) t in
+    let kept = conserved n l limit (first_course n (Open tails)) starts v (λ g all. weighted (closed_at n (Open tails) t g) all) (λ g k before. extreme_weight-step (asked tails n) t g k before) (λ g all. open-split n l tails t g all) m h in
+    omega (arith, swept.sum t, swept.told (v (0 + m)), kept, one (v 0) n.first)
+
 pub swept-last : (n : Network) → IsLawful n → (limit : ℕ) (keep : Kept) → IsCourse n limit (first_course n keep) → (sums : TailSums) (nodes : List Node) → HasSwept n (first_course n keep) n.count sums nodes → IsSwept n keep sums nodes
 swept-last n l limit (Open tails) starts sums nodes swept =
     let keep : Kept = Open tails in
@@ -236,12 +264,8 @@ swept-last n l limit (Open tails) starts sums nodes swept =
     let within : 0 + n.count ≤ n.count = omega arith in
     let all : List Node = arriving n course n.count in
     let reached : AllReached n n.count all = subst (λ g. AllReached n g all) e (arriving-reached n l limit course starts n.count within) in
-    let none : staying n keep (0 + n.count) all ≡ [] = ap (λ g. staying n keep g all) e ∙ none-stays n l tails all reached in
     λ t. (
-      (let v : ℕ → List ℤ → ℕ = extreme_weight (asked tails n) t in
-          let kept = conserved n l limit course starts v (λ g all. weighted (closed_at n keep t g) all) (λ g k before. extreme_weight-step (asked tails n) t g k before) (λ g all. open-split n l tails t g all) n.count within in
-          let left : weighted (v (0 + n.count)) (staying n keep (0 + n.count) all) ≡ 0 = ap (weighted (v (0 + n.count))) none in
-          omega (arith, swept.sum t, kept, left, one (v 0) n.first)),
+      swept-sum n l limit tails 0 (node n.first 1 ∷ []) starts n.count e sums nodes swept t ∙ one (extreme_weight (asked tails n) t 0) n.first,
       (let free : List ℤ → Bool = is_open (asked tails n) t n.count in
           let zero' : distinct_count key_eq (filter free (reached_by_some (asked tails n) n.count)) ≡ 0 = ap (λ ks. distinct_count key_eq (filter free ks)) (sym (keys-first n tails n.count)) ∙ ap (distinct_count key_eq) (none-counted (asked tails n) (asked-lawful tails n l) t all reached) in
           omega (arith, swept.opened t, opened-first n tails t n.count, zero')),

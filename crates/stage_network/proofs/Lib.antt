@@ -6,6 +6,7 @@ pub mod DistributionLines
 pub mod WalkedLines
 pub mod Judging
 pub mod Following
+pub mod Growing
 pub mod Bounds
 pub mod NodeSums
 pub mod Conserved
@@ -24,6 +25,7 @@ pub mod ToCome
 pub mod Listing
 pub mod Sweeps
 pub mod Courses
+pub mod Starting
 pub mod NodeLines
 pub mod Swaps
 pub mod Parts
@@ -34,9 +36,17 @@ pub mod AdditiveKeys
 pub mod SquaredEnds
 pub mod AdditiveLaws
 pub mod AdditiveFollows
+pub mod OneSum
 pub mod Totals
 pub mod EndTables
 pub mod Adding
 pub mod EndsFitting
 pub mod Steady
 pub mod Images
+pub mod RowLists
+pub mod Shifted
+pub mod Stretches
+pub mod Spans
+pub mod RowCourses
+pub mod RowLines
+pub mod Folding

@@ -12,7 +12,9 @@ use Rattle.stage_network.specs.Asked.{asks}
 use Rattle.stage_network.specs.Completions.{value_weights}
 use Rattle.stage_network.specs.Judged.{HasIntervals, judge_of}
 use Rattle.stage_network.specs.Opened.{opened_below}
+use Rattle.stage_network.specs.SweepSteps.{sum_for}
 use Rattle.stage_network.specs.declared.tail_sums.TailSum.{TailSum}
+use Rattle.stage_network.specs.declared.tail_sums.TailSums.{TailSums}
 use Rattle.stage_network.specs.declared.answers.Answer.{Answer}
 use Rattle.stage_network.specs.declared.answers.Way.{Way}
 use Rattle.stage_network.specs.declared.answers.Way.TheVariants as way
@@ -41,8 +43,18 @@ abbrev pub AreShared : ConditionalTest → (Tail → Network) → Type 0
 AreShared test network = (s t : Tail)
     → test.has_tail s ≡ true → test.has_tail t ≡ true → network s ≡ network t
 
+-- a network follows a test for each tail that the same network serves as one tail
+abbrev pub FollowsAlong : ConditionalTest → (Tail → Network) → Tail → Network → Type 0
+FollowsAlong test network tail n = (t : Tail)
+    → test.has_tail t ≡ true → network t ≡ network tail → Follows test t n
+
 abbrev pub HasTails : ConditionalTest → Tails → Type 0
 HasTails test tails = (tail : Tail) → asks tails tail ≡ true → test.has_tail tail ≡ true
+
+-- the sums of the asked tails are a test's numerators
+abbrev pub AreNumerators : ConditionalTest → Tails → TailSums → Type 0
+AreNumerators test tails sums = (tail : Tail)
+    → asks tails tail ≡ true → (sum_for sums tail).sum ≡ numerator test tail
 
 -- how many open keys the network of each tail has
 abbrev pub open_keys : (Tail → Network) → Tail → ℕ
@@ -52,6 +64,10 @@ open_keys network tail = opened_below (network tail) tail (network tail).count
 abbrev pub OpenAlike : ConditionalTest → (Tail → Network) → (Tail → Network) → Type 0
 OpenAlike test one other = (t : Tail)
     → test.has_tail t ≡ true → open_keys one t ≡ open_keys other t
+
+-- no key is counted
+abbrev pub uncounted : Tail → ℕ
+uncounted tail = 0
 
 -- how many of them are counted on a way
 abbrev pub counted_by : Way → ℕ → ℕ

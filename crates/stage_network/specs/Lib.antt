@@ -5,9 +5,11 @@ pub mod Opened
 pub mod Steady
 pub mod Asked
 pub mod Rooms
+pub mod Shifts
 pub mod Lines
 pub mod Judged
 pub mod Follows
+pub mod Folded
 pub mod OneOf
 pub mod PartialSums
 pub mod Addends
@@ -17,3 +19,5 @@ pub mod ArcSteps
 pub mod StageSteps
 pub mod AdditiveSteps
 pub mod SweepSteps
+pub mod RowSteps
+pub mod FromKeys

@@ -6,8 +6,7 @@ use Rattle.std.specs.Set.{distinct_count}
 use Rattle.weights.specs.declared.tails.Tail.{Tail}
 use Rattle.weights.specs.declared.tails.Tail.TheVariants.{Less, Greater, Two}
 use Rattle.weights.specs.declared.TheConstants.{MAX}
-use Rattle.node_pool.specs.Nodes.{Node, key_eq, keys, node, weighted}
-use Rattle.node_pool.specs.Pool.{Pool}
+use Rattle.node_pool.specs.Nodes.{Node, NodeRow, key_eq, keys, node, weighted}
 use Rattle.stage_network.specs.declared.stages.Verdict.{Verdict}
 use Rattle.stage_network.specs.declared.tail_sums.TailSum.{TailSum}
 use Rattle.stage_network.specs.declared.tail_sums.TailSums.{TailSums}
@@ -177,8 +176,8 @@ pub record AreListed (n : Network) (width g : ℕ) (nodes : List Node) (place : 
 
 -- the partials of a room of stage g, whose completions weigh no more than what each sum leaves; and
 -- nodes to keep them with
-pub record IsRoomful (n : Network) (width g : ℕ) (sums : TailSums) (room : List ℤ) (partials : Pool)
-    (kept : Housed) : Type 0 where
+pub record IsRoomful (n : Network) (width g : ℕ) (sums : TailSums) (room : List ℤ)
+    (partials : NodeRow) (kept : Housed) : Type 0 where
   pub lawful : IsLawful n
   pub within : g ≤ n.count
   pub reached : AllReached n g (lift room partials.nodes)

@@ -128,4 +128,19 @@ impl<S: Roomed> Roomed for Held<S> {
     ) -> Verdict {
         self.inner.verdict_by(stage, room, outlook, partial, tail)
     }
+
+    fn is_shift(&self) -> bool {
+        self.inner.is_shift()
+    }
+
+    fn same_for(
+        &self,
+        stage: usize,
+        room: &[i128],
+        outlook: &[i128],
+        partial: i128,
+        tail: Tail,
+    ) -> u128 {
+        self.inner.same_for(stage, room, outlook, partial, tail)
+    }
 }

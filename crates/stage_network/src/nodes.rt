@@ -1,5 +1,5 @@
 // The nodes of one stage, room after room.
-ghost use Rattle.std.specs.Prelude.{◌≡◌, ℕ, ◌+◌, ◌<◌, ◌≤◌, [], ◌∷◌, ◌++◌, length, take, drop};
+ghost use Rattle.std.specs.Prelude.{◌≡◌, ℕ, ◌+◌, ◌<◌, ◌≤◌, [], ◌∷◌, ◌++◌, true, length, take, drop};
 ghost use Rattle.std.specs.Prelude.{OnOk, slice_index, slice_index_or};
 ghost use Rattle.node_pool.specs.Nodes.{Node, node};
 ghost use Rattle.stage_network.specs.ArcSteps.{IsRun};
@@ -51,6 +51,13 @@ fn same_until(homes: &[usize], start: usize) -> usize
         end += 1;
     }
     end
+}
+
+// Whether two rooms are the same.
+fn is_same(one: &[i128], other: &[i128]) -> bool
+    ensures { result ≡ true → one.now ≡ other.now }
+{
+    one == other
 }
 
 impl<C: Count> StageNodes<C> {
@@ -118,7 +125,8 @@ impl<C: Count> StageNodes<C> {
         same_until(&self.homes, start)
     }
 
-    /// Names the room of the nodes that are added from now on.
+    /// Names the room of the nodes that are added from now on. Where it is the one that was named
+    /// last, their run goes on.
     pub fn open(&mut self, room: &[i128]) -> Result<(), NoMemory>
         requires { length room.now ≡ self.old.room_width }
         ensures room_width { OnOk result (self.new.room_width ≡ self.old.room_width) }
@@ -127,6 +135,12 @@ impl<C: Count> StageNodes<C> {
         ensures room { OnOk result (self.new.room ≡ room.now) }
         ensures named { OnOk result (1 ≤ self.new.rooms) }
     {
+        if self.count != 0 {
+            let last = key_at(self.room_width, &self.rooms, self.count - 1);
+            if is_same(last, room) {
+                return Ok(());
+            }
+        }
         let count = match self.count.checked_add(1) {
             Some(count) => count,
             None => return Err(NoMemory),

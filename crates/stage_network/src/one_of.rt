@@ -1,10 +1,12 @@
 // One of two kinds of networks, or of tests.
 
+use crate::lines::Spread;
 use crate::prepared::Prepared;
 use crate::stages::{Roomed, Stages, Verdict};
+use crate::tail_sums::TailSums;
 use enumerate::Plain;
 use std::alloc::Global;
-use weights::{Bytes, Frame, NoMemory, Tail};
+use weights::{Bytes, Frame, NoMemory, Tail, Tails};
 
 /// A value of one kind or of another: a network, where the tails of a test have networks of
 /// different kinds, or a test.
@@ -175,6 +177,27 @@ impl<A: Roomed, B: Roomed> Roomed for OneOf<A, B> {
             OneOf::Second(b) => b.verdict_by(stage, room, outlook, partial, tail),
         }
     }
+
+    fn is_shift(&self) -> bool {
+        match self {
+            OneOf::First(a) => a.is_shift(),
+            OneOf::Second(b) => b.is_shift(),
+        }
+    }
+
+    fn same_for(
+        &self,
+        stage: usize,
+        room: &[i128],
+        outlook: &[i128],
+        partial: i128,
+        tail: Tail,
+    ) -> u128 {
+        match self {
+            OneOf::First(a) => a.same_for(stage, room, outlook, partial, tail),
+            OneOf::Second(b) => b.same_for(stage, room, outlook, partial, tail),
+        }
+    }
 }
 
 impl<A: Plain, B: Plain> Plain for OneOf<A, B> {
@@ -259,6 +282,27 @@ impl<A: Prepared, B: Prepared> Prepared for OneOf<A, B> {
         match self {
             OneOf::First(a) => Ok(OneOf::First(a.stages_of(alloc, tail)?)),
             OneOf::Second(b) => Ok(OneOf::Second(b.stages_of(alloc, tail)?)),
+        }
+    }
+
+    fn quick_stages_of(&self, alloc: Global, tail: Tail) -> Result<Self::Built, NoMemory> {
+        match self {
+            OneOf::First(a) => Ok(OneOf::First(a.quick_stages_of(alloc, tail)?)),
+            OneOf::Second(b) => Ok(OneOf::Second(b.quick_stages_of(alloc, tail)?)),
+        }
+    }
+
+    fn numerators(&self, alloc: Global, tails: Tails) -> Result<TailSums, NoMemory> {
+        match self {
+            OneOf::First(a) => a.numerators(alloc, tails),
+            OneOf::Second(b) => b.numerators(alloc, tails),
+        }
+    }
+
+    fn quick_distribution(&self, alloc: Global) -> Result<Spread, NoMemory> {
+        match self {
+            OneOf::First(a) => a.quick_distribution(alloc),
+            OneOf::Second(b) => b.quick_distribution(alloc),
         }
     }
 }

@@ -8,20 +8,38 @@ ghost use Rattle.stage_network.specs.ArcSteps.{AreArcs, IsChoiceOf, IsRun};
 ghost use Rattle.stage_network.specs.ArcSteps.{bucket, chosen, lift, segment, spread_out};
 ghost use Rattle.stage_network.specs.SweepSteps.{AreHere, IsFitted, IsWithin};
 
+use crate::arcs::Arcs;
 use crate::links::Link;
 use crate::nodes::StageNodes;
 use crate::stage_arcs::StageArcs;
 use crate::stages::{Roomed, Stages};
-use node_pool::NodePool;
+use node_runs::RunPool;
 use std::alloc::Global;
 use weights::{Count, NoMemory};
 
 /// The partials of one room, with buffers for a step and for the partial that it leads to.
 #[derive(Drop)]
 pub struct RoomPool<C: Count> {
-    pub partials: NodePool<C>,
+    pub partials: RunPool<C>,
     pub step: Vec<i128>,
     pub next: Vec<i128>,
+}
+
+// The partials that no more arcs than these lead to are merged, and not hashed.
+const FEW: usize = 4;
+
+// Whether few arcs lead to a room.
+fn has_few(arcs: &Arcs, target: usize) -> bool
+    requires { target < arcs.now.rooms }
+{
+    let mut place = arcs.first(target);
+    for _ in 0..FEW {
+        if place == 0 {
+            return true;
+        }
+        place = arcs.arc(place - 1).next;
+    }
+    place == 0
 }
 
 // A count times an arc's weight.
@@ -47,7 +65,7 @@ impl<C: Count> RoomPool<C> {
         let _lawful = stages.stages();
         let width = stages.width() - stages.room_width();
         Ok(RoomPool {
-            partials: NodePool::new(alloc, width)?,
+            partials: RunPool::new(alloc, width)?,
             step: vec![in alloc; 0i128; stages.step_width()]?,
             next: vec![in alloc; 0i128; width]?,
         })
@@ -88,6 +106,7 @@ impl<C: Count> RoomPool<C> {
     {
         let room = nodes.room(arc.start);
         stages.step(stage, room, choice, &mut self.step);
+        self.partials.begin_run()?;
         for i in arc.start..arc.end {
             stages.advance(
                 stage,
@@ -97,9 +116,8 @@ impl<C: Count> RoomPool<C> {
                 nodes.partial(i),
                 &mut self.next,
             );
-            self.partials.reserve(1)?;
             self.partials
-                .add(&self.next, scaled(nodes.weight(i), arc.weight));
+                .add(&self.next, scaled(nodes.weight(i), arc.weight))?;
         }
         Ok(())
     }
@@ -135,7 +153,7 @@ impl<C: Count> RoomPool<C> {
             (lift (slice_index_or all.now.rooms.nodes target d).key self.new.partials.nodes)
             ≡ weighted f (spread_out n stage nodes.now.nodes arcs)) }
     {
-        self.partials.clear();
+        self.partials.clear(has_few(&all.arcs, target));
         let mut place = all.arcs.first(target);
         while place != 0 {
             let arc = all.arcs.arc(place - 1);

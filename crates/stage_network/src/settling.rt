@@ -18,7 +18,7 @@ use crate::keys::write_key;
 use crate::nodes::StageNodes;
 use crate::stages::{Roomed, Stages, Verdict};
 use crate::tail_sums::{Kept, TailSums, Verdicts};
-use node_pool::NodePool;
+use node_runs::RunPool;
 use weights::{Count, NoMemory, Tail, Tails};
 
 // Adds what a node closes or leaves open, and keeps it where it is open for some tail.
@@ -57,9 +57,9 @@ fn settle_node<C: Count>(
     }
 }
 
-// What the weights inside a room are to be multiplied by: the weight of the completions of a node
-// there, which has this partial. It is not asked for where there is no weight.
-fn rest_of<S: Stages>(
+/// What the weights inside a room are to be multiplied by: the weight of the completions of a node
+/// there, which has this partial. It is not asked for where there is no weight.
+pub fn rest_of<S: Stages>(
     stages: &S,
     stage: usize,
     room: &[i128],
@@ -108,9 +108,9 @@ fn asked_verdict<S: Roomed>(
     }
 }
 
-// That for each tail.
+/// What is known of a partial of a room for each tail: where it is not asked, Outside.
 #[inline(always)]
-fn verdicts_of<S: Roomed>(
+pub fn verdicts_of<S: Roomed>(
     stages: &S,
     stage: usize,
     room: &[i128],
@@ -153,7 +153,7 @@ fn settle_room<C: Count, S: Roomed>(
     stages: &S,
     stage: usize,
     tails: Tails,
-    nodes: &NodePool<C>,
+    nodes: &RunPool<C>,
     room: &[i128],
     sums: TailSums,
     kept: &mut StageNodes<C>,
@@ -193,7 +193,7 @@ fn settle_room<C: Count, S: Roomed>(
 
 // Keeps all nodes of a room.
 fn keep_room<C: Count>(
-    nodes: &NodePool<C>,
+    nodes: &RunPool<C>,
     room: &[i128],
     kept: &mut StageNodes<C>,
 ) -> Result<(), NoMemory>
@@ -215,7 +215,7 @@ pub fn settle<C: Count, S: Roomed>(
     stages: &S,
     stage: usize,
     keep: Kept,
-    nodes: &NodePool<C>,
+    nodes: &RunPool<C>,
     room: &[i128],
     sums: TailSums,
     kept: &mut StageNodes<C>,

@@ -1,14 +1,16 @@
 // Every value that the completions take: a sweep that closes no key.
-ghost use Rattle.std.specs.Prelude.{◌≡◌, ℤ, ◌≤◌, Bool, cond, IfOk};
+ghost use Rattle.std.specs.Prelude.{◌≡◌, ℤ, ◌≤◌, Bool, cond, IfOk, IfSome};
 ghost use Rattle.weights.specs.declared.TheConstants.{MAX};
 ghost use Rattle.node_pool.specs.Nodes.{weighted};
 ghost use Rattle.stage_network.specs.Completions.{total_weight, value_weights};
 ghost use Rattle.stage_network.specs.Lines.{IsSpreadOf, every, line_sum};
 ghost use Rattle.stage_network.specs.NodeSteps.{AllReached};
+ghost use Rattle.stage_network.specs.Shifts.{IsShifting};
 
 use crate::keys::write_key;
 use crate::lines::Spread;
 use crate::nodes::StageNodes;
+use crate::row_ends::row_ends;
 use crate::stages::{Roomed, Stages};
 use crate::sums::total_of;
 use crate::sweep::sweep_through;
@@ -76,11 +78,38 @@ fn node_values<C: Count, S: Stages>(
     Ok(spread)
 }
 
-// The values in counts of one width.
+// The values in counts of one width, by rows of cells; None where these do not serve.
+fn spread_by_rows<C: Count, S: Roomed>(
+    alloc: Global,
+    stages: &S,
+) -> Result<Option<Spread>, NoMemory>
+    requires shifting { let n = S.Stages.network stages.now in
+        let width = S.room_width stages.now in
+        IsShifting n width (S.step_width stages.now) (S.step_of stages.now) }
+    requires limit { let n = S.Stages.network stages.now in total_weight n 0 n.first ≤ C.LIMIT }
+    ensures { let n = S.Stages.network stages.now in
+        IfOk result (λ some. IfSome some (IsSpreadOf (value_weights n))) }
+{
+    let ends = row_ends::<C, S>(alloc, stages)?;
+    match ends {
+        Some(nodes) => {
+            let spread = node_values(alloc, stages, &nodes)?;
+            Ok(Some(spread))
+        }
+        None => Ok(None),
+    }
+}
+
+// The values in counts of one width: by rows of cells where these serve.
 fn spread_in<C: Count, S: Roomed>(alloc: Global, stages: &S) -> Result<Spread, NoMemory>
     requires limit { let n = S.Stages.network stages.now in total_weight n 0 n.first ≤ C.LIMIT }
     ensures { IfOk result (IsSpreadOf (value_weights (S.Stages.network stages.now))) }
 {
+    if stages.is_shift() {
+        if let Some(spread) = spread_by_rows::<C, S>(alloc, stages)? {
+            return Ok(spread);
+        }
+    }
     let swept = sweep_through::<C, S>(alloc, stages, Kept::All)?;
     let spread = node_values(alloc, stages, &swept.nodes)?;
     Ok(spread)

@@ -24,9 +24,9 @@ pub struct StageArcs {
     pub target_room: Vec<i128>,
 }
 
-// Names a room, and answers its place.
+/// Names a room, and answers its place.
 #[inline(always)]
-fn place(rooms: &mut NodePool<Narrow>, room: &[i128]) -> Result<usize, NoMemory>
+pub fn place(rooms: &mut NodePool<Narrow>, room: &[i128]) -> Result<usize, NoMemory>
     requires wide { length room.now ≡ rooms.old.width }
     requires light { weighted (λ k. 1) rooms.old.nodes ≡ 0 }
     ensures width { OnOk result (rooms.new.width ≡ rooms.old.width) }

@@ -1,10 +1,12 @@
 // What a network of stages is.
-ghost use Rattle.std.specs.Prelude.{◌≡◌, ℕ, ℤ, ◌+◌, ◌<◌, ◌≤◌, List, ◌++◌, length, take, drop};
+ghost use Rattle.std.specs.Prelude.{◌≡◌, ℕ, ℤ, ◌+◌, ◌<◌, ◌≤◌, ◌+ℤ◌, pos, true};
+ghost use Rattle.std.specs.Prelude.{List, [], ◌∷◌, ◌++◌, length, take, drop};
 ghost use Rattle.std.specs.List.{Contains};
 ghost use Rattle.stage_network.specs.Network.{Network, IsReached, pending};
 ghost use Rattle.stage_network.specs.Completions.{total_weight};
 ghost use Rattle.stage_network.specs.Laws.{IsLawful};
 ghost use Rattle.stage_network.specs.Rooms.{IsRoomed, IsPlace, IsArc};
+ghost use Rattle.stage_network.specs.Shifts.{IsShifting};
 
 use crate::keys::front;
 use weights::Tail;
@@ -200,4 +202,35 @@ pub trait Roomed: Stages {
         requires outlook { outlook.now ≡ outlook_of self.now stage room.now }
         ensures { let n = Self.Stages.network self.now in
             result ≡ n.verdict tail stage (room.now ++ partial.now) };
+
+    /// Whether a partial is one number, which a step's one number is added to. It may be false of a
+    /// network that has such steps.
+    fn is_shift(&self) -> bool
+        ensures { let n = Self.Stages.network self.now in
+            result ≡ true
+            → IsShifting n (room_width self.now) (step_width self.now) (step_of self.now) }
+    {
+        false
+    }
+
+    /// How far above a partial of one number those of its room surely have its verdict for a tail.
+    fn same_for(
+        &self,
+        stage: usize,
+        room: &[i128],
+        outlook: &[i128],
+        partial: i128,
+        tail: Tail,
+    ) -> u128
+        requires room { length room.now ≡ room_width self.now }
+        requires reached { let n = Self.Stages.network self.now in
+            IsReached n stage (room.now ++ partial ∷ []) }
+        requires outlook { outlook.now ≡ outlook_of self.now stage room.now }
+        ensures { let n = Self.Stages.network self.now in
+            (d : ℕ) → d ≤ result → IsReached n stage (room.now ++ (partial +ℤ pos d) ∷ [])
+            → n.verdict tail stage (room.now ++ (partial +ℤ pos d) ∷ [])
+            ≡ n.verdict tail stage (room.now ++ partial ∷ []) }
+    {
+        0
+    }
 }

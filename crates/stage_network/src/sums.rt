@@ -7,15 +7,16 @@ ghost use Rattle.stage_network.specs.Opened.{opened_below, opened_by_some};
 ghost use Rattle.stage_network.specs.SweepSteps.{sum_for};
 ghost use Rattle.weights.specs.declared.tails.Tail.{Tail};
 
+use crate::row_sweeps::row_sums;
 use crate::stages::{Roomed, Stages};
 use crate::sweep::sweep_through;
-use crate::tail_sums::{Kept, TailSum, TailSums};
+use crate::tail_sums::{Kept, TailSum, TailSums, only};
 use crate::whole::Whole;
 use crate::widths::{Width, width_of};
 use std::alloc::Global;
 use weights::{Count, Narrow, NoMemory, Tail, Tails, Wide};
 
-// The sums of the asked tails in counts of one width.
+// The sums of the asked tails in counts of one width: by rows of cells where these serve.
 fn sums_in<C: Count, S: Roomed>(
     alloc: Global,
     stages: &S,
@@ -27,6 +28,11 @@ fn sums_in<C: Count, S: Roomed>(
     ensures opened { let n = asked tails (S.Stages.network stages.now) in
         IfOk result (λ all. (t : Tail) → (sum_for all t).opened ≡ opened_by_some n t n.count) }
 {
+    if stages.is_shift() {
+        if let Some(sums) = row_sums::<C, S>(alloc, stages, tails)? {
+            return Ok(sums);
+        }
+    }
     let swept = sweep_through::<C, S>(alloc, stages, Kept::Open(tails))?;
     Ok(swept.sums)
 }
@@ -77,19 +83,6 @@ pub fn tail_sums_by_rooms<S: Roomed>(
     let _lawful = stages.stages();
     let sums = sums_by_rooms(alloc, stages, tails)?;
     Ok(sums)
-}
-
-// One tail alone.
-fn only(tail: Tail) -> Tails
-    ensures asked { asks result tail ≡ true }
-    ensures alone { (t : Tail) → asks result t ≡ true → t ≡ tail }
-{
-    let (less, greater, two) = match tail {
-        Tail::Less => (true, false, false),
-        Tail::Greater => (false, true, false),
-        Tail::Two => (false, false, true),
-    };
-    Tails { less, greater, two }
 }
 
 /// The tail sum, room by room: what a room decides is asked once per room.

@@ -1,20 +1,18 @@
 // A sweep through the stages, room by room, for the asked tails at once: the keys are kept that are
 // open for some of these, or every key is.
-ghost use Rattle.std.specs.Prelude.{◌≡◌, ◌+◌, ◌<◌, ◌≤◌, [], ◌∷◌, length, OnOk, IfOk};
+ghost use Rattle.std.specs.Prelude.{◌≡◌, ◌+◌, ◌<◌, ◌≤◌, OnOk, IfOk};
 ghost use Rattle.weights.specs.declared.TheConstants.{MAX};
-ghost use Rattle.node_pool.specs.Nodes.{node, weighted};
+ghost use Rattle.node_pool.specs.Nodes.{weighted};
 ghost use Rattle.stage_network.specs.Completions.{total_weight};
 ghost use Rattle.stage_network.specs.NodeSteps.{AllReached};
 ghost use Rattle.stage_network.specs.SweepSteps.{Course, IsSweeping, IsSwept, first_course};
 
-use crate::keys::{behind, front};
 use crate::nodes::StageNodes;
 use crate::rooms::RoomPool;
 use crate::settling::settle;
 use crate::stage_arcs::StageArcs;
 use crate::stages::{Roomed, Stages};
 use crate::tail_sums::{Kept, TailSums};
-use node_pool::NodePool;
 use std::alloc::Global;
 use std::mem;
 use weights::{Count, NoMemory};
@@ -32,22 +30,6 @@ pub struct Sweep<C: Count> {
     pub pool: RoomPool<C>,
 }
 
-// Puts one partial into an empty pool.
-fn put_one<C: Count>(partial: &[i128], pool: &mut NodePool<C>) -> Result<(), NoMemory>
-    requires wide { length partial.now ≡ pool.old.width }
-    requires empty { pool.old.nodes ≡ [] }
-    requires limit { 1 ≤ C.LIMIT }
-    ensures width { OnOk result (pool.new.width ≡ pool.old.width) }
-    ensures nodes { OnOk result (pool.new.nodes ≡ node partial.now 1 ∷ []) }
-{
-    pool.reserve(1)?;
-    match C::of(1) {
-        Some(one) => pool.add(partial, one),
-        None => unreachable!(),
-    }
-    Ok(())
-}
-
 impl<C: Count> Sweep<C> {
     /// A sweep that stands at the first key.
     pub fn new<S: Roomed>(alloc: Global, stages: &S, keep: Kept) -> Result<Sweep<C>, NoMemory>
@@ -58,34 +40,11 @@ impl<C: Count> Sweep<C> {
             (first_course n keep)) }
         ensures stage { IfOk result (λ sweep. sweep.stage ≡ 0) }
     {
-        let _count = stages.stages();
-        let width = stages.room_width();
-        let partial_width = stages.width() - width;
+        let _lawful = stages.stages();
         let mut numbers = [0i128; 16];
         let key = &mut numbers[..stages.width()];
         stages.first_key(key);
-        let mut pool = RoomPool::<C>::new(alloc, stages)?;
-        put_one(behind(key, width), &mut pool.partials)?;
-        let arcs = StageArcs::new(alloc, stages)?;
-        let mut nodes = StageNodes::<C>::new(alloc, width, partial_width);
-        let sums = settle(
-            stages,
-            0,
-            keep,
-            &pool.partials,
-            front(key, width),
-            TailSums::none(),
-            &mut nodes,
-        )?;
-        Ok(Sweep {
-            keep,
-            stage: 0,
-            sums,
-            nodes,
-            ahead: StageNodes::new(alloc, width, partial_width),
-            arcs,
-            pool,
-        })
+        Sweep::from_keys(alloc, stages, keep, 0, key, &[1])
     }
 
     /// Takes the sweep one stage on: the rooms of the next stage are filled, one after another, and
@@ -123,6 +82,25 @@ impl<C: Count> Sweep<C> {
         let _held = self.nodes.len();
         Ok(())
     }
+
+    /// Takes the sweep on to a later stage, or to where it stands.
+    pub fn advance_to<S: Roomed>(&mut self, stages: &S, to: usize) -> Result<(), NoMemory>
+        ghost course: { Course }
+        requires order { self.old.stage ≤ to }
+        requires last { to ≤ (S.Stages.network stages.now).count }
+        requires sweeping { let n = S.Stages.network stages.now in
+            IsSweeping n (S.room_width stages.now) (S.step_width stages.now) C.LIMIT course
+            self.old }
+        ensures sweeping { let n = S.Stages.network stages.now in
+            OnOk result (IsSweeping n (S.room_width stages.now) (S.step_width stages.now) C.LIMIT
+            course self.new) }
+        ensures stage { OnOk result (self.new.stage ≡ to) }
+    {
+        while self.stage < to {
+            self.advance(stages)?;
+        }
+        Ok(())
+    }
 }
 
 /// Sweeps from the first key to the last stage.
@@ -141,8 +119,6 @@ pub fn sweep_through<C: Count, S: Roomed>(
 {
     let count = stages.stages();
     let mut sweep = Sweep::<C>::new(alloc, stages, keep)?;
-    while sweep.stage < count {
-        sweep.advance(stages)?;
-    }
+    sweep.advance_to(stages, count)?;
     Ok(sweep)
 }

@@ -2,6 +2,7 @@
 ghost use Rattle.std.specs.Prelude.{◌≡◌, ◌+◌, ◌*◌, ◌<◌, ◌≤◌, ◌^◌, true, false, cond};
 ghost use Rattle.weights.specs.declared.tails.Tail.{Tail};
 ghost use Rattle.weights.specs.declared.TheConstants.{MAX};
+ghost use Rattle.stage_network.specs.Asked.{asks};
 ghost use Rattle.stage_network.specs.Completions.{is_inside};
 ghost use Rattle.stage_network.specs.Opened.{is_undecided};
 ghost use Rattle.stage_network.specs.SweepSteps.{some_undecided, sum_for, verdict_for};
@@ -37,6 +38,19 @@ pub struct Verdicts {
 pub enum Kept {
     Open(Tails),
     All,
+}
+
+/// One tail alone.
+pub fn only(tail: Tail) -> Tails
+    ensures asked { asks result tail ≡ true }
+    ensures alone { (t : Tail) → asks result t ≡ true → t ≡ tail }
+{
+    let (less, greater, two) = match tail {
+        Tail::Less => (true, false, false),
+        Tail::Greater => (false, true, false),
+        Tail::Two => (false, false, true),
+    };
+    Tails { less, greater, two }
 }
 
 impl Verdict {

@@ -1,12 +1,13 @@
 // What the networks and the tests come to, by hand.
-use crate::{Blocks, OneSided, Ranks, SignedRanks, one_sided};
+use crate::{Blocks, OneSided, RankStages, Ranks, SignedRanks, one_sided};
 use distribution::{above, below, far};
 use stage_network::{
-    AdditiveStages, Held, Line, OneOf, Spread, TailSum, Way, answer, distribution, plain_spread,
-    spread, spread_by_rooms, tail_sum, tail_sum_by_rooms,
+    AdditiveStages, Held, Line, OneOf, Prepared, Roomed, Spread, Stages, TailSum, TailSums, Way,
+    answer, distribution, plain_spread, row_sums, spread, spread_by_rooms, tail_sum,
+    tail_sum_by_rooms,
 };
 use std::test::Fail;
-use weights::{Tail, Tails};
+use weights::{Tail, Tails, Wide};
 
 fn line(value: i128, weight: u128) -> Line {
     Line { value, weight }
@@ -66,6 +67,31 @@ fn signs_by_both_ways(rt: HostRuntime) -> Result<(), Fail> {
     assert_eq!(rt; found.two, Some(TailSum { sum: 6, opened: 7 }));
     let walked = answer(rt.alloc(), &SignedRanks, tails, Way::Plain)?;
     assert_eq!(rt; walked.two, Some(TailSum { sum: 6, opened: 0 }));
+    Ok(())
+}
+
+// The same sums by rows of cells: each sign shifts every sum.
+#[test]
+fn signs_by_rows(rt: HostRuntime) -> Result<(), Fail> {
+    let alloc = rt.alloc();
+    let tails = Tails {
+        less: true,
+        greater: true,
+        two: true,
+    };
+    let known = TailSums {
+        less: TailSum { sum: 6, opened: 5 },
+        greater: TailSum { sum: 3, opened: 6 },
+        two: TailSum { sum: 6, opened: 7 },
+    };
+    let stages = SignedRanks.stages_of(alloc, Tail::Two)?;
+    let _lawful = stages.stages();
+    let is_shift = stages.is_shift();
+    assert_eq!(rt; is_shift, true);
+    if is_shift {
+        let found = row_sums::<Wide, AdditiveStages<RankStages>>(alloc, &stages, tails)?;
+        assert_eq!(rt; found, Some(known));
+    }
     Ok(())
 }
 

@@ -6,4 +6,4 @@ use Rattle.stage_network.proofs.spreads.spread_in.Goals as goal
 pub returns : goal.returns
 returns g c =
     let n : Network = g.S.Stages.network c.args.stages.now in
-    spread-same _ _ _ (λ (p : ℤ → Bool). c.in_ok-swept.ensures.swept (λ k. p (n.value k))) c.in_ok-spread.ensures
+    spread-same _ _ _ (λ (p : ℤ → Bool). c.in_ok-swept.ensures.swept (λ k. p (n.value k))) c.in_ok-spread-2.ensures

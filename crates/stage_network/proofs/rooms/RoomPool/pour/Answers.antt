@@ -2,9 +2,7 @@ use Rattle.std.proofs.Common.{◌≡◌, ◌+◌, ◌*◌, ◌++◌, ℕ, List, 
 use Rattle.std.specs.Prelude.{ℤ}
 use Rattle.std.proofs.lemmas.List.{with_items_is}
 use Rattle.node_pool.specs.Nodes.{weighted}
-use Rattle.node_pool.proofs.Puts.{weight_in-le}
 use Rattle.stage_network.specs.Network.{Network}
-use Rattle.stage_network.proofs.Roomwise.{heavy-merge}
 use Rattle.stage_network.proofs.OneArc.{start-arc, start-reached, start-allowed, start-more, start-fits, start-heavy}
 use Rattle.stage_network.proofs.rooms.RoomPool.pour.Goals as goal
 
@@ -41,8 +39,6 @@ add-requires-clause-fits g c =
       start-fits _ _ _ _ r.here.shape.room_width _ r.here.nodes _ _ _ _ r.chosen r.run _ c.room-room.ensures.room _ c.loop-i.invariant.from c.loop-i-test.true _ c.partial.ensures.partial _ c.weight.ensures (λ k. 1),
       r.light.limit,
       c.scaled.ensures,
-      weight_in-le c.deref-in-loop-i.result.now c.reserve.new.self.nodes,
-      ap (weighted (λ k. 1)) c.reserve.ensures.nodes,
       c.loop-i.invariant.told (λ k. 1),
     )
 
@@ -61,18 +57,17 @@ loop-i-preserved g c =
       from = omega (arith, c.loop-i.invariant.from);
       told = λ f.
           let summed : weighted f c.add.new.self.nodes ≡ weighted f c.loop-i.self.partials.nodes + (count * c.args.arc.weight) * f reached =
-          c.add.ensures.merged.sums f
-          ∙ ap (λ ns. weighted f ns + g.C.Count.number c.scaled.result * f c.deref-in-loop-i.result.now) c.reserve.ensures.nodes
+          c.in_ok-add.ensures.grown.sums f
           ∙ ap (λ m. weighted f c.loop-i.self.partials.nodes + m * f c.deref-in-loop-i.result.now) c.scaled.ensures
           ∙ ap (λ k. weighted f c.loop-i.self.partials.nodes + (count * c.args.arc.weight) * f k) next in
           omega (arith, summed, start-more _ _ _ _ r.here.shape.room_width _ r.here.nodes _ _ _ _ r.chosen r.run _ c.room-room.ensures.room _ c.loop-i.invariant.from c.loop-i-test.true _ c.partial.ensures.partial _ c.weight.ensures (λ k. f (drop w k)), c.loop-i.invariant.told f);
-      heavy = λ h. heavy-merge c.reserve.new.self.nodes c.deref-in-loop-i.result.now (g.C.Count.number c.scaled.result) c.add.new.self.nodes c.add.ensures.merged
+      heavy = λ h. c.in_ok-add.ensures.grown.heavy
           (rw c.scaled.ensures (start-heavy _ _ _ _ r.here.shape.room_width _ r.here.nodes _ _ _ _ r.chosen r.run _ c.room-room.ensures.room _ c.loop-i.invariant.from c.loop-i-test.true _ c.partial.ensures.partial _ c.weight.ensures))
-          (rw c.reserve.ensures.nodes (c.loop-i.invariant.heavy h));
+          (c.loop-i.invariant.heavy h);
       fitted = record {
-        wide = ap (λ m. w + m) (c.add.ensures.width ∙ c.reserve.ensures.width) ∙ c.loop-i.invariant.fitted.wide;
+        wide = ap (λ m. w + m) c.in_ok-add.ensures.width ∙ c.loop-i.invariant.fitted.wide;
         step = c.loop-i.invariant.fitted.step;
-        next = ap length written ∙ long ∙ c.loop-i.invariant.fitted.next ∙ sym (c.add.ensures.width ∙ c.reserve.ensures.width);
+        next = ap length written ∙ long ∙ c.loop-i.invariant.fitted.next ∙ sym c.in_ok-add.ensures.width;
       };
       step = c.loop-i.invariant.step;
     }

@@ -1,0 +1,334 @@
+-- Neighbouring groups of equal size may change places in every key of the network of their squared sums.
+use Rattle.std.proofs.Common.{◌≡◌, ℕ, zero, suc, ◌+◌, ◌*◌, ◌<◌, ◌≤◌, List, [], ◌∷◌, ◌++◌, length, map, take, drop, min, replicate, true, false, refl, sym, ◌∙◌, ap, subst, arith, length-drop}
+use Rattle.std.specs.Prelude.{ℤ, pos, nat_abs, ◌≤ℤ◌, slice_index, ◌+ℤ◌, ◌*ℤ◌}
+use Rattle.std.specs.List.{sum_by, Contains}
+use Rattle.std.proofs.lemmas.List.{length-map, length-take}
+use Rattle.weights.specs.Conditional.{ConditionalTest}
+use Rattle.weights.specs.declared.tails.Tail.{Tail}
+use Rattle.weights.specs.Grouped.{choices, minus}
+use Rattle.weights.specs.Labellings.{number_of_labellings}
+use Rattle.weights.proofs.Sized.{length-minus}
+use Rattle.completion_bounds.specs.Boxes.{factored_squares, greatest_squares, least_squares}
+use Rattle.stage_network.specs.declared.verdicts.Judge.{Judge}
+use Rattle.stage_network.specs.Network.{Network, IsReached}
+use Rattle.stage_network.specs.Judged.{HasIntervals, judge_of}
+use Rattle.stage_network.specs.Completions.{total_weight}
+use Rattle.stage_network.specs.Follows.{Follows}
+use Rattle.stage_network.specs.Laws.{IsLawful}
+use Rattle.stage_network.specs.Rooms.{IsRoomed}
+use Rattle.stage_network.proofs.Folding.{IsTurned, folded-follows, folded-intervals, folded-lawful, folded-roomed, folded_total, over_allowed, over_arcs, reached-folded}
+use Rattle.stage_network.proofs.Steps.{reached-next}
+use Rattle.stage_network.proofs.Swaps.{length-swap, map-swap, swap_at}
+use Rattle.room_network.proofs.RoomLaws.{key_long}
+use Rattle.room_network.proofs.RoomKeys.{IsKey, choices_before, is_key, partial-next, room-next, weighed}
+use Rattle.label_network.specs.LabelNetwork.{label_network, over_rooms}
+use Rattle.label_network.specs.LabelRooms.{label_weight}
+use Rattle.label_network.specs.Linear.{score_of}
+use Rattle.label_network.specs.LaterSums.{greatest_sum, later_scores, least_sum}
+use Rattle.label_network.specs.Meanings.{AreReached, Meaning, sizes_in}
+use Rattle.label_network.proofs.LabelPlans.{label_width}
+use Rattle.label_network.proofs.Narrowing.{chosen}
+use Rattle.label_network.proofs.OverRooms.{over_measure, over_place}
+use Rattle.label_network.proofs.Rows.{length-pos}
+use Rattle.k_sample_tests.specs.EqualGroups.{equal_groups_network, groups_in_order, in_order, lefts, places_of, sums}
+use Rattle.k_sample_tests.specs.declared.places.Place.{Place}
+use Rattle.k_sample_tests.specs.RankSums.{plus_each, score_parts, squares_meaning}
+use Rattle.k_sample_tests.specs.RankSumSteps.{IsSquaring}
+use Rattle.k_sample_tests.proofs.ChoiceSwaps.{labellings-swap, minus-swap, swapped_choices, swapped_member}
+use Rattle.k_sample_tests.proofs.PlaceOrder.{IsTurn, back-key, front-key, length-order, length-places, order-folds, order-room, room_in_order, same_at, swap-same, turn}
+use Rattle.k_sample_tests.proofs.RankNarrows.{length-parts, length-plus, squares_measure}
+
+plus_each-swap : (i : ℕ) (p a : List ℤ) → length a ≡ length p → plus_each (swap_at i p) (swap_at i a) ≡ swap_at i (plus_each p a)
+plus_each-swap i [] a e = refl
+plus_each-swap i (x ∷ p) [] e = absurd (omega arith)
+plus_each-swap zero (x ∷ []) (v ∷ []) e = refl
+plus_each-swap zero (x ∷ []) (v ∷ w ∷ a) e = absurd (omega arith)
+plus_each-swap zero (x ∷ y ∷ p) (v ∷ []) e = absurd (omega arith)
+plus_each-swap zero (x ∷ y ∷ p) (v ∷ w ∷ a) e = refl
+plus_each-swap (suc i) (x ∷ p) (v ∷ a) e = ap (λ zs. (x +ℤ v) ∷ zs) (plus_each-swap i p a (omega arith))
+
+squares-swap : (i : ℕ) (p : List ℤ) (f : List ℕ) → length f ≡ length p → factored_squares (swap_at i p) (swap_at i f) ≡ factored_squares p f
+squares-swap i [] f e = refl
+squares-swap i (x ∷ p) [] e = absurd (omega arith)
+squares-swap zero (x ∷ []) (v ∷ []) e = refl
+squares-swap zero (x ∷ []) (v ∷ w ∷ f) e = absurd (omega arith)
+squares-swap zero (x ∷ y ∷ p) (v ∷ []) e = absurd (omega arith)
+squares-swap zero (x ∷ y ∷ p) (v ∷ w ∷ f) e = omega arith
+squares-swap (suc i) (x ∷ p) (v ∷ f) e = omega (arith, squares-swap i p f (omega arith))
+
+least-swap : (i : ℕ) (a b : List ℤ) (f : List ℕ) → length b ≡ length a → length f ≡ length a → least_squares (swap_at i a) (swap_at i b) (swap_at i f) ≡ least_squares a b f
+least-swap i [] b f e l = refl
+least-swap i (x ∷ a) [] f e l = absurd (omega arith)
+least-swap i (x ∷ a) (y ∷ b) [] e l = absurd (omega arith)
+least-swap zero (x ∷ []) (y ∷ []) (v ∷ []) e l = refl
+least-swap zero (x ∷ []) (y ∷ []) (v ∷ w ∷ f) e l = absurd (omega arith)
+least-swap zero (x ∷ []) (y ∷ z ∷ b) (v ∷ f) e l = absurd (omega arith)
+least-swap zero (x ∷ u ∷ a) (y ∷ []) (v ∷ f) e l = absurd (omega arith)
+least-swap zero (x ∷ u ∷ a) (y ∷ z ∷ b) (v ∷ []) e l = absurd (omega arith)
+least-swap zero (x ∷ u ∷ a) (y ∷ z ∷ b) (v ∷ w ∷ f) e l = omega arith
+least-swap (suc i) (x ∷ a) (y ∷ b) (v ∷ f) e l = omega (arith, least-swap i a b f (omega arith) (omega arith))
+
+greatest-swap : (i : ℕ) (a b : List ℤ) (f : List ℕ) → length b ≡ length a → length f ≡ length a → greatest_squares (swap_at i a) (swap_at i b) (swap_at i f) ≡ greatest_squares a b f
+greatest-swap i [] b f e l = refl
+greatest-swap i (x ∷ a) [] f e l = absurd (omega arith)
+greatest-swap i (x ∷ a) (y ∷ b) [] e l = absurd (omega arith)
+greatest-swap zero (x ∷ []) (y ∷ []) (v ∷ []) e l = refl
+greatest-swap zero (x ∷ []) (y ∷ []) (v ∷ w ∷ f) e l = absurd (omega arith)
+greatest-swap zero (x ∷ []) (y ∷ z ∷ b) (v ∷ f) e l = absurd (omega arith)
+greatest-swap zero (x ∷ u ∷ a) (y ∷ []) (v ∷ f) e l = absurd (omega arith)
+greatest-swap zero (x ∷ u ∷ a) (y ∷ z ∷ b) (v ∷ []) e l = absurd (omega arith)
+greatest-swap zero (x ∷ u ∷ a) (y ∷ z ∷ b) (v ∷ w ∷ f) e l = omega arith
+greatest-swap (suc i) (x ∷ a) (y ∷ b) (v ∷ f) e l = omega (arith, greatest-swap i a b f (omega arith) (omega arith))
+
+swap-replicate : (i n : ℕ) (z : ℤ) → swap_at i (replicate n z) ≡ replicate n z
+swap-replicate i zero z = refl
+swap-replicate zero (suc zero) z = refl
+swap-replicate zero (suc (suc n)) z = refl
+swap-replicate (suc i) (suc n) z = ap (λ zs. z ∷ zs) (swap-replicate i n z)
+
+module _ (factors : List ℕ) (bound : ℕ) (scores : List ℤ) (columns rows : List ℕ) (judge : Judge) (h : IsSquaring factors bound scores columns rows judge) (even : (i : ℕ) → same_at i rows ≡ true → swap_at i factors ≡ factors) where
+  abbrev m : Meaning
+  m = squares_meaning factors bound scores columns rows judge
+
+  abbrev n : Network
+  n = label_network m
+
+  abbrev room : List ℤ → List ℤ
+  room k = take (length rows) k
+
+  abbrev partial : List ℤ → List ℤ
+  partial k = drop (length rows) k
+
+  abbrev AKey : ℕ → List ℤ → Type 0
+  AKey = IsKey (over_rooms m) label_weight (label_width columns rows)
+
+  a-key : (g : ℕ) (k : List ℤ) → IsReached n g k → AKey g k
+  a-key = is_key (over_rooms m) label_weight (label_width columns rows)
+
+  reached-label : (g : ℕ) (k : List ℤ) → IsReached n g k → AreReached m g (sizes_in (room k)) (partial k)
+  reached-label g k r = (over_place m g (room k) (partial k) (a-key g k r).reached).reached
+
+  room-long : (g : ℕ) (k : List ℤ) → IsReached n g k → length (room k) ≡ length rows
+  room-long g k r = (a-key g k r).long
+
+  sizes-long : (g : ℕ) (k : List ℤ) → IsReached n g k → length (sizes_in (room k)) ≡ length rows
+  sizes-long g k r = length-map (room k) nat_abs ∙ room-long g k r
+
+  partial-long : (g : ℕ) (k : List ℤ) → IsReached n g k → length (partial k) ≡ length rows
+  partial-long g k r = (squares_measure factors bound scores columns rows judge h).wide g (sizes_in (room k)) (partial k) (reached-label g k r)
+
+  choices-at : (g : ℕ) (k : List ℤ) → g < length columns → n.choices g k ≡ choices (slice_index columns g) (sizes_in (room k))
+  choices-at g k before = choices_before (weighed (over_rooms m) label_weight) g (room k) before
+
+  choice-long : (g : ℕ) (k : List ℤ) (c : List ℕ) → IsReached n g k → g < length columns → Contains (n.choices g k) c → length c ≡ length rows
+  choice-long g k c r before o = (chosen (slice_index columns g) (sizes_in (room k)) c (subst (λ cs. Contains cs c) (choices-at g k before) o)).long ∙ sizes-long g k r
+
+  -- what two groups that change places leave of a key
+  turn-room : (i g : ℕ) (k : List ℤ) → IsReached n g k → room (turn (length rows) i k) ≡ swap_at i (room k)
+  turn-room i g k r = front-key (length rows) (swap_at i (room k)) (swap_at i (partial k)) (length-swap i (room k) ∙ room-long g k r)
+
+  turn-partial : (i g : ℕ) (k : List ℤ) → IsReached n g k → partial (turn (length rows) i k) ≡ swap_at i (partial k)
+  turn-partial i g k r = back-key (length rows) (swap_at i (room k)) (swap_at i (partial k)) (length-swap i (room k) ∙ room-long g k r)
+
+  turn-sizes : (i g : ℕ) (k : List ℤ) → IsReached n g k → sizes_in (room (turn (length rows) i k)) ≡ swap_at i (sizes_in (room k))
+  turn-sizes i g k r = ap sizes_in (turn-room i g k r) ∙ map-swap nat_abs i (room k)
+
+  -- where choices lead that change places with the groups
+  turn-next : (i g : ℕ) (k : List ℤ) (c : List ℕ) → IsReached n g k → length c ≡ length rows → n.next g (turn (length rows) i k) (swap_at i c) ≡ turn (length rows) i (n.next g k c)
+  turn-next i g k c r l =
+      let s : ℤ = score_of scores g in
+      let sizes : List ℕ = sizes_in (room k) in
+      let parts : List ℤ = score_parts s c in
+      let left : List ℤ = map pos (minus sizes c) in
+      let sums : List ℤ = plus_each (partial k) parts in
+      let long : length left ≡ length rows = length-pos (minus sizes c) ∙ length-minus sizes c ∙ sizes-long g k r in
+      ap (λ q. map pos (minus q (swap_at i c)) ++ plus_each (partial (turn (length rows) i k)) (score_parts s (swap_at i c))) (turn-sizes i g k r)
+      ∙ ap (λ q. map pos (minus (swap_at i sizes) (swap_at i c)) ++ plus_each q (score_parts s (swap_at i c))) (turn-partial i g k r)
+      ∙ ap (λ q. map pos q ++ plus_each (swap_at i (partial k)) (score_parts s (swap_at i c))) (minus-swap i sizes c (l ∙ sym (sizes-long g k r)))
+      ∙ ap (λ q. q ++ plus_each (swap_at i (partial k)) (score_parts s (swap_at i c))) (map-swap pos i (minus sizes c))
+      ∙ ap (λ q. swap_at i left ++ plus_each (swap_at i (partial k)) q) (map-swap (λ x. pos x *ℤ s) i c)
+      ∙ ap (λ q. swap_at i left ++ q) (plus_each-swap i (partial k) parts (length-parts s c ∙ l ∙ sym (partial-long g k r)))
+      ∙ sym (
+      ap (λ q. swap_at i q ++ swap_at i (partial (left ++ sums))) (front-key (length rows) left sums long)
+      ∙ ap (λ q. swap_at i left ++ swap_at i q) (back-key (length rows) left sums long))
+
+  turn-first : (i : ℕ) → same_at i rows ≡ true → turn (length rows) i n.first ≡ n.first
+  turn-first i s =
+      ap (λ q. swap_at i q ++ swap_at i (partial n.first)) (front-key (length rows) (map pos rows) (replicate (length rows) (pos 0)) (length-pos rows))
+      ∙ ap (λ q. swap_at i (map pos rows) ++ swap_at i q) (back-key (length rows) (map pos rows) (replicate (length rows) (pos 0)) (length-pos rows))
+      ∙ ap (λ q. q ++ swap_at i (replicate (length rows) (pos 0))) (sym (map-swap pos i rows) ∙ ap (map pos) (swap-same i rows s))
+      ∙ ap (λ q. map pos rows ++ q) (swap-replicate i (length rows) (pos 0))
+
+  turn-member : (i g : ℕ) (k : List ℤ) (c : List ℕ) → IsReached n g k → g < length columns → Contains (n.choices g k) c → Contains (n.choices g (turn (length rows) i k)) (swap_at i c)
+  turn-member i g k c r before o =
+      subst (λ cs. Contains cs (swap_at i c)) (sym (choices-at g (turn (length rows) i k) before ∙ ap (choices (slice_index columns g)) (turn-sizes i g k r)))
+      (swapped_member i (slice_index columns g) (sizes_in (room k)) c (subst (λ cs. Contains cs c) (choices-at g k before) o))
+
+  turn-stays : (i : ℕ) → same_at i rows ≡ true → (g : ℕ) (k : List ℤ) → IsReached n g k → IsReached n g (turn (length rows) i k)
+  turn-stays i s zero k r = ap (turn (length rows) i) r ∙ turn-first i s
+  turn-stays i s (suc g) k (j, c, r, before, o, e) = (
+    turn (length rows) i j,
+    swap_at i c,
+    turn-stays i s g j r,
+    before,
+    turn-member i g j c r before o,
+    ap (turn (length rows) i) e ∙ sym (turn-next i g j c r (choice-long g j c r before o)),
+  )
+
+  -- what a choice at sizes and sums adds to a sum over arcs
+  abbrev term : (List ℤ → ℕ) → ℕ → List ℕ → List ℤ → List ℕ → ℕ
+  term f g r p c = number_of_labellings c * f (map pos (minus r c) ++ plus_each p (score_parts (score_of scores g) c))
+
+  turn-arcs : (f : List ℤ → ℕ) (g : ℕ) (k j : List ℤ) → ((l i : List ℤ) → IsReached n (g + 1) l → IsTurn rows l i → f i ≡ f l) → IsReached n g k → IsTurn rows k j → g < n.count → over_arcs n f g j ≡ over_arcs n f g k
+  turn-arcs f g k j even_f r (i, s, e) before =
+      let here : List ℤ = turn (length rows) i k in
+      let sizes : List ℕ = sizes_in (room k) in
+      let c : ℕ = slice_index columns g in
+      ap (over_arcs n f g) e
+      ∙ ap (sum_by (term f g (sizes_in (room here)) (partial here))) (choices-at g here before ∙ ap (choices c) (turn-sizes i g k r))
+      ∙ swapped_choices (term f g (sizes_in (room here)) (partial here)) i c sizes
+      ∙ over_allowed (choices c sizes) _ (term f g sizes (partial k)) (λ x o.
+      let allowed : Contains (n.choices g k) x = subst (λ cs. Contains cs x) (sym (choices-at g k before)) o in
+      ap (λ w. w * f (n.next g here (swap_at i x))) (labellings-swap i x)
+      ∙ ap (λ q. number_of_labellings x * f q) (turn-next i g k x r (choice-long g k x r before allowed))
+      ∙ ap (λ w. number_of_labellings x * w) (even_f (n.next g k x) (turn (length rows) i (n.next g k x)) (reached-next n g k x r before allowed) (i, s, refl)))
+      ∙ sym (ap (sum_by (term f g sizes (partial k))) (choices-at g k before))
+
+  turn-ends : (k j : List ℤ) → IsReached n n.count k → IsTurn rows k j → n.value j ≡ n.value k
+  turn-ends k j r (i, s, e) =
+      ap n.value e
+      ∙ ap (λ q. pos (factored_squares q factors)) (turn-partial i n.count k r)
+      ∙ ap (λ q. pos (factored_squares (swap_at i (partial k)) q)) (sym (even i s))
+      ∙ ap pos (squares-swap i (partial k) factors (h.one_each ∙ sym (partial-long n.count k r)))
+
+  pub equal-turned : IsTurned n (IsTurn rows)
+  equal-turned = record {
+    stays = λ g k j r t. subst (IsReached n g) (sym t.2) (turn-stays t.0 t.1 g k r);
+    arcs = turn-arcs;
+    ends = turn-ends;
+  }
+
+  -- ---- intervals
+
+  rises : (g : ℕ) (k : List ℤ) (c : List ℕ) → IsReached n g k → g < n.count → Contains (n.choices g k) c → m.low g (sizes_in (room k)) (partial k) ≤ℤ m.low (g + 1) (sizes_in (room (n.next g k c))) (partial (n.next g k c))
+  rises g k c r before o =
+      let key : AKey g k = a-key g k r in
+      rw (room-next (over_rooms m) label_weight (label_width columns rows) g k c key.long, partial-next (over_rooms m) label_weight (label_width columns rows) g k c key.long)
+      ((over_measure m (squares_measure factors bound scores columns rows judge h)).low_rises g (room k) (partial k) c key.reached before (subst (λ cs. Contains cs c) (choices-at g k before) o))
+
+  falls : (g : ℕ) (k : List ℤ) (c : List ℕ) → IsReached n g k → g < n.count → Contains (n.choices g k) c → m.high (g + 1) (sizes_in (room (n.next g k c))) (partial (n.next g k c)) ≤ℤ m.high g (sizes_in (room k)) (partial k)
+  falls g k c r before o =
+      let key : AKey g k = a-key g k r in
+      rw (room-next (over_rooms m) label_weight (label_width columns rows) g k c key.long, partial-next (over_rooms m) label_weight (label_width columns rows) g k c key.long)
+      ((over_measure m (squares_measure factors bound scores columns rows judge h)).high_falls g (room k) (partial k) c key.reached before (subst (λ cs. Contains cs c) (choices-at g k before) o))
+
+  abbrev squares_intervals : HasIntervals n judge
+  squares_intervals = record {
+    low = λ g k. m.low g (sizes_in (room k)) (partial k);
+    high = λ g k. m.high g (sizes_in (room k)) (partial k);
+    verdicts = λ t g k r. refl;
+    low_rises = rises;
+    high_falls = falls;
+    low_ends = λ k r. (squares_measure factors bound scores columns rows judge h).low_ends (sizes_in (room k)) (partial k) (reached-label n.count k r);
+    high_ends = λ k r. (squares_measure factors bound scores columns rows judge h).high_ends (sizes_in (room k)) (partial k) (reached-label n.count k r);
+  }
+
+  abbrev later : ℕ → List ℤ
+  later g = later_scores scores columns g
+
+  -- the ends of the box of a key whose groups change places
+  module _ (i g : ℕ) (s : same_at i rows ≡ true) (k : List ℤ) (r : IsReached n g k) where
+    abbrev here : List ℤ
+    here = turn (length rows) i k
+
+    abbrev sizes : List ℕ
+    sizes = sizes_in (room k)
+
+    box-side : (part : ℕ → ℤ) → plus_each (partial here) (map part (sizes_in (room here))) ≡ swap_at i (plus_each (partial k) (map part sizes))
+    box-side part =
+        ap (λ q. plus_each (partial here) (map part q)) (turn-sizes i g k r)
+        ∙ ap (λ q. plus_each q (map part (swap_at i sizes))) (turn-partial i g k r)
+        ∙ ap (plus_each (swap_at i (partial k))) (map-swap part i sizes)
+        ∙ plus_each-swap i (partial k) (map part sizes) (length-map sizes part ∙ sizes-long g k r ∙ sym (partial-long g k r))
+
+    side-long : (part : ℕ → ℤ) → length (plus_each (partial k) (map part sizes)) ≡ length rows
+    side-long part = length-plus (partial k) (map part sizes) (length-map sizes part ∙ sizes-long g k r ∙ sym (partial-long g k r)) ∙ partial-long g k r
+
+    abbrev low-part : ℕ → ℤ
+    low-part c = least_sum c (later g)
+
+    abbrev high-part : ℕ → ℤ
+    high-part c = greatest_sum c (later g)
+
+    abbrev lows : List ℤ
+    lows = plus_each (partial k) (map low-part sizes)
+
+    abbrev highs : List ℤ
+    highs = plus_each (partial k) (map high-part sizes)
+
+    as-many : length highs ≡ length lows
+    as-many = side-long high-part ∙ sym (side-long low-part)
+
+    factors-long : length factors ≡ length lows
+    factors-long = h.one_each ∙ sym (side-long low-part)
+
+    low-turn : m.low g (sizes_in (room here)) (partial here) ≡ m.low g sizes (partial k)
+    low-turn =
+        ap (λ v. pos (min v bound)) (
+        ap (λ a. least_squares a (plus_each (partial here) (map high-part (sizes_in (room here)))) factors) (box-side low-part)
+        ∙ ap (λ b. least_squares (swap_at i lows) b factors) (box-side high-part)
+        ∙ ap (λ f. least_squares (swap_at i lows) (swap_at i highs) f) (sym (even i s))
+        ∙ least-swap i lows highs factors as-many factors-long)
+
+    high-turn : m.high g (sizes_in (room here)) (partial here) ≡ m.high g sizes (partial k)
+    high-turn =
+        ap (λ v. pos (min v bound)) (
+        ap (λ a. greatest_squares a (plus_each (partial here) (map high-part (sizes_in (room here)))) factors) (box-side low-part)
+        ∙ ap (λ b. greatest_squares (swap_at i lows) b factors) (box-side high-part)
+        ∙ ap (λ f. greatest_squares (swap_at i lows) (swap_at i highs) f) (sym (even i s))
+        ∙ greatest-swap i lows highs factors as-many factors-long)
+
+  equal-low : (g : ℕ) (k j : List ℤ) → IsReached n g k → IsTurn rows k j → squares_intervals.low g j ≡ squares_intervals.low g k
+  equal-low g k j r (i, s, e) = ap (squares_intervals.low g) e ∙ low-turn i g s k r
+
+  equal-high : (g : ℕ) (k j : List ℤ) → IsReached n g k → IsTurn rows k j → squares_intervals.high g j ≡ squares_intervals.high g k
+  equal-high g k j r (i, s, e) = ap (squares_intervals.high g) e ∙ high-turn i g s k r
+
+  -- ---- the folded network
+
+  pub equal-long : (g : ℕ) (k : List ℤ) → IsReached n g k → length k ≡ n.width
+  equal-long g k r = key_long (over_rooms m) label_weight (label_width columns rows) (over_measure m (squares_measure factors bound scores columns rows judge h)) g k r
+
+  equal-folds : (P : List ℤ → Type 0) → ((k j : List ℤ) → P k → IsTurn rows k j → P j) → (k : List ℤ) → length k ≡ n.width → P k → P (groups_in_order rows k)
+  equal-folds P turns k l p =
+      order-folds rows P turns k
+      (length-take (length rows) k ∙ omega (arith, l))
+      (length-drop (length rows) k ∙ omega (arith, l))
+      p
+
+  pub equal-reached : (g : ℕ) (k : List ℤ) → IsReached (equal_groups_network m) g k → IsReached n g k
+  equal-reached = reached-folded n (IsTurn rows) (groups_in_order rows) equal-turned equal-long equal-folds
+
+  pub equal-intervals : HasIntervals (equal_groups_network m) judge
+  equal-intervals = folded-intervals n (IsTurn rows) (groups_in_order rows) equal-turned equal-long equal-folds judge squares_intervals equal-low equal-high
+
+  pub equal-lawful : IsLawful n → IsLawful (equal_groups_network m)
+  equal-lawful = folded-lawful n (IsTurn rows) (groups_in_order rows) equal-turned equal-long equal-folds judge squares_intervals equal-low equal-high
+
+  pub equal-total : (g : ℕ) (k : List ℤ) → g ≤ n.count → IsReached n g k → total_weight (equal_groups_network m) g k ≡ total_weight n g k
+  equal-total = folded_total n (IsTurn rows) (groups_in_order rows) equal-turned equal-long equal-folds
+
+  pub equal-follows : (test : ConditionalTest) (tail : Tail) → judge ≡ judge_of test → Follows test tail n → Follows test tail (equal_groups_network m)
+  equal-follows test tail e f = folded-follows n (IsTurn rows) (groups_in_order rows) equal-turned equal-long equal-folds test tail (subst (HasIntervals (equal_groups_network m)) e equal-intervals) f
+
+  -- the room of a key in order
+  pub equal-room : (g : ℕ) (k : List ℤ) → IsReached n g k → room (groups_in_order rows k) ≡ room_in_order rows (room k)
+  equal-room g k r =
+      let ps : List Place = in_order true (in_order false (places_of rows (room k) (partial k))) in
+      let long : length (lefts ps) ≡ length rows = length-map ps (λ (p : Place). p.left) ∙ length-order true (in_order false (places_of rows (room k) (partial k))) ∙ length-order false (places_of rows (room k) (partial k)) ∙ length-places rows (room k) (partial k) (room-long g k r) (partial-long g k r) in
+      front-key (length rows) (lefts ps) (sums ps) long ∙ order-room rows (room k) (partial k) (partial-long g k r)
+
+  pub equal-roomed : IsLawful n → IsRoomed n (length rows) → IsRoomed (equal_groups_network m) (length rows)
+  equal-roomed l rooms =
+      folded-roomed n (IsTurn rows) (groups_in_order rows) equal-turned equal-long equal-folds l (length rows) rooms
+      (λ g j k a b e. equal-room g j a ∙ ap (room_in_order rows) e ∙ sym (equal-room g k b))

@@ -1,0 +1,28 @@
+use Rattle.std.proofs.Common.{◌≡◌, ◌∙◌, ap, length, refl, sym}
+use Rattle.stage_network.specs.Judged.{judge_of}
+use Rattle.k_sample_tests.specs.KruskalWallis.{ScoredGroups, kruskal_wallis_test}
+use Rattle.k_sample_tests.proofs.FittingKruskalWallis.{is-squaring, scores-long}
+use Rattle.k_sample_tests.proofs.kruskal_wallis_ways.rank_sums.Goals as goal
+
+pub new-requires-clause-subjects : goal.new-requires-clause-subjects
+new-requires-clause-subjects c =
+    let made = c.made-made.ensures in
+    rw (c.as_slice-4.ensures ∙ made.sizes, c.len.ensures ∙ ap length made.scores) (scores-long c.args.problem.now ∙ sym made.fitting.whole)
+
+pub new-requires-clause-fits : goal.new-requires-clause-fits
+new-requires-clause-fits c =
+    let samples : ScoredGroups = c.args.problem.now in
+    let made = c.made-made.ensures in
+    let judge : c.of.result ≡ judge_of (kruskal_wallis_test samples) = c.of.ensures (kruskal_wallis_test samples) made.frame in
+    rw (c.as_slice-4.ensures ∙ made.sizes, c.as_slice-3.ensures ∙ made.column_sizes, c.as_slice.ensures.value ∙ made.factors, made.bound, c.as_slice-2.ensures ∙ made.column_scores) (is-squaring samples made.fitting c.of.result judge)
+
+pub returns : goal.returns
+returns c =
+    let samples : ScoredGroups = c.args.problem.now in
+    let made = c.made-made.ensures in
+    let judge : c.of.result ≡ judge_of (kruskal_wallis_test samples) = c.of.ensures (kruskal_wallis_test samples) made.frame in
+    record {
+      meaning = c.in_ok-sums.ensures.meaning ∙ rw (c.as_slice.ensures.value ∙ made.factors, made.bound, c.as_slice-2.ensures ∙ made.column_scores, c.as_slice-3.ensures ∙ made.column_sizes, c.as_slice-4.ensures ∙ made.sizes, judge) refl;
+      factors = c.in_ok-sums.ensures.factors ∙ c.as_slice.ensures.value ∙ made.factors;
+      scores = c.in_ok-sums.ensures.scores ∙ c.as_slice-2.ensures ∙ made.column_scores;
+    }

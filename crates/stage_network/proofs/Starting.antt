@@ -1,0 +1,149 @@
+-- The keys that a sweep begins from, one by one.
+use Rattle.std.proofs.Common.{◌≡◌, ℕ, zero, suc, ◌+◌, ◌*◌, ◌^◌, ◌<◌, ◌≤◌, List, [], ◌∷◌, ◌++◌, length, take, drop, get_or, Bool, refl, sym, ◌∙◌, ap, subst, arith}
+use Rattle.std.specs.Prelude.{ℤ}
+use Rattle.std.specs.List.{filter, AllByRecursion}
+use Rattle.std.proofs.lemmas.List.{length-append}
+use Rattle.std.proofs.lemmas.List.Sums.{sum_by_more, sum_by_more_le}
+use Rattle.std.proofs.lemmas.List.Elements.{filter_more}
+use Rattle.weights.specs.declared.tails.Tail.{Tail}
+use Rattle.weights.specs.declared.TheConstants.{MAX}
+use Rattle.node_pool.specs.Nodes.{Node, NodeRow, node, weighted}
+use Rattle.node_pool.specs.PoolSteps.{nodes_of}
+use Rattle.node_pool.specs.TableSteps.{key_at}
+use Rattle.node_pool.proofs.NodeLists.{nodes-at, length-nodes}
+use Rattle.stage_network.specs.declared.tail_sums.Kept.{Kept}
+use Rattle.stage_network.specs.declared.tail_sums.Kept.TheVariants.{Open, All}
+use Rattle.stage_network.specs.declared.tail_sums.TailSums.{TailSums}
+use Rattle.stage_network.specs.Asked.{asked}
+use Rattle.stage_network.specs.Completions.{total_weight}
+use Rattle.stage_network.specs.FromKeys.{AreStarts}
+use Rattle.stage_network.specs.Laws.{IsLawful}
+use Rattle.stage_network.specs.Network.{Network, IsReached}
+use Rattle.stage_network.specs.Opened.{is_open}
+use Rattle.stage_network.specs.StageSteps.{Housed}
+use Rattle.stage_network.specs.ArcSteps.{lift}
+use Rattle.stage_network.specs.SweepSteps.{IsRoomful, sum_for, stays, staying, closed_at, counted}
+use Rattle.stage_network.proofs.Bounds.{total_weight-least}
+use Rattle.stage_network.proofs.Roomwise.{lift-whole}
+use Rattle.stage_network.proofs.Sweeps.{closed-le, counted-le}
+
+all_at : (P : Node → Type 0) (nodes : List Node) (i : ℕ) (d : Node) → AllByRecursion P nodes → i < length nodes → P (get_or nodes i d)
+all_at P [] i d a h = absurd (omega arith)
+all_at P (b ∷ nodes) zero d a h = a.0
+all_at P (b ∷ nodes) (suc i) d a h = all_at P nodes i d a.1 (omega (arith, h))
+
+-- a key alone in its room
+lift_one : (width : ℕ) (room key partial : List ℤ) (w : ℕ) → room ≡ take width key → partial ≡ drop width key → lift room (node partial w ∷ []) ≡ node key w ∷ []
+lift_one width room key partial w e f = rw (e, f) (ap (λ k. node k w ∷ []) (lift-whole width (take width key) key refl))
+
+-- one key more
+module _ (nodes : List Node) (i : ℕ) (d : Node) (low : i < length nodes) where
+  staying-more : (n : Network) (keep : Kept) (g : ℕ) → staying n keep g (take (i + 1) nodes) ≡ staying n keep g (take i nodes) ++ staying n keep g (get_or nodes i d ∷ [])
+  staying-more n keep g = filter_more (λ (a : Node). stays n keep g a.key) nodes i d low
+
+  counted-next : (n : Network) (keep : Kept) (t : Tail) (g : ℕ) → counted n keep t g (take (i + 1) nodes) ≡ counted n keep t g (take i nodes) + counted n keep t g (get_or nodes i d ∷ [])
+  counted-next n All t g = refl
+  counted-next n (Open tails) t g =
+      let free : (a : Node) → Bool = λ a. is_open (asked tails n) t g a.key in
+      ap length (filter_more free nodes i d low) ∙ length-append (filter free (take i nodes)) (filter free (get_or nodes i d ∷ []))
+
+  one : (f : List ℤ → ℕ) (a : Node) → weighted f (a ∷ []) ≡ a.weight * f a.key
+  one f a = omega arith
+
+  weighted-more : (f : List ℤ → ℕ) → weighted f (take (i + 1) nodes) ≡ weighted f (take i nodes) + weighted f (get_or nodes i d ∷ [])
+  weighted-more f = sum_by_more (λ (a : Node). a.weight * f a.key) nodes i d low ∙ omega (arith, one f (get_or nodes i d))
+
+  weighted-more_le : (f : List ℤ → ℕ) → weighted f (take i nodes) + weighted f (get_or nodes i d ∷ []) ≤ weighted f nodes
+  weighted-more_le f = omega (arith, one f (get_or nodes i d), sum_by_more_le (λ (a : Node). a.weight * f a.key) nodes i d low)
+
+-- a key that is put into its room
+module _ (n : Network) (lawful : IsLawful n) (width g : ℕ) (row : List ℤ) (weights : List ℕ) (starts : AreStarts n g row weights) (keep : Kept) (i w : ℕ) (key room partial : List ℤ) (sums : TailSums) (low : i < length weights) (w_is : w ≡ get_or weights i 0) (key_is : key ≡ key_at n.width row i) (room_is : room ≡ take width key) (partial_is : partial ≡ drop width key) (work : NodeRow) (work_is : work.nodes ≡ node partial w ∷ []) (sum : (t : Tail) → (sum_for sums t).sum ≡ weighted (closed_at n keep t g) (take i (nodes_of n.width row weights))) (opened : (t : Tail) → (sum_for sums t).opened ≡ counted n keep t g (take i (nodes_of n.width row weights))) where
+  abbrev pub all : List Node
+  all = nodes_of n.width row weights
+
+  abbrev pub none : Node
+  none = node [] 0
+
+  within : i < length all
+  within = omega (arith, low, length-nodes n.width row weights)
+
+  start_is : get_or all i none ≡ node key w
+  start_is = nodes-at n.width row weights i none low ∙ ap (node (key_at n.width row i)) (sym w_is) ∙ ap (λ k. node k w) (sym key_is)
+
+  lift_is : lift room work.nodes ≡ get_or all i none ∷ []
+  lift_is = ap (lift room) work_is ∙ lift_one width room key partial w room_is partial_is ∙ ap (λ a. a ∷ []) (sym start_is)
+
+  sum_fits : (t : Tail) → (sum_for sums t).sum + weighted (total_weight n g) (get_or all i none ∷ []) ≤ MAX
+  sum_fits t = omega (arith, sum t, closed-le n keep t g (take i all), weighted-more_le all i none within (total_weight n g), starts.fits)
+
+  few : (t : Tail) → (sum_for sums t).opened ≤ i
+  few t = omega (arith, opened t, counted-le n keep t g (take i all), short all i)
+    where
+      short : (ns : List Node) (m : ℕ) → length (take m ns) ≤ m
+      short ns zero = omega arith
+      short [] (suc m) = omega arith
+      short (a ∷ ns) (suc m) = omega (arith, short ns m)
+
+  pub roomful : (kept : Housed) → i < 2 ^ 64 → length room ≡ width → width + work.width ≡ n.width → kept.room_width ≡ width → kept.width ≡ n.width → IsRoomful n width g sums room work kept
+  roomful kept small long wide here deep = record {
+    lawful = lawful;
+    within = starts.within;
+    reached = rw lift_is (all_at (λ a. IsReached n g a.key) all i none starts.reached within, tt);
+    fits = λ t. rw lift_is (sum_fits t);
+    few = λ t. omega (arith, few t, small);
+    room_is = long;
+    long = omega (arith, long, wide);
+    here = here ∙ sym long;
+    wide = deep;
+  }
+
+  pub nodes-next : (old new : List Node) → old ≡ staying n keep g (take i all) → new ≡ old ++ staying n keep g (lift room work.nodes) → new ≡ staying n keep g (take (i + 1) all)
+  nodes-next old new was is = is ∙ ap (λ ns. ns ++ staying n keep g (lift room work.nodes)) was ∙ ap (λ ns. staying n keep g (take i all) ++ staying n keep g ns) lift_is ∙ sym (staying-more all i none within n keep g)
+
+  pub sum-next : (more : TailSums) (t : Tail) → (sum_for more t).sum ≡ (sum_for sums t).sum + weighted (closed_at n keep t g) (lift room work.nodes) → (sum_for more t).sum ≡ weighted (closed_at n keep t g) (take (i + 1) all)
+  sum-next more t is = is ∙ ap (λ m. m + weighted (closed_at n keep t g) (lift room work.nodes)) (sum t) ∙ ap (λ ns. weighted (closed_at n keep t g) (take i all) + weighted (closed_at n keep t g) ns) lift_is ∙ sym (weighted-more all i none within (closed_at n keep t g))
+
+  pub opened-next : (more : TailSums) (t : Tail) → (sum_for more t).opened ≡ (sum_for sums t).opened + counted n keep t g (lift room work.nodes) → (sum_for more t).opened ≡ counted n keep t g (take (i + 1) all)
+  opened-next more t is = is ∙ ap (λ m. m + counted n keep t g (lift room work.nodes)) (opened t) ∙ ap (λ ns. counted n keep t g (take i all) + counted n keep t g ns) lift_is ∙ sym (counted-next all i none within n keep t g)
+
+-- the key at a place of the row
+before : (width i n : ℕ) → i < n → i * width + width ≤ n * width
+before width i n h = grind arith
+
+pub row-fits : (width w i : ℕ) (row : List ℤ) (weights : List ℕ) → w ≡ width → length row ≡ length weights * width → i < length weights → i * w + w ≤ length row
+row-fits width w i row weights e long low = rw e (omega (arith, long, before width i (length weights) low))
+
+times-least : (x y : ℕ) → 1 ≤ y → x ≤ x * y
+times-least x y h = grind arith
+
+module _ (n : Network) (g : ℕ) (row : List ℤ) (weights : List ℕ) (starts : AreStarts n g row weights) (i : ℕ) (low : i < length weights) where
+  here : get_or (nodes_of n.width row weights) i (node [] 0) ≡ node (key_at n.width row i) (get_or weights i 0)
+  here = nodes-at n.width row weights i (node [] 0) low
+
+  inside : i < length (nodes_of n.width row weights)
+  inside = omega (arith, low, length-nodes n.width row weights)
+
+  pub key-reached : (w : ℕ) (key : List ℤ) → w ≡ n.width → key ≡ key_at w row i → IsReached n g key
+  key-reached w key wide is =
+      let r : IsReached n g (get_or (nodes_of n.width row weights) i (node [] 0)).key = all_at (λ a. IsReached n g a.key) (nodes_of n.width row weights) i (node [] 0) starts.reached inside in
+      subst (IsReached n g) (ap (λ (a : Node). a.key) here ∙ ap (λ v. key_at v row i) (sym wide) ∙ sym is) r
+
+  pub light-at : IsLawful n → (w : ℕ) → w ≡ get_or weights i 0 → w ≤ weighted (total_weight n g) (nodes_of n.width row weights)
+  light-at l w w_is =
+      let a : Node = get_or (nodes_of n.width row weights) i (node [] 0) in
+      let r : IsReached n g a.key = all_at (λ a. IsReached n g a.key) (nodes_of n.width row weights) i (node [] 0) starts.reached inside in
+      let some : 1 ≤ total_weight n g a.key = total_weight-least n l g a.key r starts.within in
+      let long : a.weight ≤ a.weight * total_weight n g a.key = times-least a.weight (total_weight n g a.key) some in
+      let is : a.weight ≡ w = ap (λ (b : Node). b.weight) here ∙ sym w_is in
+      omega (arith, long, sum_by_more_le (λ (b : Node). b.weight * total_weight n g b.key) (nodes_of n.width row weights) i (node [] 0) inside, is)
+
+  -- one product more
+  pub total-more : (f : List ℤ → ℕ) (w total rest : ℕ) → w ≡ get_or weights i 0 → rest ≡ f (key_at n.width row i) → total ≡ weighted f (take i (nodes_of n.width row weights)) → total + w * rest ≡ weighted f (take (i + 1) (nodes_of n.width row weights))
+  total-more f w total rest is r t =
+      let at : (get_or (nodes_of n.width row weights) i (node [] 0)).weight * f (get_or (nodes_of n.width row weights) i (node [] 0)).key ≡ w * rest = ap (λ (a : Node). a.weight * f a.key) here ∙ ap (λ m. m * f (key_at n.width row i)) (sym is) ∙ ap (λ m. w * m) (sym r) in
+      omega (arith, sum_by_more (λ (a : Node). a.weight * f a.key) (nodes_of n.width row weights) i (node [] 0) inside, at, t)
+
+  pub total-fits : (f : List ℤ → ℕ) (w total rest : ℕ) → w ≡ get_or weights i 0 → rest ≡ f (key_at n.width row i) → total ≡ weighted f (take i (nodes_of n.width row weights)) → total + w * rest ≤ weighted f (nodes_of n.width row weights)
+  total-fits f w total rest is r t =
+      let at : (get_or (nodes_of n.width row weights) i (node [] 0)).weight * f (get_or (nodes_of n.width row weights) i (node [] 0)).key ≡ w * rest = ap (λ (a : Node). a.weight * f a.key) here ∙ ap (λ m. m * f (key_at n.width row i)) (sym is) ∙ ap (λ m. w * m) (sym r) in
+      omega (arith, sum_by_more_le (λ (a : Node). a.weight * f a.key) (nodes_of n.width row weights) i (node [] 0) inside, at, t)

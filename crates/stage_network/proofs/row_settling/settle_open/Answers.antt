@@ -1,0 +1,200 @@
+use Rattle.std.proofs.Common.{◌≡◌, ◌<◌, ◌≤◌, ◌+◌, ◌-◌, ◌*◌, ◌++◌, ◌∷◌, [], ℕ, List, length, map, get_or, take, drop, cond, ap, sym, ◌∙◌, arith, rules, subst, FitsSigned, to_z, of_z}
+use Rattle.std.specs.Prelude.{ℤ, pos}
+use Rattle.std.proofs.lemmas.Int.{to_z-of_z}
+use Rattle.std.proofs.lemmas.List.{take_all, take-map, drop-map, length-map, length-append, length-drop, length-take-le}
+use Rattle.std.proofs.lemmas.Slice.{take-put_mid_below, between-put_mid, drop-put_mid}
+use borrow.Rule.Slice.PartMut.{put_mid}
+use mir.Syntax.{w128}
+use Rattle.weights.specs.declared.tails.Tails.{Tails}
+use Rattle.node_pool.specs.Nodes.{Node, weighted}
+use Rattle.dense_rows.specs.Rows.{row_nodes, stepped}
+use Rattle.stage_network.specs.declared.tail_sums.Verdicts.{Verdicts}
+use Rattle.stage_network.specs.Asked.{asked}
+use Rattle.stage_network.specs.Network.{Network, IsReached}
+use Rattle.stage_network.specs.Completions.{total_weight}
+use Rattle.stage_network.specs.NodeSteps.{inside_weight, opened_in, closed_weight}
+use Rattle.stage_network.specs.SweepSteps.{sum_for, some_undecided}
+use Rattle.stage_network.specs.ArcSteps.{lift}
+use Rattle.stage_network.proofs.Asked.{asked-roomed, asked-total}
+use Rattle.stage_network.proofs.Rests.{settled}
+use Rattle.stage_network.proofs.Roomwise.{front-room, lift-rooms, lift-weighted, lift-length}
+use Rattle.stage_network.proofs.Shifted.{row-weight}
+use Rattle.stage_network.proofs.Stretches.{Uniform, cell-reached, cell-rest, part-reached, part-sum, steady-row, same-rest, nodes-more, inside-more, opened-more}
+use Rattle.stage_network.proofs.row_settling.settle_open.Goals as goal
+
+-- a part that was put back keeps the length
+length-put : {X : Type 0} (a k : ℕ) (xs ys : List X) → a ≤ length xs → a + k ≤ length xs → length ys ≡ k → length (put_mid a k xs ys) ≡ length xs
+length-put a k xs ys h j e = omega (arith, length-append (take a xs) (ys ++ drop k (drop a xs)), length-append ys (drop k (drop a xs)), length-take-le a xs h, length-drop k (drop a xs), length-drop a xs, e, j)
+
+-- a weight times what remains
+by_rest : (tails : Tails) (n : Network) (g : ℕ) (k : List ℤ) (inside : ℕ) → inside * total_weight (asked tails n) g k ≡ inside * total_weight n g k
+by_rest tails n g k inside = ap (λ m. inside * m) (asked-total tails n g k)
+
+pub outlook-requires-clause-place : goal.outlook-requires-clause-place
+outlook-requires-clause-place g c =
+    let n : Network = asked c.args.tails (g.S.Stages.network c.args.stages.now) in
+    let s : ℕ = c.args.stage in
+    let r : List ℤ = c.args.room.now in
+    let num = g.C.Count.number in
+    let xs : List ℕ = map num c.args.cells.now in
+    let S : ℤ = pos c.args.stride in
+    let l = to_z-of_z w128 c.args.lowest c.ranges.lowest in
+    let first : ℕ = c.next_full-first.result in
+    let low : first < length c.args.cells.now = omega (arith, c.if-first-cells.false, c.next_full-first.ensures.within) in
+    let here : IsReached n s (r ++ stepped c.args.lowest S first ∷ []) = cell-reached n s r c.args.lowest S xs first c.requires.full.reached (omega (arith, low, length-map c.args.cells.now num)) (c.next_full-first.ensures.full low) in
+    record { partial = stepped c.args.lowest S first ∷ []; wide = c.requires.full.wide; reached = here }
+
+pub verdicts_of-verdicts-requires-clause-reached : goal.verdicts_of-verdicts-requires-clause-reached
+verdicts_of-verdicts-requires-clause-reached g c =
+    let n : Network = asked c.args.tails (g.S.Stages.network c.args.stages.now) in
+    let s : ℕ = c.args.stage in
+    let r : List ℤ = c.args.room.now in
+    let num = g.C.Count.number in
+    let xs : List ℕ = map num c.args.cells.now in
+    let S : ℤ = pos c.args.stride in
+    let l = to_z-of_z w128 c.args.lowest c.ranges.lowest in
+    let i : ℕ = c.loop-i.i in
+    let ys : List ℕ = map num c.loop-i.cells in
+    let low : i < length xs = omega (arith, c.loop-i-test.true, c.loop-i.invariant.long, length-map c.args.cells.now num) in
+    let full : 0 < get_or xs i 0 = omega (arith, c.loop-i.invariant.full c.loop-i-test.true, cell-rest xs ys i c.loop-i.invariant.rest) in
+    let here : IsReached n s (r ++ stepped c.args.lowest S i ∷ []) = cell-reached n s r c.args.lowest S xs i c.requires.full.reached low full in
+    let f : FitsSigned w128 c.in_ok-partial.partial = search rules in
+    let p_is : to_z w128 (of_z w128 c.in_ok-partial.partial) ≡ stepped c.args.lowest S i = to_z-of_z w128 c.in_ok-partial.partial f ∙ (rw l at c.in_ok-partial.ensures) in
+    let as_is : c.as_slice.result.now ≡ stepped c.args.lowest S i ∷ [] = c.as_slice.ensures ∙ ap (λ z. z ∷ []) p_is in
+    subst (λ k. IsReached n s (r ++ k)) (sym as_is) here
+
+pub same_for_all-same-requires-clause-reached : goal.same_for_all-same-requires-clause-reached
+same_for_all-same-requires-clause-reached g c =
+    let n : Network = asked c.args.tails (g.S.Stages.network c.args.stages.now) in
+    let s : ℕ = c.args.stage in
+    let r : List ℤ = c.args.room.now in
+    let num = g.C.Count.number in
+    let xs : List ℕ = map num c.args.cells.now in
+    let S : ℤ = pos c.args.stride in
+    let l = to_z-of_z w128 c.args.lowest c.ranges.lowest in
+    let i : ℕ = c.loop-i.i in
+    let ys : List ℕ = map num c.loop-i.cells in
+    let low : i < length xs = omega (arith, c.loop-i-test.true, c.loop-i.invariant.long, length-map c.args.cells.now num) in
+    let full : 0 < get_or xs i 0 = omega (arith, c.loop-i.invariant.full c.loop-i-test.true, cell-rest xs ys i c.loop-i.invariant.rest) in
+    let here : IsReached n s (r ++ stepped c.args.lowest S i ∷ []) = cell-reached n s r c.args.lowest S xs i c.requires.full.reached low full in
+    let f : FitsSigned w128 c.in_ok-partial.partial = search rules in
+    let p_is : to_z w128 (of_z w128 c.in_ok-partial.partial) ≡ stepped c.args.lowest S i = to_z-of_z w128 c.in_ok-partial.partial f ∙ (rw l at c.in_ok-partial.ensures) in
+    let as_is : c.as_slice.result.now ≡ stepped c.args.lowest S i ∷ [] = c.as_slice.ensures ∙ ap (λ z. z ∷ []) p_is in
+    subst (λ z. IsReached n s (r ++ z ∷ [])) (sym p_is) here
+
+pub settle_stretch-requires-clause-fits : goal.settle_stretch-requires-clause-fits
+settle_stretch-requires-clause-fits g c = λ lo st.
+    let n : Network = asked c.args.tails (g.S.Stages.network c.args.stages.now) in
+    let s : ℕ = c.args.stage in
+    let r : List ℤ = c.args.room.now in
+    let num = g.C.Count.number in
+    let xs : List ℕ = map num c.args.cells.now in
+    let S : ℤ = pos c.args.stride in
+    let l = to_z-of_z w128 c.args.lowest c.ranges.lowest in
+    let i : ℕ = c.loop-i.i in
+    let j : ℕ = c.stretch_end-end.result in
+    let seg : map num (take (j - i) (drop i c.loop-i.cells)) ≡ take (j - i) (drop i xs) = sym (take-map num (j - i) (drop i c.loop-i.cells)) ∙ ap (take (j - i)) (sym (drop-map num i c.loop-i.cells) ∙ c.loop-i.invariant.rest) in
+    omega (arith, ap (λ ws. weighted (λ k. 1) (row_nodes lo st ws)) seg, row-weight lo st (take (j - i) (drop i xs)), part-sum xs i (j - i), row-weight (pos 0) (pos 0) xs, c.requires.fits (pos 0) (pos 0))
+
+pub loop-i-preserved : goal.loop-i-preserved
+loop-i-preserved g c =
+    let n : Network = asked c.args.tails (g.S.Stages.network c.args.stages.now) in
+    let s : ℕ = c.args.stage in
+    let r : List ℤ = c.args.room.now in
+    let num = g.C.Count.number in
+    let xs : List ℕ = map num c.args.cells.now in
+    let S : ℤ = pos c.args.stride in
+    let l = to_z-of_z w128 c.args.lowest c.ranges.lowest in
+    let i : ℕ = c.loop-i.i in
+    let ys : List ℕ = map num c.loop-i.cells in
+    let low : i < length xs = omega (arith, c.loop-i-test.true, c.loop-i.invariant.long, length-map c.args.cells.now num) in
+    let full : 0 < get_or xs i 0 = omega (arith, c.loop-i.invariant.full c.loop-i-test.true, cell-rest xs ys i c.loop-i.invariant.rest) in
+    let here : IsReached n s (r ++ stepped c.args.lowest S i ∷ []) = cell-reached n s r c.args.lowest S xs i c.requires.full.reached low full in
+    let f : FitsSigned w128 c.in_ok-partial.partial = search rules in
+    let p_is : to_z w128 (of_z w128 c.in_ok-partial.partial) ≡ stepped c.args.lowest S i = to_z-of_z w128 c.in_ok-partial.partial f ∙ (rw l at c.in_ok-partial.ensures) in
+    let as_is : c.as_slice.result.now ≡ stepped c.args.lowest S i ∷ [] = c.as_slice.ensures ∙ ap (λ z. z ∷ []) p_is in
+    let j : ℕ = c.stretch_end-end.result in
+    let seg : map num (take (j - i) (drop i c.loop-i.cells)) ≡ take (j - i) (drop i xs) = sym (take-map num (j - i) (drop i c.loop-i.cells)) ∙ ap (take (j - i)) (sym (drop-map num i c.loop-i.cells) ∙ c.loop-i.invariant.rest) in
+    let m : ℕ = c.next_full-i.result in
+    let v : Verdicts = c.verdicts_of-verdicts.result in
+    let new = c.settle_stretch.new.cells in
+    let cells = put_mid i (j - i) c.loop-i.cells new in
+    let zs : List ℕ = map num cells in
+    let lows : i ≤ length c.loop-i.cells = omega (arith, c.loop-i-test.true) in
+    let after : i < j = c.stretch_end-end.ensures.after in
+    let upto : j ≤ length c.loop-i.cells = c.stretch_end-end.ensures.within in
+    let size : length new ≡ j - i = c.in_ok-inside.ensures.long ∙ length-take-le (j - i) (drop i c.loop-i.cells) (omega (arith, length-drop i c.loop-i.cells, upto, after)) in
+    let front : take i zs ≡ take i ys = take-map num i cells ∙ ap (map num) (take-put_mid_below i (j - i) c.loop-i.cells new i (omega arith) lows) ∙ sym (take-map num i c.loop-i.cells) in
+    let back : drop j zs ≡ drop j ys = drop-map num j cells ∙ ap (map num) (drop-put_mid i (j - i) c.loop-i.cells new j (omega (arith, after)) lows size) ∙ sym (drop-map num j c.loop-i.cells) in
+    let mid_is : take (j - i) (drop i zs) ≡ map num new = ap (take (j - i)) (drop-map num i cells) ∙ take-map num (j - i) (drop i cells) ∙ ap (map num) (between-put_mid i (j - i) c.loop-i.cells new j lows size) in
+    let seg_old : take (j - i) (drop i ys) ≡ map num (take (j - i) (drop i c.loop-i.cells)) = ap (take (j - i)) (drop-map num i c.loop-i.cells) ∙ take-map num (j - i) (drop i c.loop-i.cells) in
+    let mid : (lo st : ℤ) → row_nodes lo st (take (j - i) (drop i zs)) ≡ cond (some_undecided v) (row_nodes lo st (take (j - i) (drop i ys))) [] = λ lo st. ap (row_nodes lo st) mid_is ∙ c.in_ok-inside.ensures.nodes lo st ∙ ap (λ ws. cond (some_undecided v) (row_nodes lo st ws) []) (sym seg_old) in
+    let long : length cells ≡ length c.args.cells.now = length-put i (j - i) c.loop-i.cells new lows (omega (arith, after, upto)) size ∙ c.loop-i.invariant.long in
+    let P : ℤ = stepped c.args.lowest S i in
+    let part : List ℕ = take (j - i) (drop i xs) in
+    let size_part : length part ≡ j - i = length-take-le (j - i) (drop i xs) (omega (arith, length-drop i xs, upto, after, c.loop-i.invariant.long, length-map c.args.cells.now num)) in
+    let uniform : Uniform n s v (lift r (row_nodes P S part)) = steady-row n s r v P c.same_for_all-same.result c.args.stride (rw p_is at c.same_for_all-same.ensures) (λ t. c.verdicts_of-verdicts.ensures t ∙ ap (λ k. n.verdict t s (r ++ k)) as_is) part (rw size_part c.stretch_end-end.ensures.near) (part-reached n s r c.args.lowest S xs i (j - i) c.requires.full.reached (omega (arith, low))) in
+    let within : m ≤ length xs = omega (arith, c.next_full-i.ensures.within, long, length-map c.args.cells.now num) in
+    let long_zs : length zs ≡ length xs = length-map cells num ∙ long ∙ sym (length-map c.args.cells.now num) in
+    record {
+      long = long;
+      within = omega (arith, c.next_full-i.ensures.within, long);
+      full = c.next_full-i.ensures.full;
+      rest = same-rest n s r v c.args.lowest S xs ys zs i j m (omega (arith, after)) c.next_full-i.ensures.after within long_zs c.loop-i.invariant.rest front back mid c.next_full-i.ensures.empty uniform;
+      nodes = rw l (nodes-more n s r v c.args.lowest S xs ys zs i j m (omega (arith, after)) c.next_full-i.ensures.after within long_zs c.loop-i.invariant.rest front back mid c.next_full-i.ensures.empty uniform (rw l at c.loop-i.invariant.nodes));
+      inside = λ t. rw l (inside-more n s r v c.args.lowest S xs ys zs i j m (omega (arith, after)) c.next_full-i.ensures.after within long_zs c.loop-i.invariant.rest front back mid c.next_full-i.ensures.empty uniform t (sum_for c.loop-i.inside t).sum (sum_for c.in_ok-inside.inside t).sum (weighted (λ k. 1) (row_nodes P S (map num (take (j - i) (drop i c.loop-i.cells))))) (rw l at (c.loop-i.invariant.inside t)) (ap (λ ws. weighted (λ k. 1) (row_nodes P S ws)) seg ∙ sym (lift-weighted (λ k. 1) r (row_nodes P S part))) (c.in_ok-inside.ensures.sum P S t));
+      opened = λ t. rw l (opened-more n s r v c.args.lowest S xs ys zs i j m (omega (arith, after)) c.next_full-i.ensures.after within long_zs c.loop-i.invariant.rest front back mid c.next_full-i.ensures.empty uniform t (sum_for c.loop-i.inside t).opened (sum_for c.in_ok-inside.inside t).opened (length (row_nodes P S (map num (take (j - i) (drop i c.loop-i.cells))))) (rw l at (c.loop-i.invariant.opened t)) (ap (λ ws. length (row_nodes P S ws)) seg ∙ sym (lift-length r (row_nodes P S part))) (c.in_ok-inside.ensures.opened P S t));
+    }
+
+pub rest_of-rest-requires-clause-reached : goal.rest_of-rest-requires-clause-reached
+rest_of-rest-requires-clause-reached g c =
+    let n : Network = asked c.args.tails (g.S.Stages.network c.args.stages.now) in
+    let s : ℕ = c.args.stage in
+    let r : List ℤ = c.args.room.now in
+    let num = g.C.Count.number in
+    let xs : List ℕ = map num c.args.cells.now in
+    let S : ℤ = pos c.args.stride in
+    let l = to_z-of_z w128 c.args.lowest c.ranges.lowest in
+    let first : ℕ = c.next_full-first.result in
+    let low : first < length c.args.cells.now = omega (arith, c.if-first-cells.false, c.next_full-first.ensures.within) in
+    let here : IsReached n s (r ++ stepped c.args.lowest S first ∷ []) = cell-reached n s r c.args.lowest S xs first c.requires.full.reached (omega (arith, low, length-map c.args.cells.now num)) (c.next_full-first.ensures.full low) in
+    let f : FitsSigned w128 c.in_ok-some.some = search rules in
+    let some_is : c.as_slice-2.result.now ≡ stepped c.args.lowest S first ∷ [] = c.as_slice-2.ensures ∙ ap (λ z. z ∷ []) (to_z-of_z w128 c.in_ok-some.some f ∙ (rw l at c.in_ok-some.ensures)) in
+    let there : IsReached n s (r ++ c.as_slice-2.result.now) = subst (λ k. IsReached n s (r ++ k)) (sym some_is) here in
+    there
+
+pub returns-clause-sum : goal.returns-clause-sum
+returns-clause-sum g c t =
+    let n : Network = asked c.args.tails (g.S.Stages.network c.args.stages.now) in
+    let s : ℕ = c.args.stage in
+    let r : List ℤ = c.args.room.now in
+    let num = g.C.Count.number in
+    let xs : List ℕ = map num c.args.cells.now in
+    let S : ℤ = pos c.args.stride in
+    let l = to_z-of_z w128 c.args.lowest c.ranges.lowest in
+    let first : ℕ = c.next_full-first.result in
+    let low : first < length c.args.cells.now = omega (arith, c.if-first-cells.false, c.next_full-first.ensures.within) in
+    let here : IsReached n s (r ++ stepped c.args.lowest S first ∷ []) = cell-reached n s r c.args.lowest S xs first c.requires.full.reached (omega (arith, low, length-map c.args.cells.now num)) (c.next_full-first.ensures.full low) in
+    let f : FitsSigned w128 c.in_ok-some.some = search rules in
+    let some_is : c.as_slice-2.result.now ≡ stepped c.args.lowest S first ∷ [] = c.as_slice-2.ensures ∙ ap (λ z. z ∷ []) (to_z-of_z w128 c.in_ok-some.some f ∙ (rw l at c.in_ok-some.ensures)) in
+    let there : IsReached n s (r ++ c.as_slice-2.result.now) = subst (λ k. IsReached n s (r ++ k)) (sym some_is) here in
+    let nodes : List Node = lift r (row_nodes c.args.lowest S xs) in
+    let all : take c.loop-i.i xs ≡ xs = take_all c.loop-i.i xs (omega (arith, c.loop-i-test.false, c.loop-i.invariant.long, length-map c.args.cells.now num)) in
+    let was : (sum_for c.loop-i.inside t).sum ≡ inside_weight n t s nodes = rw (l, all) at (c.loop-i.invariant.inside t) in
+    let width : ℕ = g.S.Roomed.room_width c.args.stages.now in
+    let closed : closed_weight n t s nodes ≡ (sum_for c.loop-i.inside t).sum * total_weight n s (r ++ c.as_slice-2.result.now) = settled n width (asked-roomed c.args.tails (g.S.Stages.network c.args.stages.now) width c.room_width-width.ensures.roomed) t s c.requires.full.within r (sum_for c.loop-i.inside t).sum (r ++ c.as_slice-2.result.now) nodes c.requires.full.reached (lift-rooms width r (row_nodes c.args.lowest S xs) c.requires.full.wide) was (λ some. there) (front-room width r c.as_slice-2.result.now c.requires.full.wide) in
+    c.in_ok-all.ensures.sum t ∙ ap (λ m. (sum_for c.args.sums t).sum + m) (c.rest_of-rest.ensures t ∙ sym (by_rest c.args.tails (g.S.Stages.network c.args.stages.now) s (r ++ c.as_slice-2.result.now) (sum_for c.loop-i.inside t).sum) ∙ sym closed)
+
+pub returns-clause-opened : goal.returns-clause-opened
+returns-clause-opened g c t =
+    let n : Network = asked c.args.tails (g.S.Stages.network c.args.stages.now) in
+    let s : ℕ = c.args.stage in
+    let r : List ℤ = c.args.room.now in
+    let num = g.C.Count.number in
+    let xs : List ℕ = map num c.args.cells.now in
+    let S : ℤ = pos c.args.stride in
+    let l = to_z-of_z w128 c.args.lowest c.ranges.lowest in
+    let nodes : List Node = lift r (row_nodes c.args.lowest S xs) in
+    let all : take c.loop-i.i xs ≡ xs = take_all c.loop-i.i xs (omega (arith, c.loop-i-test.false, c.loop-i.invariant.long, length-map c.args.cells.now num)) in
+    let was : (sum_for c.loop-i.inside t).opened ≡ opened_in n t s nodes = rw (l, all) at (c.loop-i.invariant.opened t) in
+    c.in_ok-all.ensures.opened t ∙ ap (λ m. (sum_for c.args.sums t).opened + m) was
