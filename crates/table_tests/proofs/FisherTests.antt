@@ -122,7 +122,7 @@ given-table t xs m =
 pub rarity-is : (t : TableData) (xs : List ℕ) → Contains (labellings (row_sums t)) xs → rarity t xs ≡ table_weight (columns_of t.rows (column_sums t) xs)
 rarity-is t xs m = sym (tables.table_weight_is (column_sums t) (row_sums t) (columns_of t.rows (column_sums t) xs) (sym (level t)) (given-table t xs m))
 
-observed-table : (t : TableData) → tables.IsTable (column_sums t) (row_sums t) (columns_in t)
+pub observed-table : (t : TableData) → tables.IsTable (column_sums t) (row_sums t) (columns_in t)
 observed-table t = is-table (λ i j. cell t i j) (range_with_len 0 t.rows) (range_with_len 0 t.columns)
 
 pub observed-rarity : (t : TableData) → rarity t (observed_labels t) ≡ table_weight (columns_in t)

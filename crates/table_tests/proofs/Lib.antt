@@ -4,8 +4,17 @@ mod Products
 mod LinearTests
 mod WeightNarrows
 mod WeightKeys
+mod SortedNarrows
+mod SortedFollows
+mod SortedTests
 mod FilledColumns
 mod FisherTests
+mod TurnedData
+mod TurnedCells
+mod TurnedTests
+mod TurnedSpreads
+mod AboveLast
+mod TurnedParts
 mod ColumnSums
 mod Built
 mod OddsLaws

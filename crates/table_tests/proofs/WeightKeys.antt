@@ -7,21 +7,22 @@ use Rattle.std.proofs.Math.Nat.{mul-le-mul_left}
 use Rattle.std.proofs.lemmas.List.Sums.{sum_by-take-drop}
 use Rattle.stage_network.specs.declared.verdicts.Judge.{Judge}
 use Rattle.weights.specs.declared.TheConstants.{MAX}
+use Rattle.weights.specs.Grouped.{choices}
 use Rattle.weights.specs.Labellings.{number_of_labellings}
 use Rattle.stage_network.specs.Judged.{JudgeFits}
 use Rattle.weights.proofs.ChoiceLists.{IsChoice}
 use Rattle.completion_bounds.specs.Fillings.{falling, greatest_weight, product_by}
 use Rattle.label_network.specs.LabelSteps.{AreSizes, IsHeld}
 use Rattle.label_network.specs.Linear.{so_far}
-use Rattle.label_network.specs.Meanings.{IsEnd, IsPlace, allowed, sizes_in}
+use Rattle.label_network.specs.Meanings.{IsEnd, IsMove, IsPlace, IsRoom, IsStep, sizes_in}
 use Rattle.label_network.proofs.Later.{fits-length}
 use Rattle.label_network.proofs.LinearKeys.{reached-stage}
 use Rattle.label_network.proofs.Narrowing.{IsLeft, chosen}
 use Rattle.label_network.proofs.Sizes.{fewer-labellings, fits-chain, held-within, sizes-of_pos}
 use Rattle.table_tests.specs.Weighing.{greatest_factor, least_factor, past_of, weight_meaning}
-use Rattle.table_tests.specs.WeightSteps.{AreRoomy, IsWeightMeasure}
+use Rattle.table_tests.specs.WeightSteps.{AreRoomy, IsProduct, IsWeightKey, IsWeightMeasure, IsWeightMove, IsWeightRoom, IsWeightStep}
 use Rattle.table_tests.proofs.FilledColumns.{high-at, roomy}
-use Rattle.table_tests.proofs.WeightNarrows.{IsProduct, greatest-most, least-most, reached_left, reached_product}
+use Rattle.table_tests.proofs.WeightNarrows.{greatest-most, least-most, reached_left, reached_product}
 
 sizes-long : (zs : List ℤ) → length (sizes_in zs) ≡ length zs
 sizes-long [] = refl
@@ -38,15 +39,15 @@ multiplied z n m e = rw e (product n m)
     product n m = pos-*ℤ-pos n m
 
 module _ (rows columns : List ℕ) (width falling_width : ℕ) (highs : List ℕ) (judge : Judge) (h : IsWeightMeasure rows columns width falling_width highs judge) where
-  module _ (g : ℕ) (f p : List ℤ) (a : IsPlace (weight_meaning rows columns judge) g f p) where
+  module _ (g : ℕ) (f p : List ℤ) (a : IsWeightKey rows columns g f p) where
     pub left : IsLeft (weight_meaning rows columns judge) g (sizes_in f)
-    left = reached_left rows columns judge h.weighing.level h.weighing.some g (sizes_in f) p a.reached
+    left = record { whole = a.level; within = a.within }
 
     pub product_is : IsProduct rows g (sizes_in f) p
-    product_is = reached_product rows columns judge h.weighing.level h.weighing.some g (sizes_in f) p a.reached
+    product_is = a.product
 
     pub within-stages : g ≤ length columns
-    within-stages = reached-stage (weight_meaning rows columns judge) g (sizes_in f) p a.reached
+    within-stages = a.stage
 
     pub as-wide : length f ≡ length rows
     as-wide = sym (sizes-long f) ∙ fits-length (sizes_in f) rows left.within
@@ -117,7 +118,7 @@ module _ (rows columns : List ℕ) (width falling_width : ℕ) (highs : List ℕ
         ∙ ap (λ m. min (number_of_labellings (sizes_in f)) (product_by (greatest_weight m) (drop g columns))) (sym (fits-length (sizes_in f) rows left.within))
 
     -- a choice there
-    module _ (before : g < length columns) (x : List ℕ) (o : Contains (allowed (weight_meaning rows columns judge) g (sizes_in f)) x) where
+    module _ (before : g < length columns) (x : List ℕ) (o : Contains (choices (slice_index columns g) (sizes_in f)) x) where
       pub choice : IsChoice (slice_index columns g) (sizes_in f) x
       choice = chosen (slice_index columns g) (sizes_in f) x o
 
@@ -135,6 +136,27 @@ module _ (rows columns : List ℕ) (width falling_width : ℕ) (highs : List ℕ
 
       pub step-is : so_far p *ℤ pos (number_of_labellings x) ≡ pos (past_of p * number_of_labellings x)
       step-is = multiplied (so_far p) (past_of p) (number_of_labellings x) product_is.whole
+
+  -- a place of the measure is such a key
+  pub key-of : (g : ℕ) (f p : List ℤ) → IsPlace (weight_meaning rows columns judge) g f p → IsWeightKey rows columns g f p
+  key-of g f p a =
+      let here : IsLeft (weight_meaning rows columns judge) g (sizes_in f) = reached_left rows columns judge h.weighing.level h.weighing.some g (sizes_in f) p a.reached in
+      record {
+        stage = reached-stage (weight_meaning rows columns judge) g (sizes_in f) p a.reached;
+        whole = a.whole;
+        level = here.whole;
+        within = here.within;
+        product = reached_product rows columns judge h.weighing.level h.weighing.some g (sizes_in f) p a.reached;
+      }
+
+  pub room-of : (g : ℕ) (f : List ℤ) → IsRoom (weight_meaning rows columns judge) g f → IsWeightRoom rows columns g f
+  room-of g f a = record { partial = a.partial; place = key-of g f a.partial a.place }
+
+  pub move-of : (g : ℕ) (f : List ℤ) (x : List ℕ) (p : List ℤ) → IsMove (weight_meaning rows columns judge) g f x p → IsWeightMove rows columns g f x p
+  move-of g f x p a = record { before = a.before; place = key-of g f p a.place; allowed = a.allowed }
+
+  pub step-of : (g : ℕ) (f : List ℤ) (x : List ℕ) → IsStep (weight_meaning rows columns judge) g f x → IsWeightStep rows columns g f x
+  step-of g f x a = record { partial = a.partial; move = move-of g f x a.partial a.move }
 
   pub end-one : (p : List ℤ) → IsEnd (weight_meaning rows columns judge) p → length p ≡ 1
   end-one p e = (reached_product rows columns judge h.weighing.level h.weighing.some (length columns) e.sizes p e.reached).one

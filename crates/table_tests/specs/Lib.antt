@@ -6,6 +6,8 @@ pub mod Weighing
 pub mod TableNetworks
 pub mod OddsNetworks
 pub mod TableTests
+pub mod Turned
 pub mod TableSteps
+pub mod SortedWeighing
 pub mod WeightSteps
 pub mod OddsSteps

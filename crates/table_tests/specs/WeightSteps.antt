@@ -1,12 +1,16 @@
 -- What the bodies of a table's weight keep and need.
-use Rattle.std.specs.Prelude.{◌≡◌, ℕ, suc, ◌-◌, ◌^◌, ◌<◌, ◌≤◌, ℤ, List, length, drop, get_or, min, unsigned_abs}
-use Rattle.std.specs.List.{sum}
+use Rattle.std.specs.Prelude.{◌≡◌, ℕ, suc, ◌-◌, ◌*◌, ◌^◌, ◌<◌, ◌≤◌, ℤ, pos, List, length, map, drop, get_or, min, slice_index, unsigned_abs, true}
+use Rattle.std.specs.List.{sum, Contains}
 use Rattle.weights.specs.declared.TheConstants.{MAX}
 use Rattle.stage_network.specs.declared.verdicts.Judge.{Judge}
+use Rattle.weights.specs.Grouped.{choices, fits}
 use Rattle.weights.specs.Labellings.{number_of_labellings}
 use Rattle.stage_network.specs.Judged.{JudgeFits}
 use Rattle.completion_bounds.specs.Fillings.{falling, greatest_weight, product_by}
 use Rattle.label_network.specs.LabelSteps.{IsHeld}
+use Rattle.label_network.specs.Linear.{so_far}
+use Rattle.label_network.specs.Meanings.{sizes_in}
+use Rattle.table_tests.specs.Weighing.{past_of}
 
 -- columns that fill the rows, of which there are few enough, and rules of weights
 pub record IsWeighing (rows columns : List ℕ) (judge : Judge) : Type 0 where
@@ -40,3 +44,37 @@ pub record AreRoomy (width : ℕ) (rows : List ℕ) : Type 0 where
   pub units : sum rows < 2 ^ 64
   pub held : IsHeld width rows
   pub total_fits : number_of_labellings rows ≤ MAX
+
+-- the partial is one number, the product so far; with what remains it is no more than all
+-- labellings
+pub record IsProduct (rows : List ℕ) (g : ℕ) (r : List ℕ) (p : List ℤ) : Type 0 where
+  pub one : length p ≡ 1
+  pub whole : so_far p ≡ pos (past_of p)
+  pub some : 1 ≤ past_of p
+  pub small : past_of p * number_of_labellings r ≤ number_of_labellings rows
+
+-- the numbers of a key: sizes that are left of the rows for the later columns, and a product
+pub record IsWeightKey (rows columns : List ℕ) (g : ℕ) (remaining partial : List ℤ) : Type 0 where
+  pub stage : g ≤ length columns
+  pub whole : remaining ≡ map pos (sizes_in remaining)
+  pub level : sum (drop g columns) ≡ sum (sizes_in remaining)
+  pub within : fits (sizes_in remaining) rows ≡ true
+  pub product : IsProduct rows g (sizes_in remaining) partial
+
+-- the sizes of such a key
+pub record IsWeightRoom (rows columns : List ℕ) (g : ℕ) (remaining : List ℤ) : Type 0 where
+  pub partial : List ℤ
+  pub place : IsWeightKey rows columns g remaining partial
+
+-- such a key before the last column, and a choice there
+pub record IsWeightMove (rows columns : List ℕ) (g : ℕ) (remaining : List ℤ) (choice : List ℕ)
+    (partial : List ℤ) : Type 0 where
+  pub before : g < length columns
+  pub place : IsWeightKey rows columns g remaining partial
+  pub allowed : Contains (choices (slice_index columns g) (sizes_in remaining)) choice
+
+-- a choice at the sizes of such a key
+pub record IsWeightStep (rows columns : List ℕ) (g : ℕ) (remaining : List ℤ) (choice : List ℕ)
+    : Type 0 where
+  pub partial : List ℤ
+  pub move : IsWeightMove rows columns g remaining choice partial

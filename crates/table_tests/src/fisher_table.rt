@@ -146,6 +146,27 @@ impl FisherTable {
         self.made.margins.rows.as_slice()[0]
     }
 
+    /// How many rows it has.
+    pub(crate) fn rows(&self) -> u64
+        ensures { result ≡ self.now.rows }
+    {
+        self.rows
+    }
+
+    /// How many columns it has.
+    pub(crate) fn columns(&self) -> u64
+        ensures { result ≡ self.now.columns }
+    {
+        self.columns
+    }
+
+    /// Its counts by rows.
+    pub(crate) fn cells(&self) -> &[u64]
+        ensures { result.now ≡ self.now.cells }
+    {
+        self.cells.as_slice()
+    }
+
     /// What was made of the table.
     pub(crate) fn made(&self) -> &Weighed
         ensures { IsWeighed self.now result.now }

@@ -1,19 +1,25 @@
 // Both ways to the answer of Fisher's test.
 ghost use Rattle.std.specs.Prelude.{◌≡◌, pos, true, IfOk, Contains};
 ghost use Rattle.weights.specs.Labellings.{labellings};
-ghost use Rattle.stage_network.specs.Follows.{AllFollow};
+ghost use Rattle.weights.specs.declared.tails.Tail.TheVariants.{Two};
+ghost use Rattle.stage_network.specs.Follows.{AllFollow, Follows};
 ghost use Rattle.label_network.specs.Linear.{linear_meaning};
 ghost use Rattle.table_tests.specs.FisherExact.{fisher_test, first_cell, rarity};
+ghost use Rattle.table_tests.specs.SortedWeighing.{sorted_meaning, sorted_network, sorted_rarity_meaning};
 ghost use Rattle.table_tests.specs.TableNetworks.{first_cell_meaning, fisher_network, rarity_meaning};
 ghost use Rattle.table_tests.specs.Tables.{column_sums, is_two_by_two, row_sums};
 ghost use Rattle.table_tests.specs.Weighing.{weight_meaning};
 
+use crate::by_turning::{quick_spread, quick_sum};
 use crate::fisher_table::{FisherTable, held};
+use crate::sorted_weights::{SortedStages, sorted_stages};
 use crate::sums::{count_label, front, labelled_weight};
 use crate::weight_measure::WeightMeasure;
+use completion_bounds::fall;
 use enumerate::{Plain, first_labelling, next_labelling};
 use label_network::{LabelStages, LinearMeasure, label_stages};
-use stage_network::{Judge, OneOf, Prepared};
+use sorted_tables::rise;
+use stage_network::{Judge, OneOf, Prepared, Spread, TailSum};
 use std::alloc::Global;
 use weights::{Bytes, Frame, NoMemory, Tail};
 
@@ -67,6 +73,23 @@ impl FisherTable {
         let measure = WeightMeasure::new(alloc, rows, columns, judge)?;
         label_stages(alloc, columns, rows, measure)
     }
+
+    // The network of the table's weight with sizes in falling order.
+    fn by_sorted_weight(&self, alloc: Global) -> Result<SortedStages, NoMemory>
+        ensures built { let meaning = sorted_rarity_meaning self.now in
+            IfOk result (λ s. meaning ≡ sorted_meaning s.1.measure.rows.items
+            s.1.measure.columns.items s.1.measure.judge) }
+        ensures follows { Follows (fisher_test self.now) Two (sorted_network self.now) }
+    {
+        let made = self.made();
+        let rows = made.margins.rows.as_slice();
+        let columns = rise(alloc, made.margins.columns.as_slice())?;
+        let mut room = [0u64; 8];
+        let falling = &mut room[..rows.len()];
+        fall(rows, falling);
+        let judge = Judge::of(&made.frame);
+        sorted_stages(alloc, falling, columns.as_slice(), judge)
+    }
 }
 
 impl Plain for FisherTable {
@@ -109,7 +132,7 @@ impl Plain for FisherTable {
 impl Prepared for FisherTable {
     ghost use Rattle.table_tests.specs.TableNetworks.{fisher_network};
 
-    type Built = OneOf<LabelStages<LinearMeasure>, LabelStages<WeightMeasure>>;
+    type Built = OneOf<LabelStages<LinearMeasure>, OneOf<LabelStages<WeightMeasure>, SortedStages>>;
 
     ghost network = { fisher_network };
 
@@ -126,7 +149,23 @@ impl Prepared for FisherTable {
         match tail {
             Tail::Less => Ok(OneOf::First(self.by_first_cell(alloc)?)),
             Tail::Greater => Ok(OneOf::First(self.by_first_cell(alloc)?)),
-            Tail::Two => Ok(OneOf::Second(self.by_weight(alloc)?)),
+            Tail::Two => Ok(OneOf::Second(OneOf::First(self.by_weight(alloc)?))),
         }
+    }
+
+    fn quick_stages_of(&self, alloc: Global, tail: Tail) -> Result<Self::Built, NoMemory> {
+        if self.made().two_by_two {
+            return self.stages_of(alloc, tail);
+        }
+        let sorted = self.by_sorted_weight(alloc)?;
+        Ok(OneOf::Second(OneOf::Second(sorted)))
+    }
+
+    fn quick_sum(&self, alloc: Global, asked: bool, tail: Tail) -> Result<TailSum, NoMemory> {
+        quick_sum(alloc, self, asked, tail)
+    }
+
+    fn quick_distribution(&self, alloc: Global) -> Result<Spread, NoMemory> {
+        quick_spread(alloc, self)
     }
 }

@@ -9,6 +9,7 @@ ghost use Rattle.stage_network.specs.Follows.{HasTails, answer_of, open_keys};
 ghost use Rattle.stage_network.specs.Lines.{TailsFit, WeightsFit};
 ghost use Rattle.table_tests.specs.TableTests.{table_network, table_test};
 
+mod by_turning;
 mod fillings;
 mod fisher_table;
 mod fisher_ways;
@@ -19,17 +20,22 @@ mod odds_rooms;
 mod odds_table;
 mod odds_ways;
 mod odds_weights;
+mod scaled;
+mod sorted_weights;
 mod sums;
 mod table_test;
+mod turned;
 mod weight_measure;
 
 pub use fisher_table::{FisherTable, fisher_tails};
 pub use linear_table::LinearTable;
 pub use odds_rooms::OddsRooms;
 pub use odds_table::OddsTable;
+pub use sorted_weights::{SortedStages, SortedWeights};
 use stage_network::{Answer, Spread, Way};
 use std::alloc::Global;
 pub use table_test::{TableTest, prepare_fisher, prepare_linear, prepare_odds};
+pub use turned::turned_tests;
 pub use weight_measure::WeightMeasure;
 use weights::{NoMemory, Tails};
 

@@ -1,5 +1,5 @@
 // The weight of a table as a measure of its labellings.
-ghost use Rattle.std.specs.Prelude.{◌≡◌, ◌*◌, ◌^◌, ◌<◌, ◌≤◌, length, drop, min, unsigned_abs, pos, ◌*ℤ◌, IfOk};
+ghost use Rattle.std.specs.Prelude.{◌≡◌, ◌*◌, ◌^◌, ◌<◌, ◌≤◌, [], ◌∷◌, length, drop, min, unsigned_abs, pos, ◌*ℤ◌, IfOk};
 ghost use Rattle.std.specs.List.{sum};
 ghost use Rattle.weights.specs.declared.TheConstants.{MAX};
 ghost use Rattle.weights.specs.Labellings.{number_of_labellings};
@@ -7,9 +7,10 @@ ghost use Rattle.stage_network.specs.Judged.{rule_in, verdict_of};
 ghost use Rattle.completion_bounds.specs.Fillings.{falling, least_weight, product_by};
 ghost use Rattle.label_network.specs.LabelSteps.{AreSizes, IsHeld};
 ghost use Rattle.label_network.specs.Linear.{so_far};
-ghost use Rattle.label_network.specs.Meanings.{IsPlace, IsRoom, IsStep, sizes_in};
+ghost use Rattle.label_network.specs.Meanings.{sizes_in};
 ghost use Rattle.table_tests.specs.Weighing.{greatest_factor, least_factor, past_of, weight_meaning};
-ghost use Rattle.table_tests.specs.WeightSteps.{AreRoomy, IsWeighing, IsWeightMeasure};
+ghost use Rattle.table_tests.specs.WeightSteps.{AreRoomy, IsWeighing, IsWeightKey, IsWeightMeasure};
+ghost use Rattle.table_tests.specs.WeightSteps.{IsWeightMove, IsWeightRoom, IsWeightStep};
 
 use crate::fillings::{later_highs, least_over};
 use crate::fisher_table::held;
@@ -125,23 +126,38 @@ impl WeightMeasure {
         })
     }
 
-    // The weight of a column's choice.
+    /// The weight of a column's choice.
     #[inline(always)]
-    fn weight(&self, stage: usize, remaining: &[i128], choice: &[u64]) -> i128
-        requires { let m = weight_meaning self.now.rows.items self.now.columns.items
-            self.now.judge in
-            IsStep m stage remaining.now choice.now }
+    pub(crate) fn weight(&self, stage: usize, remaining: &[i128], choice: &[u64]) -> i128
+        requires { IsWeightStep self.now.rows.items self.now.columns.items stage remaining.now
+            choice.now }
         ensures { result ≡ pos (number_of_labellings choice.now) }
     {
         let _rows = remaining.len();
         held(self.binomials.labellings(choice, self.columns[stage]))
     }
 
-    // By what the sizes that remain can still multiply a product.
-    fn factors(&self, stage: usize, remaining: &[i128]) -> Interval
-        requires { let m = weight_meaning self.now.rows.items self.now.columns.items
-            self.now.judge in
-            IsRoom m stage remaining.now }
+    /// The product that a column's choice leads to, by its weight.
+    #[inline(always)]
+    pub(crate) fn product(
+        &self,
+        stage: usize,
+        remaining: &[i128],
+        choice: &[u64],
+        step: &[i128],
+        partial: &[i128],
+    ) -> i128
+        requires allowed { IsWeightMove self.now.rows.items self.now.columns.items stage
+            remaining.now choice.now partial.now }
+        requires step { step.now ≡ pos (number_of_labellings choice.now) ∷ [] }
+        ensures { result ≡ pos (past_of partial.now * number_of_labellings choice.now) }
+    {
+        times(only(partial), only(step))
+    }
+
+    /// By what the sizes that remain can still multiply a product.
+    pub(crate) fn factors(&self, stage: usize, remaining: &[i128]) -> Interval
+        requires { IsWeightRoom self.now.rows.items self.now.columns.items stage remaining.now }
         ensures low { let low = least_factor self.now.columns.items stage in
             result.low ≡ pos (low (sizes_in remaining.now)) }
         ensures high { let high = greatest_factor self.now.columns.items stage in
@@ -167,9 +183,8 @@ impl WeightMeasure {
         factors: Interval,
         partial: &[i128],
     ) -> Interval
-        requires place { let m = weight_meaning self.now.rows.items self.now.columns.items
-            self.now.judge in
-            IsPlace m stage remaining.now partial.now }
+        requires place { IsWeightKey self.now.rows.items self.now.columns.items stage
+            remaining.now partial.now }
         requires low { let low = least_factor self.now.columns.items stage in
             factors.low ≡ pos (low (sizes_in remaining.now)) }
         requires high { let high = greatest_factor self.now.columns.items stage in
@@ -182,9 +197,9 @@ impl WeightMeasure {
         both_times(only(partial), factors)
     }
 
-    // The verdict of such a key.
+    /// The verdict of such a key.
     #[inline(always)]
-    fn judge_product(
+    pub(crate) fn judge_product(
         &self,
         stage: usize,
         remaining: &[i128],
@@ -192,9 +207,8 @@ impl WeightMeasure {
         partial: &[i128],
         tail: Tail,
     ) -> Verdict
-        requires place { let m = weight_meaning self.now.rows.items self.now.columns.items
-            self.now.judge in
-            IsPlace m stage remaining.now partial.now }
+        requires place { IsWeightKey self.now.rows.items self.now.columns.items stage
+            remaining.now partial.now }
         requires low { let low = least_factor self.now.columns.items stage in
             factors.low ≡ pos (low (sizes_in remaining.now)) }
         requires high { let high = greatest_factor self.now.columns.items stage in
@@ -238,14 +252,14 @@ impl Measure for WeightMeasure {
     #[inline(always)]
     fn follow(
         &self,
-        _stage: usize,
-        _remaining: &[i128],
-        _choice: &[u64],
+        stage: usize,
+        remaining: &[i128],
+        choice: &[u64],
         step: &[i128],
         partial: &[i128],
         next: &mut [i128],
     ) {
-        next[0] = times(only(partial), only(step));
+        next[0] = self.product(stage, remaining, choice, step, partial);
     }
 
     #[inline(always)]

@@ -2,7 +2,11 @@ use Rattle.std.proofs.Common.{rules, ◌∙◌, refl, FitsSigned}
 use mir.Syntax.{w128}
 use Rattle.std.proofs.lemmas.Int.{to_z-of_z}
 use Rattle.label_network.proofs.LinearKeys.{two_items}
+use Rattle.table_tests.proofs.WeightKeys.{room-of}
 use Rattle.table_tests.proofs.weight_measure.WeightMeasureMeasure.outlook.Goals as goal
+
+pub factors-factors-requires : goal.factors-factors-requires
+factors-factors-requires c = room-of c.args.self.now.rows.items c.args.self.now.columns.items c.args.self.now.binomials.width c.args.self.now.falling_binomials.width c.args.self.now.highs.items c.args.self.now.judge c.args.self.now.right c.args.stage c.args.remaining.now c.requires.sizes
 
 pub returns : goal.returns
 returns c =

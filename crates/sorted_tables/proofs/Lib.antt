@@ -1,0 +1,5 @@
+pub mod RowSwaps
+pub mod ColumnSwaps
+pub mod Reordering
+pub mod SortedWays
+pub mod SortedPlans

@@ -1,0 +1,143 @@
+-- Neighbouring rows may change places: the choices for a column change theirs alike, and so do the columns of a table.
+use Rattle.std.proofs.Common.{◌≡◌, ℕ, zero, suc, ◌+◌, ◌-◌, ◌*◌, ◌<◌, ◌≤◌, List, [], ◌∷◌, length, map, min, Bool, true, false, cond, refl, sym, ◌∙◌, ap, arith, nat_eq, nat_le, inl, inr}
+use Rattle.std.specs.List.{sum_by, range_with_len}
+use Rattle.std.proofs.lemmas.List.Sums.{sum_by-cons}
+use Rattle.std.proofs.lemmas.Bool.Decides.{leb_tells}
+use Rattle.std.proofs.lemmas.Bool.{le-leb}
+use borrow.Author.Tests.{lt-leb}
+use Rattle.weights.specs.Grouped.{choices, minus}
+use Rattle.weights.specs.Labellings.{number_of_labellings}
+use Rattle.weights.proofs.ChoiceLists.{IsChoice, choices-each}
+use Rattle.weights.proofs.GroupingLaw.{by_columns, by_columns-step}
+use Rattle.weights.proofs.Sums.{sum_by-same, sum_by-same_where, sum_by-cond, sum_by-swap, sum_by-fronts}
+use Rattle.stage_network.proofs.Swaps.{swap_at}
+use Rattle.completion_bounds.proofs.Factorials.{factorial, factorials, total, weight-falls}
+
+-- sums over a range that is cut short
+
+past_none : (f : ℕ → ℕ) (b s n : ℕ) → b < s → sum_by (λ a. cond (nat_le a b) (f a) 0) (range_with_len s n) ≡ 0
+past_none f b s zero h = refl
+past_none f b s (suc n) h = rw (sum_by-cons (λ a. cond (nat_le a b) (f a) 0) s (range_with_len (s + 1) n), lt-leb s b h, past_none f b (s + 1) n (omega (arith, h))) refl
+
+cut_short : (f : ℕ → ℕ) (b s m n : ℕ) → s + m ≡ b + 1 → m ≤ n → sum_by (λ a. cond (nat_le a b) (f a) 0) (range_with_len s n) ≡ sum_by f (range_with_len s m)
+cut_short f b s zero n e l = past_none f b s n (omega arith)
+cut_short f b s (suc m) zero e l = absurd (omega arith)
+cut_short f b s (suc m) (suc n) e l =
+    rw (sum_by-cons (λ a. cond (nat_le a b) (f a) 0) s (range_with_len (s + 1) n), sum_by-cons f s (range_with_len (s + 1) m), le-leb s b (omega arith), cut_short f b (s + 1) m n (omega arith) (omega arith)) refl
+
+-- the first b + 1 numbers among the first n + 1
+up_to : (f : ℕ → ℕ) (b n : ℕ) → b ≤ n → sum_by f (range_with_len 0 (b + 1)) ≡ sum_by (λ a. cond (nat_le a b) (f a) 0) (range_with_len 0 (n + 1))
+up_to f b n h = sym (cut_short f b 0 (b + 1) (n + 1) (omega arith) (omega arith))
+
+-- the two tests of a pair in one order are those in the other
+none_here : (c a b r q x : ℕ) → (a ≤ min c r → b ≤ min (c - a) q → ⊥) → cond (nat_le a (min c r)) (cond (nat_le b (min (c - a) q)) x 0) 0 ≡ 0
+none_here c a b r q x h = elim (leb_tells a (min c r)) [
+  | inl u ↦ elim (leb_tells b (min (c - a) q)) [
+    | inl v ↦ absurd (h u.1 v.1)
+    | inr v ↦ rw (u.0, v.0) refl
+  ]
+  | inr u ↦ rw u.0 refl
+]
+
+both_orders : (c a b r q x : ℕ) → cond (nat_le b (min c q)) (cond (nat_le a (min (c - b) r)) x 0) 0 ≡ cond (nat_le a (min c r)) (cond (nat_le b (min (c - a) q)) x 0) 0
+both_orders c a b r q x = elim (leb_tells b (min c q)) [
+  | inl u ↦ elim (leb_tells a (min (c - b) r)) [
+    | inl v ↦ rw (u.0, v.0, le-leb a (min c r) (omega (arith, u.1, v.1)), le-leb b (min (c - a) q) (omega (arith, u.1, v.1))) refl
+    | inr v ↦ rw (u.0, v.0) (sym (none_here c a b r q x (λ s t. omega (arith, u.1, v.1, s, t))))
+  ]
+  | inr u ↦ rw u.0 (sym (none_here c a b r q x (λ s t. omega (arith, u.1, s, t))))
+]
+
+abbrev pub pairs : ℕ → ℕ → ℕ → (ℕ → ℕ → ℕ) → ℕ
+pairs c r q f = sum_by (λ a. sum_by (λ b. f a b) (range_with_len 0 (min (c - a) q + 1))) (range_with_len 0 (min c r + 1))
+
+pairs-wide : (c r q : ℕ) (f : ℕ → ℕ → ℕ) → pairs c r q f ≡ sum_by (λ a. sum_by (λ b. cond (nat_le a (min c r)) (cond (nat_le b (min (c - a) q)) (f a b) 0) 0) (range_with_len 0 (c + 1))) (range_with_len 0 (c + 1))
+pairs-wide c r q f =
+    up_to (λ a. sum_by (λ b. f a b) (range_with_len 0 (min (c - a) q + 1))) (min c r) c (omega arith)
+    ∙ sum_by-same _ _ (λ a.
+    ap (λ s. cond (nat_le a (min c r)) s 0) (up_to (λ b. f a b) (min (c - a) q) c (omega arith))
+    ∙ sym (sum_by-cond (nat_le a (min c r)) (λ b. cond (nat_le b (min (c - a) q)) (f a b) 0) (range_with_len 0 (c + 1)))) (range_with_len 0 (c + 1))
+
+pub pairs-turned : (c r q : ℕ) (f : ℕ → ℕ → ℕ) → pairs c q r (λ b a. f a b) ≡ pairs c r q f
+pairs-turned c r q f =
+    pairs-wide c q r (λ b a. f a b)
+    ∙ sum_by-swap (λ b a. cond (nat_le b (min c q)) (cond (nat_le a (min (c - b) r)) (f a b) 0) 0) (range_with_len 0 (c + 1)) (range_with_len 0 (c + 1))
+    ∙ sum_by-same _ _ (λ a. sum_by-same _ _ (λ b. both_orders c a b r q (f a b)) (range_with_len 0 (c + 1))) (range_with_len 0 (c + 1))
+    ∙ sym (pairs-wide c r q f)
+
+-- the choices for two rows and more, by what the first two get
+by_two : (f : List ℕ → ℕ) (c r q : ℕ) (rs : List ℕ) → sum_by f (choices c (r ∷ q ∷ rs)) ≡ pairs c r q (λ a b. sum_by (λ x. f (a ∷ b ∷ x)) (choices ((c - a) - b) rs))
+by_two f c r q rs =
+    sum_by-fronts f (λ a. a) (λ a. choices (c - a) (q ∷ rs)) (range_with_len 0 (min c r + 1))
+    ∙ sum_by-same _ _ (λ a. sum_by-fronts (λ x. f (a ∷ x)) (λ b. b) (λ b. choices ((c - a) - b) rs) (range_with_len 0 (min (c - a) q + 1))) (range_with_len 0 (min c r + 1))
+
+left_over : (c a b : ℕ) → (c - b) - a ≡ (c - a) - b
+left_over c a b = omega arith
+
+pub swapped_choices : (f : List ℕ → ℕ) (i c : ℕ) (r : List ℕ) → sum_by f (choices c (swap_at i r)) ≡ sum_by (λ x. f (swap_at i x)) (choices c r)
+swapped_choices f i c [] = by (nat_eq c 0)
+  where
+    by : (b : Bool) → sum_by f (cond b ([] ∷ []) []) ≡ sum_by (λ x. f (swap_at i x)) (cond b ([] ∷ []) [])
+    by true = refl
+    by false = refl
+swapped_choices f zero c (r ∷ []) =
+    sum_by-fronts f (λ a. a) (λ a. choices (c - a) []) (range_with_len 0 (min c r + 1))
+    ∙ sum_by-same _ _ (λ a. by a (nat_eq (c - a) 0)) (range_with_len 0 (min c r + 1))
+    ∙ sym (sum_by-fronts (λ x. f (swap_at zero x)) (λ a. a) (λ a. choices (c - a) []) (range_with_len 0 (min c r + 1)))
+  where
+    by : (a : ℕ) (b : Bool) → sum_by (λ x. f (a ∷ x)) (cond b ([] ∷ []) []) ≡ sum_by (λ x. f (swap_at zero (a ∷ x))) (cond b ([] ∷ []) [])
+    by a true = refl
+    by a false = refl
+swapped_choices f zero c (r ∷ q ∷ rs) =
+    by_two f c q r rs
+    ∙ sum_by-same _ _ (λ b. sum_by-same _ _ (λ a. ap (λ n. sum_by (λ x. f (b ∷ a ∷ x)) (choices n rs)) (left_over c a b)) (range_with_len 0 (min (c - b) r + 1))) (range_with_len 0 (min c q + 1))
+    ∙ pairs-turned c r q (λ a b. sum_by (λ x. f (b ∷ a ∷ x)) (choices ((c - a) - b) rs))
+    ∙ sym (by_two (λ x. f (swap_at zero x)) c r q rs)
+swapped_choices f (suc i) c (r ∷ rs) =
+    sum_by-fronts f (λ a. a) (λ a. choices (c - a) (swap_at i rs)) (range_with_len 0 (min c r + 1))
+    ∙ sum_by-same _ _ (λ a. swapped_choices (λ x. f (a ∷ x)) i (c - a) rs) (range_with_len 0 (min c r + 1))
+    ∙ sym (sum_by-fronts (λ x. f (swap_at (suc i) x)) (λ a. a) (λ a. choices (c - a) rs) (range_with_len 0 (min c r + 1)))
+
+-- what remains, and how many labellings there are
+
+pub minus-swap : (i : ℕ) (r x : List ℕ) → length x ≡ length r → minus (swap_at i r) (swap_at i x) ≡ swap_at i (minus r x)
+minus-swap i [] x e = refl
+minus-swap i (r ∷ rs) [] e = absurd (omega arith)
+minus-swap zero (r ∷ []) (a ∷ []) e = refl
+minus-swap zero (r ∷ []) (a ∷ b ∷ x) e = absurd (omega arith)
+minus-swap zero (r ∷ q ∷ rs) (a ∷ []) e = absurd (omega arith)
+minus-swap zero (r ∷ q ∷ rs) (a ∷ b ∷ x) e = refl
+minus-swap (suc i) (r ∷ rs) (a ∷ x) e = ap (λ s. (r - a) ∷ s) (minus-swap i rs x (omega arith))
+
+three : (a b c : ℕ) → a * (b * c) ≡ b * (a * c)
+three a b c = grind arith
+
+pub factorials-swap : (i : ℕ) (x : List ℕ) → factorials (swap_at i x) ≡ factorials x
+factorials-swap i [] = refl
+factorials-swap zero (a ∷ []) = refl
+factorials-swap zero (a ∷ b ∷ x) = three (factorial b) (factorial a) (factorials x)
+factorials-swap (suc i) (a ∷ x) = ap (λ n. factorial a * n) (factorials-swap i x)
+
+pub total-swap : (i : ℕ) (x : List ℕ) → total (swap_at i x) ≡ total x
+total-swap i [] = refl
+total-swap zero (a ∷ []) = refl
+total-swap zero (a ∷ b ∷ x) = omega arith
+total-swap (suc i) (a ∷ x) = ap (λ n. a + n) (total-swap i x)
+
+pub labellings-swap : (i : ℕ) (x : List ℕ) → number_of_labellings (swap_at i x) ≡ number_of_labellings x
+labellings-swap i x =
+    let one : number_of_labellings (swap_at i x) ≤ number_of_labellings x = weight-falls x (swap_at i x) (sym (total-swap i x)) (omega (arith, factorials-swap i x)) in
+    let two : number_of_labellings x ≤ number_of_labellings (swap_at i x) = weight-falls (swap_at i x) x (total-swap i x) (omega (arith, factorials-swap i x)) in
+    omega (arith, one, two)
+
+-- two neighbouring rows change places in each column
+pub row_swap : (i : ℕ) (cs r : List ℕ) (f : List (List ℕ) → ℕ) → by_columns cs (swap_at i r) f ≡ by_columns cs r (λ w. f (map (swap_at i) w))
+row_swap i [] r f = refl
+row_swap i (c ∷ cs) r f =
+    by_columns-step c cs (swap_at i r) f
+    ∙ swapped_choices (λ x. number_of_labellings x * by_columns cs (minus (swap_at i r) x) (λ w. f (x ∷ w))) i c r
+    ∙ sum_by-same_where (IsChoice c r) _ (λ x. number_of_labellings x * by_columns cs (minus r x) (λ w. f (swap_at i x ∷ map (swap_at i) w))) (λ x o.
+    ap (λ n. n * by_columns cs (minus (swap_at i r) (swap_at i x)) (λ w. f (swap_at i x ∷ w))) (labellings-swap i x)
+    ∙ ap (λ s. number_of_labellings x * by_columns cs s (λ w. f (swap_at i x ∷ w))) (minus-swap i r x o.long)
+    ∙ ap (λ n. number_of_labellings x * n) (row_swap i cs (minus r x) (λ w. f (swap_at i x ∷ w)))) (choices c r) (choices-each c r)
+    ∙ sym (by_columns-step c cs r (λ w. f (map (swap_at i) w)))

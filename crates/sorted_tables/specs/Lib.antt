@@ -1,0 +1,2 @@
+pub mod SortedRooms
+pub mod SortedSteps

@@ -1,0 +1,9 @@
+//! Tables of counts whose sizes stand in falling order: what completes a table depends on what
+//! remains of its rows whatever their order, so rooms that differ in it alone are one.
+#![tactic(auto)]
+
+mod orders;
+mod rooms;
+
+pub use orders::rise;
+pub use rooms::{SortedRooms, sorting_law};

@@ -1,0 +1,98 @@
+// The rooms of labels whose sizes stand in falling order.
+ghost use Rattle.std.specs.Prelude.{◌≡◌, ℕ, List, IfOk};
+ghost use Rattle.std.specs.List.{sum};
+ghost use Rattle.completion_bounds.specs.Fillings.{falling};
+ghost use Rattle.label_network.specs.LabelRooms.{IsLabelled};
+ghost use Rattle.sorted_tables.specs.SortedRooms.{GivesTables};
+ghost use Rattle.sorted_tables.specs.SortedSteps.{AreSorted};
+
+use crate::orders::fall_away;
+use label_network::{Binomials, first_counts, next_counts, rest_in, weight_in, write_sizes};
+use room_network::Rooms;
+use std::alloc::Global;
+use weights::NoMemory;
+
+/// Labels over columns, as [`LabelRooms`](label_network::LabelRooms), but the sizes that remain
+/// after a choice stand in falling order. A choice is for the sizes in the order in which they
+/// stand then.
+#[derive(Drop)]
+pub struct SortedRooms {
+    columns: Vec<u64>,
+    rows: Vec<u64>,
+    binomials: Binomials,
+    ghost right: { AreSorted columns.items rows.items binomials.width },
+}
+
+impl SortedRooms {
+    /// The labels of these columns (how many subjects each has) and rows (how many subjects get
+    /// each label), the greatest row first. There are at most 8 rows, as many subjects as labels,
+    /// fewer than 2^64, and at most [`MAX`](weights::MAX) labellings.
+    pub fn new(alloc: Global, columns: &[u64], rows: &[u64]) -> Result<SortedRooms, NoMemory>
+        requires labelled { IsLabelled columns.now rows.now }
+        requires falls { falling rows.now ≡ rows.now }
+        ensures columns { IfOk result (λ rooms. rooms.columns.items ≡ columns.now) }
+        ensures rows { IfOk result (λ rooms. rooms.rows.items ≡ rows.now) }
+    {
+        let binomials = Binomials::for_rows(alloc, rows)?;
+        let columns = Vec::from_slice(alloc, columns)?;
+        let rows = Vec::from_slice(alloc, rows)?;
+        Ok(SortedRooms {
+            columns,
+            rows,
+            binomials,
+        })
+    }
+}
+
+/// The rows of a table may stand in any order, and so may its columns. The ways through the rooms
+/// of the rows in falling order and the columns in rising order are the labellings of the rows and
+/// the columns as they are given, each of which is counted once; and a way's choices weigh as much
+/// as the columns of the labelling's table.
+pub fn sorting_law()
+    ensures { (columns rows : List ℕ) → sum columns ≡ sum rows → GivesTables columns rows }
+{}
+
+impl Rooms for SortedRooms {
+    ghost use Rattle.sorted_tables.specs.SortedRooms.{sorted_plan};
+
+    ghost plan = { λ s. sorted_plan s.columns.items s.rows.items };
+
+    #[inline(always)]
+    fn stages(&self) -> usize {
+        self.columns.len()
+    }
+
+    #[inline(always)]
+    fn width(&self) -> usize {
+        self.rows.len()
+    }
+
+    #[inline(always)]
+    fn choice_width(&self) -> usize {
+        self.rows.len()
+    }
+
+    fn first(&self, room: &mut [i128]) {
+        write_sizes(self.rows.as_slice(), room);
+    }
+
+    #[inline(always)]
+    fn first_choice(&self, stage: usize, room: &[i128], choice: &mut [u64]) {
+        first_counts(self.columns[stage], room, choice);
+    }
+
+    #[inline(always)]
+    fn next_choice(&self, stage: usize, room: &[i128], choice: &mut [u64]) -> bool {
+        next_counts(self.columns[stage], room, choice)
+    }
+
+    fn cross(&self, stage: usize, room: &[i128], choice: &[u64], next: &mut [i128]) -> u128 {
+        fall_away(room, choice, next);
+        weight_in(&self.binomials, self.columns[stage], choice)
+    }
+
+    #[inline(always)]
+    fn rest(&self, _stage: usize, room: &[i128]) -> u128 {
+        rest_in(&self.binomials, room)
+    }
+}

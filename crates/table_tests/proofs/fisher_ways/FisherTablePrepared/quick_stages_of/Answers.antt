@@ -1,0 +1,19 @@
+use Rattle.std.proofs.Common.{◌≡◌, ◌∙◌, false, ap, sym, subst, rules}
+use Rattle.std.proofs.lemmas.Result.{IfOk-weaker}
+use Rattle.stage_network.specs.Follows.{Follows}
+use Rattle.room_network.specs.Meanings.{Meaning}
+use Rattle.room_network.specs.RoomNetworks.{room_network}
+use Rattle.label_network.specs.LabelRooms.{label_weight}
+use Rattle.table_tests.specs.FisherExact.{fisher_test}
+use Rattle.table_tests.specs.Tables.{is_two_by_two}
+use Rattle.table_tests.proofs.SortedTests.{along-sorted}
+use Rattle.table_tests.proofs.fisher_ways.FisherTablePrepared.quick_stages_of.Goals as goal
+
+pub returns-then-made : goal.returns-then-made
+returns-then-made c =
+    IfOk-weaker c.stages_of.result _ _ (λ s e t has same. subst (Follows (fisher_test c.args.self.now) t) (same ∙ sym e) (c.stages_of.ensures.follows t has)) c.stages_of.ensures.built
+
+pub returns : goal.returns
+returns c t has same =
+    let large : is_two_by_two c.args.self.now ≡ false = search rules in
+    subst (λ (m : Meaning). Follows (fisher_test c.args.self.now) t (room_network m label_weight)) c.in_ok-sorted.ensures.built (along-sorted c.args.self.now c.made.ensures.fitting large c.args.tail t has same)

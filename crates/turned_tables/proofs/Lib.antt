@@ -1,0 +1,5 @@
+pub mod TurnedLines
+pub mod Shapes
+pub mod Bijection
+pub mod Weighed
+pub mod Reduced

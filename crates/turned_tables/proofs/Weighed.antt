@@ -1,0 +1,94 @@
+-- Weights of a table and of the table turned, by the factorials of their cells: in the ratio of the
+-- numbers of labellings.
+use Rattle.std.proofs.Common.{◌≡◌, ℕ, ◌*◌, ◌<◌, ◌≤◌, List, [], ◌∷◌, length, map, inl, inr, refl, sym, ◌∙◌, ap, arith}
+use Rattle.std.specs.Prelude.{nat_le}
+use Rattle.std.specs.List.{sum}
+use Rattle.std.proofs.Math.Nat.{le_of_mul-le-mul_left, mul-le-mul, mul-le-mul_right}
+use Rattle.std.proofs.lemmas.Bool.Decides.{leb_tells}
+use Rattle.weights.specs.Grouped.{table_weight}
+use Rattle.weights.specs.Labellings.{number_of_labellings}
+use Rattle.weights.proofs.FirstLabel.{number_of_labellings-positive}
+use Rattle.weights.proofs.Tables.{IsTable}
+use Rattle.completion_bounds.proofs.Factorials.{factorial, factorial_least, factorials, total, weight-factorials}
+use Rattle.turned_tables.specs.Turned.{turned}
+use Rattle.turned_tables.specs.TurnedLaws.{AreWeights, ComparesTurned}
+use Rattle.turned_tables.proofs.Bijection.{sums}
+use Rattle.turned_tables.proofs.Shapes.{level-totals, turned-sums}
+use Rattle.turned_tables.proofs.TurnedLines.{cell_factorials, cells-turned}
+
+-- products above zero, compared and cancelled
+
+pub cancel-≤ : (a b k : ℕ) → 0 < k → a * k ≤ b * k → a ≤ b
+cancel-≤ a b k some h = le_of_mul-le-mul_left {k = k} (swapped a b k h) some
+  where
+    swapped : (a b k : ℕ) → a * k ≤ b * k → k * a ≤ k * b
+    swapped a b k h = grind (arith, h)
+
+pub cancel : (a b k : ℕ) → 0 < k → a * k ≡ b * k → a ≡ b
+cancel a b k some e = omega (arith, cancel-≤ a b k some (omega (arith, e)), cancel-≤ b a k some (omega (arith, e)))
+
+some-times : (a b : ℕ) → 0 < a → 0 < b → 0 < a * b
+some-times a b h j = let one = mul-le-mul {n₁ = 1} {m₁ = 1} {n₂ = a} {m₂ = b} h j in omega (arith, one)
+
+factorials-some : (xs : List ℕ) → 0 < factorials xs
+factorials-some [] = omega arith
+factorials-some (x ∷ xs) = some-times (factorial x) (factorials xs) (factorial_least x) (factorials-some xs)
+
+-- what is as two numbers are, in the same ratio, is compared as they are
+pub compared : (a b c d p q : ℕ) → 0 < p → 0 < q → a * p ≡ c * q → b * p ≡ d * q → nat_le a b ≡ nat_le c d
+compared a b c d p q some other e f = elim (leb_tells a b) [
+  | inl l ↦ elim (leb_tells c d) [
+    | inl k ↦ l.0 ∙ sym k.0
+    | inr k ↦ absurd (omega (arith, k.1, cancel-≤ c d q other (omega (arith, mul-le-mul_right p l.1, e, f))))
+  ]
+  | inr l ↦ elim (leb_tells c d) [
+    | inl k ↦ absurd (omega (arith, l.1, cancel-≤ a b p some (omega (arith, mul-le-mul_right q k.1, e, f))))
+    | inr k ↦ l.0 ∙ sym k.0
+  ]
+]
+
+-- the weight of a table times its cells' factorials
+weight-cells : (w : List (List ℕ)) → table_weight w * cell_factorials w ≡ factorials (map total w)
+weight-cells [] = refl
+weight-cells (x ∷ w) = regroup (number_of_labellings x) (table_weight w) (factorials x) (cell_factorials w) (factorial (total x)) (factorials (map total w)) (weight-factorials x) (weight-cells w)
+  where
+    regroup : (n t f c p q : ℕ) → n * f ≡ p → t * c ≡ q → (n * t) * (f * c) ≡ p * q
+    regroup n t f c p q e h = rw (← e, ← h) (grind arith)
+
+-- one product by two ways
+crossed : (a b c p q : ℕ) → a * c ≡ p → b * c ≡ q → a * q ≡ b * p
+crossed a b c p q e f = rw (← e, ← f) (grind arith)
+
+by-factorials : (columns rows : List ℕ) (w : List (List ℕ)) → sum columns ≡ sum rows → IsTable columns rows w → table_weight w * factorials rows ≡ table_weight (turned (length rows) w) * factorials columns
+by-factorials columns rows w level t =
+    let s = sums columns rows level w t in
+    let back = turned-sums columns rows w s in
+    crossed (table_weight w) (table_weight (turned (length rows) w)) (cell_factorials w) (factorials columns) (factorials rows)
+    (weight-cells w ∙ ap factorials s.columns)
+    (ap (λ n. table_weight (turned (length rows) w) * n) (sym (cells-turned (length rows) w s.long)) ∙ weight-cells (turned (length rows) w) ∙ ap factorials back.columns)
+
+-- in the ratio of the numbers of labellings
+
+totals-turned : (columns rows : List ℕ) → sum columns ≡ sum rows → number_of_labellings rows * factorials rows ≡ number_of_labellings columns * factorials columns
+totals-turned columns rows level = weight-factorials rows ∙ ap factorial (sym (level-totals columns rows level)) ∙ sym (weight-factorials columns)
+
+-- what is as B to A is as S to R, where R A is S B
+in-ratio : (n m a b r s : ℕ) → 0 < a → 0 < b → n * a ≡ m * b → r * a ≡ s * b → n * s ≡ m * r
+in-ratio n m a b r s some other e f = cancel (n * s) (m * r) (a * b) (some-times a b some other) (crossing n m a b r s e f)
+  where
+    crossing : (n m a b r s : ℕ) → n * a ≡ m * b → r * a ≡ s * b → (n * s) * (a * b) ≡ (m * r) * (a * b)
+    crossing n m a b r s e f =
+        let one : (n * s) * (a * b) ≡ (n * a) * (s * b) = grind arith in
+        let two : (m * r) * (a * b) ≡ (m * b) * (r * a) = grind arith in
+        one ∙ ap (λ x. x * (s * b)) e ∙ ap (λ x. (m * b) * x) (sym f) ∙ sym two
+
+-- the weights are in the ratio of the numbers of labellings
+pub weights-turned : (columns rows : List ℕ) (w : List (List ℕ)) → sum columns ≡ sum rows → IsTable columns rows w → AreWeights columns rows w (turned (length rows) w)
+weights-turned columns rows w level t =
+    in-ratio (table_weight w) (table_weight (turned (length rows) w)) (factorials rows) (factorials columns) (number_of_labellings rows) (number_of_labellings columns) (factorials-some rows) (factorials-some columns)
+    (by-factorials columns rows w level t) (totals-turned columns rows level)
+
+pub compared-turned : (columns rows : List ℕ) (w v : List (List ℕ)) → sum columns ≡ sum rows → IsTable columns rows w → IsTable columns rows v → ComparesTurned (length rows) w v
+compared-turned columns rows w v level t s =
+    compared (table_weight w) (table_weight v) (table_weight (turned (length rows) w)) (table_weight (turned (length rows) v)) (number_of_labellings columns) (number_of_labellings rows) (number_of_labellings-positive columns) (number_of_labellings-positive rows)
+    (weights-turned columns rows w level t) (weights-turned columns rows v level s)
