@@ -1,0 +1,67 @@
+-- What a sweep finds at a stage, once it is sorted and laid flat, is a cut.
+use Rattle.std.proofs.Common.{◌≡◌, ℕ, ◌*◌, ◌≤◌, List, length, map, sym, ◌∙◌, ap, subst, arith}
+use Rattle.std.specs.Prelude.{ℤ, IsPermutation}
+use Rattle.std.specs.List.{AllByRecursion, IsDistinct}
+use Rattle.std.specs.List.Sorted.{IsSortedBy}
+use Rattle.std.specs.Ordering.{is_lt}
+use Rattle.std.specs.Set.{is_member}
+use Rattle.weights.specs.declared.tails.Tail.{Tail}
+use Rattle.weights.specs.declared.TheConstants.{MAX}
+use Rattle.node_pool.specs.Nodes.{Node, key_eq, keys, is_held, weighted}
+use Rattle.node_pool.specs.PoolSteps.{nodes_of}
+use Rattle.stage_network.specs.Completions.{total_weight}
+use Rattle.stage_network.specs.Laws.{IsLawful}
+use Rattle.stage_network.specs.Network.{Network, IsReached}
+use Rattle.stage_network.specs.NodeSteps.{AllHeavy, AllReached}
+use Rattle.stage_network.proofs.Conserved.{all_weaker}
+use Rattle.pieces.specs.declared.cuts.Cut.{Cut}
+use Rattle.pieces.specs.declared.ordering.Entry.{Entry}
+use Rattle.pieces.specs.Cuts.{IsCut, closed_sum, cut_nodes, met_sum, open_keys}
+use Rattle.pieces.specs.Ordering.{entry_cmp, entry_node}
+use Rattle.pieces.proofs.Ascending.{AllInRooms, same-sums, still_all, still_distinct, still_members, ascending}
+
+-- nodes at the open keys of a stage
+pub record AreFound (n : Network) (t : Tail) (at : ℕ) (nodes : List Node) : Type 0 where
+  pub within : at ≤ n.count
+  pub reached : AllReached n at nodes
+  pub heavy : AllHeavy nodes
+  pub distinct : IsDistinct key_eq (keys nodes)
+  pub fits : weighted (total_weight n at) nodes ≤ MAX
+  pub told : (f : List ℤ → ℕ) → weighted f nodes ≡ met_sum n t at f
+  pub members : (q : List ℤ) → is_held nodes q ≡ is_member key_eq (open_keys n t at) q
+
+module _ (n : Network) (l : IsLawful n) (t : Tail) (at width : ℕ) (nodes : List Node) (found : AreFound n t at nodes) (entries sorted : List Entry) (is : map entry_node entries ≡ nodes) (moved : IsPermutation entries sorted) where
+  here : (P : Node → Type 0) → AllByRecursion P nodes → AllByRecursion P (map entry_node entries)
+  here P a = subst (AllByRecursion P) (sym is) a
+
+  still-reached : AllReached n at (map entry_node sorted)
+  still-reached = still_all entries sorted moved (λ (a : Node). IsReached n at a.key) (here (λ (a : Node). IsReached n at a.key) found.reached)
+
+  pub found-wide : AllByRecursion (λ (a : Node). length a.key ≡ n.width) (map entry_node sorted)
+  found-wide = all_weaker (λ (a : Node). IsReached n at a.key) (λ (a : Node). length a.key ≡ n.width) (λ a r. l.long at a.key r) (map entry_node sorted) still-reached
+
+  solid : AllHeavy (map entry_node entries)
+  solid = here (λ (a : Node). 1 ≤ a.weight) found.heavy
+
+  apart : IsDistinct key_eq (keys (map entry_node entries))
+  apart = subst (λ ns. IsDistinct key_eq (keys ns)) (sym is) found.distinct
+
+  sums : (f : List ℤ → ℕ) → weighted f (map entry_node sorted) ≡ weighted f nodes
+  sums f = same-sums entries sorted moved f ∙ ap (weighted f) is
+
+  pub found-cut : AllInRooms width entries → IsSortedBy (λ a b. is_lt (entry_cmp a b)) sorted → (cut : Cut) → cut.at ≡ at → cut.closed ≡ closed_sum n t at → nodes_of n.width cut.keys.items cut.weights.items ≡ map entry_node sorted → length cut.keys.items ≡ length cut.weights.items * n.width → IsCut n t cut
+  found-cut rooms rising cut e closed laid long = record {
+    within = rw e found.within;
+    closed = closed ∙ ap (closed_sum n t) (sym e);
+    starts = record {
+      within = rw e found.within;
+      long = long;
+      reached = rw e (subst (AllReached n at) (sym laid) still-reached);
+      heavy = subst AllHeavy (sym laid) (still_all entries sorted moved (λ (a : Node). 1 ≤ a.weight) solid);
+      distinct = subst (λ ns. IsDistinct key_eq (keys ns)) (sym laid) (still_distinct entries sorted moved solid apart);
+      fits = omega (arith, ap (λ g. weighted (total_weight n g) (cut_nodes n cut)) e, ap (weighted (total_weight n at)) laid, sums (total_weight n at), found.fits);
+    };
+    told = λ f. ap (weighted f) laid ∙ sums f ∙ found.told f ∙ ap (λ g. met_sum n t g f) (sym e);
+    ascending = rw laid (ascending entries sorted moved width rooms solid apart rising);
+    members = λ q. ap (λ ns. is_held ns q) laid ∙ still_members entries sorted moved solid q ∙ ap (λ ns. is_held ns q) is ∙ found.members q ∙ ap (λ g. is_member key_eq (open_keys n t g) q) (sym e);
+  }

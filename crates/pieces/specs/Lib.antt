@@ -1,0 +1,4 @@
+pub mod Cuts
+pub mod Undivided
+pub mod Ordering
+pub mod Parting

@@ -1,0 +1,12 @@
+// A network that is cut at a stage.
+
+/// The open keys of a stage that are reached through open keys alone, ascending and laid flat, each
+/// with the merged weight of the ways there; and the summed weight of the extreme completions that
+/// meet an inside key at that stage or before.
+#[derive(Drop)]
+pub struct Cut {
+    pub at: usize,
+    pub closed: u128,
+    pub keys: Vec<i128>,
+    pub weights: Vec<u128>,
+}

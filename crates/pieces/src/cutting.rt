@@ -1,0 +1,98 @@
+// A network cut at a stage: the open keys there, and what was closed before them.
+ghost use Rattle.std.specs.Prelude.{◌≡◌, ◌*◌, ◌≤◌, length, map, IfOk, IsPermutation};
+ghost use Rattle.std.specs.List.{AllByRecursion};
+ghost use Rattle.std.specs.List.Sorted.{IsSortedBy};
+ghost use Rattle.std.specs.Ordering.{is_lt};
+ghost use Rattle.node_pool.specs.Nodes.{Node, keys};
+ghost use Rattle.node_pool.specs.PoolSteps.{nodes_of};
+ghost use Rattle.stage_network.specs.Completions.{total_weight};
+ghost use Rattle.pieces.specs.Cuts.{IsCut, PartsAddUp, cut_nodes};
+ghost use Rattle.pieces.specs.Ordering.{entry_cmp, entry_node};
+
+use crate::cuts::Cut;
+use crate::ordering::{Entry, entries_of, sort_entries};
+use crate::rows::Rows;
+use stage_network::{Kept, Roomed, Stages, Sweep, Width, only, total_of, width_of};
+use std::alloc::Global;
+use weights::{Count, Narrow, NoMemory, Tail, Wide};
+
+// Sorts nodes by their keys, and lays them flat.
+fn laid_flat(alloc: Global, width: usize, entries: &mut [Entry<'_>]) -> Result<Rows, NoMemory>
+    requires { AllByRecursion (λ (a : Node). length a.key ≡ width) (map entry_node entries.old) }
+    ensures permutation { IsPermutation entries.old entries.new }
+    ensures sorted { IsSortedBy (λ a b. is_lt (entry_cmp a b)) entries.new }
+    ensures nodes { IfOk result (λ rows.
+        nodes_of width rows.keys.items rows.weights.items ≡ map entry_node entries.new) }
+    ensures long { IfOk result (λ rows.
+        length rows.keys.items ≡ length rows.weights.items * width) }
+{
+    sort_entries(entries);
+    let mut keys = Vec::new(alloc);
+    let mut weights = Vec::new(alloc);
+    for i in 0..entries.len() {
+        let entry = entries[i];
+        keys.extend_from_slice(entry.room)?;
+        keys.extend_from_slice(entry.partial)?;
+        weights.push(entry.weight)?;
+    }
+    Ok(Rows { keys, weights })
+}
+
+// The cut in counts of one width.
+fn cut_in<C: Count, S: Roomed>(
+    alloc: Global,
+    stages: &S,
+    tail: Tail,
+    at: usize,
+) -> Result<Cut, NoMemory>
+    requires within { at ≤ (S.Stages.network stages.now).count }
+    requires limit { let n = S.Stages.network stages.now in total_weight n 0 n.first ≤ C.LIMIT }
+    ensures at { IfOk result (λ cut. cut.at ≡ at) }
+    ensures cut { IfOk result (IsCut (S.Stages.network stages.now) tail) }
+{
+    let _lawful = stages.stages();
+    let keep = Kept::Open(only(tail));
+    let mut sweep = Sweep::<C>::new(alloc, stages, keep)?;
+    sweep.advance_to(stages, at)?;
+    let mut entries = entries_of(alloc, &sweep.nodes)?;
+    let rows = laid_flat(alloc, stages.width(), entries.as_mut_slice())?;
+    Ok(Cut {
+        at,
+        closed: sweep.sums.of(tail).sum,
+        keys: rows.keys,
+        weights: rows.weights,
+    })
+}
+
+// The cut in counts of the width that serves.
+fn cut_by_width<S: Roomed>(
+    alloc: Global,
+    stages: &S,
+    tail: Tail,
+    at: usize,
+) -> Result<Cut, NoMemory>
+    requires { at ≤ (S.Stages.network stages.now).count }
+    ensures at { IfOk result (λ cut. cut.at ≡ at) }
+    ensures cut { IfOk result (IsCut (S.Stages.network stages.now) tail) }
+{
+    let _lawful = stages.stages();
+    let total = total_of(alloc, stages)?;
+    match width_of(total) {
+        Width::Narrow => cut_in::<Narrow, S>(alloc, stages, tail, at),
+        Width::Wide => cut_in::<Wide, S>(alloc, stages, tail, at),
+    }
+}
+
+/// The open keys of a stage that are reached through open keys alone, and what was closed at that
+/// stage or before.
+pub fn cut<S: Roomed>(alloc: Global, stages: &S, tail: Tail, at: usize) -> Result<Cut, NoMemory>
+    requires { at ≤ (S.Stages.network stages.now).count }
+    ensures at { IfOk result (λ cut. cut.at ≡ at) }
+    ensures cut { IfOk result (IsCut (S.Stages.network stages.now) tail) }
+    ensures parts { let n = S.Stages.network stages.now in
+        IfOk result (λ cut. PartsAddUp n tail at cut.closed (keys (cut_nodes n cut))) }
+{
+    let _lawful = stages.stages();
+    let cut = cut_by_width(alloc, stages, tail, at)?;
+    Ok(cut)
+}

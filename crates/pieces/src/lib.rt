@@ -1,0 +1,15 @@
+//! The parts of a divided run: a network cut at a stage, the sums of the parts that the open keys
+//! there are given to, and the merge of all of them.
+#![tactic(auto)]
+
+mod cuts;
+mod cutting;
+mod merges;
+mod ordering;
+mod parting;
+mod rows;
+
+pub use cuts::Cut;
+pub use cutting::cut;
+pub use merges::merge;
+pub use parting::{part_sum, run_piece};
