@@ -9,7 +9,7 @@ use Rattle.settings.specs.declared.names.TestName.TheVariants as test
 use Rattle.settings.specs.declared.names.UsageFault.TheVariants as usage
 use Rattle.report.specs.Decimals.{six_decimals}
 use Rattle.report.specs.Refusals.{refusal_line_text}
-use Rattle.report.specs.Report.{dropped_line, extra_lines, group_line, group_lines, node_line, node_lines, report_text, size_lines, spread_lines, statistic_line, tail_line, tail_lines, title_line, total_line, value_line}
+use Rattle.report.specs.Report.{dropped_line, extra_lines, group_line, group_lines, head_text, merged_text, node_line, node_lines, report_text, size_lines, spread_lines, statistic_line, tail_line, tail_lines, title_line, total_line, value_line}
 use Rattle.report.specs.Shift.{differences_line, estimate_line, limit_line, limits_lines, miss_line, shift_text}
 use Rattle.report.specs.declared.headings.Extra.TheVariants as extra
 use Rattle.report.specs.declared.headings.Sizes.TheVariants.{Groups, Pairs, Table}
@@ -39,7 +39,7 @@ ranks :
       two = Some (record { sum = 2; opened = 5 });
     }) true None
     ≡ codes "test ranksum\ngroup 3 x\ngroup 3 y\nstatistic 30/2\ntotal 20\nless 20/20 1.000000\ngreater 1/20 0.050000\ntwo 2/20 0.100000\nnodes less 0\nnodes greater 3\nnodes two 5\n"
-unfolding report_text title_line size_lines group_lines group_line dropped_line extra_lines statistic_line total_line tail_lines tail_line node_lines node_line spread_lines digits
+unfolding report_text head_text title_line size_lines group_lines group_line dropped_line extra_lines statistic_line total_line tail_lines tail_line node_lines node_line spread_lines digits
 ranks = refl
 
 -- a table with a negative value in the distribution, and one tail
@@ -53,7 +53,7 @@ linear :
       two = None;
     }) false (Some (record { value = negsuc 3; weight = 1 } ∷ record { value = pos 2; weight = 5 } ∷ []))
     ≡ codes "test linear\ntable 2 by 3 sum 4\nstatistic -4/1\ntotal 6\nless 1/6 0.166667\nat -4 1\nat 2 5\n"
-unfolding report_text title_line size_lines dropped_line extra_lines statistic_line total_line tail_lines tail_line spread_lines value_line digits
+unfolding report_text head_text title_line size_lines dropped_line extra_lines statistic_line total_line tail_lines tail_line spread_lines value_line digits
 linear = refl
 
 -- six pairs, and two rows more that were left out
@@ -67,7 +67,7 @@ left_out :
       two = None;
     }) false None
     ≡ codes "test sign\nrows 6 used 5\ndropped 2\nstatistic 5/1\ntotal 32\ngreater 1/32 0.031250\n"
-unfolding report_text title_line size_lines dropped_line extra_lines statistic_line total_line tail_lines tail_line spread_lines digits
+unfolding report_text head_text title_line size_lines dropped_line extra_lines statistic_line total_line tail_lines tail_line spread_lines digits
 left_out = refl
 
 -- rows are told to be left out also where none is, and before what a test has beside the sizes
@@ -126,6 +126,33 @@ unknown_test = refl
 
 not_with : refusal_line_text (refusal.Usage (usage.Pairing option.Tail test.Kw)) ≡ codes "refused: --tail with kw\n"
 not_with = refl
+
+-- the first of these reports by its lines down to the total, and the numerator of one tail
+merged :
+    merged_text (head_text (Test test.RankSum) (Groups (codes "x" ∷ codes "y" ∷ []) (3 ∷ 3 ∷ [])) None extra.None (pos 30) 2 20) 20 None (Some 1) None
+    ≡ codes "test ranksum\ngroup 3 x\ngroup 3 y\nstatistic 30/2\ntotal 20\ngreater 1/20 0.050000\n"
+unfolding merged_text head_text title_line size_lines group_lines group_line dropped_line extra_lines statistic_line total_line tail_lines tail_line digits
+merged = refl
+
+in_another_line : refusal_line_text (refusal.PieceLine 7) ≡ codes "refused: piece line 7\n"
+unfolding digits
+in_another_line = refl
+
+of_another_run : refusal_line_text (refusal.Foreign 2) ≡ codes "refused: foreign piece 2\n"
+unfolding digits
+of_another_run = refl
+
+twice : refusal_line_text (refusal.Doubled 12) ≡ codes "refused: doubled piece 12\n"
+unfolding digits
+twice = refl
+
+never : refusal_line_text (refusal.MissingPart 0) ≡ codes "refused: missing part 0\n"
+unfolding digits
+never = refl
+
+not_alike : refusal_line_text (refusal.Unequal 64) ≡ codes "refused: unequal piece 64\n"
+unfolding digits
+not_alike = refl
 
 not_fitting : refusal_line_text (refusal.Unfit option.RowScores) ≡ codes "refused: --row-scores does not fit the data\n"
 not_fitting = refl

@@ -2,7 +2,7 @@
 use Rattle.std.proofs.Common.{◌≤◌, length, arith}
 use Rattle.settings.specs.Names.{test_word}
 use Rattle.settings.specs.declared.names.TestName.{TestName}
-use Rattle.settings.specs.declared.names.TestName.TheVariants.{SignedRank, Sign, RawSigned, Mcnemar, RankSum, Ansari, Mood, Savage, Median, Raw, Kw, Jt, Umbrella, Friedman, Page, Cochran, Fisher, Linear, Strata, Zelen, StratRankSum, Kendall, Runs, Drill, Shift}
+use Rattle.settings.specs.declared.names.TestName.TheVariants.{SignedRank, Sign, RawSigned, Mcnemar, RankSum, Ansari, Mood, Savage, Median, Raw, Kw, Jt, Umbrella, Friedman, Page, Cochran, Fisher, Linear, Strata, Zelen, StratRankSum, Kendall, Runs, Drill, Shift, Merge}
 
 pub word-short : (name : TestName) → length (test_word name) ≤ 12
 word-short SignedRank = omega arith
@@ -30,3 +30,4 @@ word-short Kendall = omega arith
 word-short Runs = omega arith
 word-short Drill = omega arith
 word-short Shift = omega arith
+word-short Merge = omega arith

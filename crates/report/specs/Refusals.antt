@@ -1,5 +1,5 @@
 -- The line of each refusal.
-use Rattle.std.specs.Prelude.{ℕ, List, ◌++◌, codes, Some, None, if◌then◌else◌}
+use Rattle.std.specs.Prelude.{ℕ, List, ◌++◌, codes, decimal, Some, None, if◌then◌else◌}
 use Rattle.weights.specs.declared.wide.WideOf.{WideOf}
 use Rattle.weights.specs.declared.wide.WideOf.TheVariants as wide
 use Rattle.record_reader.specs.Faults.{has_field, kind_text, place_text}
@@ -43,6 +43,11 @@ refusal_text (refusal.Unfit name) = option_text name ++ codes " does not fit the
 refusal_text (refusal.Row fault) = fault_text fault
 refusal_text refusal.TooLong = codes "file longer than 1048576 bytes"
 refusal_text (refusal.TooWide number) = codes "too wide: " ++ wide_word number
+refusal_text (refusal.PieceLine number) = codes "piece line " ++ decimal number
+refusal_text (refusal.Foreign piece) = codes "foreign piece " ++ decimal piece
+refusal_text (refusal.Doubled piece) = codes "doubled piece " ++ decimal piece
+refusal_text (refusal.MissingPart part) = codes "missing part " ++ decimal part
+refusal_text (refusal.Unequal piece) = codes "unequal piece " ++ decimal piece
 refusal_text refusal.ReadFault = codes "read fault"
 refusal_text refusal.WriteFault = codes "write fault"
 refusal_text refusal.NoMemory = codes "no memory"

@@ -1,5 +1,5 @@
 -- The text of a report, line by line.
-use Rattle.std.specs.Prelude.{◌≤◌, ◌<◌, ℕ, ℤ, List, [], ◌∷◌, ◌++◌, ◌||◌, Bool, map, nat_eq, nat_lt, codes, decimal, if◌then◌else◌, Option, Some, None}
+use Rattle.std.specs.Prelude.{◌≤◌, ◌<◌, ℕ, ℤ, List, [], ◌∷◌, ◌++◌, ◌||◌, Bool, map, nat_eq, nat_lt, codes, decimal, if◌then◌else◌, Option, Some, None, option_map}
 use Rattle.std.specs.Fmt.{signed_decimal}
 use Rattle.std.specs.List.{flat_map, zip}
 use Rattle.std.specs.Option.{ForSome}
@@ -79,16 +79,20 @@ tail_word Greater = codes "greater"
 tail_word Two = codes "two"
 
 -- a tail's numerator over the total, and the quotient; nothing of a tail that is not asked
-unfoldable pub tail_line : ℕ → Tail → Option TailSum → List ℕ
+unfoldable pub tail_line : ℕ → Tail → Option ℕ → List ℕ
 tail_line total tail None = []
-tail_line total tail (Some found) =
-    line (tail_word tail ++ codes " " ++ decimal found.sum ++ codes "/" ++ decimal total
-    ++ codes " " ++ six_decimals found.sum total)
+tail_line total tail (Some numerator) =
+    line (tail_word tail ++ codes " " ++ decimal numerator ++ codes "/" ++ decimal total
+    ++ codes " " ++ six_decimals numerator total)
 
-unfoldable pub tail_lines : Answer → List ℕ
-tail_lines answer =
-    tail_line answer.total Less answer.less ++ tail_line answer.total Greater answer.greater
-    ++ tail_line answer.total Two answer.two
+-- a line for each tail that is asked, by its numerator
+unfoldable pub tail_lines : ℕ → Option ℕ → Option ℕ → Option ℕ → List ℕ
+tail_lines total less greater two =
+    tail_line total Less less ++ tail_line total Greater greater ++ tail_line total Two two
+
+-- the numerator of a tail that is asked
+abbrev pub numerator_in : Option TailSum → Option ℕ
+numerator_in = option_map (λ found. found.sum)
 
 -- how many keys of a tail were open
 unfoldable pub node_line : Tail → Option TailSum → List ℕ
@@ -110,28 +114,49 @@ unfoldable pub spread_lines : Option (List Line) → List ℕ
 spread_lines None = []
 spread_lines (Some lines) = flat_map value_line lines
 
--- the report of an answer
-unfoldable pub report_text : Title → Sizes → Option ℕ → Extra → Answer → Bool → Option (List Line)
-    → List ℕ
-report_text title sizes dropped extra answer nodes spread =
+-- the lines of a report down to its total
+unfoldable pub head_text : Title → Sizes → Option ℕ → Extra → ℤ → ℕ → ℕ → List ℕ
+head_text title sizes dropped extra statistic scale total =
     title_line title
     ++ size_lines sizes
     ++ dropped_line dropped
     ++ extra_lines extra
-    ++ statistic_line answer.statistic answer.scale
-    ++ total_line answer.total
-    ++ tail_lines answer
+    ++ statistic_line statistic scale
+    ++ total_line total
+
+-- the report that these lines and the numerators of the asked tails make
+unfoldable pub merged_text : List ℕ → ℕ → Option ℕ → Option ℕ → Option ℕ → List ℕ
+merged_text head total less greater two = head ++ tail_lines total less greater two
+
+-- the lines of the asked tails of an answer
+abbrev pub answer_lines : Answer → List ℕ
+answer_lines answer =
+    tail_lines answer.total (numerator_in answer.less) (numerator_in answer.greater)
+    (numerator_in answer.two)
+
+-- the report of an answer
+unfoldable pub report_text : Title → Sizes → Option ℕ → Extra → Answer → Bool → Option (List Line)
+    → List ℕ
+report_text title sizes dropped extra answer nodes spread =
+    head_text title sizes dropped extra answer.statistic answer.scale answer.total
+    ++ answer_lines answer
     ++ (if nodes then node_lines answer else [])
     ++ spread_lines spread
 
 -- a tail's numerator, where it is asked, is at most the total
-abbrev pub IsPart : ℕ → Option TailSum → Type 0
-IsPart total tail = ForSome tail (λ found. found.sum ≤ total)
+abbrev pub IsPart : ℕ → Option ℕ → Type 0
+IsPart total tail = ForSome tail (λ numerator. numerator ≤ total)
 
--- the numerators of an answer over its total are quotients of at most 1
-pub record HasQuotients (answer : Answer) : Type 0 where
-  pub some : 0 < answer.total
-  pub fits : answer.total ≤ MAX
-  pub less : IsPart answer.total answer.less
-  pub greater : IsPart answer.total answer.greater
-  pub two : IsPart answer.total answer.two
+-- the numerators of the asked tails over a total are quotients of at most 1
+pub record AreQuotients (total : ℕ) (less greater two : Option ℕ) : Type 0 where
+  pub some : 0 < total
+  pub fits : total ≤ MAX
+  pub less_part : IsPart total less
+  pub greater_part : IsPart total greater
+  pub two_part : IsPart total two
+
+-- those of an answer are
+abbrev pub HasQuotients : Answer → Type 0
+HasQuotients answer =
+    AreQuotients answer.total (numerator_in answer.less) (numerator_in answer.greater)
+    (numerator_in answer.two)

@@ -11,7 +11,7 @@ mod refusals;
 mod shift;
 mod short_line;
 
-pub use composing::compose;
+pub use composing::{compose, compose_head, compose_merged};
 pub use decimals::six_decimals;
 pub use headings::{Extra, Sizes, Title};
 pub use refusals::{Refusal, refusal_line};

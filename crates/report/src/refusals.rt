@@ -1,5 +1,5 @@
 // Why there is no report, and the line that says so.
-ghost use Rattle.std.specs.Prelude.{◌≡◌, ◌+◌, ◌≤◌, ◌++◌, length};
+ghost use Rattle.std.specs.Prelude.{◌≡◌, ◌+◌, ◌≤◌, ◌++◌, decimal, length};
 ghost use Rattle.report.specs.Refusals.{fault_text, option_text, refusal_line_text, refusal_text, usage_text, wide_word};
 
 use crate::short_line::ShortLine;
@@ -26,6 +26,22 @@ pub enum Refusal {
     /// A number of the test passes the greatest that there is.
     #[error("too wide: {}", word_of(*.0))]
     TooWide(WideOf),
+    /// The file of pieces has at this line, from 1, what no pieces have there.
+    #[error("piece line {0}")]
+    PieceLine(u64),
+    /// The first piece, from 1, of another run than the first.
+    #[error("foreign piece {0}")]
+    Foreign(u64),
+    /// The first piece, from 1, whose part occurred before.
+    #[error("doubled piece {0}")]
+    Doubled(u64),
+    /// The least part, from 0, that no piece is of.
+    #[error("missing part {0}")]
+    MissingPart(u64),
+    /// The first piece, from 1, that tells something else of the run than the first, or with which
+    /// a numerator passes the total.
+    #[error("unequal piece {0}")]
+    Unequal(u64),
     /// A call to the source failed.
     #[error("read fault")]
     ReadFault,
@@ -96,6 +112,17 @@ fn word_of(number: WideOf) -> &'static str
     }
 }
 
+// Adds words and the number of what is wrong.
+fn push_place(line: &mut ShortLine, words: &str, number: u64)
+    requires line { length line.old ≤ 9 }
+    requires words { length words.now ≤ 14 }
+    ensures text { line.new ≡ line.old ++ (words.now ++ decimal number) }
+    ensures short { length line.new ≤ 80 }
+{
+    line.push(words.as_bytes());
+    line.push_number(number);
+}
+
 // Adds the words that tell a refusal.
 fn push_text(line: &mut ShortLine, refusal: Refusal)
     requires { length line.old ≤ 9 }
@@ -114,6 +141,11 @@ fn push_text(line: &mut ShortLine, refusal: Refusal)
             line.push(b"too wide: ");
             line.push(word_of(number).as_bytes());
         }
+        Refusal::PieceLine(number) => push_place(line, "piece line ", number),
+        Refusal::Foreign(piece) => push_place(line, "foreign piece ", piece),
+        Refusal::Doubled(piece) => push_place(line, "doubled piece ", piece),
+        Refusal::MissingPart(part) => push_place(line, "missing part ", part),
+        Refusal::Unequal(piece) => push_place(line, "unequal piece ", piece),
         Refusal::ReadFault => line.push(b"read fault"),
         Refusal::WriteFault => line.push(b"write fault"),
         Refusal::NoMemory => line.push(b"no memory"),

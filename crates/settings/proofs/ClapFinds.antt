@@ -11,7 +11,7 @@ use Rattle.clap.specs.declared.parser.matches.ArgMatches.{ArgMatches}
 use Rattle.clap.proofs.WalkLemmas.{first_value-rows}
 use Rattle.weights.specs.Results.{and_then}
 use Rattle.settings.specs.declared.names.OptionName.{OptionName}
-use Rattle.settings.specs.declared.names.OptionName.TheVariants.{Tail, Scores, Order, Peak, RowScores, ColumnScores, Columns, Separator, Number, Odds, Missing, Miss, Distribution, Plain, Nodes}
+use Rattle.settings.specs.declared.names.OptionName.TheVariants.{Tail, Scores, Order, Peak, RowScores, ColumnScores, Columns, Separator, Number, Odds, Missing, Miss, Distribution, Plain, Nodes, Stage, Parts, Part}
 use Rattle.settings.specs.declared.names.UsageFault.{UsageFault}
 use Rattle.settings.specs.declared.settings.Settings.{Settings}
 use Rattle.settings.specs.ClapLine.{clap_line, exact_app, value_found}
@@ -43,6 +43,9 @@ apart Miss listed = record { test = (refl, refl); file = (refl, refl) }
 apart Distribution listed = record { test = (refl, refl); file = (refl, refl) }
 apart Plain listed = record { test = (refl, refl); file = (refl, refl) }
 apart Nodes listed = record { test = (refl, refl); file = (refl, refl) }
+apart Stage listed = record { test = (refl, refl); file = (refl, refl) }
+apart Parts listed = record { test = (refl, refl); file = (refl, refl) }
+apart Part listed = record { test = (refl, refl); file = (refl, refl) }
 apart _ listed = absurd cc
 
 -- no option has the row of another id

@@ -1,4 +1,5 @@
 mod Distinct
+mod Causes
 pub mod GivenOnce
 pub mod ClapWalk
 pub mod ClapFinds

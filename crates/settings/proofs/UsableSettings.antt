@@ -1,5 +1,5 @@
 -- Settings that words give can be used.
-use Rattle.std.proofs.Common.{◌≡◌, ◌≢◌, ◌≤◌, ◌&&◌, ◌||◌, ◌∷◌, ℕ, All, AllPairs, Bool, true, false, not, List, [], ℤ, pos, Option, Some, None, IfOk, IfSome, Ok, Err, Result, arith, codes, cond, inl, inr, length, map, nat_abs, nat_le, nat_lt, option_and_then, option_map, refl, slice_index_or, subst, bytes_eq, unwrap_or}
+use Rattle.std.proofs.Common.{◌≡◌, ◌≢◌, ◌≤◌, ◌&&◌, ◌||◌, ◌∷◌, ℕ, All, AllPairs, Bool, true, false, not, List, [], ℤ, pos, Option, Some, None, IfOk, IfSome, Ok, Err, Result, arith, is_some, codes, cond, inl, inr, length, map, nat_abs, nat_le, nat_lt, option_and_then, option_map, refl, slice_index_or, subst, bytes_eq, unwrap_or}
 use Rattle.std.proofs.lemmas.Bool.{and_parts, not-true}
 use Rattle.std.proofs.lemmas.Bool.Decides.{Decides-int_eq, nat_tests}
 use Rattle.std.proofs.lemmas.Int.{ints}
@@ -25,11 +25,14 @@ use Rattle.weights.specs.Odds.{IsMiss, IsOdds}
 use Rattle.weights.specs.declared.odds.Odds.{Odds}
 use Rattle.settings.specs.Faults.{Meets}
 use Rattle.settings.specs.Meaning.{command_for, command_of, is_complete, is_two_sided_by_odds, paired, meaning_for, meaning_of_given, meaning_of_test, settings_of}
-use Rattle.settings.specs.Options.{form_of, listed_names, setting, settings_without_options, suited, with_option, with_options}
+use Rattle.settings.specs.Options.{form_of, listed_names, setting, settings_without_options, suited, with_option, with_options, with_piece}
+use Rattle.settings.specs.Pieces.{part_form, parts_form, piece_with, stage_form, with_part}
+use Rattle.settings.specs.RunWords.{piece_begun, run_words}
 use Rattle.settings.specs.Tests.{shape_of, test_named}
-use Rattle.settings.specs.Usable.{AreLabels, AreUsable, AreWithin, IsDrillNumber, IsUsable}
+use Rattle.settings.specs.Usable.{AreLabels, AreUsable, AreWithin, IsPieceOf, IsUsable}
 use Rattle.settings.specs.Values.{are_distinct, are_labels, at_least, column_scores_form, below_one, columns_of, distinct_fields, fields_form, is_empty, is_slash, labels_in, miss_of, missing_of, number_form, number_of, numbers_of, odds_of, odds_with, order_of, part_of, peak_form, positive, row_scores_form, scores_of, separator_of, tail_of}
 use Rattle.settings.specs.Words.{Given, none_given, value_in, with_words}
+use Rattle.settings.specs.WordSteps.{Pair}
 use Rattle.settings.specs.declared.command_line.CommandLine.{CommandLine}
 use Rattle.settings.specs.declared.lists.ListForm.{ListForm}
 use Rattle.settings.specs.declared.names.OptionName.{OptionName}
@@ -38,6 +41,7 @@ use Rattle.settings.specs.declared.names.TestName.{TestName}
 use Rattle.settings.specs.declared.names.TestName.TheVariants as test
 use Rattle.settings.specs.declared.names.UsageFault.{UsageFault}
 use Rattle.settings.specs.declared.names.UsageFault.TheVariants.{Form, Value, Pairing}
+use Rattle.settings.specs.declared.pieces.PieceOf.{PieceOf}
 use Rattle.settings.specs.declared.settings.Settings.{Settings}
 use Rattle.settings.specs.declared.settings.TheConstants.{GREATEST_NUMBER}
 use Rattle.settings.specs.declared.tails.TailChoice.{TailChoice}
@@ -77,16 +81,23 @@ numbers-AreOf form text numbers found =
 numbers_of-AreWithin : (form : ListForm) (text : List ℕ) → IfSome (numbers_of form text) (AreWithin form)
 numbers_of-AreWithin form text = if_some (AreWithin form) (numbers_of form text) (λ numbers found. (numbers-AreOf form text numbers found).within)
 
-number_of-IsDrillNumber : (text : List ℕ) → IfSome (number_of number_form text) IsDrillNumber
-number_of-IsDrillNumber text = by_numbers (numbers_of number_form text) (numbers-AreOf number_form text)
-  where
-    small : (number : ℤ) → IsWithin (pos 0) (pos GREATEST_NUMBER) number → IsDrillNumber (nat_abs number)
-    small number within = grind (arith, ints)
+abbrev one_between : ℕ → ℕ → ListForm
+one_between low high = record { low = pos low; high = pos high; fewest = 1; most = 1 }
 
-    by_numbers : (found : Option (List ℤ)) → ((numbers : List ℤ) → found ≡ Some numbers → AreOf number_form numbers) → IfSome (option_map (λ numbers. nat_abs (slice_index_or numbers 0 (pos 0))) found) IsDrillNumber
+abbrev IsBetween : ℕ → ℕ → ℕ → Type 0
+IsBetween low high number = (low ≤ number) × (number ≤ high)
+
+-- the number of a list of one number is one of its form
+number_of-IsBetween : (low high : ℕ) (text : List ℕ) → IfSome (number_of (one_between low high) text) (IsBetween low high)
+number_of-IsBetween low high text = by_numbers (numbers_of (one_between low high) text) (numbers-AreOf (one_between low high) text)
+  where
+    small : (number : ℤ) → IsWithin (pos low) (pos high) number → IsBetween low high (nat_abs number)
+    small number within = (grind (arith, ints), grind (arith, ints))
+
+    by_numbers : (found : Option (List ℤ)) → ((numbers : List ℤ) → found ≡ Some numbers → AreOf (one_between low high) numbers) → IfSome (option_map (λ numbers. nat_abs (slice_index_or numbers 0 (pos 0))) found) (IsBetween low high)
     by_numbers None are = tt
-    by_numbers (Some []) are = omega arith
-    by_numbers (Some (number ∷ numbers)) are = small number (All-head (IsWithin (pos 0) (pos GREATEST_NUMBER)) number numbers (are (number ∷ numbers) refl).within)
+    by_numbers (Some []) are = absurd (omega (arith, (are [] refl).some))
+    by_numbers (Some (number ∷ numbers)) are = small number (All-head (IsWithin (pos low) (pos high)) number numbers (are (number ∷ numbers) refl).within)
 
 -- ---- columns
 
@@ -286,7 +297,53 @@ flag_keeps raised more usable found =
 plainly : (settings : Settings) (tail : TailChoice) (scores : ScoreKind) (peak : ℕ) (missing : Missing) (distribution plain nodes : Bool) → AreUsable settings
     → AreUsable (record settings { tail = tail; scores = scores; peak = peak; missing = missing; distribution = distribution; plain = plain; nodes = nodes })
 plainly settings tail scores peak missing distribution plain nodes usable =
-    record { order = usable.order; row_scores = usable.row_scores; column_scores = usable.column_scores; picks = usable.picks; separator = usable.separator; number = usable.number; odds = usable.odds; miss = usable.miss }
+    record { order = usable.order; row_scores = usable.row_scores; column_scores = usable.column_scores; picks = usable.picks; separator = usable.separator; number = usable.number; odds = usable.odds; miss = usable.miss; piece = usable.piece }
+
+-- a value of an option of a part keeps that the part is one of the run's
+piece_keeps : (name : OptionName) (text : List ℕ) (piece more : PieceOf) → IsPieceOf piece → piece_with name text piece ≡ Some more → IsPieceOf more
+piece_keeps option.Stage text piece more fits found = by_at (number_of stage_form text) (number_of-IsBetween 0 100000 text) found
+  where
+    by_at : (at : Option ℕ) → IfSome at (IsBetween 0 100000) → option_map (λ at. record piece { at = at }) at ≡ Some more → IsPieceOf more
+    by_at None between found = absurd cc
+    by_at (Some at) between found =
+        let same : record piece { at = at } ≡ more = cc in
+        subst IsPieceOf same (record { at = between.1; some = fits.some; few = fits.few; part = fits.part })
+piece_keeps option.Parts text piece more fits found = by_parts (number_of parts_form text) (number_of-IsBetween 1 64 text) found
+  where
+    by_parts : (parts : Option ℕ) → IfSome parts (IsBetween 1 64) → option_map (λ parts. record piece { parts = parts; part = 0 }) parts ≡ Some more → IsPieceOf more
+    by_parts None between found = absurd cc
+    by_parts (Some parts) between found =
+        let same : record piece { parts = parts; part = 0 } ≡ more = cc in
+        subst IsPieceOf same (record { at = fits.at; some = between.0; few = between.1; part = omega (arith, between.0) })
+piece_keeps option.Part text piece more fits found = by_part (number_of part_form text) found
+  where
+    by_test : (part : ℕ) (below : Bool) → nat_lt part piece.parts ≡ below → cond below (Some (record piece { part = part })) None ≡ Some more → IsPieceOf more
+    by_test part true test found =
+        let same : record piece { part = part } ≡ more = cc in
+        subst IsPieceOf same (record { at = fits.at; some = fits.some; few = fits.few; part = grind (arith, nat_tests) })
+    by_test part false test found = absurd cc
+
+    by_part : (part : Option ℕ) → option_and_then (with_part piece) part ≡ Some more → IsPieceOf more
+    by_part None found = absurd cc
+    by_part (Some part) found = by_test part (nat_lt part piece.parts) refl found
+piece_keeps _ text piece more fits found = absurd cc
+
+with_piece_keeps : (name : OptionName) (text : List ℕ) (settings more : Settings) → AreUsable settings → with_piece name text settings ≡ Some more → AreUsable more
+with_piece_keeps name text settings more usable found = by_piece settings.piece usable.piece found
+  where
+    put : PieceOf → Settings
+    put piece = record settings { piece = Some piece }
+
+    by_next : (next : Option PieceOf) → ((piece : PieceOf) → next ≡ Some piece → IsPieceOf piece) → option_map put next ≡ Some more → AreUsable more
+    by_next None kept found = absurd cc
+    by_next (Some piece) kept found =
+        let same : put piece ≡ more = cc in
+        subst AreUsable same
+        (record { order = usable.order; row_scores = usable.row_scores; column_scores = usable.column_scores; picks = usable.picks; separator = usable.separator; number = usable.number; odds = usable.odds; miss = usable.miss; piece = kept piece refl })
+
+    by_piece : (piece : Option PieceOf) → IfSome piece IsPieceOf → option_map put (option_and_then (piece_with name text) piece) ≡ Some more → AreUsable more
+    by_piece None fits found = absurd cc
+    by_piece (Some piece) fits found = by_next (piece_with name text piece) (λ next. piece_keeps name text piece next fits) found
 
 each_keeps : (name : OptionName) → Keeps name
 unfolding Keeps
@@ -299,41 +356,44 @@ each_keeps option.Scores text settings more usable found =
     (λ kind fit. plainly settings settings.tail kind settings.peak settings.missing settings.distribution settings.plain settings.nodes usable) found
 each_keeps option.Order text settings more usable found =
     setting_keeps order_of (λ order s. record s { order = order }) AreLabels text settings more (order_of-AreLabels text)
-    (λ order fit. record { order = inr fit; row_scores = usable.row_scores; column_scores = usable.column_scores; picks = usable.picks; separator = usable.separator; number = usable.number; odds = usable.odds; miss = usable.miss }) found
+    (λ order fit. record { order = inr fit; row_scores = usable.row_scores; column_scores = usable.column_scores; picks = usable.picks; separator = usable.separator; number = usable.number; odds = usable.odds; miss = usable.miss; piece = usable.piece }) found
 each_keeps option.Peak text settings more usable found =
     setting_keeps (number_of peak_form) (λ peak s. record s { peak = peak }) (λ _. Unit {0}) text settings more (any_value (number_of peak_form text))
     (λ peak fit. plainly settings settings.tail settings.scores peak settings.missing settings.distribution settings.plain settings.nodes usable) found
 each_keeps option.RowScores text settings more usable found =
     setting_keeps (numbers_of row_scores_form) (λ scores s. record s { row_scores = scores }) (AreWithin row_scores_form) text settings more (numbers_of-AreWithin row_scores_form text)
-    (λ scores fit. record { order = usable.order; row_scores = fit; column_scores = usable.column_scores; picks = usable.picks; separator = usable.separator; number = usable.number; odds = usable.odds; miss = usable.miss }) found
+    (λ scores fit. record { order = usable.order; row_scores = fit; column_scores = usable.column_scores; picks = usable.picks; separator = usable.separator; number = usable.number; odds = usable.odds; miss = usable.miss; piece = usable.piece }) found
 each_keeps option.ColumnScores text settings more usable found =
     setting_keeps (numbers_of column_scores_form) (λ scores s. record s { column_scores = scores }) (AreWithin column_scores_form) text settings more (numbers_of-AreWithin column_scores_form text)
-    (λ scores fit. record { order = usable.order; row_scores = usable.row_scores; column_scores = fit; picks = usable.picks; separator = usable.separator; number = usable.number; odds = usable.odds; miss = usable.miss }) found
+    (λ scores fit. record { order = usable.order; row_scores = usable.row_scores; column_scores = fit; picks = usable.picks; separator = usable.separator; number = usable.number; odds = usable.odds; miss = usable.miss; piece = usable.piece }) found
 each_keeps option.Columns text settings more usable found =
     let shape = shape_of settings.test in
     setting_keeps (columns_of shape) (λ columns s. record s { picks = Listed columns }) (MayList shape.narrowest shape.widest) text settings more (columns_of-MayList shape text)
-    (λ columns fit. record { order = usable.order; row_scores = usable.row_scores; column_scores = usable.column_scores; picks = fit; separator = usable.separator; number = usable.number; odds = usable.odds; miss = usable.miss }) found
+    (λ columns fit. record { order = usable.order; row_scores = usable.row_scores; column_scores = usable.column_scores; picks = fit; separator = usable.separator; number = usable.number; odds = usable.odds; miss = usable.miss; piece = usable.piece }) found
 each_keeps option.Separator text settings more usable found =
     setting_keeps separator_of (λ separator s. record s { separator = separator }) IsSeparator text settings more (separator_of-IsSeparator text)
-    (λ separator fit. record { order = usable.order; row_scores = usable.row_scores; column_scores = usable.column_scores; picks = usable.picks; separator = fit; number = usable.number; odds = usable.odds; miss = usable.miss }) found
+    (λ separator fit. record { order = usable.order; row_scores = usable.row_scores; column_scores = usable.column_scores; picks = usable.picks; separator = fit; number = usable.number; odds = usable.odds; miss = usable.miss; piece = usable.piece }) found
 each_keeps option.Number text settings more usable found =
-    setting_keeps (number_of number_form) (λ number s. record s { number = number }) IsDrillNumber text settings more (number_of-IsDrillNumber text)
-    (λ number fit. record { order = usable.order; row_scores = usable.row_scores; column_scores = usable.column_scores; picks = usable.picks; separator = usable.separator; number = fit; odds = usable.odds; miss = usable.miss }) found
+    setting_keeps (number_of number_form) (λ number s. record s { number = number }) (IsBetween 0 GREATEST_NUMBER) text settings more (number_of-IsBetween 0 GREATEST_NUMBER text)
+    (λ number fit. record { order = usable.order; row_scores = usable.row_scores; column_scores = usable.column_scores; picks = usable.picks; separator = usable.separator; number = fit.1; odds = usable.odds; miss = usable.miss; piece = usable.piece }) found
 each_keeps option.Missing text settings more usable found =
     setting_keeps missing_of (λ missing s. record s { missing = missing }) (λ _. Unit {0}) text settings more (any_value (missing_of text))
     (λ missing fit. plainly settings settings.tail settings.scores settings.peak missing settings.distribution settings.plain settings.nodes usable) found
 each_keeps option.Odds text settings more usable found =
     setting_keeps odds_of (λ odds s. record s { odds = Some odds }) IsOdds text settings more (odds_of-IsOdds text)
-    (λ odds fit. record { order = usable.order; row_scores = usable.row_scores; column_scores = usable.column_scores; picks = usable.picks; separator = usable.separator; number = usable.number; odds = fit; miss = usable.miss }) found
+    (λ odds fit. record { order = usable.order; row_scores = usable.row_scores; column_scores = usable.column_scores; picks = usable.picks; separator = usable.separator; number = usable.number; odds = fit; miss = usable.miss; piece = usable.piece }) found
 each_keeps option.Miss text settings more usable found =
     setting_keeps miss_of (λ miss s. record s { miss = miss }) IsMiss text settings more (miss_of-IsMiss text)
-    (λ miss fit. record { order = usable.order; row_scores = usable.row_scores; column_scores = usable.column_scores; picks = usable.picks; separator = usable.separator; number = usable.number; odds = usable.odds; miss = fit }) found
+    (λ miss fit. record { order = usable.order; row_scores = usable.row_scores; column_scores = usable.column_scores; picks = usable.picks; separator = usable.separator; number = usable.number; odds = usable.odds; miss = fit; piece = usable.piece }) found
 each_keeps option.Distribution text settings more usable found =
     flag_keeps (record settings { distribution = true }) more (plainly settings settings.tail settings.scores settings.peak settings.missing true settings.plain settings.nodes usable) found
 each_keeps option.Plain text settings more usable found =
     flag_keeps (record settings { plain = true }) more (plainly settings settings.tail settings.scores settings.peak settings.missing settings.distribution true settings.nodes usable) found
 each_keeps option.Nodes text settings more usable found =
     flag_keeps (record settings { nodes = true }) more (plainly settings settings.tail settings.scores settings.peak settings.missing settings.distribution settings.plain true usable) found
+each_keeps option.Stage text settings more usable found = with_piece_keeps option.Stage text settings more usable found
+each_keeps option.Parts text settings more usable found = with_piece_keeps option.Parts text settings more usable found
+each_keeps option.Part text settings more usable found = with_piece_keeps option.Part text settings more usable found
 
 with_option-AreUsable : (name : OptionName) (value : Option (List ℕ)) (settings more : Settings) → AreUsable settings → with_option name value settings ≡ Ok more → AreUsable more
 unfolding Keeps
@@ -367,8 +427,15 @@ with_options-AreUsable (name ∷ names) values settings last usable found =
     by_first (Err fault) next rest found = absurd cc
     by_first (Ok more) next rest found = rest more (next more refl) found
 
-start-AreUsable : (test : TestName) (file : List ℕ) → AreUsable (settings_without_options test file)
-start-AreUsable test file = record {
+piece_begun-fits : (test : TestName) (uses : List Pair) → IfSome (piece_begun test uses) IsPieceOf
+piece_begun-fits test uses = by_test (is_some (value_in uses option.Part))
+  where
+    by_test : (asked : Bool) → IfSome (cond asked (Some (record { at = 0; parts = 1; part = 0; given = run_words test uses })) None) IsPieceOf
+    by_test true = record { at = omega arith; some = omega arith; few = omega arith; part = omega arith }
+    by_test false = tt
+
+start-AreUsable : (test : TestName) (file : List ℕ) (uses : List Pair) → AreUsable (record (settings_without_options test file) { piece = piece_begun test uses })
+start-AreUsable test file uses = record {
   order = inl refl;
   row_scores = All-nil (IsWithin row_scores_form.low row_scores_form.high);
   column_scores = All-nil (IsWithin column_scores_form.low column_scores_form.high);
@@ -377,6 +444,7 @@ start-AreUsable test file = record {
   number = omega arith;
   odds = tt;
   miss = record { some = omega arith; part = omega arith; small = omega arith };
+  piece = piece_begun-fits test uses;
 }
 
 -- ---- the command line
@@ -387,6 +455,7 @@ command_of-IsUsable settings usable = by_test settings.test
     by_test : (name : TestName) → IsUsable (command_for name settings)
     by_test test.Drill = usable.number
     by_test test.Shift = usable
+    by_test test.Merge = tt
     by_test _ = usable
 
 meaning_for-IsUsable : (given : Given) (test : TestName) (line : CommandLine) → meaning_for given test ≡ Ok line → IsUsable line
@@ -404,8 +473,9 @@ meaning_for-IsUsable given test line found = by_test (is_complete test given) fo
 
     by_test : (complete : Bool) → cond complete (with_value command_of (and_then paired (settings_of given test))) (Err Form) ≡ Ok line → IsUsable line
     by_test true found =
-        let start = settings_without_options test (unwrap_or given.file []) in
-        by_settings (settings_of given test) (λ last. with_options-AreUsable listed_names (value_in given.uses) start last (start-AreUsable test (unwrap_or given.file []))) found
+        let file = unwrap_or given.file [] in
+        let start = record (settings_without_options test file) { piece = piece_begun test given.uses } in
+        by_settings (settings_of given test) (λ last. with_options-AreUsable listed_names (value_in given.uses) start last (start-AreUsable test file given.uses)) found
     by_test false found = absurd cc
 
 -- a value that a result goes on with

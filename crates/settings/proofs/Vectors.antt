@@ -1,5 +1,5 @@
 -- A limit that definitions cite, and worked command lines, at which the definitions compute.
-use Rattle.std.proofs.Common.{◌≡◌, ◌∷◌, [], Ok, Err, Some, codes, negsuc, pos, refl, true}
+use Rattle.std.proofs.Common.{◌≡◌, ◌∷◌, ◌++◌, [], Ok, Err, Some, codes, negsuc, pos, refl, true}
 use Rattle.number_text.specs.CountTexts.{count_of}
 use Rattle.number_text.specs.ListTexts.{list_of}
 use Rattle.record_reader.specs.declared.missing.Missing.TheVariants.{Drop}
@@ -7,7 +7,7 @@ use Rattle.record_reader.specs.declared.picks.Picks.TheVariants.{Listed}
 use Rattle.scores.specs.declared.kinds.ScoreKind.TheVariants.{Savage}
 use Rattle.settings.specs.Meaning.{meaning_of}
 use Rattle.settings.specs.Options.{settings_without_options}
-use Rattle.settings.specs.declared.command_line.CommandLine.TheVariants.{Help, Test, Drill, Shift}
+use Rattle.settings.specs.declared.command_line.CommandLine.TheVariants.{Help, Test, Drill, Shift, Merge}
 use Rattle.settings.specs.declared.names.OptionName.TheVariants as option
 use Rattle.settings.specs.declared.names.TestName.TheVariants as test
 use Rattle.settings.specs.declared.names.UsageFault.TheVariants.{Form, Value, Pairing}
@@ -249,3 +249,53 @@ one_column_is_too_few = refl
 order_of_a_sequence : meaning_of (codes "runs" ∷ codes "f.csv" ∷ codes "--columns=2" ∷ codes "--order=b,a" ∷ []) ≡ Err (Pairing option.Order test.Runs)
 unfolding list_of
 order_of_a_sequence = refl
+
+part_of_a_run : meaning_of (codes "ranksum" ∷ codes "f.csv" ∷ codes "--part=1" ∷ codes "--tail" ∷ codes "greater" ∷ codes "--parts" ∷ codes "2" ∷ codes "--stage= +02" ∷ [])
+    ≡ Ok (Test (record (settings_without_options test.RankSum (codes "f.csv")) {
+      tail = Greater;
+      piece = Some (record {
+        at = 2;
+        parts = 2;
+        part = 1;
+        given = codes "ranksum" ++ 0 ∷ codes "--tail=greater" ++ 0 ∷ codes "--stage= +02" ++ 0 ∷ codes "--parts=2" ++ 0 ∷ [];
+      });
+    }))
+unfolding list_of
+part_of_a_run = refl
+
+two_of_three_options : meaning_of (codes "sign" ∷ codes "f" ∷ codes "--stage=1" ∷ codes "--parts=2" ∷ []) ≡ Err Form
+two_of_three_options = refl
+
+part_alone : meaning_of (codes "sign" ∷ codes "f" ∷ codes "--part=0" ∷ []) ≡ Err Form
+part_alone = refl
+
+open_keys_of_a_part : meaning_of (codes "sign" ∷ codes "f" ∷ codes "--stage=1" ∷ codes "--parts=2" ∷ codes "--part=0" ∷ codes "--nodes" ∷ []) ≡ Err Form
+open_keys_of_a_part = refl
+
+part_past_the_last : meaning_of (codes "sign" ∷ codes "f" ∷ codes "--stage=1" ∷ codes "--parts=2" ∷ codes "--part=2" ∷ []) ≡ Err (Value option.Part)
+unfolding list_of
+part_past_the_last = refl
+
+parts_before_part : meaning_of (codes "sign" ∷ codes "f" ∷ codes "--part=64" ∷ codes "--stage=1" ∷ codes "--parts=65" ∷ []) ≡ Err (Value option.Parts)
+unfolding list_of
+parts_before_part = refl
+
+stage_past_the_greatest : meaning_of (codes "sign" ∷ codes "f" ∷ codes "--stage=100001" ∷ codes "--parts=1" ∷ codes "--part=0" ∷ []) ≡ Err (Value option.Stage)
+unfolding list_of
+stage_past_the_greatest = refl
+
+part_of_made_data : meaning_of (codes "drill" ∷ codes "--number=1" ∷ codes "--stage=1" ∷ codes "--parts=1" ∷ codes "--part=0" ∷ []) ≡ Err (Pairing option.Stage test.Drill)
+unfolding list_of
+part_of_made_data = refl
+
+pieces_of_a_file : meaning_of (codes "merge" ∷ codes "pieces" ∷ []) ≡ Ok (Merge (codes "pieces"))
+pieces_of_a_file = refl
+
+pieces_without_file : meaning_of (codes "merge" ∷ []) ≡ Err Form
+pieces_without_file = refl
+
+tail_of_pieces : meaning_of (codes "merge" ∷ codes "pieces" ∷ codes "--tail=less" ∷ []) ≡ Err (Pairing option.Tail test.Merge)
+tail_of_pieces = refl
+
+fields_of_pieces : meaning_of (codes "--columns=1" ∷ codes "merge" ∷ codes "pieces" ∷ []) ≡ Err (Pairing option.Columns test.Merge)
+fields_of_pieces = refl

@@ -2,11 +2,13 @@ pub mod Tests
 pub mod Names
 pub mod Faults
 pub mod Values
+pub mod Pieces
 pub mod Options
 pub mod Words
 pub mod Meaning
 pub mod Usable
 pub mod Help
 pub mod ClapLine
+pub mod RunWords
 pub mod TestSteps
 pub mod WordSteps

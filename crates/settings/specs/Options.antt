@@ -1,5 +1,5 @@
 -- The options, and what they make of the settings of a test.
-use Rattle.std.specs.Prelude.{ℕ, Bool, true, false, List, [], ◌∷◌, Option, Some, None, Result, Ok, Err, if◌then◌else◌, option_map}
+use Rattle.std.specs.Prelude.{ℕ, Bool, true, false, List, [], ◌∷◌, Option, Some, None, Result, Ok, Err, if◌then◌else◌, option_and_then, option_map}
 use Rattle.std.specs.List.{list_any}
 use Rattle.std.specs.Option.{ok_or}
 use Rattle.weights.specs.Results.{and_then}
@@ -8,7 +8,8 @@ use Rattle.record_reader.specs.declared.missing.Missing.TheVariants.{Refuse}
 use Rattle.record_reader.specs.declared.picks.Picks.TheVariants.{Natural, Listed}
 use Rattle.scores.specs.declared.kinds.ScoreKind.TheVariants.{Wilcoxon}
 use Rattle.settings.specs.Names.{is_same}
-use Rattle.settings.specs.Tests.{form, has_tail, is_test, orders_groups, reads_file, reads_samples, shape_of}
+use Rattle.settings.specs.Pieces.{piece_with}
+use Rattle.settings.specs.Tests.{form, has_tail, is_test, orders_groups, reads_fields, reads_samples, shape_of}
 use Rattle.settings.specs.Values.{column_scores_form, columns_of, miss_of, missing_of, number_form, number_of, numbers_of, odds_of, order_of, peak_form, row_scores_form, scores_of, separator_of, tail_of}
 use Rattle.settings.specs.declared.names.OptionName.{OptionName}
 use Rattle.settings.specs.declared.names.OptionName.TheVariants as option
@@ -38,6 +39,7 @@ settings_without_options test file = record {
   distribution = false;
   plain = false;
   nodes = false;
+  piece = None;
 }
 
 -- the test takes the option for itself
@@ -79,6 +81,16 @@ raised option.Plain settings = record settings { plain = true }
 raised option.Nodes settings = record settings { nodes = true }
 raised _ settings = settings
 
+-- the settings with a value of this text for an option of the part that is run
+abbrev pub with_piece : OptionName → List ℕ → Settings → Option Settings
+with_piece name text settings =
+    option_map (λ piece. record settings { piece = Some piece })
+    (option_and_then (piece_with name text) settings.piece)
+
+-- an option of the part of a divided run, which any test may be
+abbrev pub part_option : OptionName → OptionForm
+part_option name = value_option is_test (with_piece name)
+
 -- a flag of a test, which has no text
 abbrev pub flag : OptionName → OptionForm
 flag name = value_option is_test (λ text settings. Some (raised name settings))
@@ -110,10 +122,10 @@ form_of option.ColumnScores =
     value_option (has_own option.ColumnScores) (setting (numbers_of column_scores_form)
     (λ scores settings. record settings { column_scores = scores }))
 form_of option.Columns =
-    value_option reads_file (λ text settings. setting (columns_of (shape_of settings.test))
+    value_option reads_fields (λ text settings. setting (columns_of (shape_of settings.test))
     (λ columns settings. record settings { picks = Listed columns }) text settings)
 form_of option.Separator =
-    value_option reads_file
+    value_option reads_fields
     (setting separator_of (λ separator settings. record settings { separator = separator }))
 form_of option.Number =
     value_option (has_own option.Number)
@@ -130,13 +142,17 @@ form_of option.Miss =
 form_of option.Distribution = flag option.Distribution
 form_of option.Plain = flag option.Plain
 form_of option.Nodes = flag option.Nodes
+form_of option.Stage = part_option option.Stage
+form_of option.Parts = part_option option.Parts
+form_of option.Part = part_option option.Part
 
 -- the options and flags that may be given, in the order in which their faults are told
 abbrev pub listed_names : List OptionName
 listed_names =
     option.Tail ∷ option.Scores ∷ option.Order ∷ option.Peak ∷ option.RowScores
     ∷ option.ColumnScores ∷ option.Columns ∷ option.Separator ∷ option.Number ∷ option.Odds
-    ∷ option.Missing ∷ option.Miss ∷ option.Distribution ∷ option.Plain ∷ option.Nodes ∷ []
+    ∷ option.Missing ∷ option.Miss ∷ option.Distribution ∷ option.Plain ∷ option.Nodes
+    ∷ option.Stage ∷ option.Parts ∷ option.Part ∷ []
 
 -- the settings, where the test goes with what the option asks for
 abbrev pub suited : OptionName → Settings → Result Settings UsageFault

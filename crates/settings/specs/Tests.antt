@@ -23,7 +23,7 @@ use Rattle.settings.specs.declared.tests.TheConstants.{TESTS}
 
 -- ---- the form of a test
 
--- What is known of a test, or of the shift or made data, which are none.
+-- What is known of a test, or of the shift, made data or merging, which are none.
 pub record TestForm : Type 0 where
   -- the bytes of the word that names it
   pub word : List ℕ
@@ -105,8 +105,9 @@ form test.Shift = record (two_sample_test (codes "shift")) {
   tails = no_tails;
   own = option.Miss ∷ [];
 }
+form test.Merge = record (plain_test (codes "merge") kind.Pieces) { tails = no_tails }
 
--- the tests that can be asked for, and the shift
+-- the tests that can be asked for, the shift and the merging
 abbrev pub listed_tests : List TestName
 listed_tests = TESTS
 
@@ -120,6 +121,12 @@ test_named word = find (λ test. bytes_eq (form test).word word) listed_tests
 abbrev pub are_read : TestData → Bool
 are_read kind.Made = false
 are_read _ = true
+
+-- the data are read from rows of fields
+abbrev pub are_fields : TestData → Bool
+are_fields kind.Made = false
+are_fields kind.Pieces = false
+are_fields _ = true
 
 -- the layout is of labels and values, which may be missing, and not of counts
 abbrev pub are_samples : TestData → Bool
@@ -148,6 +155,9 @@ shape_in _ = group_shape
 
 abbrev pub reads_file : TestName → Bool
 reads_file test = are_read (form test).of
+
+abbrev pub reads_fields : TestName → Bool
+reads_fields test = are_fields (form test).of
 
 abbrev pub reads_samples : TestName → Bool
 reads_samples test = are_samples (form test).of

@@ -3,8 +3,8 @@ ghost use Rattle.std.specs.Prelude.{◌≡◌, true, IfOk, Ok, [], map, string_b
 ghost use Rattle.settings.specs.Faults.{Meets};
 ghost use Rattle.weights.specs.Results.{and_then};
 ghost use Rattle.settings.specs.Help.{help};
-ghost use Rattle.std.specs.List.{list_all};
-ghost use Rattle.settings.specs.Meaning.{command_of, has_needed, is_complete, is_help, meaning_of, meaning_of_given, settings_of};
+ghost use Rattle.std.specs.List.{list_all, list_any};
+ghost use Rattle.settings.specs.Meaning.{command_of, has_needed, has_whole_piece, is_complete, is_given, is_help, meaning_of, meaning_of_given, settings_of};
 ghost use Rattle.settings.specs.Words.{none_given, with_words};
 ghost use Rattle.settings.specs.WordSteps.{IsSound, given_in};
 ghost use Rattle.settings.specs.Options.{listed_names, with_options};
@@ -12,7 +12,7 @@ ghost use Rattle.settings.specs.Usable.{IsUsable};
 ghost use Rattle.settings.specs.ClapLine.{value_found};
 
 use crate::clap_line::{clap_line, matches_in};
-use crate::names::{OPTIONS, OptionName, TestName, UsageFault};
+use crate::names::{FLAGS, OPTIONS, OptionName, PIECE_OPTIONS, TestName, UsageFault};
 use crate::settings::{FileName, Settings};
 use crate::words::{WordsSoFar, words_given};
 use clap::ArgMatches;
@@ -29,6 +29,8 @@ pub enum CommandLine {
     Drill(u64),
     /// The estimate of a shift between two samples of the data of a file, with its limits.
     Shift(Settings),
+    /// The report of a divided run, by the pieces that a file holds.
+    Merge(FileName),
 }
 
 /// The help text, which names the tests and the options that can be given.
@@ -39,6 +41,7 @@ pub fn help_text() -> &'static str
         "usage: exact TEST FILE [options]\n",
         "       exact drill --number K\n",
         "       exact shift FILE [--miss P/Q]\n",
+        "       exact merge FILE\n",
         "tests: signedrank sign rawsigned mcnemar\n",
         "       ranksum ansari mood savage median raw\n",
         "       kw jt umbrella friedman page cochran\n",
@@ -50,6 +53,7 @@ pub fn help_text() -> &'static str
         "         --columns LIST --separator comma|semicolon|tab\n",
         "         --distribution --plain --nodes\n",
         "         --odds P/Q --missing refuse|drop\n",
+        "         --stage G --parts P --part I\n",
     )
 }
 
@@ -63,11 +67,12 @@ pub fn help_text() -> &'static str
 /// # Errors
 /// The first of these faults. `Form` where the words do not have this form, or TEST is missing;
 /// `Value(OptionName::Test)` where TEST names none of the tests; `Form` where FILE is missing, or
-/// is there with `drill`, where an option is missing that the test cannot do without, and where
-/// both `--plain` and `--nodes` are there; and then for each option, in the order of the help
-/// text, `Pairing` where the test does not take it, `Value` where its value is not of its form,
-/// and for `--tail` `Pairing` where the test never has the tail; and last `Pairing` of `--tail`
-/// where it is `two` and `--odds` is there. Or else `NoMemory` where memory runs out.
+/// is there with `drill`, where an option is missing that the test cannot do without, where both
+/// `--plain` and `--nodes` are there, and where one or two of `--stage`, `--parts` and `--part` are
+/// there, or a flag beside them; and then for each option, in the order of the help text, `Pairing`
+/// where the test does not take it, `Value` where its value is not of its form, and for `--tail`
+/// `Pairing` where the test never has the tail; and last `Pairing` of `--tail` where it is `two`
+/// and `--odds` is there. Or else `NoMemory` where memory runs out.
 pub fn read(alloc: Global, words: &[String]) -> Result<CommandLine, UsageFault>
     ensures meaning { Meets (meaning_of (map string_bytes words.now)) result }
     ensures help { is_help (map string_bytes words.now) ≡ true → result ≡ Ok CommandLine.Help }
@@ -127,6 +132,32 @@ impl<'a> WordsSoFar<'a> {
         file_fits
             && self.has_needed(test)
             && !(self.has(OptionName::Plain) && self.has(OptionName::Nodes))
+            && self.has_whole_piece()
+    }
+
+    // Whether a part is asked for by all of its options and no flag, or none is.
+    fn has_whole_piece(&self) -> bool
+        ensures { result ≡ has_whole_piece (given_in self.now) }
+    {
+        if self.has_any(&PIECE_OPTIONS) {
+            self.has_all(&PIECE_OPTIONS) && !self.has_any(&FLAGS)
+        } else {
+            true
+        }
+    }
+
+    // Whether any of these options is given.
+    fn has_any(&self, options: &[OptionName]) -> bool
+        ensures { result ≡ list_any (is_given (given_in self.now)) options.now }
+    {
+        options.iter().any(|option| self.has(*option))
+    }
+
+    // Whether all of these options are given.
+    fn has_all(&self, options: &[OptionName]) -> bool
+        ensures { result ≡ list_all (is_given (given_in self.now)) options.now }
+    {
+        options.iter().all(|option| self.has(*option))
     }
 
     // Whether the options are there that the test cannot do without.
@@ -151,7 +182,9 @@ fn settings_of(
 {
     let file = given.file_or_empty();
     let name = FileName::copy_of(alloc, file)?;
-    let settings = Settings::without_options(alloc, test, name);
+    let piece = given.piece_begun(alloc, test)?;
+    let mut settings = Settings::without_options(alloc, test, name);
+    settings.piece = piece;
     let line = clap_line(alloc, &given.uses, word, file)?;
     let matches = matches_in(alloc, &line)?;
     with_matches(alloc, &OPTIONS, settings, &matches)
@@ -180,6 +213,7 @@ fn command_of(settings: Settings) -> CommandLine
     match settings.test {
         TestName::Drill => CommandLine::Drill(settings.number),
         TestName::Shift => CommandLine::Shift(settings),
+        TestName::Merge => CommandLine::Merge(settings.file),
         _ => CommandLine::Test(settings),
     }
 }

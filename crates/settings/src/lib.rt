@@ -5,6 +5,7 @@ mod clap_line;
 mod command_line;
 mod lists;
 mod names;
+mod pieces;
 mod settings;
 mod tails;
 mod tests;
@@ -13,6 +14,7 @@ mod words;
 
 pub use command_line::{CommandLine, help_text, read};
 pub use names::{OptionName, TestName, UsageFault};
+pub use pieces::PieceOf;
 pub use settings::{FileName, Nums64, Settings};
 pub use tails::TailChoice;
 pub use values::score_word;

@@ -3,12 +3,13 @@ ghost use Rattle.std.specs.Prelude.{◌≡◌, IfOk, Ok, Err, if◌then◌else�
 ghost use Rattle.std.specs.Option.{ok_or};
 ghost use Rattle.settings.specs.Faults.{Meets, MeetsAs};
 ghost use Rattle.settings.specs.Meaning.{paired};
-ghost use Rattle.settings.specs.Options.{form_of, raised, settings_without_options, suited, with_option};
+ghost use Rattle.settings.specs.Options.{form_of, raised, settings_without_options, suited, with_option, with_piece};
 ghost use Rattle.settings.specs.Values.{column_scores_form, number_form, peak_form, row_scores_form};
 ghost use Rattle.settings.specs.WordSteps.{text_of};
 
 use crate::lists::{ListForm, columns_in, number_of, numbers_of};
 use crate::names::{OptionName, TestName, UsageFault};
+use crate::pieces::PieceOf;
 use crate::tails::TailChoice;
 use crate::values::{miss_of, missing_of, odds_of, order_of, scores_of, separator_of};
 use record_reader::{Missing, Picks};
@@ -91,6 +92,8 @@ pub struct Settings {
     pub plain: bool,
     /// Whether the numbers of open keys are asked for.
     pub nodes: bool,
+    /// Which part of a divided run is asked for; none by default, for the whole run.
+    pub piece: Option<PieceOf>,
 }
 
 // The number of a group.
@@ -155,6 +158,7 @@ impl Settings {
             distribution: false,
             plain: false,
             nodes: false,
+            piece: None,
         }
     }
 
@@ -230,7 +234,20 @@ impl Settings {
             OptionName::Missing => self.missing = missing_of(text).ok_or(fault)?,
             OptionName::Miss => self.miss = miss_of(text).ok_or(fault)?,
             OptionName::Distribution | OptionName::Plain | OptionName::Nodes => self.raise(name),
+            OptionName::Stage | OptionName::Parts | OptionName::Part => {
+                self.set_piece(name, text)?;
+            }
         }
+        Ok(())
+    }
+
+    // Takes over the value of this text for an option of the part that is run.
+    fn set_piece(&mut self, name: OptionName, text: &str) -> Result<(), UsageFault>
+        ensures { let more = with_piece name text.now self.old in
+            MeetsAs (λ unit. self.new) (ok_or more (UsageFault.Value name)) result }
+    {
+        let piece = self.piece.take().ok_or(UsageFault::Value(name))?;
+        self.piece = Some(piece.with_text(name, text)?);
         Ok(())
     }
 

@@ -3,7 +3,7 @@ ghost use Rattle.std.specs.Prelude.{◌≡◌, true, Some};
 ghost use Rattle.std.specs.List.{list_any};
 ghost use Rattle.settings.specs.Names.{is_same, test_word};
 ghost use Rattle.settings.specs.Options.{form_of, has_own, needs};
-ghost use Rattle.settings.specs.Tests.{are_read, are_samples, form, has_tail, plain_test, reads_file, shape_in, shape_of, test_named};
+ghost use Rattle.settings.specs.Tests.{are_fields, are_read, are_samples, form, has_tail, plain_test, reads_file, shape_in, shape_of, test_named};
 ghost use Rattle.settings.specs.TestSteps.{form_in};
 ghost use Rattle.settings.specs.Values.{fields_form};
 
@@ -39,6 +39,8 @@ pub(crate) enum TestData {
     Sequence,
     // Made data, which no file has.
     Made,
+    // The pieces of a divided run, which are no rows of fields.
+    Pieces,
 }
 
 // What is known of a test.
@@ -59,7 +61,7 @@ pub(crate) struct TestForm {
 }
 
 // The tests that can be asked for.
-const TESTS: [TestName; 25] = [
+const TESTS: [TestName; 26] = [
     TestName::SignedRank,
     TestName::Sign,
     TestName::RawSigned,
@@ -85,6 +87,7 @@ const TESTS: [TestName; 25] = [
     TestName::Runs,
     TestName::Drill,
     TestName::Shift,
+    TestName::Merge,
 ];
 
 const ALL_TAILS: Tails = Tails {
@@ -121,13 +124,24 @@ impl TestData {
         !matches!(self, TestData::Made)
     }
 
+    // Whether they are read from rows of fields.
+    fn are_fields(self) -> bool
+        ensures { result ≡ are_fields self }
+    {
+        !matches!(self, TestData::Made | TestData::Pieces)
+    }
+
     // Whether their layout is of labels and values, which may be missing, and not of counts.
     fn are_samples(self) -> bool
         ensures { result ≡ are_samples self }
     {
         !matches!(
             self,
-            TestData::TwoByTwo | TestData::Table | TestData::Strata | TestData::Made
+            TestData::TwoByTwo
+                | TestData::Table
+                | TestData::Strata
+                | TestData::Made
+                | TestData::Pieces
         )
     }
 
@@ -146,7 +160,8 @@ impl TestData {
             | TestData::TwoGroups
             | TestData::Groups
             | TestData::Twins
-            | TestData::Made => (2, 2),
+            | TestData::Made
+            | TestData::Pieces => (2, 2),
         };
         ListForm {
             low: 1,
@@ -263,6 +278,7 @@ impl TestName {
                 .ordered()
                 .with_tails(NO_TAILS)
                 .with_own(&[OptionName::Miss]),
+            TestName::Merge => TestForm::plain("merge", TestData::Pieces).with_tails(NO_TAILS),
         }
     }
 
@@ -296,7 +312,7 @@ impl TestName {
         match option {
             OptionName::Test => false,
             OptionName::Order => form.is_ordered,
-            OptionName::Columns | OptionName::Separator => form.of.are_read(),
+            OptionName::Columns | OptionName::Separator => form.of.are_fields(),
             OptionName::Missing => form.of.are_samples(),
             OptionName::Scores
             | OptionName::Peak
@@ -305,8 +321,13 @@ impl TestName {
             | OptionName::Number
             | OptionName::Odds
             | OptionName::Miss => self.has_own(option),
-            OptionName::Tail | OptionName::Distribution | OptionName::Plain | OptionName::Nodes =>
-                self.has_tail(TailChoice::All),
+            OptionName::Tail
+            | OptionName::Distribution
+            | OptionName::Plain
+            | OptionName::Nodes
+            | OptionName::Stage
+            | OptionName::Parts
+            | OptionName::Part => self.has_tail(TailChoice::All),
         }
     }
 

@@ -3,7 +3,7 @@ ghost use Rattle.std.specs.Prelude.{◌≡◌, IfOk, IsTrue, map, string_bytes, 
 ghost use Rattle.std.specs.List.{list_any};
 ghost use Rattle.settings.specs.Faults.{MeetsAs};
 ghost use Rattle.settings.specs.Words.{ended, is_plain, none_given, option_named, value_in, with_any, with_dashes, with_name, with_positional, with_use, with_value, with_word, with_words};
-ghost use Rattle.settings.specs.WordSteps.{IsSound, given_in, pair_of};
+ghost use Rattle.settings.specs.WordSteps.{IsSound, given_in, text_of};
 
 use crate::names::{OPTIONS, OptionName, UsageFault};
 use std::alloc::Global;
@@ -167,11 +167,20 @@ impl<'a> WordsSoFar<'a> {
 
     // Whether the option is given.
     pub(crate) fn has(&self, option: OptionName) -> bool
-        ensures { result ≡ is_some (value_in (map pair_of self.now.uses.items) option) }
+        ensures { result ≡ is_some (value_in (given_in self.now).uses option) }
     {
-        self.uses
+        self.value_of(option).is_some()
+    }
+
+    // The text that is given for the option.
+    pub(crate) fn value_of(&self, option: OptionName) -> Option<&'a str>
+        ensures { text_of result ≡ value_in (given_in self.now).uses option }
+    {
+        let given = self
+            .uses
             .iter()
-            .any(|given| given.option.word() == option.word())
+            .find(|given| given.option.word() == option.word())?;
+        Some(given.text)
     }
 
     // At the end no value is missing.

@@ -8,3 +8,7 @@ returns-in-Unfit-clause-text c =
 
 pub returns-in-TooLong-clause-text : goal.returns-in-TooLong-clause-text
 returns-in-TooLong-clause-text c = rw c.in-TooLong.is c.push-in-TooLong.ensures
+
+pub returns-in-MissingPart-clause-text : goal.returns-in-MissingPart-clause-text
+returns-in-MissingPart-clause-text c =
+    rw c.in-MissingPart.is c.push_place-in-MissingPart.ensures.text

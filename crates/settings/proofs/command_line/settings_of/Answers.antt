@@ -1,4 +1,4 @@
-use Rattle.std.proofs.Common.{ap, ◌∙◌, map, string_bytes, List, Result, subst}
+use Rattle.std.proofs.Common.{ap, ap₂, ◌∙◌, map, string_bytes, List, Option, Result, subst}
 use Rattle.clap.specs.Words.{matches_of, takes}
 use Rattle.settings.specs.ClapLine.{clap_line, exact_app}
 use Rattle.settings.specs.Faults.{Meets}
@@ -6,6 +6,7 @@ use Rattle.settings.specs.Options.{listed_names, settings_without_options, with_
 use Rattle.settings.specs.WordSteps.{given_in, pair_of}
 use Rattle.settings.specs.Words.{value_in}
 use Rattle.settings.specs.declared.names.UsageFault.{UsageFault}
+use Rattle.settings.specs.declared.pieces.PieceOf.{PieceOf}
 use Rattle.settings.specs.declared.settings.Settings.{Settings}
 use Rattle.settings.specs.declared.words.Use.{Use}
 use Rattle.settings.proofs.ClapFinds.{found-given, takes-given}
@@ -28,8 +29,9 @@ returns c =
     ∙ ap (λ (words : List _). matches_of exact_app (map string_bytes words)) c.deref-2.ensures.value
     ∙ ap (matches_of exact_app) c.in_ok-line.ensures
     ∙ ap (λ (uses : List Use). matches_of exact_app (clap_line (map pair_of uses) c.args.word.now file)) c.deref.ensures.value in
-    let start = c.without_options-settings.ensures ∙ ap (settings_without_options c.args.test) (c.in_ok-name.ensures ∙ c.file_or_empty-file.ensures) in
+    let plain = c.without_options-settings.ensures ∙ ap (settings_without_options c.args.test) (c.in_ok-name.ensures ∙ c.file_or_empty-file.ensures) in
+    let start = ap₂ (λ (settings : Settings) (piece : Option PieceOf). record settings { piece = piece }) plain c.in_ok-piece.ensures in
     subst (λ (wanted : Result Settings UsageFault). Meets wanted c.with_matches.result)
-    (found-given given c.args.word.now file c.in_ok-matches.matches c.without_options-settings.result c.requires rows
+    (found-given given c.args.word.now file c.in_ok-matches.matches (record c.without_options-settings.result { piece = c.in_ok-piece.piece }) c.requires rows
     ∙ ap (with_options listed_names (value_in given.uses)) start)
     c.with_matches.ensures

@@ -1,0 +1,155 @@
+// Which part of a divided run is asked for, and the words of the run.
+ghost use Rattle.std.specs.Prelude.{◌≡◌, ◌++◌, IfOk, OnOk};
+ghost use Rattle.std.specs.List.{flat_map};
+ghost use Rattle.std.specs.Option.{ok_or};
+ghost use Rattle.settings.specs.Faults.{Meets};
+ghost use Rattle.settings.specs.Pieces.{part_form, parts_form, piece_with, stage_form, with_part};
+ghost use Rattle.settings.specs.RunWords.{piece_begun, run_words, told, told_value};
+ghost use Rattle.settings.specs.WordSteps.{given_in, text_of};
+ghost use Rattle.settings.specs.declared.names.OptionName.TheVariants as option;
+ghost use Rattle.settings.specs.declared.names.UsageFault.TheVariants as fault;
+
+use crate::lists::{ListForm, number_of};
+use crate::names::{OPTIONS, OptionName, PIECE_OPTIONS, TestName, UsageFault};
+use crate::words::WordsSoFar;
+use std::alloc::Global;
+use weights::{Bytes, NoMemory};
+
+/// The part of a divided run that is to be run.
+#[derive(Drop)]
+pub struct PieceOf {
+    /// The stage at which the run is divided, at most 100,000; a stage past the last stands for
+    /// the last.
+    pub at: u64,
+    /// Into how many parts it is divided, from 1 to 64.
+    pub parts: u64,
+    /// Which of them is run, from 0.
+    pub part: u64,
+    /// The words of the run: the word of the test and the options that are given, but for the
+    /// part, each followed by a byte 0. An option is written as `--NAME=VALUE`, with the value as
+    /// it is given, and all stand in the order of the help text.
+    pub given: Bytes,
+}
+
+// The stage at which a run is divided.
+const STAGE: ListForm = ListForm {
+    low: 0,
+    high: 100_000,
+    fewest: 1,
+    most: 1,
+};
+
+// How many parts it is divided into.
+const PARTS: ListForm = ListForm {
+    low: 1,
+    high: 64,
+    fewest: 1,
+    most: 1,
+};
+
+// Which part is run.
+const PART: ListForm = ListForm {
+    low: 0,
+    high: 63,
+    fewest: 1,
+    most: 1,
+};
+
+impl PieceOf {
+    // With the value of this text for one of its options.
+    pub(crate) fn with_text(self, name: OptionName, text: &str) -> Result<PieceOf, UsageFault>
+        ensures { Meets (ok_or (piece_with name text.now self) (fault.Value name)) result }
+    {
+        match name {
+            OptionName::Stage => Ok(PieceOf {
+                at: number_of(name, STAGE, text)?,
+                ..self
+            }),
+            OptionName::Parts => Ok(PieceOf {
+                parts: number_of(name, PARTS, text)?,
+                part: 0,
+                ..self
+            }),
+            OptionName::Part => self.with_part(number_of(name, PART, text)?),
+            _ => Err(UsageFault::Value(name)),
+        }
+    }
+
+    // With this part, where there are so many.
+    fn with_part(self, part: u64) -> Result<PieceOf, UsageFault>
+        ensures { result ≡ ok_or (with_part self part) (fault.Value option.Part) }
+    {
+        if part < self.parts {
+            Ok(PieceOf { part, ..self })
+        } else {
+            Err(UsageFault::Value(OptionName::Part))
+        }
+    }
+}
+
+impl WordsSoFar<'_> {
+    // The first part of one, where a part is asked for.
+    pub(crate) fn piece_begun(
+        &self,
+        alloc: Global,
+        test: TestName,
+    ) -> Result<Option<PieceOf>, NoMemory>
+        ensures { IfOk result (λ piece. piece ≡ piece_begun test (given_in self.now).uses) }
+    {
+        if !self.has(OptionName::Part) {
+            return Ok(None);
+        }
+        Ok(Some(PieceOf {
+            at: 0,
+            parts: 1,
+            part: 0,
+            given: self.run_words(alloc, test)?,
+        }))
+    }
+
+    // The words of the run.
+    fn run_words(&self, alloc: Global, test: TestName) -> Result<Bytes, NoMemory>
+        ensures { IfOk result (λ words. words ≡ run_words test (given_in self.now).uses) }
+    {
+        let mut words = Bytes::empty(alloc);
+        words.append(test.word().as_bytes())?;
+        words.push(0)?;
+        self.push_all(&mut words, &OPTIONS)?;
+        Ok(words)
+    }
+
+    // Adds each of these options with its value, where it is told.
+    fn push_all(&self, words: &mut Bytes, options: &[OptionName]) -> Result<(), NoMemory>
+        ensures { let uses = (given_in self.now).uses in OnOk result
+            (words.new ≡ words.old ++ flat_map (told uses) options.now) }
+    {
+        for option in options {
+            self.push_told(words, *option)?;
+        }
+        Ok(())
+    }
+
+    // Adds an option with its value, where it is told.
+    fn push_told(&self, words: &mut Bytes, option: OptionName) -> Result<(), NoMemory>
+        ensures { OnOk result (words.new ≡ words.old ++ told (given_in self.now).uses option) }
+    {
+        match option {
+            OptionName::Part => Ok(()),
+            _ => push_value(words, option, self.value_of(option)),
+        }
+    }
+}
+
+// Adds an option with its value, where it is given.
+fn push_value(words: &mut Bytes, option: OptionName, value: Option<&str>) -> Result<(), NoMemory>
+    ensures { OnOk result (words.new ≡ words.old ++ told_value option (text_of value.entry)) }
+{
+    let Some(text) = value else {
+        return Ok(());
+    };
+    words.append(b"--")?;
+    words.append(option.word().as_bytes())?;
+    words.append(b"=")?;
+    words.append(text.as_bytes())?;
+    words.push(0)
+}
