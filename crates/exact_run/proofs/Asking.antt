@@ -13,7 +13,7 @@ use Rattle.report.specs.declared.headings.Extra.{Extra}
 use Rattle.report.specs.declared.headings.Sizes.{Sizes}
 use Rattle.report.specs.declared.refusals.Refusal.TheVariants as refusal
 use Rattle.exact_run.specs.CauseSteps.{Meets, prepared_outcome}
-use Rattle.exact_run.specs.Outcome.{Outcome, asked, outcome_of_asked, outcome_of_question, report_for, tails_by, tails_in, told}
+use Rattle.exact_run.specs.Outcome.{Outcome, asked, outcome_of_asked, outcome_of_question, tails_by, tails_in, text_for, told}
 use Rattle.exact_run.specs.Question.{question_about}
 use Rattle.exact_run.specs.declared.reports.Asking.{Asking}
 
@@ -26,28 +26,33 @@ no-memory wanted (Err refusal.WriteFault) m = m
 no-memory wanted (Err (refusal.Usage fault)) m = m
 no-memory wanted (Err (refusal.Unfit name)) m = absurd cc
 no-memory wanted (Err (refusal.Row fault)) m = absurd cc
+no-memory wanted (Err (refusal.PieceLine number)) m = absurd cc
+no-memory wanted (Err (refusal.Foreign piece)) m = absurd cc
+no-memory wanted (Err (refusal.Doubled piece)) m = absurd cc
+no-memory wanted (Err (refusal.MissingPart part)) m = absurd cc
+no-memory wanted (Err (refusal.Unequal piece)) m = absurd cc
 no-memory wanted (Err refusal.TooLong) m = absurd cc
 no-memory wanted (Err (refusal.TooWide what)) m = absurd cc
 
-pub asked_outcome : {X : Type 0} (test_of : X → ConditionalTest) (network_of : X → Tail → Network) (asking : Asking) (sizes : Sizes) (dropped : Option ℕ) (extra : Extra) (value : X)
+pub asked_outcome : {X : Type 0} (test_of : X → ConditionalTest) (network_of runs_of : X → Tail → Network) (asking : Asking) (sizes : Sizes) (dropped : Option ℕ) (extra : Extra) (value : X)
     (prepared : Result X PrepareFault) (result : Outcome) → Prepares test_of value prepared
-    → Meets (prepared_outcome test_of network_of asking sizes dropped extra (asked asking.tail (tails_in (test_of value))) prepared) result
-    → Meets (outcome_of_question asking (question_about test_of network_of value sizes dropped extra)) result
-asked_outcome {X} test_of network_of asking sizes dropped extra value prepared result is meets =
+    → Meets (prepared_outcome test_of network_of runs_of asking sizes dropped extra (asked asking.tail (tails_in (test_of value))) prepared) result
+    → Meets (outcome_of_question asking (question_about test_of network_of runs_of value sizes dropped extra)) result
+asked_outcome {X} test_of network_of runs_of asking sizes dropped extra value prepared result is meets =
     by (asked asking.tail (tails_in (test_of value))) prepared is meets
   where
     by : (tails : Option Tails) (prepared : Result X PrepareFault) → Prepares test_of value prepared
-        → Meets (prepared_outcome test_of network_of asking sizes dropped extra tails prepared) result
-        → Meets (outcome_of_asked asking tails (question_about test_of network_of value sizes dropped extra)) result
+        → Meets (prepared_outcome test_of network_of runs_of asking sizes dropped extra tails prepared) result
+        → Meets (outcome_of_asked asking tails (question_about test_of network_of runs_of value sizes dropped extra)) result
     by None prepared is meets = meets
     by (Some tails) (Ok problem) is meets =
         subst (λ wanted. Meets wanted result)
-        (ap (λ v. Ok (report_for asking tails (question_about test_of network_of v sizes dropped extra))) is.0
-        ∙ sym (ap (λ what. told asking tails what (question_about test_of network_of value sizes dropped extra)) is.1)) meets
+        (ap (λ v. Ok (text_for asking tails (question_about test_of network_of runs_of v sizes dropped extra))) is.0
+        ∙ sym (ap (λ what. told asking tails what (question_about test_of network_of runs_of value sizes dropped extra)) is.1)) meets
     by (Some tails) (Err (prepare.TooWide what)) is meets =
-        subst (λ wanted. Meets wanted result) (sym (ap (λ w. told asking tails w (question_about test_of network_of value sizes dropped extra)) is)) meets
+        subst (λ wanted. Meets wanted result) (sym (ap (λ w. told asking tails w (question_about test_of network_of runs_of value sizes dropped extra)) is)) meets
     by (Some tails) (Err prepare.NoMemory) is meets =
-        no-memory (told asking tails (too_wide (test_of value)) (question_about test_of network_of value sizes dropped extra)) result meets
+        no-memory (told asking tails (too_wide (test_of value)) (question_about test_of network_of runs_of value sizes dropped extra)) result meets
 
 -- a prepared problem has the tails of the value that it was prepared of
 pub prepared-tails : {X : Type 0} (test_of : X → ConditionalTest) (value : X) (prepared : Result X PrepareFault) (has : Tails) → has ≡ tails_in (test_of value)

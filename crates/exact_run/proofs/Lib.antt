@@ -1,5 +1,8 @@
 pub mod Asking
 pub mod MadeValues
+pub mod MergedFits
+pub mod Merging
+pub mod OneReading
 pub mod Orders
 pub mod Promised
 pub mod Readings

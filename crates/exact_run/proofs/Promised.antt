@@ -124,6 +124,11 @@ pub promised-refused : (cause : Refusal) (known : Option Outcome) (source_rose o
 promised-refused (refusal.Usage fault) known s o t p told is line = by-outcome (refusal.Usage fault) known s o t p told (λ e. cc) (λ e. cc) (λ e. cc) (usage-known known (refusal.Usage fault) is) (λ own. is) line
 promised-refused (refusal.Unfit name) known s o t p told is line = by-outcome (refusal.Unfit name) known s o t p told (λ e. cc) (λ e. cc) (λ e. cc) is (λ own. absurd own) line
 promised-refused (refusal.Row fault) known s o t p told is line = by-outcome (refusal.Row fault) known s o t p told (λ e. cc) (λ e. cc) (λ e. cc) is (λ own. absurd own) line
+promised-refused (refusal.PieceLine number) known s o t p told is line = by-outcome (refusal.PieceLine number) known s o t p told (λ e. cc) (λ e. cc) (λ e. cc) is (λ own. absurd own) line
+promised-refused (refusal.Foreign piece) known s o t p told is line = by-outcome (refusal.Foreign piece) known s o t p told (λ e. cc) (λ e. cc) (λ e. cc) is (λ own. absurd own) line
+promised-refused (refusal.Doubled piece) known s o t p told is line = by-outcome (refusal.Doubled piece) known s o t p told (λ e. cc) (λ e. cc) (λ e. cc) is (λ own. absurd own) line
+promised-refused (refusal.MissingPart part) known s o t p told is line = by-outcome (refusal.MissingPart part) known s o t p told (λ e. cc) (λ e. cc) (λ e. cc) is (λ own. absurd own) line
+promised-refused (refusal.Unequal piece) known s o t p told is line = by-outcome (refusal.Unequal piece) known s o t p told (λ e. cc) (λ e. cc) (λ e. cc) is (λ own. absurd own) line
 promised-refused refusal.TooLong known s o t p told is line = by-outcome refusal.TooLong known s o t p told (λ e. cc) (λ e. cc) (λ e. cc) is (λ own. absurd own) line
 promised-refused (refusal.TooWide what) known s o t p told is line = by-outcome (refusal.TooWide what) known s o t p told (λ e. cc) (λ e. cc) (λ e. cc) is (λ own. absurd own) line
 promised-refused refusal.ReadFault known s o t p told is line = by-source known s o t p told is line

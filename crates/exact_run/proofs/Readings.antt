@@ -8,10 +8,10 @@ use Rattle.record_reader.specs.Records.{records_of}
 use Rattle.settings.specs.declared.settings.Settings.{Settings}
 use Rattle.report.specs.declared.refusals.Refusal.TheVariants as refusal
 use Rattle.exact_run.specs.CauseSteps.{ComesTo, Meets}
-use Rattle.exact_run.specs.Outcome.{Outcome, outcome_of_bytes, outcome_of_rows}
+use Rattle.exact_run.specs.Outcome.{Outcome, asking_of, outcome_of_bytes, outcome_of_rows}
 
 -- a file that is not too long has the outcome of its rows
-pub short-outcome : (settings : Settings) (bytes : List ℕ) → length bytes ≤ LONGEST_FILE → outcome_of_bytes settings bytes ≡ outcome_of_rows settings (records_of settings.separator bytes)
+pub short-outcome : (settings : Settings) (bytes : List ℕ) → length bytes ≤ LONGEST_FILE → outcome_of_bytes settings bytes ≡ outcome_of_rows (asking_of settings bytes) settings (records_of settings.separator bytes)
 unfolding outcome_of_bytes
 short-outcome settings bytes short = rw (le-ltb LONGEST_FILE (length bytes) short) refl
 
@@ -30,11 +30,21 @@ known-outcome rose outcome known (Err (refusal.Usage fault)) same meets = absurd
 known-outcome rose outcome None (Ok text) same meets = tt
 known-outcome rose outcome None (Err (refusal.Unfit name)) same meets = tt
 known-outcome rose outcome None (Err (refusal.Row fault)) same meets = tt
+known-outcome rose outcome None (Err (refusal.PieceLine number)) same meets = tt
+known-outcome rose outcome None (Err (refusal.Foreign piece)) same meets = tt
+known-outcome rose outcome None (Err (refusal.Doubled piece)) same meets = tt
+known-outcome rose outcome None (Err (refusal.MissingPart part)) same meets = tt
+known-outcome rose outcome None (Err (refusal.Unequal piece)) same meets = tt
 known-outcome rose outcome None (Err refusal.TooLong) same meets = tt
 known-outcome rose outcome None (Err (refusal.TooWide what)) same meets = tt
 known-outcome rose outcome (Some o) (Ok text) same meets = same ∙ meets
 known-outcome rose outcome (Some o) (Err (refusal.Unfit name)) same meets = same ∙ meets
 known-outcome rose outcome (Some o) (Err (refusal.Row fault)) same meets = same ∙ meets
+known-outcome rose outcome (Some o) (Err (refusal.PieceLine number)) same meets = same ∙ meets
+known-outcome rose outcome (Some o) (Err (refusal.Foreign piece)) same meets = same ∙ meets
+known-outcome rose outcome (Some o) (Err (refusal.Doubled piece)) same meets = same ∙ meets
+known-outcome rose outcome (Some o) (Err (refusal.MissingPart part)) same meets = same ∙ meets
+known-outcome rose outcome (Some o) (Err (refusal.Unequal piece)) same meets = same ∙ meets
 known-outcome rose outcome (Some o) (Err refusal.TooLong) same meets = same ∙ meets
 known-outcome rose outcome (Some o) (Err (refusal.TooWide what)) same meets = same ∙ meets
 
@@ -52,5 +62,10 @@ read-comes reads rose known (Err refusal.WriteFault) is comes = comes
 read-comes reads rose known (Err (refusal.Usage fault)) is comes = comes
 read-comes reads rose known (Err (refusal.Unfit name)) is comes = comes
 read-comes reads rose known (Err (refusal.Row fault)) is comes = comes
+read-comes reads rose known (Err (refusal.PieceLine number)) is comes = comes
+read-comes reads rose known (Err (refusal.Foreign piece)) is comes = comes
+read-comes reads rose known (Err (refusal.Doubled piece)) is comes = comes
+read-comes reads rose known (Err (refusal.MissingPart part)) is comes = comes
+read-comes reads rose known (Err (refusal.Unequal piece)) is comes = comes
 read-comes reads rose known (Err refusal.TooLong) is comes = comes
 read-comes reads rose known (Err (refusal.TooWide what)) is comes = comes

@@ -17,7 +17,7 @@ use Rattle.settings.specs.declared.names.OptionName.TheVariants as option
 use Rattle.settings.specs.declared.names.TestName.TheVariants as test
 use Rattle.settings.specs.declared.settings.Settings.{Settings}
 use Rattle.settings.specs.declared.tails.TailChoice.TheVariants as choice
-use Rattle.report.specs.Report.{dropped_line, extra_lines, group_line, group_lines, report_text, size_lines, spread_lines, statistic_line, tail_line, tail_lines, title_line, total_line}
+use Rattle.report.specs.Report.{dropped_line, extra_lines, group_line, group_lines, head_text, report_text, size_lines, spread_lines, statistic_line, tail_line, tail_lines, title_line, total_line}
 use Rattle.report.specs.Shift.{differences_line, estimate_line, limit_line, limits_lines, miss_line, shift_text}
 use Rattle.report.specs.declared.refusals.Refusal.TheVariants as refusal
 use Rattle.shift_limits.specs.Differences.{differences_between, labelled_values}
@@ -29,13 +29,13 @@ rank_sum = settings_without_options test.RankSum (codes "f.csv")
 -- a whole file and its whole report
 six_values : outcome_of_bytes rank_sum (codes "group,value\nx,1\nx,2\nx,3\ny,4\ny,5\ny,6\n")
     ≡ Ok (codes "test ranksum\ngroup 3 x\ngroup 3 y\nstatistic 30/2\ntotal 20\nless 20/20 1.000000\ngreater 1/20 0.050000\ntwo 2/20 0.100000\n")
-unfolding outcome_of_bytes records_from next_record strip_bom value_of units_of paired_subjects midranks_among doubled_midrank number_below number_equal report_text title_line size_lines group_lines group_line dropped_line extra_lines statistic_line total_line tail_lines tail_line spread_lines digits
+unfolding outcome_of_bytes records_from next_record strip_bom value_of units_of paired_subjects midranks_among doubled_midrank number_below number_equal report_text head_text title_line size_lines group_lines group_line dropped_line extra_lines statistic_line total_line tail_lines tail_line spread_lines digits
 six_values = refl
 
 -- another order of the groups, and one tail
 turned : outcome_of_bytes (record rank_sum { order = codes "y" ∷ codes "x" ∷ []; tail = choice.Less }) (codes "group,value\nx,1\nx,2\ny,3\n")
     ≡ Ok (codes "test ranksum\ngroup 1 y\ngroup 2 x\nstatistic 6/2\ntotal 3\nless 1/3 0.333333\n")
-unfolding outcome_of_bytes records_from next_record strip_bom value_of units_of paired_subjects midranks_among doubled_midrank number_below number_equal report_text title_line size_lines group_lines group_line dropped_line extra_lines statistic_line total_line tail_lines tail_line spread_lines digits
+unfolding outcome_of_bytes records_from next_record strip_bom value_of units_of paired_subjects midranks_among doubled_midrank number_below number_equal report_text head_text title_line size_lines group_lines group_line dropped_line extra_lines statistic_line total_line tail_lines tail_line spread_lines digits
 turned = refl
 
 -- labels that are not those of the file
@@ -51,7 +51,7 @@ one_group = refl
 -- rows with a missing field are left out and counted, whatever else is wrong with them
 left_out : outcome_of_bytes (record rank_sum { missing = Drop }) (codes "group,value\nx,1\nx,2\nz,NA\nx,3\ny,4\n,seven\ny,5\ny,6\n")
     ≡ Ok (codes "test ranksum\ngroup 3 x\ngroup 3 y\ndropped 2\nstatistic 30/2\ntotal 20\nless 20/20 1.000000\ngreater 1/20 0.050000\ntwo 2/20 0.100000\n")
-unfolding outcome_of_bytes records_from next_record strip_bom value_of units_of paired_subjects midranks_among doubled_midrank number_below number_equal report_text title_line size_lines group_lines group_line dropped_line extra_lines statistic_line total_line tail_lines tail_line spread_lines digits
+unfolding outcome_of_bytes records_from next_record strip_bom value_of units_of paired_subjects midranks_among doubled_midrank number_below number_equal report_text head_text title_line size_lines group_lines group_line dropped_line extra_lines statistic_line total_line tail_lines tail_line spread_lines digits
 left_out = refl
 
 -- where they are not, the first of them is a fault
@@ -89,7 +89,7 @@ abbrev with_odds : Settings
 with_odds = record (settings_without_options test.Fisher (codes "f.csv")) { odds = Some (record { above = 2; below = 1 }) }
 
 odds_of_two : outcome_of_bytes with_odds (codes "a,b\n2,0\n1,1\n") ≡ Ok (codes "test fisher\ntable 2 by 2 sum 4\nstatistic 2/1\ntotal 18\nless 18/18 1.000000\ngreater 12/18 0.666667\n")
-unfolding outcome_of_bytes records_from next_record strip_bom value_of units_of count_of report_text title_line size_lines dropped_line extra_lines statistic_line total_line tail_lines tail_line spread_lines digits
+unfolding outcome_of_bytes records_from next_record strip_bom value_of units_of count_of report_text head_text title_line size_lines dropped_line extra_lines statistic_line total_line tail_lines tail_line spread_lines digits
 odds_of_two = refl
 
 -- a greater table has no tail of one side
@@ -100,5 +100,5 @@ odds_of_three_columns = refl
 -- two strata, each of two labellings, of which one weighs 2
 strata_with_odds : outcome_of_bytes (record with_odds { test = test.Strata }) (codes "s,a,b,c,d\none,1,0,0,1\ntwo,0,1,1,0\n")
     ≡ Ok (codes "test strata\nstrata 2 sum 4\nstatistic 1/1\ntotal 9\nless 5/9 0.555556\ngreater 8/9 0.888889\n")
-unfolding outcome_of_bytes records_from next_record strip_bom value_of units_of count_of lcm report_text title_line size_lines dropped_line extra_lines statistic_line total_line tail_lines tail_line spread_lines digits
+unfolding outcome_of_bytes records_from next_record strip_bom value_of units_of count_of lcm report_text head_text title_line size_lines dropped_line extra_lines statistic_line total_line tail_lines tail_line spread_lines digits
 strata_with_odds = refl

@@ -12,7 +12,7 @@ use Rattle.report.specs.declared.headings.Extra.TheVariants as extra
 use Rattle.report.specs.declared.headings.Sizes.{Sizes}
 use Rattle.report.specs.declared.headings.Sizes.TheVariants as sizes
 use Rattle.report.specs.declared.refusals.Refusal.{Refusal}
-use Rattle.block_tests.specs.BlockNetworks.{block_network}
+use Rattle.block_tests.specs.BlockNetworks.{block_network, running_network}
 use Rattle.block_tests.specs.BlockTests.{block_test, blocks_for}
 use Rattle.block_tests.specs.declared.kinds.BlockKind.{BlockKind}
 use Rattle.block_tests.specs.declared.kinds.BlockKind.TheVariants.{Cochran}
@@ -33,7 +33,7 @@ block_sizes blocks = sizes.Blocks blocks.blocks blocks.treatments
 
 abbrev pub block_question : BlockKind → Option ℕ → BlockData → Question
 block_question kind dropped blocks =
-    question_about block_test block_network (blocks_for kind blocks) (block_sizes blocks) dropped
+    question_about block_test block_network running_network (blocks_for kind blocks) (block_sizes blocks) dropped
     extra.None
 
 abbrev pub blocks_of : BlockKind → Settings → List (List (List ℕ)) → Result Question Refusal

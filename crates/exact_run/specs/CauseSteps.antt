@@ -10,7 +10,7 @@ use Rattle.report.specs.declared.headings.Extra.{Extra}
 use Rattle.report.specs.declared.headings.Sizes.{Sizes}
 use Rattle.report.specs.declared.refusals.Refusal.{Refusal}
 use Rattle.report.specs.declared.refusals.Refusal.TheVariants as refusal
-use Rattle.exact_run.specs.Outcome.{Outcome, report_for}
+use Rattle.exact_run.specs.Outcome.{Outcome, text_for}
 use Rattle.exact_run.specs.Question.{prepare_refusal, question_about}
 use Rattle.exact_run.specs.declared.reports.Asking.{Asking}
 
@@ -42,10 +42,11 @@ ComesTo rose known (Err cause) = IsCauseIn rose known cause
 
 -- what a prepared problem, or why it is not prepared, comes to
 abbrev pub prepared_outcome : {V : Type 0} → (V → ConditionalTest) → (V → Tail → Network)
-    → Asking → Sizes → Option ℕ → Extra → Option Tails → Result V PrepareFault → Outcome
-prepared_outcome test_of network_of asking sizes dropped extra None prepared =
+    → (V → Tail → Network) → Asking → Sizes → Option ℕ → Extra → Option Tails → Result V PrepareFault → Outcome
+prepared_outcome test_of network_of runs_of asking sizes dropped extra None prepared =
     Err (refusal.Unfit option.Tail)
-prepared_outcome test_of network_of asking sizes dropped extra (Some tails) (Err fault) =
+prepared_outcome test_of network_of runs_of asking sizes dropped extra (Some tails) (Err fault) =
     Err (prepare_refusal fault)
-prepared_outcome test_of network_of asking sizes dropped extra (Some tails) (Ok problem) =
-    Ok (report_for asking tails (question_about test_of network_of problem sizes dropped extra))
+prepared_outcome test_of network_of runs_of asking sizes dropped extra (Some tails) (Ok problem) =
+    let about = question_about test_of network_of runs_of problem in
+    Ok (text_for asking tails (about sizes dropped extra))

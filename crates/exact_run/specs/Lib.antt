@@ -13,3 +13,4 @@ pub mod Outcome
 pub mod Texts
 pub mod Promises
 pub mod CauseSteps
+pub mod MergedRuns

@@ -29,7 +29,7 @@ strata_group_sizes samples = sizes.Strata (length samples.strata) (length sample
 
 abbrev pub stratified_question : Option ℕ → StrataGroupData → Question
 stratified_question dropped samples =
-    question_about homogeneity_test homogeneity_network (Second samples)
+    question_about homogeneity_test homogeneity_network homogeneity_network (Second samples)
     (strata_group_sizes samples) dropped extra.None
 
 abbrev pub stratified_ranks_of : Settings → List (List (List ℕ)) → Result Question Refusal

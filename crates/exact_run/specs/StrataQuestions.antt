@@ -28,7 +28,7 @@ cells_of settings rows = with_fault layout_refusal (strata_in settings.picks row
 -- with odds, where they are given
 abbrev pub strata_question : Option Odds → List ℕ → Question
 strata_question odds cells =
-    question_about strata_test strata_network (data_of odds cells) (strata_sizes cells) None
+    question_about strata_test strata_network strata_network (data_of odds cells) (strata_sizes cells) None
     extra.None
 
 abbrev pub strata_of : Settings → List (List (List ℕ)) → Result Question Refusal
@@ -39,7 +39,7 @@ strata_of settings rows =
 
 abbrev pub zelen_question : List ℕ → Question
 zelen_question cells =
-    question_about homogeneity_test homogeneity_network (First cells) (strata_sizes cells) None
+    question_about homogeneity_test homogeneity_network homogeneity_network (First cells) (strata_sizes cells) None
     extra.None
 
 abbrev pub zelen_of : Settings → List (List (List ℕ)) → Result Question Refusal

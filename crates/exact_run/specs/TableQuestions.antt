@@ -36,7 +36,7 @@ table_sizes table = sizes.Table table.rows table.columns (sum table.cells)
 
 abbrev pub mcnemar_question : TableData → Question
 mcnemar_question table =
-    question_about one_sample_test one_sample_network (discordant table) (table_sizes table)
+    question_about one_sample_test one_sample_network one_sample_network (discordant table) (table_sizes table)
     None extra.None
 
 abbrev pub mcnemar_of : Settings → List (List (List ℕ)) → Result Question Refusal
@@ -48,7 +48,7 @@ mcnemar_of settings rows = with_value mcnemar_question (table_of true settings r
 abbrev pub table_question : TableData → OneOf (OneOf TableData ScoredTable) WeightedTable
     → Question
 table_question table test =
-    question_about table_test table_network test (table_sizes table) None extra.None
+    question_about table_test table_network table_network test (table_sizes table) None extra.None
 
 abbrev pub fisher_question : TableData → Question
 fisher_question table = table_question table (First (First table))

@@ -6,7 +6,7 @@ ghost use Rattle.sample_reader.specs.Data.{block_data_of};
 ghost use Rattle.block_tests.specs.BlockTests.{TakesCells, has_tail};
 ghost use Rattle.exact_run.specs.BlockQuestions.{block_sizes, blocks_of, blocks_read, layout_read};
 ghost use Rattle.exact_run.specs.CauseSteps.{IsCauseOf, Meets};
-ghost use Rattle.exact_run.specs.Outcome.{asking_of, outcome_of_question, tails_by};
+ghost use Rattle.exact_run.specs.Outcome.{HasParts, outcome_of_question, tails_by};
 ghost use Rattle.exact_run.specs.Question.{layout_refusal};
 
 use crate::dropping::dropped_told;
@@ -74,12 +74,14 @@ fn sizes_of(blocks: &Blocks) -> Sizes
 pub(crate) fn block_report(
     alloc: Global,
     kind: BlockKind,
+    asking: Asking,
     settings: &Settings,
     rows: &Rows,
 ) -> Result<Bytes, Refusal>
-    requires { MayPick 2 8 settings.now.picks }
+    requires parts { HasParts asking }
+    requires picks { MayPick 2 8 settings.now.picks }
     ensures { let question = blocks_of kind settings.now rows.now in
-        Meets (and_then (outcome_of_question (asking_of settings.now)) question) result }
+        Meets (and_then (outcome_of_question asking) question) result }
 {
     let blocks = blocks_read(alloc, kind, settings, rows)?;
     let problem = prepare(alloc, kind, &blocks);
@@ -88,11 +90,5 @@ pub(crate) fn block_report(
         dropped: dropped_told(settings, layout_read(kind), rows),
         extra: Extra::None,
     };
-    report_on(
-        alloc,
-        Asking::of(settings),
-        &heading,
-        tails_of(kind),
-        problem,
-    )
+    report_on(alloc, asking, &heading, tails_of(kind), problem)
 }

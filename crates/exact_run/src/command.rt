@@ -1,5 +1,5 @@
 // The top call: it does all that the program does.
-ghost use Rattle.std.specs.Prelude.{◌≡◌, ◌≤◌, ◌⊎◌, false, true, Err, Ok, length, map, option_map, string_bytes};
+ghost use Rattle.std.specs.Prelude.{◌≡◌, ◌≤◌, ◌⊎◌, ℕ, List, false, true, Err, Ok, length, map, option_map, string_bytes};
 ghost use Rattle.std.specs.Io.KnownBytes.{Appends};
 ghost use Rattle.outside.specs.Faults.{AppendsPrefix, Rose};
 ghost use Rattle.outside.specs.declared.source.TheConstants.{LONGEST_FILE};
@@ -10,12 +10,15 @@ ghost use Rattle.settings.specs.declared.names.UsageFault.{UsageFault};
 ghost use Rattle.report.specs.Refusals.{refusal_line_text};
 ghost use Rattle.exact_run.specs.CauseSteps.{ComesTo, Meets};
 ghost use Rattle.exact_run.specs.Outcome.{names_file, outcome_of, outcome_of_bytes, usage_refusal as refusal_of};
+ghost use Rattle.exact_run.specs.MergedRuns.{MergeComes, MergePromises};
 ghost use Rattle.exact_run.specs.Promises.{IsBeforeWriting, Promises, ReadRose, WritesLine, status_of};
 ghost use Rattle.exact_run.specs.Texts.{text_of};
 
 use crate::made_data::made_report;
+use crate::merged::merged_report;
 use crate::questions::report_in;
 use crate::refusing::usage_refusal;
+use crate::reports::Asking;
 use crate::status::Status;
 use outside::{ReadFail, Sink, Source, read_all, write_all};
 use record_reader::records;
@@ -51,7 +54,7 @@ fn report_of(alloc: Global, settings: &Settings, bytes: &[u8]) -> Result<Bytes, 
     ensures { Meets (outcome_of_bytes settings.now bytes.now) result }
 {
     match records(alloc, bytes, settings.separator) {
-        Ok(rows) => report_in(alloc, settings, &rows),
+        Ok(rows) => report_in(alloc, Asking::of(settings, bytes), settings, &rows),
         Err(_) => Err(Refusal::NoMemory),
     }
 }
@@ -94,11 +97,16 @@ fn text_for<S: Source>(alloc: Global, words: &[String], source: &mut S) -> Resul
         → (result ≡ Err (refusal_of fault)) ⊎ (result ≡ Err Refusal.NoMemory) }
     ensures untouched { names_file (meaning_of (map string_bytes words.now)) ≡ false
         → source.new ≡ source.old }
+    ensures merged { let meaning = meaning_of (map string_bytes words.now) in
+        (file : List ℕ) → meaning ≡ Ok (CommandLine.Merge file)
+        → MergeComes (Rose (S.faults source.old) (S.faults source.new)) (S.held source.old file)
+        (with_value text_of result) }
 {
     match read(alloc, words) {
         Ok(CommandLine::Help) => Ok(Text::Help),
         Ok(CommandLine::Test(settings)) => as_text(report_from(alloc, &settings, source)),
         Ok(CommandLine::Shift(settings)) => as_text(report_from(alloc, &settings, source)),
+        Ok(CommandLine::Merge(file)) => as_text(merged_report(alloc, &file, source)),
         Ok(CommandLine::Drill(number)) => as_text(made_report(alloc, number)),
         Err(fault) => Err(usage_refusal(fault)),
     }
@@ -117,7 +125,9 @@ fn refuse<E: Sink>(refusal: Refusal, err: &mut E) -> Status
 /// Runs the command that the words name; they are those after the program's own name. `TEST FILE`
 /// with options in any place writes the report of the test for the data of the file, and `shift
 /// FILE` that of the estimate of a shift with its limits; `drill` with a number writes the report
-/// of made data, and `--help` alone the help text, both without the source. The
+/// of made data, and `--help` alone the help text, both without the source. With a part asked for, a
+/// test writes that part of a divided run in place of the report, and `merge FILE` the report of
+/// the parts that a file holds. The
 /// report is composed whole, and then written to `out` by one call of `write_all`; the help text
 /// stands in the program, and takes no memory. Where nothing is written so, one line to `err` says
 /// why.
@@ -138,6 +148,18 @@ pub fn run<S: Source, O: Sink, E: Sink>(
         let err_rose = Rose (E.faults err.old) (E.faults err.new) in
         let told = WritesLine (E.taken err.old) (E.taken err.new) err_rose in
         Promises result known source_rose out_rose took took_prefix told }
+
+    // What the parts of a divided run come to, put together.
+    ensures merged { let meaning = meaning_of (map string_bytes words.now) in
+        let source_rose = Rose (S.faults source.old) (S.faults source.new) in
+        let out_rose = Rose (O.faults out.old) (O.faults out.new) in
+        let took = Appends (O.taken out.old) (O.taken out.new) in
+        let took_prefix = AppendsPrefix (O.taken out.old) (O.taken out.new) in
+        let err_rose = Rose (E.faults err.old) (E.faults err.new) in
+        let told = WritesLine (E.taken err.old) (E.taken err.new) err_rose in
+        (file : List ℕ) → meaning ≡ Ok (CommandLine.Merge file)
+        → MergePromises result (S.held source.old file) source_rose out_rose took took_prefix
+        told }
 
     // Before the first write `out` is as it was, and a report is told by no line.
     ensures unchanged { IsBeforeWriting result → out.new ≡ out.old }

@@ -6,7 +6,7 @@ ghost use Rattle.sample_reader.specs.Data.{data_of};
 ghost use Rattle.sample_reader.specs.GroupLayout.{groups_in};
 ghost use Rattle.exact_run.specs.CauseSteps.{IsCauseOf, Meets};
 ghost use Rattle.exact_run.specs.GroupQuestions.{group_rows, groups_of, has_peak, in_order, kruskal_wallis_of, ordered_of, two_samples_of, umbrella_of};
-ghost use Rattle.exact_run.specs.Outcome.{asking_of, outcome_of_question};
+ghost use Rattle.exact_run.specs.Outcome.{HasParts, outcome_of_question};
 ghost use Rattle.exact_run.specs.Question.{layout_refusal};
 
 use crate::dropping::dropped_told;
@@ -95,12 +95,14 @@ pub(crate) fn sizes_of(groups: Groups) -> Sizes
 pub(crate) fn two_sample_report(
     alloc: Global,
     kind: ScoreKind,
+    asking: Asking,
     settings: &Settings,
     rows: &Rows,
 ) -> Result<Bytes, Refusal>
-    requires { MayPick 2 2 settings.now.picks }
+    requires parts { HasParts asking }
+    requires picks { MayPick 2 2 settings.now.picks }
     ensures { let question = two_samples_of kind settings.now rows.now in
-        Meets (and_then (outcome_of_question (asking_of settings.now)) question) result }
+        Meets (and_then (outcome_of_question asking) question) result }
 {
     let groups = groups_of(alloc, TWO_SAMPLES, settings, rows)?;
     let problem = prepare(alloc, kind, &groups);
@@ -109,18 +111,20 @@ pub(crate) fn two_sample_report(
         dropped: dropped_told(settings, Layout::Groups, rows),
         extra: Extra::None,
     };
-    report_on(alloc, Asking::of(settings), &heading, ALL, problem)
+    report_on(alloc, asking, &heading, ALL, problem)
 }
 
 /// The report of the test of Kruskal and Wallis by the scores that are asked, or the refusal.
 pub(crate) fn kruskal_wallis_report(
     alloc: Global,
+    asking: Asking,
     settings: &Settings,
     rows: &Rows,
 ) -> Result<Bytes, Refusal>
-    requires { MayPick 2 2 settings.now.picks }
+    requires parts { HasParts asking }
+    requires picks { MayPick 2 2 settings.now.picks }
     ensures { let question = kruskal_wallis_of settings.now rows.now in
-        Meets (and_then (outcome_of_question (asking_of settings.now)) question) result }
+        Meets (and_then (outcome_of_question asking) question) result }
 {
     let kind = settings.scores;
     let groups = groups_of(alloc, MOST_SAMPLES, settings, rows)?;
@@ -130,18 +134,20 @@ pub(crate) fn kruskal_wallis_report(
         dropped: dropped_told(settings, Layout::Groups, rows),
         extra: Extra::Scores(kind),
     };
-    report_on(alloc, Asking::of(settings), &heading, GREATER, problem)
+    report_on(alloc, asking, &heading, GREATER, problem)
 }
 
 /// The report of the test of ordered groups, or the refusal.
 pub(crate) fn ordered_report(
     alloc: Global,
+    asking: Asking,
     settings: &Settings,
     rows: &Rows,
 ) -> Result<Bytes, Refusal>
-    requires { MayPick 2 2 settings.now.picks }
+    requires parts { HasParts asking }
+    requires picks { MayPick 2 2 settings.now.picks }
     ensures { let question = ordered_of settings.now rows.now in
-        Meets (and_then (outcome_of_question (asking_of settings.now)) question) result }
+        Meets (and_then (outcome_of_question asking) question) result }
 {
     let groups = groups_of(alloc, MOST_SAMPLES, settings, rows)?;
     let problem = prepare_umbrella(alloc, groups.labels.len() as u64, &groups);
@@ -150,7 +156,7 @@ pub(crate) fn ordered_report(
         dropped: dropped_told(settings, Layout::Groups, rows),
         extra: Extra::None,
     };
-    report_on(alloc, Asking::of(settings), &heading, ALL, problem)
+    report_on(alloc, asking, &heading, ALL, problem)
 }
 
 // The peak is the number of a group.
@@ -163,12 +169,14 @@ fn has_peak(peak: u64, groups: &Groups) -> bool
 /// The report of the test of groups that are ordered up to a peak and down from it, or the refusal.
 pub(crate) fn umbrella_report(
     alloc: Global,
+    asking: Asking,
     settings: &Settings,
     rows: &Rows,
 ) -> Result<Bytes, Refusal>
-    requires { MayPick 2 2 settings.now.picks }
+    requires parts { HasParts asking }
+    requires picks { MayPick 2 2 settings.now.picks }
     ensures { let question = umbrella_of settings.now rows.now in
-        Meets (and_then (outcome_of_question (asking_of settings.now)) question) result }
+        Meets (and_then (outcome_of_question asking) question) result }
 {
     let peak = settings.peak;
     let groups = groups_of(alloc, MOST_SAMPLES, settings, rows)?;
@@ -181,5 +189,5 @@ pub(crate) fn umbrella_report(
         dropped: dropped_told(settings, Layout::Groups, rows),
         extra: Extra::Peak(peak),
     };
-    report_on(alloc, Asking::of(settings), &heading, ALL, problem)
+    report_on(alloc, asking, &heading, ALL, problem)
 }

@@ -4,7 +4,7 @@ ghost use Rattle.record_reader.specs.Layouts.{MayPick};
 ghost use Rattle.weights.specs.Results.{and_then, with_fault};
 ghost use Rattle.sample_reader.specs.CellLayouts.{differences_in};
 ghost use Rattle.exact_run.specs.CauseSteps.{IsCauseOf, Meets};
-ghost use Rattle.exact_run.specs.Outcome.{asking_of, outcome_of_question};
+ghost use Rattle.exact_run.specs.Outcome.{HasParts, outcome_of_question};
 ghost use Rattle.exact_run.specs.PairQuestions.{pair_sizes, pairs_of};
 ghost use Rattle.exact_run.specs.Question.{layout_refusal};
 
@@ -43,12 +43,14 @@ fn sizes_of(pairs: &Pairs) -> Sizes
 pub(crate) fn pair_report(
     alloc: Global,
     kind: SignKind,
+    asking: Asking,
     settings: &Settings,
     rows: &Rows,
 ) -> Result<Bytes, Refusal>
-    requires { MayPick 1 2 settings.now.picks }
+    requires parts { HasParts asking }
+    requires picks { MayPick 1 2 settings.now.picks }
     ensures { let question = pairs_of kind settings.now rows.now in
-        Meets (and_then (outcome_of_question (asking_of settings.now)) question) result }
+        Meets (and_then (outcome_of_question asking) question) result }
 {
     let pairs = pairs_read(alloc, settings, rows)?;
     let problem = prepare_pairs(alloc, kind, &pairs);
@@ -57,5 +59,5 @@ pub(crate) fn pair_report(
         dropped: dropped_told(settings, Layout::Pairs, rows),
         extra: Extra::None,
     };
-    report_on(alloc, Asking::of(settings), &heading, ALL, problem)
+    report_on(alloc, asking, &heading, ALL, problem)
 }

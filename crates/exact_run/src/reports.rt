@@ -1,15 +1,17 @@
 // The report of a prepared problem: the same for all tests.
-ghost use Rattle.std.specs.Prelude.{◌≡◌, None, Some, IfOk};
+ghost use Rattle.std.specs.Prelude.{◌≡◌, ◌≤◌, None, IfOk, IfSome};
 ghost use Rattle.weights.specs.Wide.{too_wide};
-ghost use Rattle.stage_network.specs.Follows.{HasTails};
+ghost use Rattle.settings.specs.Usable.{IsPieceOf};
+ghost use Rattle.stage_network.specs.Follows.{HasTails, answer_of, open_keys};
 ghost use Rattle.exact_run.specs.CauseSteps.{Meets, prepared_outcome};
-ghost use Rattle.exact_run.specs.Outcome.{asked, asking_of, asking_of_made, only, report_for, spread_of, tails_in, way_of};
+ghost use Rattle.exact_run.specs.Outcome.{HasParts, asked, asking_of, asking_of_made, only, report_for, spread_of, tails_in, text_for, way_of};
 ghost use Rattle.exact_run.specs.Question.{question_about};
 
+use crate::parts::{PartOf, piece_for};
 use crate::refusing::prepare_refusal;
 use report::{Extra, Refusal, Sizes, Title, compose};
 use settings::{OptionName, Settings, TailChoice};
-use stage_network::{Prepared, Spread, Way, answer, distribution};
+use stage_network::{Answer, Prepared, Spread, Way, answer, distribution, quick_answer};
 use std::alloc::Global;
 use weights::{Bytes, NoMemory, PrepareFault, Tails};
 
@@ -57,10 +59,10 @@ fn asked(choice: TailChoice, has: Tails) -> Option<Tails>
     }
 }
 
-fn way_of(plain: bool) -> Way
-    ensures { result ≡ way_of plain }
+fn way_of(counts: bool) -> Way
+    ensures { result ≡ way_of counts }
 {
-    if plain { Way::Plain } else { Way::Network }
+    if counts { Way::Network } else { Way::Plain }
 }
 
 // The distribution, where it is asked.
@@ -87,12 +89,15 @@ pub(crate) struct Asking {
     pub distribution: bool,
     pub plain: bool,
     pub nodes: bool,
+    pub piece: Option<PartOf>,
 }
 
 impl Asking {
-    /// What the settings ask.
-    pub(crate) fn of(settings: &Settings) -> Asking
-        ensures { result ≡ asking_of settings.now }
+    /// What the settings ask of the data of a file.
+    pub(crate) fn of(settings: &Settings, file: &[u8]) -> Asking
+        requires { IfSome settings.now.piece IsPieceOf }
+        ensures asked { result ≡ asking_of settings.now file.now }
+        ensures parts { HasParts result }
     {
         Asking {
             title: Title::Test(settings.test),
@@ -100,12 +105,14 @@ impl Asking {
             distribution: settings.distribution,
             plain: settings.plain,
             nodes: settings.nodes,
+            piece: settings.piece.as_ref().map(|piece| PartOf::of(piece, file)),
         }
     }
 
     /// What is asked of made data.
     pub(crate) fn of_made(number: u64) -> Asking
-        ensures { result ≡ asking_of_made number }
+        ensures asked { result ≡ asking_of_made number }
+        ensures parts { HasParts result }
     {
         Asking {
             title: Title::Drill(number),
@@ -113,6 +120,7 @@ impl Asking {
             distribution: false,
             plain: false,
             nodes: false,
+            piece: None,
         }
     }
 }
@@ -125,6 +133,28 @@ pub(crate) struct Heading {
     pub extra: Extra,
 }
 
+// The answer of a problem, whose open keys are counted where they are shown.
+fn answer_for<P: Prepared>(
+    alloc: Global,
+    asking: Asking,
+    tails: Tails,
+    problem: &P,
+) -> Result<Answer, NoMemory>
+    requires { HasTails (P.test problem.now) tails }
+    ensures answer { let opened = open_keys (P.network problem.now) in
+        IfOk result (λ answer.
+        answer ≡ answer_of (P.test problem.now) opened tails (way_of asking.nodes)) }
+    ensures some { IfOk result (λ answer. 1 ≤ answer.total) }
+{
+    if asking.nodes {
+        answer(alloc, problem, tails, Way::Network)
+    } else if asking.plain {
+        answer(alloc, problem, tails, Way::Plain)
+    } else {
+        quick_answer(alloc, problem, tails)
+    }
+}
+
 // The report of a problem, for tails that it has.
 fn report_for<P: Prepared>(
     alloc: Global,
@@ -135,13 +165,12 @@ fn report_for<P: Prepared>(
 ) -> Result<Bytes, NoMemory>
     requires has { HasTails (P.test problem.now) tails }
     requires fits { too_wide (P.test problem.now) ≡ None }
-    ensures { let about = question_about P.test P.network problem.now in
+    ensures { let about = question_about P.test P.network P.runs problem.now in
         let question = about heading.now.sizes heading.now.dropped heading.now.extra in
         IfOk result (λ text. text ≡ report_for asking tails question) }
 {
-    let way = way_of(asking.plain);
-    let answer = answer(alloc, problem, tails, way)?;
-    let spread = spread_of(alloc, asking.distribution, way, problem)?;
+    let answer = answer_for(alloc, asking, tails, problem)?;
+    let spread = spread_of(alloc, asking.distribution, way_of(!asking.plain), problem)?;
     let text = compose(
         alloc,
         asking.title,
@@ -155,6 +184,27 @@ fn report_for<P: Prepared>(
     Ok(text)
 }
 
+// The report of a problem, or the text of the part that is asked.
+fn text_for<P: Prepared>(
+    alloc: Global,
+    asking: Asking,
+    heading: &Heading,
+    tails: Tails,
+    problem: &P,
+) -> Result<Bytes, NoMemory>
+    requires parts { HasParts asking }
+    requires has { HasTails (P.test problem.now) tails }
+    requires fits { too_wide (P.test problem.now) ≡ None }
+    ensures { let about = question_about P.test P.network P.runs problem.now in
+        let question = about heading.now.sizes heading.now.dropped heading.now.extra in
+        IfOk result (λ text. text ≡ text_for asking tails question) }
+{
+    match asking.piece {
+        None => report_for(alloc, asking, heading, tails, problem),
+        Some(part) => piece_for(alloc, asking, heading, tails, part, problem),
+    }
+}
+
 /// The report of a test that has these tails, where it is prepared and has the asked ones, or the
 /// refusal.
 pub(crate) fn report_on<P: Prepared + Drop>(
@@ -164,10 +214,11 @@ pub(crate) fn report_on<P: Prepared + Drop>(
     has: Tails,
     prepared: Result<P, PrepareFault>,
 ) -> Result<Bytes, Refusal>
+    requires parts { HasParts asking }
     requires has { IfOk prepared (λ problem. has ≡ tails_in (P.test problem)) }
     requires fits { IfOk prepared (λ problem. too_wide (P.test problem) ≡ None) }
     ensures { let tails = asked asking.tail has in
-        let outcome = prepared_outcome P.test P.network asking in
+        let outcome = prepared_outcome P.test P.network P.runs asking in
         let told = outcome heading.now.sizes heading.now.dropped heading.now.extra in
         Meets (told tails prepared) result }
 {
@@ -178,7 +229,7 @@ pub(crate) fn report_on<P: Prepared + Drop>(
         Ok(problem) => problem,
         Err(fault) => return Err(prepare_refusal(fault)),
     };
-    match report_for(alloc, asking, heading, tails, &problem) {
+    match text_for(alloc, asking, heading, tails, &problem) {
         Ok(text) => Ok(text),
         Err(NoMemory) => Err(Refusal::NoMemory),
     }

@@ -6,7 +6,7 @@ ghost use Rattle.sample_reader.specs.Data.{sequence_data_of, twin_data_of};
 ghost use Rattle.sample_reader.specs.Sequences.{sequence_in};
 ghost use Rattle.sample_reader.specs.Twins.{twins_in};
 ghost use Rattle.exact_run.specs.CauseSteps.{IsCauseOf, Meets};
-ghost use Rattle.exact_run.specs.Outcome.{asking_of, outcome_of_question};
+ghost use Rattle.exact_run.specs.Outcome.{HasParts, outcome_of_question};
 ghost use Rattle.exact_run.specs.Question.{layout_refusal};
 ghost use Rattle.exact_run.specs.SequenceQuestions.{kendall_of, runs_of, sequence_sizes, twin_sizes};
 
@@ -44,12 +44,14 @@ fn twin_sizes(twins: &Twins) -> Sizes
 /// The report of Kendall's test, or the refusal.
 pub(crate) fn kendall_report(
     alloc: Global,
+    asking: Asking,
     settings: &Settings,
     rows: &Rows,
 ) -> Result<Bytes, Refusal>
-    requires { MayPick 2 2 settings.now.picks }
+    requires parts { HasParts asking }
+    requires picks { MayPick 2 2 settings.now.picks }
     ensures { let question = kendall_of settings.now rows.now in
-        Meets (and_then (outcome_of_question (asking_of settings.now)) question) result }
+        Meets (and_then (outcome_of_question asking) question) result }
 {
     let twins = twins_read(alloc, settings, rows)?;
     let problem = prepare_kendall(alloc, &twins);
@@ -58,7 +60,7 @@ pub(crate) fn kendall_report(
         dropped: dropped_told(settings, Layout::Twins, rows),
         extra: Extra::None,
     };
-    report_on(alloc, Asking::of(settings), &heading, ALL, problem)
+    report_on(alloc, asking, &heading, ALL, problem)
 }
 
 // The sequence of the rows, or the refusal of its fault.
@@ -82,10 +84,16 @@ fn sequence_sizes(sequence: Sequence) -> Sizes
 }
 
 /// The report of the runs test, or the refusal.
-pub(crate) fn runs_report(alloc: Global, settings: &Settings, rows: &Rows) -> Result<Bytes, Refusal>
-    requires { MayPick 1 1 settings.now.picks }
+pub(crate) fn runs_report(
+    alloc: Global,
+    asking: Asking,
+    settings: &Settings,
+    rows: &Rows,
+) -> Result<Bytes, Refusal>
+    requires parts { HasParts asking }
+    requires picks { MayPick 1 1 settings.now.picks }
     ensures { let question = runs_of settings.now rows.now in
-        Meets (and_then (outcome_of_question (asking_of settings.now)) question) result }
+        Meets (and_then (outcome_of_question asking) question) result }
 {
     let sequence = sequence_read(alloc, settings, rows)?;
     let problem = prepare_runs(alloc, &sequence);
@@ -94,5 +102,5 @@ pub(crate) fn runs_report(alloc: Global, settings: &Settings, rows: &Rows) -> Re
         dropped: dropped_told(settings, Layout::Sequence, rows),
         extra: Extra::None,
     };
-    report_on(alloc, Asking::of(settings), &heading, ALL, problem)
+    report_on(alloc, asking, &heading, ALL, problem)
 }

@@ -47,6 +47,8 @@ impl Status {
         match refusal {
             Refusal::Usage(_) | Refusal::Unfit(_) => Status::Usage,
             Refusal::Row(_) | Refusal::TooLong => Status::BadData,
+            Refusal::PieceLine(_) | Refusal::Foreign(_) | Refusal::Doubled(_) => Status::BadData,
+            Refusal::MissingPart(_) | Refusal::Unequal(_) => Status::BadData,
             Refusal::TooWide(_) => Status::TooWide,
             Refusal::ReadFault => Status::ReadFault,
             Refusal::WriteFault => Status::WriteFault,

@@ -5,7 +5,7 @@ ghost use Rattle.weights.specs.Results.{and_then, with_fault};
 ghost use Rattle.sample_reader.specs.Data.{strata_data_of};
 ghost use Rattle.sample_reader.specs.StrataGroups.{strata_groups_in};
 ghost use Rattle.exact_run.specs.CauseSteps.{IsCauseOf, Meets};
-ghost use Rattle.exact_run.specs.Outcome.{asking_of, outcome_of_question};
+ghost use Rattle.exact_run.specs.Outcome.{HasParts, outcome_of_question};
 ghost use Rattle.exact_run.specs.Question.{layout_refusal};
 ghost use Rattle.exact_run.specs.StrataGroupQuestions.{in_strata_order, strata_group_sizes, strata_groups_of, stratified_ranks_of};
 
@@ -70,12 +70,14 @@ fn sizes_of(samples: &StrataGroups) -> Sizes
 /// The report of the rank sum test of two samples in strata, or the refusal.
 pub(crate) fn stratified_rank_report(
     alloc: Global,
+    asking: Asking,
     settings: &Settings,
     rows: &Rows,
 ) -> Result<Bytes, Refusal>
-    requires { MayPick 3 3 settings.now.picks }
+    requires parts { HasParts asking }
+    requires picks { MayPick 3 3 settings.now.picks }
     ensures { let question = stratified_ranks_of settings.now rows.now in
-        Meets (and_then (outcome_of_question (asking_of settings.now)) question) result }
+        Meets (and_then (outcome_of_question asking) question) result }
 {
     let samples = samples_of(alloc, settings, rows)?;
     let problem = prepare_ranks(alloc, &samples);
@@ -84,5 +86,5 @@ pub(crate) fn stratified_rank_report(
         dropped: dropped_told(settings, Layout::StrataGroups, rows),
         extra: Extra::None,
     };
-    report_on(alloc, Asking::of(settings), &heading, ALL, problem)
+    report_on(alloc, asking, &heading, ALL, problem)
 }

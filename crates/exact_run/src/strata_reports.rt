@@ -6,7 +6,7 @@ ghost use Rattle.weights.specs.Results.{and_then};
 ghost use Rattle.weights.specs.Wide.{Prepares};
 ghost use Rattle.stratified_tests.specs.StrataTests.{data_of, strata_test, tails_with};
 ghost use Rattle.exact_run.specs.CauseSteps.{IsCauseOf, Meets};
-ghost use Rattle.exact_run.specs.Outcome.{asking_of, outcome_of_question, tails_by};
+ghost use Rattle.exact_run.specs.Outcome.{HasParts, outcome_of_question, tails_by};
 ghost use Rattle.exact_run.specs.StrataQuestions.{cells_of, strata_of, strata_sizes, zelen_of};
 
 use crate::refusing::layout_refusal;
@@ -70,43 +70,35 @@ fn tails_of(odds: Option<Odds>) -> Tails
 /// The report of the test of strata, with odds where they are given, or the refusal.
 pub(crate) fn strata_report(
     alloc: Global,
+    asking: Asking,
     settings: &Settings,
     rows: &Rows,
 ) -> Result<Bytes, Refusal>
+    requires parts { HasParts asking }
     requires picks { MayPick 5 5 settings.now.picks }
     requires odds { IfSome settings.now.odds IsOdds }
     ensures { let question = strata_of settings.now rows.now in
-        Meets (and_then (outcome_of_question (asking_of settings.now)) question) result }
+        Meets (and_then (outcome_of_question asking) question) result }
 {
     let strata = strata_read(alloc, settings, rows)?;
     let problem = prepared(alloc, settings.odds, &strata);
     let tails = tails_of(settings.odds);
-    report_on(
-        alloc,
-        Asking::of(settings),
-        &heading_of(&strata),
-        tails,
-        problem,
-    )
+    report_on(alloc, asking, &heading_of(&strata), tails, problem)
 }
 
 /// The report of the test of equal odds ratios in strata, or the refusal.
 pub(crate) fn zelen_report(
     alloc: Global,
+    asking: Asking,
     settings: &Settings,
     rows: &Rows,
 ) -> Result<Bytes, Refusal>
-    requires { MayPick 5 5 settings.now.picks }
+    requires parts { HasParts asking }
+    requires picks { MayPick 5 5 settings.now.picks }
     ensures { let question = zelen_of settings.now rows.now in
-        Meets (and_then (outcome_of_question (asking_of settings.now)) question) result }
+        Meets (and_then (outcome_of_question asking) question) result }
 {
     let strata = strata_read(alloc, settings, rows)?;
     let problem = prepare_zelen(alloc, &strata);
-    report_on(
-        alloc,
-        Asking::of(settings),
-        &heading_of(&strata),
-        TWO,
-        problem,
-    )
+    report_on(alloc, asking, &heading_of(&strata), TWO, problem)
 }

@@ -12,7 +12,7 @@ ghost use Rattle.table_tests.specs.Tables.{is_two_by_two};
 ghost use Rattle.settings.specs.Usable.{AreWithin};
 ghost use Rattle.settings.specs.Values.{column_scores_form, row_scores_form};
 ghost use Rattle.exact_run.specs.CauseSteps.{IsCauseOf, Meets};
-ghost use Rattle.exact_run.specs.Outcome.{asking_of, outcome_of_question};
+ghost use Rattle.exact_run.specs.Outcome.{HasParts, outcome_of_question};
 ghost use Rattle.exact_run.specs.TableQuestions.{fisher_of, fisher_question, fitting_scores, linear_of, mcnemar_of, odds_question, scores_or_numbers, table_of, table_sizes};
 
 use crate::refusing::layout_refusal;
@@ -65,38 +65,29 @@ fn heading_of(table: &Table) -> Heading
 /// The report of McNemar's test, or the refusal.
 pub(crate) fn mcnemar_report(
     alloc: Global,
+    asking: Asking,
     settings: &Settings,
     rows: &Rows,
 ) -> Result<Bytes, Refusal>
-    requires { MayPick 2 2 settings.now.picks }
+    requires parts { HasParts asking }
+    requires picks { MayPick 2 2 settings.now.picks }
     ensures { let question = mcnemar_of settings.now rows.now in
-        Meets (and_then (outcome_of_question (asking_of settings.now)) question) result }
+        Meets (and_then (outcome_of_question asking) question) result }
 {
     let table = table_of(alloc, true, settings, rows)?;
     let problem = prepare_mcnemar(alloc, &table);
-    report_on(
-        alloc,
-        Asking::of(settings),
-        &heading_of(&table),
-        ALL,
-        problem,
-    )
+    report_on(alloc, asking, &heading_of(&table), ALL, problem)
 }
 
 // The report of Fisher's exact test of a table without odds, or the refusal.
-fn central_report(alloc: Global, settings: &Settings, table: &Table) -> Result<Bytes, Refusal>
+fn central_report(alloc: Global, asking: Asking, table: &Table) -> Result<Bytes, Refusal>
+    requires parts { HasParts asking }
     ensures { let question = fisher_question (table_data_of table.now) in
-        Meets (outcome_of_question (asking_of settings.now) question) result }
+        Meets (outcome_of_question asking question) result }
 {
     let problem = prepare_fisher(alloc, table);
     let tails = fisher_tails(table);
-    report_on(
-        alloc,
-        Asking::of(settings),
-        &heading_of(table),
-        tails,
-        problem,
-    )
+    report_on(alloc, asking, &heading_of(table), tails, problem)
 }
 
 fn is_two_by_two(table: &Table) -> bool
@@ -106,44 +97,36 @@ fn is_two_by_two(table: &Table) -> bool
 }
 
 // The report of Fisher's exact test of a table with odds, or the refusal.
-fn odds_report(
-    alloc: Global,
-    settings: &Settings,
-    odds: Odds,
-    table: &Table,
-) -> Result<Bytes, Refusal>
-    requires { IsOdds odds }
+fn odds_report(alloc: Global, asking: Asking, odds: Odds, table: &Table) -> Result<Bytes, Refusal>
+    requires parts { HasParts asking }
+    requires odds { IsOdds odds }
     ensures { let question = odds_question odds (table_data_of table.now) in
-        Meets (and_then (outcome_of_question (asking_of settings.now)) question) result }
+        Meets (and_then (outcome_of_question asking) question) result }
 {
     if !is_two_by_two(table) {
         return Err(Refusal::Unfit(OptionName::Tail));
     }
     let problem = prepare_odds(alloc, odds, table);
-    report_on(
-        alloc,
-        Asking::of(settings),
-        &heading_of(table),
-        ONE_SIDED,
-        problem,
-    )
+    report_on(alloc, asking, &heading_of(table), ONE_SIDED, problem)
 }
 
 /// The report of Fisher's exact test, with odds where they are given, or the refusal.
 pub(crate) fn fisher_report(
     alloc: Global,
+    asking: Asking,
     settings: &Settings,
     rows: &Rows,
 ) -> Result<Bytes, Refusal>
+    requires parts { HasParts asking }
     requires picks { MayPick 2 MOST_TABLE_COLUMNS settings.now.picks }
     requires odds { IfSome settings.now.odds IsOdds }
     ensures { let question = fisher_of settings.now rows.now in
-        Meets (and_then (outcome_of_question (asking_of settings.now)) question) result }
+        Meets (and_then (outcome_of_question asking) question) result }
 {
     let table = table_of(alloc, false, settings, rows)?;
     match settings.odds {
-        None => central_report(alloc, settings, &table),
-        Some(odds) => odds_report(alloc, settings, odds, &table),
+        None => central_report(alloc, asking, &table),
+        Some(odds) => odds_report(alloc, asking, odds, &table),
     }
 }
 
@@ -201,14 +184,16 @@ fn numbers(alloc: Global, count: u64) -> Result<Nums64, NoMemory>
 /// The report of the linear-by-linear test, or the refusal.
 pub(crate) fn linear_report(
     alloc: Global,
+    asking: Asking,
     settings: &Settings,
     rows: &Rows,
 ) -> Result<Bytes, Refusal>
+    requires parts { HasParts asking }
     requires picks { MayPick 2 MOST_TABLE_COLUMNS settings.now.picks }
     requires row_scores { AreWithin row_scores_form settings.now.row_scores }
     requires column_scores { AreWithin column_scores_form settings.now.column_scores }
     ensures { let question = linear_of settings.now rows.now in
-        Meets (and_then (outcome_of_question (asking_of settings.now)) question) result }
+        Meets (and_then (outcome_of_question asking) question) result }
 {
     let table = table_of(alloc, false, settings, rows)?;
     let of_rows = OptionName::RowScores;
@@ -221,11 +206,5 @@ pub(crate) fn linear_report(
         row_scores.as_slice(),
         column_scores.as_slice(),
     );
-    report_on(
-        alloc,
-        Asking::of(settings),
-        &heading_of(&table),
-        ALL,
-        problem,
-    )
+    report_on(alloc, asking, &heading_of(&table), ALL, problem)
 }

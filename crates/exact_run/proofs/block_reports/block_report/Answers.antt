@@ -1,9 +1,8 @@
 use Rattle.sample_reader.specs.Data.{block_data_of}
 use Rattle.report.specs.declared.headings.Extra.TheVariants as extra
-use Rattle.block_tests.specs.BlockNetworks.{block_network}
+use Rattle.block_tests.specs.BlockNetworks.{block_network, running_network}
 use Rattle.block_tests.specs.BlockTests.{block_test, blocks_for}
 use Rattle.exact_run.specs.BlockQuestions.{block_sizes, layout_read}
-use Rattle.exact_run.specs.Outcome.{asking_of}
 use Rattle.exact_run.specs.Question.{dropped_told}
 use Rattle.exact_run.proofs.Asking.{asked_outcome}
 use Rattle.exact_run.proofs.block_reports.block_report.Goals as goal
@@ -13,5 +12,5 @@ returns c =
     let blocks = block_data_of c.in_ok-blocks.blocks in
     let dropped = dropped_told c.args.settings.now (layout_read c.args.kind) c.args.rows.now in
     rw c.in_ok-blocks.ensures.ok
-    (asked_outcome block_test block_network (asking_of c.args.settings.now) (block_sizes blocks) dropped extra.None
-    (blocks_for c.args.kind blocks) _ _ c.prepare-problem.ensures (rw (c.of.ensures, c.sizes_of.ensures, c.dropped_told.ensures, c.layout_read.ensures, c.tails_of.ensures) at c.report_on.ensures))
+    (asked_outcome block_test block_network running_network c.args.asking (block_sizes blocks) dropped extra.None
+    (blocks_for c.args.kind blocks) _ _ c.prepare-problem.ensures (rw (c.sizes_of.ensures, c.dropped_told.ensures, c.layout_read.ensures, c.tails_of.ensures) at c.report_on.ensures))

@@ -1,4 +1,5 @@
 use Rattle.exact_run.specs.Texts.{text_of}
+use Rattle.exact_run.proofs.Merging.{merging-done, merging-refused, merging-write_fault}
 use Rattle.exact_run.proofs.Promised.{promised-done, promised-refused, promised-write_fault}
 use Rattle.exact_run.proofs.Words.{words-status}
 use Rattle.exact_run.proofs.command.run.Goals as goal
@@ -19,3 +20,17 @@ returns-clause-promises g c =
 
 pub returns-clause-words : goal.returns-clause-words
 returns-clause-words g c = λ fault is. rw c.refuse-in-Err.ensures.status (words-status c.in-Err.refusal fault (c.in-Err.ensures.words fault is))
+
+pub returns-in-Ok-write_all-clause-merged : goal.returns-in-Ok-write_all-clause-merged
+returns-in-Ok-write_all-clause-merged g c = λ file is.
+    let whole = rw c.as_slice.ensures at c.in-Ok-write_all.ensures.ok in
+    merging-done _ (text_of c.in-Ok.text) _ _ _ _ _ (c.in-Ok.ensures.merged file is) whole
+
+pub returns-in-Ok-clause-merged : goal.returns-in-Ok-clause-merged
+returns-in-Ok-clause-merged g c = λ file is.
+    let prefix = rw c.as_slice.ensures at c.in-Err-write_all.ensures.err in
+    rw c.refuse.ensures.status (merging-write_fault _ (text_of c.in-Ok.text) _ _ _ _ _ (c.in-Ok.ensures.merged file is) c.in-Err-write_all.ensures.fault prefix c.refuse.ensures.line)
+
+pub returns-clause-merged : goal.returns-clause-merged
+returns-clause-merged g c = λ file is.
+    rw c.refuse-in-Err.ensures.status (merging-refused c.in-Err.refusal _ _ _ _ _ _ (c.in-Err.ensures.merged file is) c.refuse-in-Err.ensures.line)

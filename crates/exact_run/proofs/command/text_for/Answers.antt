@@ -1,13 +1,15 @@
-use Rattle.std.proofs.Common.{◌≡◌, ◌∙◌, ap, ℕ, map, string_bytes, Result, Ok, Err, Some, refl, sym}
+use Rattle.std.proofs.Common.{◌≡◌, ◌∙◌, ap, ℕ, map, string_bytes, Result, Ok, Err, List, Option, Some, None, refl, sym}
 use Rattle.weights.specs.Results.{with_value}
 use Rattle.settings.specs.Meaning.{meaning_of}
 use Rattle.settings.specs.declared.command_line.CommandLine.{CommandLine}
-use Rattle.settings.specs.declared.command_line.CommandLine.TheVariants.{Drill, Help}
+use Rattle.settings.specs.declared.command_line.CommandLine.TheVariants.{Drill, Help, Merge}
 use Rattle.settings.specs.declared.names.UsageFault.{UsageFault}
 use Rattle.exact_run.specs.MadeData.{made_question}
 use Rattle.exact_run.specs.Outcome.{Outcome, asking_of_made, outcome_of_question}
 use Rattle.exact_run.specs.CauseSteps.{ComesTo, Meets}
+use Rattle.exact_run.specs.MergedRuns.{MergeComes}
 use Rattle.exact_run.specs.Texts.{text_of}
+use Rattle.exact_run.proofs.Merging.{merging-comes}
 use Rattle.exact_run.proofs.Readings.{known-outcome}
 use Rattle.exact_run.proofs.Words.{refused-words}
 use Rattle.exact_run.proofs.command.text_for.Goals as goal
@@ -39,3 +41,18 @@ returns-in-Ok-Drill-clause-words g c = λ fault is.
 
 pub returns-in-Ok-Drill-clause-help : goal.returns-in-Ok-Drill-clause-help
 returns-in-Ok-Drill-clause-help g c = λ asked. absurd (no-help _ c.in-Ok-Drill.number c.in-Ok-Drill.field-0-is (c.in-Ok-Drill.ensures.help asked))
+
+no-merge : (number : ℕ) (file : List ℕ) → told (Drill number) ≡ told (Merge file) → ⊥
+no-merge number file same = cc
+
+pub returns-in-Ok-Drill-clause-merged : goal.returns-in-Ok-Drill-clause-merged
+returns-in-Ok-Drill-clause-merged g c = λ file is.
+    absurd (no-merge c.in-Ok-Drill.number file (sym (c.in-Ok-Drill.ensures.meaning ∙ ap Ok c.in-Ok-Drill.field-0-is) ∙ is))
+
+merged-comes : (reads rose : Type 0) (held : Option (List ℕ)) (made text : Outcome) → text ≡ made → reads → MergeComes rose held made → ComesTo (reads × rose) None text
+merged-comes reads rose held made text is read comes = rw is (merging-comes reads rose held made read comes)
+
+pub returns-in-Ok-Merge-clause-comes : goal.returns-in-Ok-Merge-clause-comes
+returns-in-Ok-Merge-clause-comes g c =
+    let meaning : meaning_of (map string_bytes c.args.words.now) ≡ Ok (Merge c.in-Ok-Merge.file) = c.in-Ok-Merge.ensures.meaning ∙ ap Ok c.in-Ok-Merge.field-0-is in
+    rw meaning (merged-comes _ _ _ c.merged_report.result (with_value text_of c.as_text-in-Ok-Merge.result) c.as_text-in-Ok-Merge.ensures refl c.merged_report.ensures)

@@ -3,7 +3,6 @@ use Rattle.report.specs.declared.headings.Extra.TheVariants as extra
 use Rattle.k_sample_tests.specs.KSamples.{k_sample_network, k_sample_test}
 use Rattle.stage_network.specs.declared.one_of.OneOf.TheVariants.{First}
 use Rattle.exact_run.specs.GroupQuestions.{group_rows, groups_dropped}
-use Rattle.exact_run.specs.Outcome.{asking_of}
 use Rattle.exact_run.proofs.Asking.{asked_outcome}
 use Rattle.exact_run.proofs.group_reports.kruskal_wallis_report.Goals as goal
 
@@ -12,5 +11,5 @@ returns c =
     let groups = data_of c.in_ok-groups.groups in
     let dropped = groups_dropped c.args.settings.now c.args.rows.now in
     rw c.in_ok-groups.ensures.ok
-    (asked_outcome k_sample_test k_sample_network (asking_of c.args.settings.now) (group_rows groups) dropped (extra.Scores c.args.settings.now.scores)
-    (First (record { kind = c.args.settings.now.scores; groups = groups })) _ _ c.prepare_kw-problem.ensures (rw (c.of.ensures, c.sizes_of.ensures, c.dropped_told.ensures) at c.report_on.ensures))
+    (asked_outcome k_sample_test k_sample_network k_sample_network c.args.asking (group_rows groups) dropped (extra.Scores c.args.settings.now.scores)
+    (First (record { kind = c.args.settings.now.scores; groups = groups })) _ _ c.prepare_kw-problem.ensures (rw (c.sizes_of.ensures, c.dropped_told.ensures) at c.report_on.ensures))

@@ -1,7 +1,6 @@
 use Rattle.sample_reader.specs.Data.{data_of}
 use Rattle.report.specs.declared.headings.Extra.TheVariants as extra
 use Rattle.exact_run.specs.GroupQuestions.{group_rows, groups_dropped}
-use Rattle.exact_run.specs.Outcome.{asking_of}
 use Rattle.two_sample_tests.specs.Columns.{two_sample_network}
 use Rattle.two_sample_tests.specs.TwoSamples.{two_sample_test}
 use Rattle.exact_run.proofs.Asking.{asked_outcome}
@@ -12,5 +11,5 @@ returns c =
     let groups = data_of c.in_ok-groups.groups in
     let dropped = groups_dropped c.args.settings.now c.args.rows.now in
     rw c.in_ok-groups.ensures.ok
-    (asked_outcome two_sample_test two_sample_network (asking_of c.args.settings.now) (group_rows groups) dropped extra.None
-    (record { kind = c.args.kind; groups = groups }) _ _ c.prepare-problem.ensures (rw (c.of.ensures, c.sizes_of.ensures, c.dropped_told.ensures) at c.report_on.ensures))
+    (asked_outcome two_sample_test two_sample_network two_sample_network c.args.asking (group_rows groups) dropped extra.None
+    (record { kind = c.args.kind; groups = groups }) _ _ c.prepare-problem.ensures (rw (c.sizes_of.ensures, c.dropped_told.ensures) at c.report_on.ensures))

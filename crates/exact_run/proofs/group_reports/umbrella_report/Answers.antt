@@ -4,7 +4,6 @@ use Rattle.report.specs.declared.headings.Extra.TheVariants as extra
 use Rattle.k_sample_tests.specs.KSamples.{k_sample_network, k_sample_test}
 use Rattle.stage_network.specs.declared.one_of.OneOf.TheVariants.{Second}
 use Rattle.exact_run.specs.GroupQuestions.{group_rows, groups_dropped, has_peak}
-use Rattle.exact_run.specs.Outcome.{asking_of}
 use Rattle.exact_run.proofs.Asking.{asked_outcome}
 use Rattle.exact_run.proofs.group_reports.umbrella_report.Goals as goal
 
@@ -15,5 +14,5 @@ returns c =
     let here : has_peak peak groups ≡ true = cc in
     let dropped = groups_dropped c.args.settings.now c.args.rows.now in
     rw (c.in_ok-groups.ensures.ok, here)
-    (asked_outcome k_sample_test k_sample_network (asking_of c.args.settings.now) (group_rows groups) dropped (extra.Peak peak)
-    (Second (record { peak = peak; groups = groups })) _ _ c.prepare_umbrella-problem.ensures (rw (c.of.ensures, c.sizes_of.ensures, c.dropped_told.ensures) at c.report_on.ensures))
+    (asked_outcome k_sample_test k_sample_network k_sample_network c.args.asking (group_rows groups) dropped (extra.Peak peak)
+    (Second (record { peak = peak; groups = groups })) _ _ c.prepare_umbrella-problem.ensures (rw (c.sizes_of.ensures, c.dropped_told.ensures) at c.report_on.ensures))

@@ -17,7 +17,7 @@ returns c =
     let asking = asking_of_made c.args.number in
     let samples : TwoSamples = record { kind = Wilcoxon; groups = groups } in
     let sizes = c.sizes_of.ensures ∙ ap group_rows c.in-Ok.ensures.groups in
-    asked_outcome two_sample_test two_sample_network asking (group_rows groups) None extra.None
+    asked_outcome two_sample_test two_sample_network two_sample_network asking (group_rows groups) None extra.None
     samples _ _ (rw c.in-Ok.ensures.groups at c.prepare-problem.ensures)
-    (subst (λ (s : Sizes). Meets (prepared_outcome two_sample_test two_sample_network asking s None extra.None (asked asking.tail (tails_in (two_sample_test samples))) c.prepare-problem.result) c.report_on.result)
-    sizes (rw c.of_made.ensures at c.report_on.ensures))
+    (subst (λ (s : Sizes). Meets (prepared_outcome two_sample_test two_sample_network two_sample_network asking s None extra.None (asked asking.tail (tails_in (two_sample_test samples))) c.prepare-problem.result) c.report_on.result)
+    sizes (rw c.of_made.ensures.asked at c.report_on.ensures))

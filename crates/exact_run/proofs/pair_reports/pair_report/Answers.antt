@@ -2,7 +2,6 @@ use Rattle.sample_reader.specs.declared.layout.Layout.TheVariants.{Pairs}
 use Rattle.report.specs.declared.headings.Extra.TheVariants as extra
 use Rattle.one_sample_tests.specs.SignNetwork.{one_sample_network}
 use Rattle.one_sample_tests.specs.SignedSamples.{one_sample_test, sample_of}
-use Rattle.exact_run.specs.Outcome.{asking_of}
 use Rattle.exact_run.specs.PairQuestions.{pair_sizes}
 use Rattle.exact_run.specs.Question.{dropped_told}
 use Rattle.exact_run.proofs.Asking.{asked_outcome}
@@ -13,5 +12,5 @@ returns c =
     let differences = c.in_ok-pairs.pairs.differences in
     let dropped = dropped_told c.args.settings.now Pairs c.args.rows.now in
     rw c.in_ok-pairs.ensures.ok
-    (asked_outcome one_sample_test one_sample_network (asking_of c.args.settings.now) (pair_sizes differences) dropped extra.None
-    (sample_of c.args.kind differences) _ _ c.prepare_pairs-problem.ensures (rw (c.of.ensures, c.sizes_of.ensures, c.dropped_told.ensures) at c.report_on.ensures))
+    (asked_outcome one_sample_test one_sample_network one_sample_network c.args.asking (pair_sizes differences) dropped extra.None
+    (sample_of c.args.kind differences) _ _ c.prepare_pairs-problem.ensures (rw (c.sizes_of.ensures, c.dropped_told.ensures) at c.report_on.ensures))

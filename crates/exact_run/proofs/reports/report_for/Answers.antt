@@ -1,4 +1,5 @@
 use Rattle.stage_network.specs.Follows.{open_keys}
+use Rattle.exact_run.specs.Outcome.{way_of}
 use Rattle.exact_run.proofs.Showable.{quotients}
 use Rattle.exact_run.proofs.reports.report_for.Goals as goal
 
@@ -6,4 +7,4 @@ pub compose-requires : goal.compose-requires
 compose-requires g c =
     let same = c.in_ok-answer.ensures.answer in
     let some = rw same at c.in_ok-answer.ensures.some in
-    rw same (quotients (g.P.Plain.test c.args.problem.now) (open_keys (g.P.Prepared.network c.args.problem.now)) c.args.tails c.way_of-way.result c.requires.fits some)
+    rw same (quotients (g.P.Plain.test c.args.problem.now) (open_keys (g.P.Prepared.network c.args.problem.now)) c.args.tails (way_of c.args.asking.nodes) c.requires.fits some)

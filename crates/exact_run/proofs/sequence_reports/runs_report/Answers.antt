@@ -3,7 +3,6 @@ use Rattle.sample_reader.specs.declared.layout.Layout.TheVariants as layout
 use Rattle.stage_network.specs.declared.one_of.OneOf.TheVariants.{Second}
 use Rattle.report.specs.declared.headings.Extra.TheVariants as extra
 use Rattle.sequence_tests.specs.SequenceTests.{sequence_network, sequence_test}
-use Rattle.exact_run.specs.Outcome.{asking_of}
 use Rattle.exact_run.specs.Question.{dropped_told}
 use Rattle.exact_run.specs.SequenceQuestions.{sequence_sizes}
 use Rattle.exact_run.proofs.Asking.{asked_outcome}
@@ -14,5 +13,5 @@ returns c =
     let sequence = sequence_data_of c.in_ok-sequence.sequence in
     let dropped = dropped_told c.args.settings.now layout.Sequence c.args.rows.now in
     rw c.in_ok-sequence.ensures.ok
-    (asked_outcome sequence_test sequence_network (asking_of c.args.settings.now) (sequence_sizes sequence) dropped extra.None
-    (Second sequence) _ _ c.prepare_runs-problem.ensures (rw (c.of.ensures, c.sequence_sizes.ensures, c.dropped_told.ensures) at c.report_on.ensures))
+    (asked_outcome sequence_test sequence_network sequence_network c.args.asking (sequence_sizes sequence) dropped extra.None
+    (Second sequence) _ _ c.prepare_runs-problem.ensures (rw (c.sequence_sizes.ensures, c.dropped_told.ensures) at c.report_on.ensures))

@@ -3,7 +3,6 @@ use Rattle.sample_reader.specs.declared.layout.Layout.TheVariants as layout
 use Rattle.stage_network.specs.declared.one_of.OneOf.TheVariants.{Second}
 use Rattle.report.specs.declared.headings.Extra.TheVariants as extra
 use Rattle.homogeneity.specs.Homogeneities.{homogeneity_network, homogeneity_test}
-use Rattle.exact_run.specs.Outcome.{asking_of}
 use Rattle.exact_run.specs.Question.{dropped_told}
 use Rattle.exact_run.specs.StrataGroupQuestions.{strata_group_sizes}
 use Rattle.exact_run.proofs.Asking.{asked_outcome}
@@ -14,5 +13,5 @@ returns c =
     let samples = strata_data_of c.in_ok-samples.samples in
     let dropped = dropped_told c.args.settings.now layout.StrataGroups c.args.rows.now in
     rw c.in_ok-samples.ensures.ok
-    (asked_outcome homogeneity_test homogeneity_network (asking_of c.args.settings.now) (strata_group_sizes samples) dropped extra.None
-    (Second samples) _ _ c.prepare_ranks-problem.ensures (rw (c.of.ensures, c.sizes_of.ensures, c.dropped_told.ensures) at c.report_on.ensures))
+    (asked_outcome homogeneity_test homogeneity_network homogeneity_network c.args.asking (strata_group_sizes samples) dropped extra.None
+    (Second samples) _ _ c.prepare_ranks-problem.ensures (rw (c.sizes_of.ensures, c.dropped_told.ensures) at c.report_on.ensures))

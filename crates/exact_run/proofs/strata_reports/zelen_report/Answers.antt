@@ -2,7 +2,6 @@ use Rattle.std.proofs.Common.{None}
 use Rattle.stage_network.specs.declared.one_of.OneOf.TheVariants.{First}
 use Rattle.report.specs.declared.headings.Extra.TheVariants as extra
 use Rattle.homogeneity.specs.Homogeneities.{homogeneity_network, homogeneity_test}
-use Rattle.exact_run.specs.Outcome.{asking_of}
 use Rattle.exact_run.specs.StrataQuestions.{strata_sizes}
 use Rattle.exact_run.proofs.Asking.{asked_outcome}
 use Rattle.exact_run.proofs.strata_reports.zelen_report.Goals as goal
@@ -11,5 +10,5 @@ pub returns : goal.returns
 returns c =
     let cells = c.in_ok-strata.strata.cells in
     rw c.in_ok-strata.ensures.ok
-    (asked_outcome homogeneity_test homogeneity_network (asking_of c.args.settings.now) (strata_sizes cells) None extra.None
-    (First cells) _ _ c.prepare_zelen-problem.ensures (rw (c.of.ensures, c.heading_of.ensures.sizes, c.heading_of.ensures.dropped, c.heading_of.ensures.extra) at c.report_on.ensures))
+    (asked_outcome homogeneity_test homogeneity_network homogeneity_network c.args.asking (strata_sizes cells) None extra.None
+    (First cells) _ _ c.prepare_zelen-problem.ensures (rw (c.heading_of.ensures.sizes, c.heading_of.ensures.dropped, c.heading_of.ensures.extra) at c.report_on.ensures))

@@ -4,7 +4,6 @@ use Rattle.report.specs.declared.headings.Extra.TheVariants as extra
 use Rattle.table_tests.specs.FisherExact.{fisher_test}
 use Rattle.table_tests.specs.TableTests.{table_network, table_test}
 use Rattle.stage_network.specs.declared.one_of.OneOf.TheVariants.{First}
-use Rattle.exact_run.specs.Outcome.{asking_of}
 use Rattle.exact_run.specs.TableQuestions.{table_sizes}
 use Rattle.exact_run.proofs.Asking.{asked_outcome, prepared-tails, same-tails}
 use Rattle.exact_run.proofs.table_reports.central_report.Goals as goal
@@ -18,5 +17,5 @@ report_on-requires-clause-has c =
 pub returns : goal.returns
 returns c =
     let table = table_data_of c.args.table.now in
-    asked_outcome table_test table_network (asking_of c.args.settings.now) (table_sizes table) None extra.None
-    (First (First table)) _ _ c.prepare_fisher-problem.ensures (rw (c.of.ensures, c.heading_of.ensures.sizes, c.heading_of.ensures.dropped, c.heading_of.ensures.extra, same-tails c.fisher_tails-tails.result (fisher_test table).has_tail c.fisher_tails-tails.ensures) at c.report_on.ensures)
+    asked_outcome table_test table_network table_network c.args.asking (table_sizes table) None extra.None
+    (First (First table)) _ _ c.prepare_fisher-problem.ensures (rw (c.heading_of.ensures.sizes, c.heading_of.ensures.dropped, c.heading_of.ensures.extra, same-tails c.fisher_tails-tails.result (fisher_test table).has_tail c.fisher_tails-tails.ensures) at c.report_on.ensures)

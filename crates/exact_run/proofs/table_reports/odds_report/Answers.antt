@@ -5,7 +5,6 @@ use Rattle.table_tests.specs.OddsSteps.{weighted_of}
 use Rattle.table_tests.specs.Tables.{is_two_by_two}
 use Rattle.table_tests.specs.TableTests.{table_network, table_test}
 use Rattle.stage_network.specs.declared.one_of.OneOf.TheVariants.{Second}
-use Rattle.exact_run.specs.Outcome.{asking_of}
 use Rattle.exact_run.specs.TableQuestions.{table_sizes}
 use Rattle.exact_run.proofs.Asking.{asked_outcome, prepared-tails}
 use Rattle.exact_run.proofs.table_reports.odds_report.Goals as goal
@@ -20,5 +19,5 @@ returns c =
     let table = table_data_of c.args.table.now in
     let here : is_two_by_two table ≡ true = cc in
     rw here
-    (asked_outcome table_test table_network (asking_of c.args.settings.now) (table_sizes table) None extra.None
-    (Second (weighted_of table c.args.odds)) _ _ c.prepare_odds-problem.ensures (rw (c.of.ensures, c.heading_of.ensures.sizes, c.heading_of.ensures.dropped, c.heading_of.ensures.extra) at c.report_on.ensures))
+    (asked_outcome table_test table_network table_network c.args.asking (table_sizes table) None extra.None
+    (Second (weighted_of table c.args.odds)) _ _ c.prepare_odds-problem.ensures (rw (c.heading_of.ensures.sizes, c.heading_of.ensures.dropped, c.heading_of.ensures.extra) at c.report_on.ensures))
