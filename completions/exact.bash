@@ -2,7 +2,7 @@
 _exact() {
     local word=${COMP_WORDS[COMP_CWORD]} before=${COMP_WORDS[COMP_CWORD - 1]} test=${COMP_WORDS[1]} words=""
     if [ "$COMP_CWORD" -eq 1 ]; then
-        mapfile -t COMPREPLY < <(compgen -W "--help signedrank sign rawsigned mcnemar ranksum ansari mood savage median raw kw jt umbrella friedman page cochran fisher linear strata zelen stratranksum kendall runs drill shift" -- "$word")
+        mapfile -t COMPREPLY < <(compgen -W "--help signedrank sign rawsigned mcnemar ranksum ansari mood savage median raw kw jt umbrella friedman page cochran fisher linear strata zelen stratranksum kendall runs drill shift merge" -- "$word")
         return
     fi
     case $before in
@@ -18,33 +18,37 @@ _exact() {
     --odds) return ;;
     --missing) mapfile -t COMPREPLY < <(compgen -W "refuse drop" -- "$word"); return ;;
     --miss) return ;;
+    --stage) return ;;
+    --parts) return ;;
+    --part) return ;;
     esac
     case $test in
-    signedrank) words="--tail --columns --separator --missing --distribution --plain --nodes" ;;
-    sign) words="--tail --columns --separator --missing --distribution --plain --nodes" ;;
-    rawsigned) words="--tail --columns --separator --missing --distribution --plain --nodes" ;;
-    mcnemar) words="--tail --columns --separator --distribution --plain --nodes" ;;
-    ranksum) words="--tail --order --columns --separator --missing --distribution --plain --nodes" ;;
-    ansari) words="--tail --order --columns --separator --missing --distribution --plain --nodes" ;;
-    mood) words="--tail --order --columns --separator --missing --distribution --plain --nodes" ;;
-    savage) words="--tail --order --columns --separator --missing --distribution --plain --nodes" ;;
-    median) words="--tail --order --columns --separator --missing --distribution --plain --nodes" ;;
-    raw) words="--tail --order --columns --separator --missing --distribution --plain --nodes" ;;
-    kw) words="--tail --scores --columns --separator --missing --distribution --plain --nodes" ;;
-    jt) words="--tail --order --columns --separator --missing --distribution --plain --nodes" ;;
-    umbrella) words="--tail --order --peak --columns --separator --missing --distribution --plain --nodes" ;;
-    friedman) words="--tail --columns --separator --missing --distribution --plain --nodes" ;;
-    page) words="--tail --columns --separator --missing --distribution --plain --nodes" ;;
-    cochran) words="--tail --columns --separator --missing --distribution --plain --nodes" ;;
-    fisher) words="--tail --columns --separator --odds --distribution --plain --nodes" ;;
-    linear) words="--tail --row-scores --column-scores --columns --separator --distribution --plain --nodes" ;;
-    strata) words="--tail --columns --separator --odds --distribution --plain --nodes" ;;
-    zelen) words="--tail --columns --separator --distribution --plain --nodes" ;;
-    stratranksum) words="--tail --order --columns --separator --missing --distribution --plain --nodes" ;;
-    kendall) words="--tail --columns --separator --missing --distribution --plain --nodes" ;;
-    runs) words="--tail --columns --separator --missing --distribution --plain --nodes" ;;
+    signedrank) words="--tail --columns --separator --missing --distribution --plain --nodes --stage --parts --part" ;;
+    sign) words="--tail --columns --separator --missing --distribution --plain --nodes --stage --parts --part" ;;
+    rawsigned) words="--tail --columns --separator --missing --distribution --plain --nodes --stage --parts --part" ;;
+    mcnemar) words="--tail --columns --separator --distribution --plain --nodes --stage --parts --part" ;;
+    ranksum) words="--tail --order --columns --separator --missing --distribution --plain --nodes --stage --parts --part" ;;
+    ansari) words="--tail --order --columns --separator --missing --distribution --plain --nodes --stage --parts --part" ;;
+    mood) words="--tail --order --columns --separator --missing --distribution --plain --nodes --stage --parts --part" ;;
+    savage) words="--tail --order --columns --separator --missing --distribution --plain --nodes --stage --parts --part" ;;
+    median) words="--tail --order --columns --separator --missing --distribution --plain --nodes --stage --parts --part" ;;
+    raw) words="--tail --order --columns --separator --missing --distribution --plain --nodes --stage --parts --part" ;;
+    kw) words="--tail --scores --columns --separator --missing --distribution --plain --nodes --stage --parts --part" ;;
+    jt) words="--tail --order --columns --separator --missing --distribution --plain --nodes --stage --parts --part" ;;
+    umbrella) words="--tail --order --peak --columns --separator --missing --distribution --plain --nodes --stage --parts --part" ;;
+    friedman) words="--tail --columns --separator --missing --distribution --plain --nodes --stage --parts --part" ;;
+    page) words="--tail --columns --separator --missing --distribution --plain --nodes --stage --parts --part" ;;
+    cochran) words="--tail --columns --separator --missing --distribution --plain --nodes --stage --parts --part" ;;
+    fisher) words="--tail --columns --separator --odds --distribution --plain --nodes --stage --parts --part" ;;
+    linear) words="--tail --row-scores --column-scores --columns --separator --distribution --plain --nodes --stage --parts --part" ;;
+    strata) words="--tail --columns --separator --odds --distribution --plain --nodes --stage --parts --part" ;;
+    zelen) words="--tail --columns --separator --distribution --plain --nodes --stage --parts --part" ;;
+    stratranksum) words="--tail --order --columns --separator --missing --distribution --plain --nodes --stage --parts --part" ;;
+    kendall) words="--tail --columns --separator --missing --distribution --plain --nodes --stage --parts --part" ;;
+    runs) words="--tail --columns --separator --missing --distribution --plain --nodes --stage --parts --part" ;;
     drill) words="--number" ;;
     shift) words="--order --columns --separator --missing --miss" ;;
+    merge) words="" ;;
     esac
     case $word in
     -*) mapfile -t COMPREPLY < <(compgen -W "$words" -- "$word") ;;

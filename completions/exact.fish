@@ -25,6 +25,7 @@ complete -c exact -n __fish_is_first_token -f -a kendall
 complete -c exact -n __fish_is_first_token -f -a runs
 complete -c exact -n __fish_is_first_token -f -a drill
 complete -c exact -n __fish_is_first_token -f -a shift
+complete -c exact -n __fish_is_first_token -f -a merge
 complete -c exact -n '__fish_seen_subcommand_from signedrank sign rawsigned mcnemar ranksum ansari mood savage median raw kw jt umbrella friedman page cochran fisher linear strata zelen stratranksum kendall runs' -l tail -x -a 'all less greater two'
 complete -c exact -n '__fish_seen_subcommand_from kw' -l scores -x -a 'wilcoxon ansari mood savage median raw'
 complete -c exact -n '__fish_seen_subcommand_from ranksum ansari mood savage median raw jt umbrella stratranksum shift' -l order -x
@@ -40,3 +41,6 @@ complete -c exact -n '__fish_seen_subcommand_from shift' -l miss -x
 complete -c exact -n '__fish_seen_subcommand_from signedrank sign rawsigned mcnemar ranksum ansari mood savage median raw kw jt umbrella friedman page cochran fisher linear strata zelen stratranksum kendall runs' -l distribution
 complete -c exact -n '__fish_seen_subcommand_from signedrank sign rawsigned mcnemar ranksum ansari mood savage median raw kw jt umbrella friedman page cochran fisher linear strata zelen stratranksum kendall runs' -l plain
 complete -c exact -n '__fish_seen_subcommand_from signedrank sign rawsigned mcnemar ranksum ansari mood savage median raw kw jt umbrella friedman page cochran fisher linear strata zelen stratranksum kendall runs' -l nodes
+complete -c exact -n '__fish_seen_subcommand_from signedrank sign rawsigned mcnemar ranksum ansari mood savage median raw kw jt umbrella friedman page cochran fisher linear strata zelen stratranksum kendall runs' -l stage -x
+complete -c exact -n '__fish_seen_subcommand_from signedrank sign rawsigned mcnemar ranksum ansari mood savage median raw kw jt umbrella friedman page cochran fisher linear strata zelen stratranksum kendall runs' -l parts -x
+complete -c exact -n '__fish_seen_subcommand_from signedrank sign rawsigned mcnemar ranksum ansari mood savage median raw kw jt umbrella friedman page cochran fisher linear strata zelen stratranksum kendall runs' -l part -x

@@ -2,7 +2,7 @@
 # zsh completion of exact; made by completions/make
 local -a rest
 if (( CURRENT == 2 )); then
-    compadd -- --help signedrank sign rawsigned mcnemar ranksum ansari mood savage median raw kw jt umbrella friedman page cochran fisher linear strata zelen stratranksum kendall runs drill shift
+    compadd -- --help signedrank sign rawsigned mcnemar ranksum ansari mood savage median raw kw jt umbrella friedman page cochran fisher linear strata zelen stratranksum kendall runs drill shift merge
     return
 fi
 case $words[2] in
@@ -14,6 +14,9 @@ signedrank) rest=(
     '--distribution'
     '--plain'
     '--nodes'
+    '--stage=:g: '
+    '--parts=:p: '
+    '--part=:i: '
 ) ;;
 sign) rest=(
     '--tail=:value:(all less greater two)'
@@ -23,6 +26,9 @@ sign) rest=(
     '--distribution'
     '--plain'
     '--nodes'
+    '--stage=:g: '
+    '--parts=:p: '
+    '--part=:i: '
 ) ;;
 rawsigned) rest=(
     '--tail=:value:(all less greater two)'
@@ -32,6 +38,9 @@ rawsigned) rest=(
     '--distribution'
     '--plain'
     '--nodes'
+    '--stage=:g: '
+    '--parts=:p: '
+    '--part=:i: '
 ) ;;
 mcnemar) rest=(
     '--tail=:value:(all less greater two)'
@@ -40,6 +49,9 @@ mcnemar) rest=(
     '--distribution'
     '--plain'
     '--nodes'
+    '--stage=:g: '
+    '--parts=:p: '
+    '--part=:i: '
 ) ;;
 ranksum) rest=(
     '--tail=:value:(all less greater two)'
@@ -50,6 +62,9 @@ ranksum) rest=(
     '--distribution'
     '--plain'
     '--nodes'
+    '--stage=:g: '
+    '--parts=:p: '
+    '--part=:i: '
 ) ;;
 ansari) rest=(
     '--tail=:value:(all less greater two)'
@@ -60,6 +75,9 @@ ansari) rest=(
     '--distribution'
     '--plain'
     '--nodes'
+    '--stage=:g: '
+    '--parts=:p: '
+    '--part=:i: '
 ) ;;
 mood) rest=(
     '--tail=:value:(all less greater two)'
@@ -70,6 +88,9 @@ mood) rest=(
     '--distribution'
     '--plain'
     '--nodes'
+    '--stage=:g: '
+    '--parts=:p: '
+    '--part=:i: '
 ) ;;
 savage) rest=(
     '--tail=:value:(all less greater two)'
@@ -80,6 +101,9 @@ savage) rest=(
     '--distribution'
     '--plain'
     '--nodes'
+    '--stage=:g: '
+    '--parts=:p: '
+    '--part=:i: '
 ) ;;
 median) rest=(
     '--tail=:value:(all less greater two)'
@@ -90,6 +114,9 @@ median) rest=(
     '--distribution'
     '--plain'
     '--nodes'
+    '--stage=:g: '
+    '--parts=:p: '
+    '--part=:i: '
 ) ;;
 raw) rest=(
     '--tail=:value:(all less greater two)'
@@ -100,6 +127,9 @@ raw) rest=(
     '--distribution'
     '--plain'
     '--nodes'
+    '--stage=:g: '
+    '--parts=:p: '
+    '--part=:i: '
 ) ;;
 kw) rest=(
     '--tail=:value:(all less greater two)'
@@ -110,6 +140,9 @@ kw) rest=(
     '--distribution'
     '--plain'
     '--nodes'
+    '--stage=:g: '
+    '--parts=:p: '
+    '--part=:i: '
 ) ;;
 jt) rest=(
     '--tail=:value:(all less greater two)'
@@ -120,6 +153,9 @@ jt) rest=(
     '--distribution'
     '--plain'
     '--nodes'
+    '--stage=:g: '
+    '--parts=:p: '
+    '--part=:i: '
 ) ;;
 umbrella) rest=(
     '--tail=:value:(all less greater two)'
@@ -131,6 +167,9 @@ umbrella) rest=(
     '--distribution'
     '--plain'
     '--nodes'
+    '--stage=:g: '
+    '--parts=:p: '
+    '--part=:i: '
 ) ;;
 friedman) rest=(
     '--tail=:value:(all less greater two)'
@@ -140,6 +179,9 @@ friedman) rest=(
     '--distribution'
     '--plain'
     '--nodes'
+    '--stage=:g: '
+    '--parts=:p: '
+    '--part=:i: '
 ) ;;
 page) rest=(
     '--tail=:value:(all less greater two)'
@@ -149,6 +191,9 @@ page) rest=(
     '--distribution'
     '--plain'
     '--nodes'
+    '--stage=:g: '
+    '--parts=:p: '
+    '--part=:i: '
 ) ;;
 cochran) rest=(
     '--tail=:value:(all less greater two)'
@@ -158,6 +203,9 @@ cochran) rest=(
     '--distribution'
     '--plain'
     '--nodes'
+    '--stage=:g: '
+    '--parts=:p: '
+    '--part=:i: '
 ) ;;
 fisher) rest=(
     '--tail=:value:(all less greater two)'
@@ -167,6 +215,9 @@ fisher) rest=(
     '--distribution'
     '--plain'
     '--nodes'
+    '--stage=:g: '
+    '--parts=:p: '
+    '--part=:i: '
 ) ;;
 linear) rest=(
     '--tail=:value:(all less greater two)'
@@ -177,6 +228,9 @@ linear) rest=(
     '--distribution'
     '--plain'
     '--nodes'
+    '--stage=:g: '
+    '--parts=:p: '
+    '--part=:i: '
 ) ;;
 strata) rest=(
     '--tail=:value:(all less greater two)'
@@ -186,6 +240,9 @@ strata) rest=(
     '--distribution'
     '--plain'
     '--nodes'
+    '--stage=:g: '
+    '--parts=:p: '
+    '--part=:i: '
 ) ;;
 zelen) rest=(
     '--tail=:value:(all less greater two)'
@@ -194,6 +251,9 @@ zelen) rest=(
     '--distribution'
     '--plain'
     '--nodes'
+    '--stage=:g: '
+    '--parts=:p: '
+    '--part=:i: '
 ) ;;
 stratranksum) rest=(
     '--tail=:value:(all less greater two)'
@@ -204,6 +264,9 @@ stratranksum) rest=(
     '--distribution'
     '--plain'
     '--nodes'
+    '--stage=:g: '
+    '--parts=:p: '
+    '--part=:i: '
 ) ;;
 kendall) rest=(
     '--tail=:value:(all less greater two)'
@@ -213,6 +276,9 @@ kendall) rest=(
     '--distribution'
     '--plain'
     '--nodes'
+    '--stage=:g: '
+    '--parts=:p: '
+    '--part=:i: '
 ) ;;
 runs) rest=(
     '--tail=:value:(all less greater two)'
@@ -222,6 +288,9 @@ runs) rest=(
     '--distribution'
     '--plain'
     '--nodes'
+    '--stage=:g: '
+    '--parts=:p: '
+    '--part=:i: '
 ) ;;
 drill) rest=(
     '--number=:k: '
@@ -232,6 +301,8 @@ shift) rest=(
     '--separator=:value:(comma semicolon tab)'
     '--missing=:value:(refuse drop)'
     '--miss=:p/q: '
+) ;;
+merge) rest=(
 ) ;;
 esac
 _arguments '1: :' $rest '*:file:_files'

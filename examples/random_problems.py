@@ -290,10 +290,8 @@ known = {}
 shown = []
 
 
-def ask(problem, *flags, **options):
-    """The report of a problem with these options besides; what was asked before is not asked again."""
-    problem = problem.asked(**options)
-    text, words = problem.text(), [*problem.words(), *flags]
+def said(text, words):
+    """What the program writes of a file; what was asked before is not asked again."""
     key = (text, *words)
     shown.append(key)
     if key not in known:
@@ -303,7 +301,21 @@ def ask(problem, *flags, **options):
     run = known[key]
     if run.returncode != 0 or run.stderr:
         raise Refused
-    return Report(run.stdout.decode("utf-8"))
+    return run.stdout.decode("utf-8")
+
+
+def told(problem, *flags):
+    return said(problem.text(), [*problem.words(), *flags])
+
+
+def ask(problem, *flags, **options):
+    """The report of a problem with these options besides."""
+    return Report(told(problem.asked(**options), *flags))
+
+
+def merged(pieces):
+    """The report of the parts of a divided run."""
+    return said("".join(pieces), ["merge", "f.csv"])
 
 
 # ---- checks: each is true of every problem of the tests that it names
@@ -358,6 +370,21 @@ def a_tail_alone_is_its_line_of_the_report(problem, _):
 def listing_and_the_network_give_the_same_distribution(problem, _):
     spread = ask(problem, "--distribution")
     return spread.text == ask(problem, "--plain", "--distribution").text and spread.without("at") == ask(problem).lines
+
+
+@holds_for(*TESTS)
+def open_keys_are_told_behind_the_same_report(problem, _):
+    # without them another network may answer
+    lines = ask(problem).lines
+    return ask(problem, "--nodes").lines[:len(lines)] == lines
+
+
+@holds_for(*TESTS)
+def parts_in_any_order_come_to_the_report(problem, dice):
+    parts = dice.randint(1, 5)
+    stage = dice.choice([0, 1, 2, 3, 5, 8])
+    pieces = [told(problem.asked(stage=stage, parts=parts, part=part)) for part in range(parts)]
+    return merged(dice.sample(pieces, parts)) == ask(problem).text
 
 
 @holds_for(*TESTS)
@@ -804,8 +831,8 @@ def tell(place, problem, check, dice):
             # which is not there where the program did not end in time
             run = known.get((text, *words))
             if run:
-                said = (run.stdout + run.stderr).decode("utf-8", "replace")
-                print(f"{said}-- status {run.returncode}", file=sys.stderr)
+                written = (run.stdout + run.stderr).decode("utf-8", "replace")
+                print(f"{written}-- status {run.returncode}", file=sys.stderr)
 
 
 PROGRAM, COUNT, SEED = sys.argv[1], int(sys.argv[2]), sys.argv[3]
