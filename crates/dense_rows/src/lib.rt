@@ -8,7 +8,7 @@ mod pouring;
 mod rows;
 mod totals;
 
-pub use places::place_of;
+pub use places::{cells_apart, place_of};
 pub use pouring::pour;
 pub use rows::{first_full, forget, last_full};
 pub use totals::{count_keys, total};

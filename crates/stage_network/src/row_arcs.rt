@@ -123,6 +123,10 @@ fn add_arcs<C: Count, S: Roomed>(
     ensures target { OnOk result (length target_room.new ≡ length target_room.old) }
     ensures step { OnOk result (length step.new ≡ length step.old) }
 {
+    let own = match plan_of(rows.lowest(row), rows.stride(row), rows.cells(row).len()) {
+        Some(own) => own,
+        None => return Err(Stop::Thin),
+    };
     let room = rows.room(row);
     write_key(room, [partial].as_slice(), key);
     let mut more = stages.first_choice(stage, key, choice);
@@ -132,16 +136,7 @@ fn add_arcs<C: Count, S: Roomed>(
         arcs.push(start, end, weight, choice, target)?;
         stages.step(stage, room, choice, step);
         push_shift(shifts, row, step[0])?;
-        note(
-            plans,
-            target,
-            plan_of(
-                rows.lowest(row),
-                rows.stride(row),
-                rows.cells(row).len(),
-                step[0],
-            ),
-        )?;
+        note(plans, target, own, step[0])?;
         more = stages.next_choice(stage, key, choice);
     }
     Ok(())

@@ -15,7 +15,7 @@ use crate::row_heads::Shift;
 use crate::row_rooms::RoomRows;
 use crate::stages::{Roomed, Stages};
 use crate::stops::Stop;
-use dense_rows::{place_of, pour};
+use dense_rows::{cells_apart, place_of, pour};
 use node_pool::NodePool;
 use weights::{Count, Narrow};
 
@@ -59,7 +59,7 @@ fn pour_apart<C: Count>(
         Some(place) => place,
         None => return Err(Stop::Thin),
     };
-    let every = match place_of(0, stride, of as i128) {
+    let every = match cells_apart(of, stride) {
         Some(every) => every,
         None => return Err(Stop::Thin),
     };

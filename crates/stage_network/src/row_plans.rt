@@ -49,18 +49,27 @@ fn common(a: u64, b: u64) -> u64 {
     if a == 1 || b == 1 { 1 } else { gcd(a, b) }
 }
 
-/// What is planned for one row alone, which is moved by a step.
-pub fn plan_of(lowest: i128, stride: u64, len: usize, step: i128) -> Option<Plan> {
+/// What is planned for one row alone.
+pub fn plan_of(lowest: i128, stride: u64, len: usize) -> Option<Plan> {
     if len == 0 {
         return None;
     }
-    let low = lowest.checked_add(step)?;
     let far = (len as i128 - 1).checked_mul(stride as i128)?;
     Some(Plan {
-        lowest: low,
-        highest: low.checked_add(far)?,
+        lowest,
+        highest: lowest.checked_add(far)?,
         stride: if len == 1 { 0 } else { stride },
         cells: len,
+    })
+}
+
+// What is planned for rows that are moved by a step.
+fn moved(plan: Plan, step: i128) -> Option<Plan> {
+    Some(Plan {
+        lowest: plan.lowest.checked_add(step)?,
+        highest: plan.highest.checked_add(step)?,
+        stride: plan.stride,
+        cells: plan.cells,
     })
 }
 
@@ -113,9 +122,10 @@ pub fn are_thick(plans: &[Plan]) -> bool {
     true
 }
 
-/// Adds a row to what is planned for a room, which is one that has a plan or the next one.
-pub fn note(plans: &mut Vec<Plan>, target: usize, plan: Option<Plan>) -> Result<(), Stop> {
-    let plan = match plan {
+/// Adds a row, which is moved by a step, to what is planned for a room, which is one that has a
+/// plan or the next one.
+pub fn note(plans: &mut Vec<Plan>, target: usize, row: Plan, step: i128) -> Result<(), Stop> {
+    let plan = match moved(row, step) {
         Some(plan) => plan,
         None => return Err(Stop::Thin),
     };
