@@ -43,9 +43,9 @@ pub fn next_joined(lengths: &[u64], labels: &mut [u8]) -> bool
     true
 }
 
-// Moves from the last member to the first one: a part that never rises never falls once it is
-// reversed.
-fn begin_anew(lengths: &[u64], labels: &mut [u8])
+/// Moves from the last member of labellings that are put together, which have these lengths, to the
+/// first one: a part that never rises never falls once it is reversed. It takes no memory.
+pub fn begin_anew(lengths: &[u64], labels: &mut [u8])
     ensures { (parts : List (List ℕ)) → map sum parts ≡ lengths.now
         → Contains (joined_labellings parts) labels.old
         → members_after labels.old (joined_labellings parts) ≡ []

@@ -16,7 +16,7 @@ pub mod Vectors
 pub mod Unimodal
 pub mod Given
 pub mod EvenWays
-pub mod Adding
+pub mod Growing
 pub mod Remaining
 pub mod Windows
 pub mod Bodies

@@ -15,7 +15,7 @@ use Rattle.strata_cells.proofs.StrataSums.{next-drop, small-at, subjects-few, su
 use Rattle.homogeneity.specs.ZelenNetwork.{greatest_choice, greatest_sum, least_choice, least_sum, lesser_weight, lesser_weights, number_with}
 use Rattle.homogeneity.specs.ZelenSteps.{AreLaters, AreLesser, AreNumbers, AreSummed, CanHave, IsCountable, IsLater, IsLeft, IsPast, choice_from, choice_to, counted, counted_cell, kept_number, least_left, most_left}
 use Rattle.homogeneity.specs.declared.laters.Later.{Later}
-use Rattle.homogeneity.proofs.Adding.{get-front, get-last}
+use Rattle.homogeneity.proofs.Growing.{get-front, get-last}
 use Rattle.homogeneity.proofs.Given.{can-next, choice-left, choice-range, number-step, number_by}
 use Rattle.homogeneity.proofs.Remaining.{can-here, left-can, left-first, left-meet, left-next, lesser-all_some, lesser-number, number-some, number-within}
 

@@ -1,21 +1,12 @@
 // Products of the weights of first cells.
 ghost use Rattle.std.specs.Prelude.{◌≡◌, ◌≤◌, Contains};
 ghost use Rattle.weights.specs.declared.TheConstants.{MAX};
-ghost use Rattle.strata_cells.specs.Strata.{cells_of, cells_weight, first_cell, strata_labellings};
-ghost use Rattle.strata_cells.specs.StrataLimits.{AreSmall, IsSmall};
+ghost use Rattle.strata_cells.specs.Strata.{cells_of, cells_weight, strata_labellings};
+ghost use Rattle.strata_cells.specs.StrataLimits.{AreSmall};
 ghost use Rattle.homogeneity.specs.ZelenMade.{own_cells};
 
 use crate::rests::weight_of;
-use strata_cells::Stratum;
-
-// The first cell of the table that a stratum's labels give.
-fn first_cell(stratum: Stratum, labels: &[u8]) -> u64
-    requires { IsSmall stratum }
-    ensures { result ≡ first_cell stratum labels.now }
-{
-    let column = labels.len().min(stratum.first_column() as usize);
-    labels[..column].iter().filter(|label| **label == 0).count() as u64
-}
+use strata_cells::{Stratum, first_cell};
 
 /// How many labellings give the first cells of the strata as they are.
 pub(crate) fn own_weight(strata: &[Stratum]) -> u128

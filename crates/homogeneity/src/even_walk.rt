@@ -1,15 +1,13 @@
 // From one labelling of strata with a given sum of first cells to the next.
-ghost use Rattle.std.specs.Prelude.{◌≡◌, ℕ, List, [], filter, map, length, Contains, IfOk, ◌≤◌, true};
-ghost use Rattle.std.specs.List.{sum};
+ghost use Rattle.std.specs.Prelude.{◌≡◌, [], filter, length, Contains, IfOk, ◌≤◌, true};
 ghost use Rattle.record_reader.specs.declared.TheConstants.{MOST_ROWS};
-ghost use Rattle.enumerate.specs.Joined.{joined_labellings};
 ghost use Rattle.enumerate.specs.Walk.{BeginsWith, StepsThrough, members_after};
 ghost use Rattle.strata_cells.specs.Strata.{row_counts, strata_labellings};
 ghost use Rattle.strata_cells.specs.StrataLimits.{AreSmall};
 ghost use Rattle.homogeneity.specs.Zelen.{has_sum};
 ghost use Rattle.homogeneity.specs.EvenSteps.{AreSized, IsLastWith, IsOnward};
 
-use enumerate::next_joined;
+use enumerate::{begin_anew, next_joined};
 use std::alloc::Global;
 use strata_cells::{Stratum, first_cells, first_labels};
 use weights::{Bytes, NoMemory};
@@ -27,22 +25,6 @@ fn move_on(strata: &[Stratum], sizes: &[u64], sum: u64, labels: &mut [u8]) -> bo
         }
     }
     false
-}
-
-// Moves from the last of all labellings to the first one: a part that never rises never falls once
-// it is reversed.
-fn begin_anew(lengths: &[u64], labels: &mut [u8])
-    ensures { (parts : List (List ℕ)) → map sum parts ≡ lengths.now
-        → Contains (joined_labellings parts) labels.old
-        → members_after labels.old (joined_labellings parts) ≡ []
-        → BeginsWith (joined_labellings parts) labels.new }
-{
-    if let [first, later @ ..] = lengths {
-        let end = labels.len().min(*first as usize);
-        let (front, rest) = labels.split_at_mut(end);
-        front.reverse();
-        begin_anew(later, rest);
-    }
 }
 
 // Moves from the last of all labellings back to the last one with the sum, of which there are so

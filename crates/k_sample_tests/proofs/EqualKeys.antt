@@ -34,7 +34,7 @@ use Rattle.k_sample_tests.specs.EqualGroups.{equal_groups_network, groups_in_ord
 use Rattle.k_sample_tests.specs.declared.places.Place.{Place}
 use Rattle.k_sample_tests.specs.RankSums.{plus_each, score_parts, squares_meaning}
 use Rattle.k_sample_tests.specs.RankSumSteps.{IsSquaring}
-use Rattle.k_sample_tests.proofs.ChoiceSwaps.{labellings-swap, minus-swap, swapped_choices, swapped_member}
+use Rattle.label_network.proofs.ChoiceSwaps.{labellings-swap, minus-swap, swapped_choices, swapped_member}
 use Rattle.k_sample_tests.proofs.PlaceOrder.{IsTurn, back-key, front-key, length-order, length-places, order-folds, order-room, room_in_order, same_at, swap-same, turn}
 use Rattle.k_sample_tests.proofs.RankNarrows.{length-parts, length-plus, squares_measure}
 

@@ -19,7 +19,6 @@ mod PackedNarrows
 mod PackedKeys
 mod PackedValues
 mod FittingKruskalWallis
-mod ChoiceSwaps
 mod PlaceOrder
 mod PlaceWriting
 mod EqualKeys

@@ -1,6 +1,7 @@
 pub mod BinomialTable
 pub mod ChoiceMoves
 pub mod ChoiceSteps
+pub mod ChoiceSwaps
 pub mod Climbing
 pub mod Differing
 pub mod LaterChoices

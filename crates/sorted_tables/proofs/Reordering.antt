@@ -13,7 +13,8 @@ use Rattle.completion_bounds.proofs.FallingSizes.{Rises, rises}
 use Rattle.stage_network.proofs.Swaps.{length-swap, swap_at}
 use Rattle.sorted_tables.specs.SortedRooms.{rising}
 use Rattle.sorted_tables.proofs.ColumnSwaps.{column_swap}
-use Rattle.sorted_tables.proofs.RowSwaps.{labellings-swap, row_swap}
+use Rattle.label_network.proofs.ChoiceSwaps.{labellings-swap}
+use Rattle.sorted_tables.proofs.RowSwaps.{row_swap}
 
 -- swaps at these places, one after another
 abbrev pub swaps : {X : Type 0} → List ℕ → List X → List X

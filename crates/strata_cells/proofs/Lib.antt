@@ -2,3 +2,4 @@ pub mod StrataSums
 pub mod StrataReads
 pub mod FirstCells
 pub mod CellLaws
+pub mod RangeSums

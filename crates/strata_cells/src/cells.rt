@@ -32,8 +32,8 @@ pub fn cell_weight(stratum: Stratum, cell: u64) -> Option<u128>
     bounded_product(chosen, others)
 }
 
-// The first cell of the table that a stratum's labels give.
-fn first_cell(stratum: Stratum, labels: &[u8]) -> u64
+/// The first cell of the table that a stratum's labels give.
+pub fn first_cell(stratum: Stratum, labels: &[u8]) -> u64
     requires { IsSmall stratum }
     ensures { result ≡ first_cell stratum labels.now }
 {

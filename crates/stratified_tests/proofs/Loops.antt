@@ -1,13 +1,10 @@
 -- Steps of the loops over strata.
-use Rattle.std.proofs.Common.{◌≡◌, ℕ, ◌+◌, ◌-◌, ◌*◌, ◌<◌, ◌≤◌, List, [], ◌∷◌, length, drop, nat_eq, cond, refl, sym, ◌∙◌, ap, arith}
+use Rattle.std.proofs.Common.{◌≡◌, ℕ, ◌+◌, ◌-◌, ◌*◌, ◌<◌, ◌≤◌, List, ◌∷◌, length, drop, nat_eq, cond, refl, sym, ◌∙◌, ap, arith}
 use Rattle.std.specs.Prelude.{Option}
-use Rattle.std.specs.List.{range_with_len, sum_by}
 use Rattle.std.proofs.Math.Nat.{mul-le-mul_left, mul-le-mul_right}
-use Rattle.std.proofs.lemmas.List.Sums.{sum_by-cons}
 use Rattle.weights.specs.Numbers.{lcm}
 use Rattle.weights.specs.declared.odds.Odds.{Odds}
 use Rattle.weights.specs.declared.TheConstants.{MAX}
-use Rattle.weights.proofs.CellSums.{divided}
 use Rattle.strata_cells.specs.declared.stratum.Stratum.{Stratum}
 use Rattle.strata_cells.specs.Strata.{size, stratum_at}
 use Rattle.strata_cells.proofs.StrataSums.{next-drop, past-drop}
@@ -16,40 +13,6 @@ use Rattle.stratified_tests.specs.StrataSteps.{AreOdds, strata_total, stratum_to
 use Rattle.stratified_tests.proofs.Multiples.{last-within}
 use Rattle.stratified_tests.proofs.OddsLaws.{product-some}
 use Rattle.stratified_tests.proofs.StrataLaws.{all-some, stratum-some}
-
--- first cells of a stratum that are weighed
-pub record IsWeighing (f : ℕ → ℕ) (least most cell all : ℕ) : Type 0 where
-  pub from : least ≤ cell
-  pub within : cell ≤ most + 1
-  pub weighing : all ≡ sum_by f (range_with_len least (cell - least))
-  pub fits : all ≤ MAX
-
-module _ (f : ℕ → ℕ) (least most : ℕ) where
-  pub weighing-first : least ≤ most → IsWeighing f least most least 0
-  weighing-first h = record { from = omega arith; within = omega (arith, h); weighing = ap (λ n. sum_by f (range_with_len least n)) (let e : 0 ≡ least - least = omega arith in e); fits = omega arith }
-
-  module _ (cell all : ℕ) (h : cell < most + 1) (w : IsWeighing f least most cell all) where
-    weighing-on : sum_by f (range_with_len least (cell + 1 - least)) ≡ all + f cell
-    weighing-on =
-        let long : cell + 1 - least ≡ cell - least + 1 = omega (arith, w.from) in
-        let here : least + (cell - least) ≡ cell = omega (arith, w.from) in
-        ap (λ n. sum_by f (range_with_len least n)) long ∙ divided f least (cell - least) 1
-        ∙ ap (λ n. sum_by f (range_with_len least (cell - least)) + sum_by f (range_with_len n 1)) here
-        ∙ omega (arith, sum_by-cons f cell [], w.weighing)
-
-    -- the sum with the next one is within that of all
-    pub weighing-within : all + f cell ≤ sum_by f (range_with_len least (most + 1 - least))
-    weighing-within =
-        let long : most + 1 - least ≡ (cell + 1 - least) + (most - cell) = omega (arith, w.from, h) in
-        rw long (omega (arith, divided f least (cell + 1 - least) (most - cell), weighing-on))
-
-    pub weighing-next : all + f cell ≤ MAX → IsWeighing f least most (cell + 1) (all + f cell)
-    weighing-next fit = record { from = omega (arith, w.from); within = omega (arith, h); weighing = sym weighing-on; fits = fit }
-
-  pub weighing-whole : (cell all : ℕ) → most + 1 ≤ cell → IsWeighing f least most cell all → all ≡ sum_by f (range_with_len least (most + 1 - least))
-  weighing-whole cell all h w =
-      let end : cell - least ≡ most + 1 - least = omega (arith, w.within, h) in
-      w.weighing ∙ ap (λ n. sum_by f (range_with_len least n)) end
 
 -- strata that are weighed
 pub record IsTotalled (odds : Option Odds) (strata : List Stratum) (i all : ℕ) : Type 0 where

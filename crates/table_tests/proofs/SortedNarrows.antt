@@ -15,7 +15,7 @@ use Rattle.label_network.specs.Meanings.{sizes_in}
 use Rattle.label_network.proofs.LabelPlans.{sizes-back}
 use Rattle.label_network.proofs.Narrowing.{AreLeft, chosen}
 use Rattle.sorted_tables.proofs.Reordering.{even-order}
-use Rattle.sorted_tables.proofs.RowSwaps.{labellings-swap}
+use Rattle.label_network.proofs.ChoiceSwaps.{labellings-swap}
 use Rattle.sorted_tables.proofs.SortedPlans.{IsLeftRoom, left-onward, left-start, sizes-fallen}
 use Rattle.table_tests.specs.SortedWeighing.{sorted_meaning}
 use Rattle.table_tests.specs.Weighing.{greatest_factor, least_factor, past_of}

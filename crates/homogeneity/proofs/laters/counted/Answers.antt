@@ -1,6 +1,6 @@
 use Rattle.std.proofs.Common.{◌≡◌, arith}
 use Rattle.homogeneity.specs.ZelenSteps.{counted, counted_cell}
-use Rattle.homogeneity.proofs.Adding.{added-first, added-next, added-whole, added-within}
+use Rattle.strata_cells.proofs.RangeSums.{added-first, added-next, added-whole, added-within}
 use Rattle.homogeneity.proofs.laters.counted.Goals as goal
 
 pub loop-cell-init : goal.loop-cell-init

@@ -1,5 +1,5 @@
 use Rattle.homogeneity.specs.ZelenSteps.{counted_cell}
-use Rattle.homogeneity.proofs.Adding.{IsAdded}
+use Rattle.strata_cells.proofs.RangeSums.{IsAdded}
 use Rattle.homogeneity.proofs.laters.counted.Given as goal
 
 abbrev pub invariant-loop-cell : goal.invariant-loop-cell

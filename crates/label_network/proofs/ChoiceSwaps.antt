@@ -1,4 +1,4 @@
--- Two neighbouring groups may change places: the choices for a column change theirs alike.
+-- Two neighbouring rows may change places: the choices for a column change theirs alike.
 use Rattle.std.proofs.Common.{◌≡◌, ℕ, zero, suc, ◌+◌, ◌-◌, ◌*◌, ◌<◌, ◌≤◌, List, [], ◌∷◌, length, min, Bool, true, false, cond, refl, sym, ◌∙◌, ap, subst, arith, nat_eq, nat_le, inl, inr, ◌&&◌}
 use Rattle.std.specs.List.{sum_by, range_with_len, Contains}
 use Rattle.std.specs.Cmp.Lexicographic.{pointwise}
