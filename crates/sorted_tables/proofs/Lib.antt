@@ -1,5 +1,12 @@
 pub mod RowSwaps
 pub mod ColumnSwaps
 pub mod Reordering
+pub mod GatheredForms
+pub mod GatheredClasses
+pub mod GatheredSums
+pub mod GatheredLoops
+pub mod GatheredChoices
+pub mod RisingChoices
+pub mod RaisedLoops
 pub mod SortedWays
 pub mod SortedPlans

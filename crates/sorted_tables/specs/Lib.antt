@@ -1,2 +1,3 @@
+pub mod GatheredChoices
 pub mod SortedRooms
 pub mod SortedSteps

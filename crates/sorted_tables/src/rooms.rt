@@ -6,15 +6,17 @@ ghost use Rattle.label_network.specs.LabelRooms.{IsLabelled};
 ghost use Rattle.sorted_tables.specs.SortedRooms.{GivesTables};
 ghost use Rattle.sorted_tables.specs.SortedSteps.{AreSorted};
 
+use crate::gathering::{next_gathered, weight_gathered};
 use crate::orders::fall_away;
-use label_network::{Binomials, first_counts, next_counts, rest_in, weight_in, write_sizes};
+use label_network::{Binomials, first_counts, rest_in, write_sizes};
 use room_network::Rooms;
 use std::alloc::Global;
 use weights::NoMemory;
 
 /// Labels over columns, as [`LabelRooms`](label_network::LabelRooms), but the sizes that remain
 /// after a choice stand in falling order. A choice is for the sizes in the order in which they
-/// stand then.
+/// stand then. Of the choices that differ in the order of rows of equal size alone, the first one
+/// stands for all, and weighs as much as they do together.
 #[derive(Drop)]
 pub struct SortedRooms {
     columns: Vec<u64>,
@@ -46,8 +48,8 @@ impl SortedRooms {
 
 /// The rows of a table may stand in any order, and so may its columns. The ways through the rooms
 /// of the rows in falling order and the columns in rising order are the labellings of the rows and
-/// the columns as they are given, each of which is counted once; and a way's choices weigh as much
-/// as the columns of the labelling's table.
+/// the columns as they are given, each of which is counted once; and a way's choices have as many
+/// labellings, one by one, as the columns of the labelling's table.
 pub fn sorting_law()
     ensures { (columns rows : List ℕ) → sum columns ≡ sum rows → GivesTables columns rows }
 {}
@@ -83,12 +85,12 @@ impl Rooms for SortedRooms {
 
     #[inline(always)]
     fn next_choice(&self, stage: usize, room: &[i128], choice: &mut [u64]) -> bool {
-        next_counts(self.columns[stage], room, choice)
+        next_gathered(self.columns[stage], room, choice)
     }
 
     fn cross(&self, stage: usize, room: &[i128], choice: &[u64], next: &mut [i128]) -> u128 {
         fall_away(room, choice, next);
-        weight_in(&self.binomials, self.columns[stage], choice)
+        weight_gathered(&self.binomials, self.columns[stage], room, choice)
     }
 
     #[inline(always)]

@@ -19,8 +19,7 @@ use Rattle.room_network.specs.Meanings.{way_value}
 use Rattle.room_network.specs.Plans.{Gives}
 use Rattle.room_network.specs.RoomNetworks.{room_network}
 use Rattle.room_network.proofs.RoomFollows.{room_follows}
-use Rattle.label_network.specs.LabelRooms.{label_weight}
-use Rattle.sorted_tables.specs.SortedRooms.{GivesTables, rising, sorted_plan}
+use Rattle.sorted_tables.specs.SortedRooms.{GivesTables, rising, sorted_plan, sorted_weight}
 use Rattle.sorted_tables.proofs.SortedPlans.{sorted_width}
 use Rattle.sorted_tables.proofs.SortedWays.{tables_give}
 use Rattle.table_tests.specs.SortedWeighing.{sorted_meaning}
@@ -64,9 +63,9 @@ module _ (rows columns : List ℕ) (level : sum columns ≡ sum rows) where
         sorted-from (falling rows) (rising columns) (judge_of test) (tables.cut xs) 0 _ (pos 1 ∷ []) refl
         ∙ ap pos (one-times (table_weight (tables.cut xs)) ∙ tables.weighs xs)
 
-    pub sorted_follows : Follows test tail (room_network (sorted_meaning (falling rows) (rising columns) (judge_of test)) label_weight)
+    pub sorted_follows : Follows test tail (room_network (sorted_meaning (falling rows) (rising columns) (judge_of test)) sorted_weight)
     sorted_follows =
-        room_follows (sorted_meaning (falling rows) (rising columns) (judge_of test)) label_weight (sorted_width (rising columns) (falling rows))
+        room_follows (sorted_meaning (falling rows) (rising columns) (judge_of test)) sorted_weight (sorted_width (rising columns) (falling rows))
         (sorted_measure (falling rows) (rising columns) (judge_of test) level-sorted (omega (arith, length-in_order is_at_least rows, some)) (falling-twice rows))
         test tail tables.cut (record {
           judge_is = refl;

@@ -16,7 +16,7 @@ use Rattle.label_network.proofs.LabelPlans.{sizes-back}
 use Rattle.label_network.proofs.Narrowing.{AreLeft, chosen}
 use Rattle.sorted_tables.proofs.Reordering.{even-order}
 use Rattle.label_network.proofs.ChoiceSwaps.{labellings-swap}
-use Rattle.sorted_tables.proofs.SortedPlans.{IsLeftRoom, left-onward, left-start, sizes-fallen}
+use Rattle.sorted_tables.proofs.SortedPlans.{IsLeftRoom, among-all, left-onward, left-start, sizes-fallen}
 use Rattle.table_tests.specs.SortedWeighing.{sorted_meaning}
 use Rattle.table_tests.specs.Weighing.{greatest_factor, least_factor, past_of}
 use Rattle.table_tests.specs.WeightSteps.{IsProduct, IsWeightKey, IsWeightMove, IsWeightRoom, IsWeightStep}
@@ -76,13 +76,13 @@ module _ (rows columns : List ℕ) (judge : Judge) (level : sum columns ≡ sum 
   -- what every reached key has
   pub sorted_key : (g : ℕ) (room p : List ℤ) → AreReached (sorted_meaning rows columns judge) g room p → IsWeightKey rows columns g room p
   sorted_key zero room p r = rw (r.0, r.1) key-start
-  sorted_key (suc g) room p (s, q, c, r, before, o, e, f) = rw (e, f) (key-onward g s q c before (sorted_key g s q r) o)
+  sorted_key (suc g) room p (s, q, c, r, before, o, e, f) = rw (e, f) (key-onward g s q c before (sorted_key g s q r) (among-all columns rows g s c o))
 
   pub sorted_room : (g : ℕ) (room : List ℤ) → IsRoom (sorted_meaning rows columns judge) g room → IsWeightRoom rows columns g room
   sorted_room g room v = record { partial = v.partial; place = sorted_key g room v.partial v.reached }
 
   pub sorted_move : (g : ℕ) (room : List ℤ) (c : List ℕ) (p : List ℤ) → IsMove (sorted_meaning rows columns judge) g room c p → IsWeightMove rows columns g room c p
-  sorted_move g room c p v = record { before = v.before; place = sorted_key g room p v.reached; allowed = v.allowed }
+  sorted_move g room c p v = record { before = v.before; place = sorted_key g room p v.reached; allowed = among-all columns rows g room c v.allowed }
 
   pub sorted_step : (g : ℕ) (room : List ℤ) (c : List ℕ) → IsStep (sorted_meaning rows columns judge) g room c → IsWeightStep rows columns g room c
   sorted_step g room c v = record { partial = v.partial; move = sorted_move g room c v.partial v.move }
@@ -109,8 +109,8 @@ module _ (rows columns : List ℕ) (judge : Judge) (level : sum columns ≡ sum 
   pub sorted_measure : IsMeasure (sorted_meaning rows columns judge)
   sorted_measure = record {
     wide = λ g room p r. (sorted_key g room p r).product.one;
-    low_rises = rises;
-    high_falls = falls_on;
+    low_rises = λ g room p c r before o. rises g room p c r before (among-all columns rows g room c o);
+    high_falls = λ g room p c r before o. falls_on g room p c r before (among-all columns rows g room c o);
     low_ends = λ room p r. let k = sorted_key (length columns) room p r in (weight_narrowing rows columns judge level some).low_end (sizes_in room) p (left-of (length columns) room p k) k.product;
     high_ends = λ room p r. let k = sorted_key (length columns) room p r in (weight_narrowing rows columns judge level some).high_end (sizes_in room) p (left-of (length columns) room p k) k.product;
   }

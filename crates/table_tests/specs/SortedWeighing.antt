@@ -1,6 +1,6 @@
 -- The weight of a table over rooms whose sizes stand in falling order: its rows are taken in
--- falling order and its columns in rising order, and keys whose sizes are the same in another order
--- are one.
+-- falling order and its columns in rising order, keys whose sizes are the same in another order are
+-- one, and so are choices that differ in the order of rows of equal size.
 use Rattle.std.specs.Prelude.{ℕ, List}
 use Rattle.completion_bounds.specs.Fillings.{falling}
 use Rattle.stage_network.specs.Judged.{judge_of}
@@ -9,8 +9,7 @@ use Rattle.stage_network.specs.declared.verdicts.Judge.{Judge}
 use Rattle.room_network.specs.Meanings.{Meaning}
 use Rattle.room_network.specs.RoomNetworks.{room_network}
 use Rattle.label_network.specs.LabelNetwork.{over_rooms}
-use Rattle.label_network.specs.LabelRooms.{label_weight}
-use Rattle.sorted_tables.specs.SortedRooms.{rising, sorted_floor}
+use Rattle.sorted_tables.specs.SortedRooms.{rising, sorted_floor, sorted_weight}
 use Rattle.table_reader.specs.TableLayout.{TableData}
 use Rattle.table_tests.specs.FisherExact.{fisher_test}
 use Rattle.table_tests.specs.Tables.{column_sums, row_sums}
@@ -29,4 +28,4 @@ sorted_rarity_meaning table =
 
 -- the network of a table's weight that is quicker than the one that is written down
 abbrev pub sorted_network : TableData → Network
-sorted_network table = room_network (sorted_rarity_meaning table) label_weight
+sorted_network table = room_network (sorted_rarity_meaning table) sorted_weight

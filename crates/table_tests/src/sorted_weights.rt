@@ -12,7 +12,8 @@ use std::alloc::Global;
 use weights::{NoMemory, Tail, only};
 
 /// The weight of the table that a labelling gives, as [`WeightMeasure`], over rooms whose sizes
-/// stand in falling order. Neither the weight nor its interval depends on the order of the sizes.
+/// stand in falling order. Neither the weight nor its interval depends on the order of the sizes,
+/// and so all choices that one stands for lead to the same.
 #[derive(Drop)]
 pub struct SortedWeights {
     measure: WeightMeasure,

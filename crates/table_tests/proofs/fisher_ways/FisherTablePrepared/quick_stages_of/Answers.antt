@@ -3,7 +3,7 @@ use Rattle.std.proofs.lemmas.Result.{IfOk-weaker}
 use Rattle.stage_network.specs.Follows.{Follows}
 use Rattle.room_network.specs.Meanings.{Meaning}
 use Rattle.room_network.specs.RoomNetworks.{room_network}
-use Rattle.label_network.specs.LabelRooms.{label_weight}
+use Rattle.sorted_tables.specs.SortedRooms.{sorted_weight}
 use Rattle.table_tests.specs.FisherExact.{fisher_test}
 use Rattle.table_tests.specs.Tables.{is_two_by_two}
 use Rattle.table_tests.proofs.SortedTests.{along-sorted}
@@ -16,4 +16,4 @@ returns-then-made c =
 pub returns : goal.returns
 returns c t has same =
     let large : is_two_by_two c.args.self.now ≡ false = search rules in
-    subst (λ (m : Meaning). Follows (fisher_test c.args.self.now) t (room_network m label_weight)) c.in_ok-sorted.ensures.built (along-sorted c.args.self.now c.made.ensures.fitting large c.args.tail t has same)
+    subst (λ (m : Meaning). Follows (fisher_test c.args.self.now) t (room_network m sorted_weight)) c.in_ok-sorted.ensures.built (along-sorted c.args.self.now c.made.ensures.fitting large c.args.tail t has same)
