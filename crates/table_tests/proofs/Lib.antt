@@ -4,6 +4,7 @@ mod Products
 mod LinearTests
 mod WeightNarrows
 mod WeightKeys
+mod SharperFactors
 mod SortedNarrows
 mod SortedFollows
 mod SortedTests

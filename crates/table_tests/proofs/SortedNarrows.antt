@@ -1,37 +1,67 @@
--- The interval of a table's weight narrows along every choice of sorted rooms too: it does not see the order of the sizes.
-use Rattle.std.proofs.Common.{◌≡◌, ℕ, zero, suc, ◌+◌, ◌*◌, ◌<◌, ◌≤◌, min, List, [], ◌∷◌, map, length, drop, refl, sym, ◌∙◌, ap, subst, arith}
+-- The interval of a table's weight by its columns and rows narrows along every choice of sorted rooms: it does not see the order of the sizes.
+use Rattle.std.proofs.Common.{◌≡◌, ℕ, zero, suc, ◌+◌, ◌*◌, ◌/◌, ◌<◌, ◌≤◌, max, min, List, [], ◌∷◌, map, length, drop, cond, refl, sym, ◌∙◌, ap, subst, arith, add-one, drop-cons, nat_le}
+use Rattle.std.specs.Int.{div_ceil}
 use Rattle.std.specs.Prelude.{ℤ, pos, ◌≤ℤ◌, slice_index}
 use Rattle.std.specs.List.{sum, Contains}
+use Rattle.std.proofs.Math.Nat.{mul-le-mul_left}
 use Rattle.stage_network.specs.declared.verdicts.Judge.{Judge}
+use Rattle.weights.specs.declared.TheConstants.{MAX}
 use Rattle.weights.specs.Grouped.{choices, minus, table_weight}
 use Rattle.weights.specs.Labellings.{number_of_labellings}
 use Rattle.weights.proofs.ChoiceLists.{IsChoice}
 use Rattle.weights.proofs.OneOrder.{length-in_order}
 use Rattle.completion_bounds.specs.Fillings.{falling, filled_in_turn, greatest_weight, is_at_least, product_by}
+use Rattle.completion_bounds.proofs.Factorials.{total, total-is}
 use Rattle.completion_bounds.proofs.FallingSizes.{falling-twice}
 use Rattle.room_network.specs.Meanings.{AreReached, IsEnd, IsMeasure, IsMove, IsRoom, IsStep, partial_after}
 use Rattle.label_network.specs.Linear.{so_far}
 use Rattle.label_network.specs.Meanings.{sizes_in}
 use Rattle.label_network.proofs.LabelPlans.{sizes-back}
+use Rattle.label_network.proofs.Later.{fits-length}
 use Rattle.label_network.proofs.Narrowing.{AreLeft, chosen}
+use Rattle.stage_network.proofs.Swaps.{swap_at}
 use Rattle.sorted_tables.proofs.Reordering.{even-order}
 use Rattle.label_network.proofs.ChoiceSwaps.{labellings-swap}
 use Rattle.sorted_tables.proofs.SortedPlans.{IsLeftRoom, among-all, left-onward, left-start, sizes-fallen}
-use Rattle.table_tests.specs.SortedWeighing.{sorted_meaning}
-use Rattle.table_tests.specs.Weighing.{greatest_factor, least_factor, past_of}
-use Rattle.table_tests.specs.WeightSteps.{IsProduct, IsWeightKey, IsWeightMove, IsWeightRoom, IsWeightStep}
-use Rattle.table_tests.proofs.WeightNarrows.{falling as falls_along, first-product, keeping, rising, risen, times-one, weight_narrowing}
+use Rattle.row_products.specs.RowProducts.{factorial, greatest_by_rows, greatest_product, least_by_rows, least_product}
+use Rattle.table_tests.specs.SortedWeighing.{sharper_high, sharper_low, sorted_meaning}
+use Rattle.table_tests.specs.Weighing.{past_of}
+use Rattle.table_tests.specs.WeightSteps.{IsFactor, IsProduct, IsWeightKey, IsWeightMove, IsWeightRoom, IsWeightStep}
+use Rattle.table_tests.proofs.SharperFactors.{columns_high, columns_low, high-ends, high-most, high-onward, high_over, low-ends, low-most, low-onward, low_over}
+use Rattle.table_tests.proofs.WeightNarrows.{first-product, keeping, none_left, risen, times-one}
 
+-- what the later columns and the rows say does not see the order of the sizes
 pub labellings-falling : (r : List ℕ) → number_of_labellings (falling r) ≡ number_of_labellings r
 labellings-falling r = even-order is_at_least number_of_labellings labellings-swap r
 
-least_factor-falling : (columns : List ℕ) (g : ℕ) (r : List ℕ) → least_factor columns g (falling r) ≡ least_factor columns g r
-least_factor-falling columns g r = ap (λ s. product_by (λ c. number_of_labellings (filled_in_turn c s)) (drop g columns)) (falling-twice r)
+product-swap : (f : ℕ → ℕ) (i : ℕ) (r : List ℕ) → product_by f (swap_at i r) ≡ product_by f r
+product-swap f i [] = refl
+product-swap f zero (m ∷ []) = refl
+product-swap f zero (m ∷ n ∷ r) = turned (f n) (f m) (product_by f r)
+  where
+    turned : (a b c : ℕ) → a * (b * c) ≡ b * (a * c)
+    turned a b c = grind arith
+product-swap f (suc i) (m ∷ r) = ap (λ n. f m * n) (product-swap f i r)
 
-greatest_factor-falling : (columns : List ℕ) (g : ℕ) (r : List ℕ) → greatest_factor columns g (falling r) ≡ greatest_factor columns g r
-greatest_factor-falling columns g r =
-    ap (λ n. min n (product_by (greatest_weight (length (falling r))) (drop g columns))) (labellings-falling r)
-    ∙ ap (λ l. min (number_of_labellings r) (product_by (greatest_weight l) (drop g columns))) (length-in_order is_at_least r)
+product-falling : (f : ℕ → ℕ) (r : List ℕ) → product_by f (falling r) ≡ product_by f r
+product-falling f r = even-order is_at_least (product_by f) (product-swap f) r
+
+abbrev low_with : List ℕ → ℕ → ℕ → ℕ
+low_with later a b = cond (nat_le (product_by factorial later) MAX) (max a b) a
+
+abbrev high_with : List ℕ → ℕ → ℕ → ℕ
+high_with later a b = cond (nat_le (product_by factorial later) MAX) (min a b) a
+
+low-falling : (later r : List ℕ) → low_over later (falling r) ≡ low_over later r
+low-falling later r =
+    ap (λ s. low_with later (product_by (λ c. number_of_labellings (filled_in_turn c s)) later) (least_by_rows (falling r) later)) (falling-twice r)
+    ∙ ap (λ n. low_with later (columns_low later r) (div_ceil (product_by factorial later) n)) (product-falling (greatest_product later) r)
+
+high-falling : (later r : List ℕ) → high_over later (falling r) ≡ high_over later r
+high-falling later r =
+    ap (λ n. high_with later (min n (product_by (greatest_weight (length (falling r))) later)) (greatest_by_rows (falling r) later)) (labellings-falling r)
+    ∙ ap (λ l. high_with later (min (number_of_labellings r) (product_by (greatest_weight l) later)) (greatest_by_rows (falling r) later)) (length-in_order is_at_least r)
+    ∙ ap (λ n. high_with later (columns_high later r) (product_by factorial later / n)) (product-falling (least_product (length later)) r)
 
 -- what the choices multiply
 pub sorted-from : (rows columns : List ℕ) (judge : Judge) (w : List (List ℕ)) (g : ℕ) (room p : List ℤ) → so_far p ≡ pos (past_of p)
@@ -43,6 +73,18 @@ sorted-from rows columns judge (x ∷ w) g room p e =
   where
     grouped : (a b c : ℕ) → (a * b) * c ≡ a * (b * c)
     grouped a b c = grind arith
+
+more-times : (p a s b : ℕ) → a ≤ s * b → p * a ≤ (p * s) * b
+more-times p a s b h =
+    let one : p * a ≤ p * (s * b) = mul-le-mul_left p h in
+    let two : (p * s) * b ≡ p * (s * b) = grind arith in
+    omega (arith, one, two)
+
+less-times : (p a s b : ℕ) → s * b ≤ a → (p * s) * b ≤ p * a
+less-times p a s b h =
+    let one : p * (s * b) ≤ p * a = mul-le-mul_left p h in
+    let two : (p * s) * b ≡ p * (s * b) = grind arith in
+    omega (arith, one, two)
 
 module _ (rows columns : List ℕ) (judge : Judge) (level : sum columns ≡ sum rows) (some : 1 ≤ length rows) (falls : falling rows ≡ rows) where
   left-of : (g : ℕ) (room p : List ℤ) → IsWeightKey rows columns g room p → AreLeft columns rows g (sizes_in room)
@@ -90,27 +132,57 @@ module _ (rows columns : List ℕ) (judge : Judge) (level : sum columns ≡ sum 
   pub sorted_end : (p : List ℤ) → IsEnd (sorted_meaning rows columns judge) p → length p ≡ 1
   sorted_end p v = (sorted_key (length columns) v.room p v.reached).product.one
 
-  rises : (g : ℕ) (room p : List ℤ) (c : List ℕ) → AreReached (sorted_meaning rows columns judge) g room p → g < length columns → Contains (choices (slice_index columns g) (sizes_in room)) c
-      → pos (past_of p * least_factor columns g (sizes_in room)) ≤ℤ pos ((past_of p * number_of_labellings c) * least_factor columns (g + 1) (sizes_in (map pos (falling (minus (sizes_in room) c)))))
-  rises g room p c r before o =
-      let k : IsWeightKey rows columns g room p = sorted_key g room p r in
-      let choice : IsChoice (slice_index columns g) (sizes_in room) c = chosen (slice_index columns g) (sizes_in room) c o in
-      rw (sizes-fallen (minus (sizes_in room) c), least_factor-falling columns (g + 1) (minus (sizes_in room) c))
-      (risen _ _ (rising rows columns judge level some g (sizes_in room) (left-of g room p k) c p before choice k.product))
+  -- a choice there
+  module _ (g : ℕ) (room p : List ℤ) (c : List ℕ) (r : AreReached (sorted_meaning rows columns judge) g room p) (before : g < length columns) (o : Contains (choices (slice_index columns g) (sizes_in room)) c) where
+    key : IsWeightKey rows columns g room p
+    key = sorted_key g room p r
 
-  falls_on : (g : ℕ) (room p : List ℤ) (c : List ℕ) → AreReached (sorted_meaning rows columns judge) g room p → g < length columns → Contains (choices (slice_index columns g) (sizes_in room)) c
-      → pos ((past_of p * number_of_labellings c) * greatest_factor columns (g + 1) (sizes_in (map pos (falling (minus (sizes_in room) c))))) ≤ℤ pos (past_of p * greatest_factor columns g (sizes_in room))
-  falls_on g room p c r before o =
-      let k : IsWeightKey rows columns g room p = sorted_key g room p r in
-      let choice : IsChoice (slice_index columns g) (sizes_in room) c = chosen (slice_index columns g) (sizes_in room) c o in
-      rw (sizes-fallen (minus (sizes_in room) c), greatest_factor-falling columns (g + 1) (minus (sizes_in room) c))
-      (risen _ _ (falls_along rows columns judge level some g (sizes_in room) (left-of g room p k) c p before choice k.product))
+    choice : IsChoice (slice_index columns g) (sizes_in room) c
+    choice = chosen (slice_index columns g) (sizes_in room) c o
+
+    later : drop g columns ≡ slice_index columns g ∷ drop (g + 1) columns
+    later = rw add-one (drop-cons columns g 0 before)
+
+    whole : total (sizes_in room) ≡ slice_index columns g + total (drop (g + 1) columns)
+    whole = total-is (sizes_in room) ∙ sym key.level ∙ sym (total-is (drop g columns)) ∙ ap total later
+
+    rises : pos (past_of p * sharper_low columns g (sizes_in room)) ≤ℤ pos ((past_of p * number_of_labellings c) * sharper_low columns (g + 1) (sizes_in (map pos (falling (minus (sizes_in room) c)))))
+    rises =
+        let step : low_over (drop g columns) (sizes_in room) ≤ number_of_labellings c * low_over (drop (g + 1) columns) (minus (sizes_in room) c) = rw later (low-onward (slice_index columns g) (drop (g + 1) columns) (sizes_in room) c choice whole) in
+        rw (sizes-fallen (minus (sizes_in room) c), low-falling (drop (g + 1) columns) (minus (sizes_in room) c))
+        (risen _ _ (more-times (past_of p) (low_over (drop g columns) (sizes_in room)) (number_of_labellings c) (low_over (drop (g + 1) columns) (minus (sizes_in room) c)) step))
+
+    falls_on : pos ((past_of p * number_of_labellings c) * sharper_high columns (g + 1) (sizes_in (map pos (falling (minus (sizes_in room) c))))) ≤ℤ pos (past_of p * sharper_high columns g (sizes_in room))
+    falls_on =
+        let wide : 0 < length (sizes_in room) = omega (arith, fits-length (sizes_in room) rows key.within, some) in
+        let step : number_of_labellings c * high_over (drop (g + 1) columns) (minus (sizes_in room) c) ≤ high_over (drop g columns) (sizes_in room) = rw later (high-onward (slice_index columns g) (drop (g + 1) columns) (sizes_in room) c choice whole wide) in
+        rw (sizes-fallen (minus (sizes_in room) c), high-falling (drop (g + 1) columns) (minus (sizes_in room) c))
+        (risen _ _ (less-times (past_of p) (high_over (drop g columns) (sizes_in room)) (number_of_labellings c) (high_over (drop (g + 1) columns) (minus (sizes_in room) c)) step))
+
+  ended : (room p : List ℤ) → IsWeightKey rows columns (length columns) room p → sum (sizes_in room) ≡ 0
+  ended room p k = sym k.level ∙ ap sum (none_left rows columns judge level some)
 
   pub sorted_measure : IsMeasure (sorted_meaning rows columns judge)
   sorted_measure = record {
     wide = λ g room p r. (sorted_key g room p r).product.one;
     low_rises = λ g room p c r before o. rises g room p c r before (among-all columns rows g room c o);
     high_falls = λ g room p c r before o. falls_on g room p c r before (among-all columns rows g room c o);
-    low_ends = λ room p r. let k = sorted_key (length columns) room p r in (weight_narrowing rows columns judge level some).low_end (sizes_in room) p (left-of (length columns) room p k) k.product;
-    high_ends = λ room p r. let k = sorted_key (length columns) room p r in (weight_narrowing rows columns judge level some).high_end (sizes_in room) p (left-of (length columns) room p k) k.product;
+    low_ends = λ room p r.
+        let k = sorted_key (length columns) room p r in
+        ap (λ cs. pos (past_of p * low_over cs (sizes_in room))) (none_left rows columns judge level some)
+        ∙ ap (λ n. pos (past_of p * n)) (low-ends (sizes_in room))
+        ∙ ap pos (times-one (past_of p)) ∙ sym k.product.whole;
+    high_ends = λ room p r.
+        let k = sorted_key (length columns) room p r in
+        ap (λ cs. pos (past_of p * high_over cs (sizes_in room))) (none_left rows columns judge level some)
+        ∙ ap (λ n. pos (past_of p * n)) (high-ends (sizes_in room) (ended room p k))
+        ∙ ap pos (times-one (past_of p)) ∙ sym k.product.whole;
   }
+
+  -- by what its sizes can multiply a product
+  module _ (g : ℕ) (room p : List ℤ) (k : IsWeightKey rows columns g room p) where
+    pub low_factor : IsFactor (sizes_in room) (pos (sharper_low columns g (sizes_in room)))
+    low_factor = record { whole = refl; most = low-most (drop g columns) (sizes_in room) (sym k.level) }
+
+    pub high_factor : IsFactor (sizes_in room) (pos (sharper_high columns g (sizes_in room)))
+    high_factor = record { whole = refl; most = high-most (drop g columns) (sizes_in room) }

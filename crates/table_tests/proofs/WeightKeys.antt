@@ -1,6 +1,6 @@
 -- What the keys of a table's weight have, as the bodies need it.
-use Rattle.std.proofs.Common.{◌≡◌, ℕ, suc, ◌-◌, ◌*◌, ◌^◌, ◌<◌, ◌≤◌, min, List, [], ◌∷◌, length, drop, get_or, refl, sym, ◌∙◌, ap, arith}
-use Rattle.std.specs.Prelude.{ℤ, pos, ◌*ℤ◌, unsigned_abs, slice_index}
+use Rattle.std.proofs.Common.{◌≡◌, ℕ, suc, ◌-◌, ◌*◌, ◌^◌, ◌<◌, ◌≤◌, min, List, [], ◌∷◌, length, drop, get_or, refl, sym, ◌∙◌, ap, subst, arith}
+use Rattle.std.specs.Prelude.{ℤ, pos, ◌*ℤ◌, nat_abs, unsigned_abs, slice_index}
 use Rattle.std.specs.List.{sum, Contains}
 use Rattle.std.proofs.Math.IntN.{pos-*ℤ-pos}
 use Rattle.std.proofs.Math.Nat.{mul-le-mul_left}
@@ -20,7 +20,7 @@ use Rattle.label_network.proofs.LinearKeys.{reached-stage}
 use Rattle.label_network.proofs.Narrowing.{IsLeft, chosen}
 use Rattle.label_network.proofs.Sizes.{fewer-labellings, fits-chain, held-within, sizes-of_pos}
 use Rattle.table_tests.specs.Weighing.{greatest_factor, least_factor, past_of, weight_meaning}
-use Rattle.table_tests.specs.WeightSteps.{AreRoomy, IsProduct, IsWeightKey, IsWeightMeasure, IsWeightMove, IsWeightRoom, IsWeightStep}
+use Rattle.table_tests.specs.WeightSteps.{AreRoomy, IsFactor, IsProduct, IsWeightKey, IsWeightMeasure, IsWeightMove, IsWeightRoom, IsWeightStep}
 use Rattle.table_tests.proofs.FilledColumns.{high-at, roomy}
 use Rattle.table_tests.proofs.WeightNarrows.{greatest-most, least-most, reached_left, reached_product}
 
@@ -76,32 +76,25 @@ module _ (rows columns : List ℕ) (width falling_width : ℕ) (highs : List ℕ
     product-fits : (m : ℕ) → m ≤ number_of_labellings (sizes_in f) → past_of p * m ≤ MAX
     product-fits m l = omega (arith, mul-le-mul_left (past_of p) l, product_is.small, h.weighing.total_fits)
 
-    pub low-product : past_of p * least_factor columns g (sizes_in f) ≤ MAX
-    low-product = product-fits (least_factor columns g (sizes_in f)) (least-most rows columns judge h.weighing.level h.weighing.some g (sizes_in f) left)
+    -- what such a product can be multiplied by
+    module _ (factor : ℤ) (e : IsFactor (sizes_in f) factor) where
+      factor-product : past_of p * nat_abs factor ≤ MAX
+      factor-product = product-fits (nat_abs factor) e.most
 
-    pub high-product : past_of p * greatest_factor columns g (sizes_in f) ≤ MAX
-    high-product = product-fits (greatest_factor columns g (sizes_in f)) (greatest-most rows columns judge h.weighing.level h.weighing.some g (sizes_in f) left)
+      pub factor-rule : JudgeFits judge (pos (past_of p * nat_abs factor))
+      factor-rule = h.weighing.rules_fit (pos (past_of p * nat_abs factor)) factor-product
 
-    pub low-rule : JudgeFits judge (pos (past_of p * least_factor columns g (sizes_in f)))
-    low-rule = h.weighing.rules_fit (pos (past_of p * least_factor columns g (sizes_in f))) low-product
+      pub factor-fits : unsigned_abs (so_far p) * unsigned_abs factor ≤ MAX
+      factor-fits = subst (λ z. unsigned_abs (so_far p) * unsigned_abs z ≤ MAX) (sym e.whole) (sized (so_far p) (past_of p) (nat_abs factor) product_is.whole factor-product)
 
-    pub high-rule : JudgeFits judge (pos (past_of p * greatest_factor columns g (sizes_in f)))
-    high-rule = h.weighing.rules_fit (pos (past_of p * greatest_factor columns g (sizes_in f))) high-product
+      pub factor-is : so_far p *ℤ factor ≡ pos (past_of p * nat_abs factor)
+      factor-is = ap (λ z. so_far p *ℤ z) e.whole ∙ multiplied (so_far p) (past_of p) (nat_abs factor) product_is.whole
 
-    -- of the factors of its sizes
-    module _ (low : ℤ) (e : low ≡ pos (least_factor columns g (sizes_in f))) where
-      pub low-fits : unsigned_abs (so_far p) * unsigned_abs low ≤ MAX
-      low-fits = rw e (sized (so_far p) (past_of p) (least_factor columns g (sizes_in f)) product_is.whole low-product)
+    pub low_factor : IsFactor (sizes_in f) (pos (least_factor columns g (sizes_in f)))
+    low_factor = record { whole = refl; most = least-most rows columns judge h.weighing.level h.weighing.some g (sizes_in f) left }
 
-      pub low-is : so_far p *ℤ low ≡ pos (past_of p * least_factor columns g (sizes_in f))
-      low-is = rw e (multiplied (so_far p) (past_of p) (least_factor columns g (sizes_in f)) product_is.whole)
-
-    module _ (high : ℤ) (e : high ≡ pos (greatest_factor columns g (sizes_in f))) where
-      pub high-fits : unsigned_abs (so_far p) * unsigned_abs high ≤ MAX
-      high-fits = rw e (sized (so_far p) (past_of p) (greatest_factor columns g (sizes_in f)) product_is.whole high-product)
-
-      pub high-is : so_far p *ℤ high ≡ pos (past_of p * greatest_factor columns g (sizes_in f))
-      high-is = rw e (multiplied (so_far p) (past_of p) (greatest_factor columns g (sizes_in f)) product_is.whole)
+    pub high_factor : IsFactor (sizes_in f) (pos (greatest_factor columns g (sizes_in f)))
+    high_factor = record { whole = refl; most = greatest-most rows columns judge h.weighing.level h.weighing.some g (sizes_in f) left }
 
     pub factor-few : least_factor columns g (sizes_in f) ≤ MAX
     factor-few = omega (arith, least-most rows columns judge h.weighing.level h.weighing.some g (sizes_in f) left, few-ways)

@@ -1,5 +1,5 @@
 -- What the bodies of a table's weight keep and need.
-use Rattle.std.specs.Prelude.{◌≡◌, ℕ, suc, ◌-◌, ◌*◌, ◌^◌, ◌<◌, ◌≤◌, ℤ, pos, List, length, map, drop, get_or, min, slice_index, unsigned_abs, true}
+use Rattle.std.specs.Prelude.{◌≡◌, ℕ, suc, ◌-◌, ◌*◌, ◌^◌, ◌<◌, ◌≤◌, ℤ, pos, List, length, map, drop, get_or, min, nat_abs, slice_index, unsigned_abs, true}
 use Rattle.std.specs.List.{sum, Contains}
 use Rattle.weights.specs.declared.TheConstants.{MAX}
 use Rattle.stage_network.specs.declared.verdicts.Judge.{Judge}
@@ -10,6 +10,7 @@ use Rattle.completion_bounds.specs.Fillings.{falling, greatest_weight, product_b
 use Rattle.label_network.specs.LabelSteps.{IsHeld}
 use Rattle.label_network.specs.Linear.{so_far}
 use Rattle.label_network.specs.Meanings.{sizes_in}
+use Rattle.row_products.specs.RowProducts.{IsRising}
 use Rattle.table_tests.specs.Weighing.{past_of}
 
 -- columns that fill the rows, of which there are few enough, and rules of weights
@@ -36,6 +37,16 @@ pub record IsWeightMeasure (rows columns : List ℕ) (width falling_width : ℕ)
   pub held : IsHeld width rows
   pub falling_held : IsHeld falling_width (falling rows)
   pub highs_are : AreHighs (length rows) columns 0 highs
+
+-- rows with the greatest first, and columns with the least first
+pub record AreOrdered (rows columns : List ℕ) : Type 0 where
+  pub falls : falling rows ≡ rows
+  pub rises : IsRising columns
+
+-- by what a product can be multiplied: no more than all labellings of the sizes
+pub record IsFactor (sizes : List ℕ) (factor : ℤ) : Type 0 where
+  pub whole : factor ≡ pos (nat_abs factor)
+  pub most : nat_abs factor ≤ number_of_labellings sizes
 
 -- rows whose subjects can be labelled in few enough ways
 pub record AreRoomy (width : ℕ) (rows : List ℕ) : Type 0 where

@@ -1,5 +1,6 @@
 // The weight of a table as a measure of its labellings.
-ghost use Rattle.std.specs.Prelude.{◌≡◌, ◌*◌, ◌^◌, ◌<◌, ◌≤◌, [], ◌∷◌, length, drop, min, unsigned_abs, pos, ◌*ℤ◌, IfOk};
+ghost use Rattle.std.specs.Prelude.{◌≡◌, ◌*◌, ◌^◌, ◌<◌, ◌≤◌, ◌*ℤ◌, [], ◌∷◌, length, drop, min};
+ghost use Rattle.std.specs.Prelude.{nat_abs, unsigned_abs, pos, IfOk};
 ghost use Rattle.std.specs.List.{sum};
 ghost use Rattle.weights.specs.declared.TheConstants.{MAX};
 ghost use Rattle.weights.specs.Labellings.{number_of_labellings};
@@ -9,8 +10,9 @@ ghost use Rattle.label_network.specs.LabelSteps.{AreSizes, IsHeld};
 ghost use Rattle.label_network.specs.Linear.{so_far};
 ghost use Rattle.label_network.specs.Meanings.{sizes_in};
 ghost use Rattle.table_tests.specs.Weighing.{greatest_factor, least_factor, past_of, weight_meaning};
-ghost use Rattle.table_tests.specs.WeightSteps.{AreRoomy, IsWeighing, IsWeightKey, IsWeightMeasure};
-ghost use Rattle.table_tests.specs.WeightSteps.{IsWeightMove, IsWeightRoom, IsWeightStep};
+ghost use Rattle.table_tests.specs.WeightSteps.{AreRoomy, IsFactor, IsWeighing, IsWeightKey};
+ghost use Rattle.table_tests.specs.WeightSteps.{IsWeightMeasure, IsWeightMove};
+ghost use Rattle.table_tests.specs.WeightSteps.{IsWeightRoom, IsWeightStep};
 
 use crate::fillings::{later_highs, least_over};
 use crate::fisher_table::held;
@@ -55,8 +57,8 @@ fn both_times(product: i128, factors: Interval) -> Interval
     }
 }
 
-// The columns from a stage on.
-fn later_columns(columns: &[u64], stage: usize) -> &[u64]
+/// The columns from a stage on.
+pub(crate) fn later_columns(columns: &[u64], stage: usize) -> &[u64]
     requires { stage ≤ length columns.now }
     ensures { result.now ≡ drop stage columns.now }
 {
@@ -126,6 +128,13 @@ impl WeightMeasure {
         })
     }
 
+    /// Its columns.
+    pub(crate) fn columns(&self) -> &[u64]
+        ensures { result.now ≡ self.now.columns.items }
+    {
+        self.columns.as_slice()
+    }
+
     /// The weight of a column's choice.
     #[inline(always)]
     pub(crate) fn weight(&self, stage: usize, remaining: &[i128], choice: &[u64]) -> i128
@@ -185,14 +194,10 @@ impl WeightMeasure {
     ) -> Interval
         requires place { IsWeightKey self.now.rows.items self.now.columns.items stage
             remaining.now partial.now }
-        requires low { let low = least_factor self.now.columns.items stage in
-            factors.low ≡ pos (low (sizes_in remaining.now)) }
-        requires high { let high = greatest_factor self.now.columns.items stage in
-            factors.high ≡ pos (high (sizes_in remaining.now)) }
-        ensures low { let low = least_factor self.now.columns.items stage in
-            result.low ≡ pos (past_of partial.now * low (sizes_in remaining.now)) }
-        ensures high { let high = greatest_factor self.now.columns.items stage in
-            result.high ≡ pos (past_of partial.now * high (sizes_in remaining.now)) }
+        requires low { IsFactor (sizes_in remaining.now) factors.low }
+        requires high { IsFactor (sizes_in remaining.now) factors.high }
+        ensures low { result.low ≡ pos (past_of partial.now * nat_abs factors.low) }
+        ensures high { result.high ≡ pos (past_of partial.now * nat_abs factors.high) }
     {
         both_times(only(partial), factors)
     }
@@ -209,15 +214,11 @@ impl WeightMeasure {
     ) -> Verdict
         requires place { IsWeightKey self.now.rows.items self.now.columns.items stage
             remaining.now partial.now }
-        requires low { let low = least_factor self.now.columns.items stage in
-            factors.low ≡ pos (low (sizes_in remaining.now)) }
-        requires high { let high = greatest_factor self.now.columns.items stage in
-            factors.high ≡ pos (high (sizes_in remaining.now)) }
-        ensures { let low = least_factor self.now.columns.items stage in
-            let high = greatest_factor self.now.columns.items stage in
-            result ≡ verdict_of (rule_in self.now.judge tail)
-            (pos (past_of partial.now * low (sizes_in remaining.now)))
-            (pos (past_of partial.now * high (sizes_in remaining.now))) }
+        requires low { IsFactor (sizes_in remaining.now) factors.low }
+        requires high { IsFactor (sizes_in remaining.now) factors.high }
+        ensures { result ≡ verdict_of (rule_in self.now.judge tail)
+            (pos (past_of partial.now * nat_abs factors.low))
+            (pos (past_of partial.now * nat_abs factors.high)) }
     {
         self.judge
             .verdict(tail, self.interval(stage, remaining, factors, partial))

@@ -10,6 +10,7 @@ use midranks::{MOST_VALUES, Tie, doubled, group_of, tie_groups};
 use node_pool::{NodeList, NodePool};
 use number_text::NumberFault::{Missing, NotNumber, OutOfRange};
 use number_text::{NumberFault, read_count, read_list, read_value};
+use row_products::{RowBounds, RowProducts};
 use scores::ScoreKind::{Ansari, Median, Mood, Raw, Savage, Wilcoxon};
 use scores::{ScoreFault, ScoreKind, labelled_sum, scored};
 use std::alloc::Global;
@@ -369,4 +370,23 @@ fn bounds_of_completions(rt: HostRuntime) {
     assert_eq!(rt; box_bounds(&[-2, 1], &[3, 4], &[5, 2], MAX), (2, 77));
     assert_eq!(rt; box_bounds(&[4, 4], &[12, 12], &[1, 1], 200), (32, 200));
     assert_eq!(rt; weight_bounds(3, 21, &[0, 5, 2], &[6, 1]), (18, 63));
+}
+
+// The tables weigh from 4 to 12, and from 4 to 288; where a product passes the limit there are no
+// bounds.
+#[test]
+fn bounds_by_rows(rt: HostRuntime) -> Result<(), Fail> {
+    let products = RowProducts::new(rt.alloc())?;
+    let of_six = RowBounds {
+        least: 2,
+        greatest: 12,
+    };
+    assert_eq!(rt; products.bounds(&[2, 4], &[3, 3]), Some(of_six));
+    let of_ten = RowBounds {
+        least: 4,
+        greatest: 288,
+    };
+    assert_eq!(rt; products.bounds(&[2, 4, 4], &[5, 3, 2]), Some(of_ten));
+    assert_eq!(rt; products.bounds(&[21, 21], &[40, 2]), None);
+    Ok(())
 }

@@ -1,13 +1,11 @@
 use Rattle.std.proofs.Common.{◌≡◌, ℕ, ◌≤◌, ◌∙◌, length, sym, ap, arith}
 use Rattle.std.proofs.lemmas.List.{length-take}
-use Rattle.std.proofs.lemmas.Result.{IfOk-weaker}
-use Rattle.weights.specs.Labellings.{number_of_labellings}
 use Rattle.completion_bounds.specs.Fillings.{falling}
 use Rattle.completion_bounds.proofs.FallingSizes.{falling-twice}
+use Rattle.row_products.proofs.Orders.{rising-twice}
 use Rattle.stage_network.specs.Judged.{judge_of}
 use Rattle.sorted_tables.specs.SortedRooms.{rising}
 use Rattle.table_tests.specs.FisherExact.{fisher_test}
-use Rattle.table_tests.specs.SortedWeighing.{sorted_meaning}
 use Rattle.table_tests.specs.Tables.{column_sums, row_sums}
 use Rattle.table_tests.proofs.FisherTests.{few-labels}
 use Rattle.table_tests.proofs.SortedTests.{follows-sorted, weighing-ordered}
@@ -39,6 +37,12 @@ sorted_stages-requires-clause-weighing c =
 
 pub sorted_stages-requires-clause-falls : goal.sorted_stages-requires-clause-falls
 sorted_stages-requires-clause-falls c = ap falling c.fall.ensures ∙ falling-twice c.as_slice-rows.result.now ∙ sym c.fall.ensures
+
+pub sorted_stages-requires-clause-rises : goal.sorted_stages-requires-clause-rises
+sorted_stages-requires-clause-rises c =
+    let made = c.made-made.ensures in
+    let columns : c.as_slice-2.result.now ≡ rising (column_sums c.args.self.now) = c.as_slice-2.ensures.value ∙ c.in_ok-columns.ensures ∙ ap rising (c.as_slice.ensures ∙ made.margins.columns) in
+    rw columns (rising-twice (column_sums c.args.self.now))
 
 pub returns-clause-built : goal.returns-clause-built
 returns-clause-built c =

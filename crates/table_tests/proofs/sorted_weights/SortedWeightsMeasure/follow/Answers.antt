@@ -7,7 +7,7 @@ use Rattle.table_tests.proofs.SortedNarrows.{sorted_move}
 use Rattle.table_tests.proofs.sorted_weights.SortedWeightsMeasure.follow.Goals as goal
 
 pub product-requires-clause-allowed : goal.product-requires-clause-allowed
-product-requires-clause-allowed c = sorted_move c.args.self.now.measure.rows.items c.args.self.now.measure.columns.items c.args.self.now.measure.judge c.args.self.now.measure.right.weighing.level c.args.self.now.measure.right.weighing.some c.args.self.now.right c.args.stage c.args.room.now c.args.choice.now c.args.partial.now c.requires.allowed
+product-requires-clause-allowed c = sorted_move c.args.self.now.measure.rows.items c.args.self.now.measure.columns.items c.args.self.now.measure.judge c.args.self.now.measure.right.weighing.level c.args.self.now.measure.right.weighing.some c.args.self.now.right.falls c.args.stage c.args.room.now c.args.choice.now c.args.partial.now c.requires.allowed
 
 pub returns : goal.returns
 returns c =

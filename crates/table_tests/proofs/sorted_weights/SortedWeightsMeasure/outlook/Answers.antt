@@ -6,7 +6,7 @@ use Rattle.table_tests.proofs.SortedNarrows.{sorted_room}
 use Rattle.table_tests.proofs.sorted_weights.SortedWeightsMeasure.outlook.Goals as goal
 
 pub factors-factors-requires : goal.factors-factors-requires
-factors-factors-requires c = sorted_room c.args.self.now.measure.rows.items c.args.self.now.measure.columns.items c.args.self.now.measure.judge c.args.self.now.measure.right.weighing.level c.args.self.now.measure.right.weighing.some c.args.self.now.right c.args.stage c.args.room.now c.requires.room
+factors-factors-requires c = sorted_room c.args.self.now.measure.rows.items c.args.self.now.measure.columns.items c.args.self.now.measure.judge c.args.self.now.measure.right.weighing.level c.args.self.now.measure.right.weighing.some c.args.self.now.right.falls c.args.stage c.args.room.now c.requires.room
 
 pub returns : goal.returns
 returns c =

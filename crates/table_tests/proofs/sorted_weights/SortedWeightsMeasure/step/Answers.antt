@@ -7,7 +7,7 @@ use Rattle.table_tests.proofs.SortedNarrows.{sorted_step}
 use Rattle.table_tests.proofs.sorted_weights.SortedWeightsMeasure.step.Goals as goal
 
 pub weight-requires : goal.weight-requires
-weight-requires c = sorted_step c.args.self.now.measure.rows.items c.args.self.now.measure.columns.items c.args.self.now.measure.judge c.args.self.now.measure.right.weighing.level c.args.self.now.measure.right.weighing.some c.args.self.now.right c.args.stage c.args.room.now c.args.choice.now c.requires.way
+weight-requires c = sorted_step c.args.self.now.measure.rows.items c.args.self.now.measure.columns.items c.args.self.now.measure.judge c.args.self.now.measure.right.weighing.level c.args.self.now.measure.right.weighing.some c.args.self.now.right.falls c.args.stage c.args.room.now c.args.choice.now c.requires.way
 
 pub returns : goal.returns
 returns c =

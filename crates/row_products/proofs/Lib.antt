@@ -1,0 +1,5 @@
+pub mod Cutting
+pub mod Products
+pub mod ByRows
+pub mod Orders
+mod Vectors

@@ -1,0 +1,2 @@
+pub mod RowProducts
+pub mod Factorials
