@@ -16,7 +16,9 @@ use Rattle.exact_run.specs.Outcome.{Outcome}
 use Rattle.exact_run.specs.Promises.{ComesExactly, status_asked, status_of}
 use Rattle.exact_run.specs.declared.status.Status.{Status}
 use Rattle.exact_run.specs.declared.status.Status.TheVariants as status
+use Rattle.exact_run.proofs.AllParts.{all-parts-merge}
 use Rattle.exact_run.proofs.OneReading.{texts-once}
+use Rattle.exact_run.proofs.Undivided.{writes-undivided}
 
 -- ---- bytes do not come to a report and to a refusal
 
@@ -98,10 +100,12 @@ pub merging-done : (held : Option (List ℕ)) (text : List ℕ) (source_rose out
     → IfSome held (λ bytes. MergeOutcome bytes (Ok text)) → took text → MergePromises status.Done held source_rose out_rose took took_prefix told
 merging-done held text source_rose out_rose took took_prefix told is written = record {
   done = λ e. weaker _ _ (λ bytes comes. (text, comes, written)) held is;
+  undivided = λ e. weaker _ _ (λ bytes comes. writes-undivided took bytes (text, comes, written)) held is;
   prefix = λ e. absurd cc;
   line = λ other. absurd (other refl);
   bad_data = weaker _ _ (none-asked status.Done text (λ e. cc)) held is;
   complete = each _ (λ bytes outcome comes asked steady room. inl refl) held;
+  all_parts = each _ all-parts-merge held;
 }
 
 pub merging-write_fault : (held : Option (List ℕ)) (text : List ℕ) (source_rose out_rose : Type 0) (took took_prefix told : List ℕ → Type 0)
@@ -109,10 +113,12 @@ pub merging-write_fault : (held : Option (List ℕ)) (text : List ℕ) (source_r
     → MergePromises status.WriteFault held source_rose out_rose took took_prefix told
 merging-write_fault held text source_rose out_rose took took_prefix told is rose written line = record {
   done = λ e. absurd cc;
+  undivided = λ e. absurd cc;
   prefix = λ e. weaker _ _ (λ bytes comes. (text, comes, written)) held is;
   line = λ other. record { cause = refusal.WriteFault; of_status = refl; told = line; of_bytes = λ own. absurd own };
   bad_data = weaker _ _ (none-asked status.WriteFault text (λ e. cc)) held is;
   complete = each _ (λ bytes outcome comes asked steady room. absurd (room rose)) held;
+  all_parts = each _ all-parts-merge held;
 }
 
 -- ---- a refusal
@@ -122,19 +128,23 @@ by-bytes : (cause : Refusal) (held : Option (List ℕ)) (source_rose out_rose : 
     → MergePromises (status_of cause) held source_rose out_rose took took_prefix told
 by-bytes cause None source_rose out_rose took took_prefix told is line = record {
   done = λ e. tt;
+  undivided = λ e. tt;
   prefix = λ e. tt;
   line = λ other. record { cause = cause; of_status = refl; told = line; of_bytes = λ own. tt };
   bad_data = tt;
   complete = tt;
+  all_parts = tt;
 }
 by-bytes cause (Some bytes) source_rose out_rose took took_prefix told is line =
     let bad : status_of cause ≡ status.BadData = bad-data bytes cause is in
     record {
       done = λ e. absurd (not-done bad e);
+      undivided = λ e. absurd (not-done bad e);
       prefix = λ e. absurd (not-written bad e);
       line = λ other. record { cause = cause; of_status = refl; told = line; of_bytes = λ own. is };
       bad_data = λ outcome comes. record { only = λ e. always-bad bytes cause outcome is comes; always = λ asked. inl bad };
       complete = λ outcome comes asked steady room. absurd (not-done (always-bad bytes cause outcome is comes) asked);
+      all_parts = all-parts-merge bytes;
     }
   where
     not-done : {answer : Status} → answer ≡ status.BadData → answer ≡ status.Done → ⊥
@@ -151,20 +161,24 @@ by-source : (held : Option (List ℕ)) (source_rose out_rose : Type 0) (took too
     → MergePromises status.ReadFault held source_rose out_rose took took_prefix told
 by-source held source_rose out_rose took took_prefix told rose line = record {
   done = λ e. absurd cc;
+  undivided = λ e. absurd cc;
   prefix = λ e. absurd cc;
   line = λ other. record { cause = refusal.ReadFault; of_status = refl; told = line; of_bytes = λ own. absurd own };
   bad_data = each _ (came-first status.ReadFault (λ e. cc) (inl refl)) held;
   complete = each _ (λ bytes outcome comes asked steady room. absurd (steady rose)) held;
+  all_parts = each _ all-parts-merge held;
 }
 
 by-memory : (held : Option (List ℕ)) (source_rose out_rose : Type 0) (took took_prefix told : List ℕ → Type 0) → told (refusal_line_text refusal.NoMemory)
     → MergePromises status.NoMemory held source_rose out_rose took took_prefix told
 by-memory held source_rose out_rose took took_prefix told line = record {
   done = λ e. absurd cc;
+  undivided = λ e. absurd cc;
   prefix = λ e. absurd cc;
   line = λ other. record { cause = refusal.NoMemory; of_status = refl; told = line; of_bytes = λ own. absurd own };
   bad_data = each _ (came-first status.NoMemory (λ e. cc) (inr refl)) held;
   complete = each _ (λ bytes outcome comes asked steady room. inr refl) held;
+  all_parts = each _ all-parts-merge held;
 }
 
 pub merging-refused : (cause : Refusal) (held : Option (List ℕ)) (source_rose out_rose : Type 0) (took took_prefix told : List ℕ → Type 0)

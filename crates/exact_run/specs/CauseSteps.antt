@@ -1,17 +1,24 @@
 -- What each step of a run answers: the wanted result, or a refusal with its cause.
-use Rattle.std.specs.Prelude.{◌≡◌, ℕ, ⊤, Option, Some, None, IfSome, Result, Ok, Err}
+use Rattle.std.specs.Prelude.{◌≡◌, ℕ, ⊤, List, Option, Some, None, IfOk, IfSome, Result, Ok, Err}
 use Rattle.weights.specs.Conditional.{ConditionalTest}
+use Rattle.weights.specs.Results.{and_then}
 use Rattle.weights.specs.declared.tails.Tail.{Tail}
 use Rattle.weights.specs.declared.tails.Tails.{Tails}
 use Rattle.weights.specs.declared.wide.PrepareFault.{PrepareFault}
 use Rattle.stage_network.specs.Network.{Network}
 use Rattle.settings.specs.declared.names.OptionName.TheVariants as option
+use Rattle.settings.specs.declared.names.TestName.{TestName}
+use Rattle.settings.specs.declared.names.TestName.TheVariants as test
+use Rattle.settings.specs.declared.settings.Settings.{Settings}
 use Rattle.report.specs.declared.headings.Extra.{Extra}
 use Rattle.report.specs.declared.headings.Sizes.{Sizes}
 use Rattle.report.specs.declared.refusals.Refusal.{Refusal}
 use Rattle.report.specs.declared.refusals.Refusal.TheVariants as refusal
-use Rattle.exact_run.specs.Outcome.{Outcome, text_for}
-use Rattle.exact_run.specs.Question.{prepare_refusal, question_about}
+use Rattle.exact_run.specs.Divided.{IsAnswerable, IsDivisible}
+use Rattle.exact_run.specs.Outcome.{Outcome, outcome_of_question, text_for}
+use Rattle.exact_run.specs.Question.{Question, prepare_refusal, question_about}
+use Rattle.exact_run.specs.Questions.{question_for}
+use Rattle.exact_run.specs.ShiftReports.{shift_of}
 use Rattle.exact_run.specs.declared.reports.Asking.{Asking}
 
 -- a refusal of data is the wanted one, or want of memory
@@ -27,6 +34,24 @@ abbrev pub Meets : {X : Type 0} → Result X Refusal → Result X Refusal → Ty
 Meets wanted (Ok value) = wanted ≡ Ok value
 Meets wanted (Err cause) = IsCauseOf wanted cause
 
+-- the same, and of a value this holds too
+abbrev pub MeetsAnd : {X : Type 0} → Type 0 → Result X Refusal → Result X Refusal → Type 0
+MeetsAnd also wanted (Ok value) = (wanted ≡ Ok value) × also
+MeetsAnd also wanted (Err cause) = IsCauseOf wanted cause
+
+-- What the report of a question answers: its outcome; and where a part is told, the parts of a run
+-- answer the question.
+abbrev pub Answers : Asking → Result Question Refusal → Outcome → Type 0
+Answers asking question result =
+    let answerable = IfSome asking.piece (λ part. IsAnswerable asking.tail question) in
+    MeetsAnd answerable (and_then (outcome_of_question asking) question) result
+
+-- what the settings ask of the rows; a shift is no test
+abbrev pub AnswersRows : TestName → Asking → Settings → List (List (List ℕ)) → Outcome → Type 0
+AnswersRows test.Shift asking settings rows result = Meets (shift_of settings rows) result
+AnswersRows name asking settings rows result =
+    Answers asking (question_for name settings rows) result
+
 -- Where a source is read: the known outcome, or a read fault, or want of memory. A refusal of the
 -- words is always known.
 abbrev pub IsCauseIn : Type 0 → Option Outcome → Refusal → Type 0
@@ -39,6 +64,13 @@ IsCauseIn rose known cause = IfSome known (λ outcome. outcome ≡ Err cause)
 abbrev pub ComesTo : Type 0 → Option Outcome → Outcome → Type 0
 ComesTo rose known (Ok text) = IfSome known (λ outcome. outcome ≡ Ok text)
 ComesTo rose known (Err cause) = IsCauseIn rose known cause
+
+-- a prepared problem is one that the parts of a run answer for the asked tails
+abbrev pub IsDivided : {V : Type 0} → (V → ConditionalTest) → (V → Tail → Network) → Option Tails
+    → Result V PrepareFault → Type 0
+IsDivided test_of runs_of asked prepared =
+    IfSome asked (λ tails. IfOk prepared (λ problem.
+    IsDivisible (test_of problem) (runs_of problem) tails))
 
 -- what a prepared problem, or why it is not prepared, comes to
 abbrev pub prepared_outcome : {V : Type 0} → (V → ConditionalTest) → (V → Tail → Network)

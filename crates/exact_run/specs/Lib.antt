@@ -12,5 +12,6 @@ pub mod MadeData
 pub mod Outcome
 pub mod Texts
 pub mod Promises
+pub mod Divided
 pub mod CauseSteps
 pub mod MergedRuns

@@ -13,7 +13,9 @@ use Rattle.report.specs.Report.{merged_text}
 use Rattle.report.specs.Refusals.{refusal_line_text}
 use Rattle.report.specs.declared.refusals.Refusal.{Refusal}
 use Rattle.report.specs.declared.refusals.Refusal.TheVariants as refusal
-use Rattle.exact_run.specs.Outcome.{Outcome}
+use Rattle.settings.specs.declared.settings.Settings.{Settings}
+use Rattle.exact_run.specs.Divided.{AreAll, AreParts, AsksAnswerable, WritesUndivided, whole}
+use Rattle.exact_run.specs.Outcome.{Outcome, outcome_of_bytes}
 use Rattle.exact_run.specs.Promises.{ComesExactly, IsCompleted, IsDecided, status_of}
 use Rattle.exact_run.specs.declared.status.Status.{Status}
 use Rattle.exact_run.specs.declared.status.Status.TheVariants as status
@@ -72,6 +74,12 @@ MergeComes rose held result = IfSome held (λ bytes. MergeOutcome bytes result)
 abbrev pub MergesWith : List ℕ → (List ℕ → Type 0) → Type 0
 MergesWith bytes P = (text : List ℕ) × MergeOutcome bytes (Ok text) × P text
 
+-- the texts of all parts of a run, each once, come to the outcome of the run that is not divided
+abbrev pub AllPartsMerge : List ℕ → Type 0
+AllPartsMerge bytes = (settings : Settings) (file : List ℕ) → (parts : AreParts settings file bytes)
+    → AreAll parts.piece.parts parts.order → AsksAnswerable settings file
+    → length bytes ≤ LONGEST_FILE → MergeOutcome bytes (outcome_of_bytes (whole settings) file)
+
 -- some refusal of the status is told, and it is what the bytes come to, where these decide it
 pub record TellsMergeFault (answer : Status) (held : Option (List ℕ))
     (written : List ℕ → Type 0) : Type 0 where
@@ -86,6 +94,8 @@ pub record MergePromises (answer : Status) (held : Option (List ℕ)) (source_ro
     (took took_prefix told : List ℕ → Type 0) : Type 0 where
   -- after Done `out` holds the report of the pieces put together
   pub done : answer ≡ status.Done → IfSome held (λ bytes. MergesWith bytes took)
+  -- which is that of the run that is not divided, where they are the parts of one
+  pub undivided : answer ≡ status.Done → IfSome held (WritesUndivided took)
   -- it is whole or a counted prefix
   pub prefix : answer ≡ status.WriteFault → IfSome held (λ bytes. MergesWith bytes took_prefix)
   -- every refusal is told by its line
@@ -96,3 +106,5 @@ pub record MergePromises (answer : Status) (held : Option (List ℕ)) (source_ro
   -- where the bytes come to a report and no count rose, it is written, or memory ran out
   pub complete : IfSome held (λ bytes. (outcome : Outcome)
       → MergeOutcome bytes outcome → IsCompleted answer source_rose out_rose outcome)
+  -- all parts of a run, each once, come to a report, that of the run that is not divided
+  pub all_parts : IfSome held AllPartsMerge

@@ -1,12 +1,12 @@
 // The reports of the tests of treatments in blocks.
 ghost use Rattle.std.specs.Prelude.{◌≡◌, Ok, IfErr, IfOk};
 ghost use Rattle.record_reader.specs.Layouts.{MayPick};
-ghost use Rattle.weights.specs.Results.{and_then, with_fault};
+ghost use Rattle.weights.specs.Results.{with_fault};
 ghost use Rattle.sample_reader.specs.Data.{block_data_of};
 ghost use Rattle.block_tests.specs.BlockTests.{TakesCells, has_tail};
 ghost use Rattle.exact_run.specs.BlockQuestions.{block_sizes, blocks_of, blocks_read, layout_read};
-ghost use Rattle.exact_run.specs.CauseSteps.{IsCauseOf, Meets};
-ghost use Rattle.exact_run.specs.Outcome.{HasParts, outcome_of_question, tails_by};
+ghost use Rattle.exact_run.specs.CauseSteps.{Answers, IsCauseOf};
+ghost use Rattle.exact_run.specs.Outcome.{HasParts, tails_by};
 ghost use Rattle.exact_run.specs.Question.{layout_refusal};
 
 use crate::dropping::dropped_told;
@@ -80,8 +80,7 @@ pub(crate) fn block_report(
 ) -> Result<Bytes, Refusal>
     requires parts { HasParts asking }
     requires picks { MayPick 2 8 settings.now.picks }
-    ensures { let question = blocks_of kind settings.now rows.now in
-        Meets (and_then (outcome_of_question asking) question) result }
+    ensures { Answers asking (blocks_of kind settings.now rows.now) result }
 {
     let blocks = blocks_read(alloc, kind, settings, rows)?;
     let problem = prepare(alloc, kind, &blocks);

@@ -1,5 +1,5 @@
 // The top call: it does all that the program does.
-ghost use Rattle.std.specs.Prelude.{◌≡◌, ◌≤◌, ◌⊎◌, ℕ, List, false, true, Err, Ok, length, map, option_map, string_bytes};
+ghost use Rattle.std.specs.Prelude.{◌≡◌, ◌≢◌, ◌≤◌, ◌⊎◌, ℕ, List, false, true, Err, Ok, OnOk, Some, length, map, option_map, string_bytes};
 ghost use Rattle.std.specs.Io.KnownBytes.{Appends};
 ghost use Rattle.outside.specs.Faults.{AppendsPrefix, Rose};
 ghost use Rattle.outside.specs.declared.source.TheConstants.{LONGEST_FILE};
@@ -9,6 +9,7 @@ ghost use Rattle.settings.specs.Usable.{AreUsable};
 ghost use Rattle.settings.specs.declared.names.UsageFault.{UsageFault};
 ghost use Rattle.report.specs.Refusals.{refusal_line_text};
 ghost use Rattle.exact_run.specs.CauseSteps.{ComesTo, Meets};
+ghost use Rattle.exact_run.specs.Divided.{PartAnswers};
 ghost use Rattle.exact_run.specs.Outcome.{names_file, outcome_of, outcome_of_bytes, usage_refusal as refusal_of};
 ghost use Rattle.exact_run.specs.MergedRuns.{MergeComes, MergePromises};
 ghost use Rattle.exact_run.specs.Promises.{IsBeforeWriting, Promises, ReadRose, WritesLine, status_of};
@@ -23,7 +24,7 @@ use crate::status::Status;
 use outside::{ReadFail, Sink, Source, read_all, write_all};
 use record_reader::records;
 use report::{Refusal, refusal_line};
-use settings::{CommandLine, Settings, help_text, read};
+use settings::{CommandLine, Settings, TestName, help_text, read};
 use std::alloc::Global;
 use weights::Bytes;
 
@@ -51,7 +52,9 @@ impl Text {
 fn report_of(alloc: Global, settings: &Settings, bytes: &[u8]) -> Result<Bytes, Refusal>
     requires short { length bytes.now ≤ LONGEST_FILE }
     requires usable { AreUsable settings.now }
-    ensures { Meets (outcome_of_bytes settings.now bytes.now) result }
+    ensures meets { Meets (outcome_of_bytes settings.now bytes.now) result }
+    ensures answerable { let answers = PartAnswers settings.now (Some bytes.now) in
+        settings.now.test ≢ TestName.Shift → OnOk result answers }
 {
     match records(alloc, bytes, settings.separator) {
         Ok(rows) => report_in(alloc, Asking::of(settings, bytes), settings, &rows),
@@ -66,9 +69,11 @@ fn report_from<S: Source>(
     source: &mut S,
 ) -> Result<Bytes, Refusal>
     requires { AreUsable settings.now }
-    ensures { let held = S.held source.old settings.now.file in
+    ensures comes { let held = S.held source.old settings.now.file in
         let known = option_map (outcome_of_bytes settings.now) held in
         ComesTo (Rose (S.faults source.old) (S.faults source.new)) known result }
+    ensures answerable { let held = S.held source.old settings.now.file in
+        settings.now.test ≢ TestName.Shift → OnOk result (PartAnswers settings.now held) }
 {
     match read_all(alloc, source, settings.file.as_str()) {
         Ok(bytes) => report_of(alloc, settings, bytes.as_slice()),
@@ -101,6 +106,9 @@ fn text_for<S: Source>(alloc: Global, words: &[String], source: &mut S) -> Resul
         (file : List ℕ) → meaning ≡ Ok (CommandLine.Merge file)
         → MergeComes (Rose (S.faults source.old) (S.faults source.new)) (S.held source.old file)
         (with_value text_of result) }
+    ensures answerable { let meaning = meaning_of (map string_bytes words.now) in
+        (settings : Settings) → meaning ≡ Ok (CommandLine.Test settings)
+        → OnOk result (PartAnswers settings (S.held source.old settings.file)) }
 {
     match read(alloc, words) {
         Ok(CommandLine::Help) => Ok(Text::Help),
@@ -125,12 +133,12 @@ fn refuse<E: Sink>(refusal: Refusal, err: &mut E) -> Status
 /// Runs the command that the words name; they are those after the program's own name. `TEST FILE`
 /// with options in any place writes the report of the test for the data of the file, and `shift
 /// FILE` that of the estimate of a shift with its limits; `drill` with a number writes the report
-/// of made data, and `--help` alone the help text, both without the source. With a part asked for, a
-/// test writes that part of a divided run in place of the report, and `merge FILE` the report of
-/// the parts that a file holds. The
-/// report is composed whole, and then written to `out` by one call of `write_all`; the help text
-/// stands in the program, and takes no memory. Where nothing is written so, one line to `err` says
-/// why.
+/// of made data, and `--help` alone the help text, both without the source. With a part asked for,
+/// a test writes that part of a divided run in place of the report, and `merge FILE` the report of
+/// the parts that a file holds: where these are what the parts of one run wrote, that of the run
+/// that is not divided. The report is composed whole, and then written to `out` by one call of
+/// `write_all`; the help text stands in the program, and takes no memory. Where nothing is written
+/// so, one line to `err` says why.
 pub fn run<S: Source, O: Sink, E: Sink>(
     alloc: Global,
     words: &[String],
@@ -160,6 +168,11 @@ pub fn run<S: Source, O: Sink, E: Sink>(
         (file : List ℕ) → meaning ≡ Ok (CommandLine.Merge file)
         → MergePromises result (S.held source.old file) source_rose out_rose took took_prefix
         told }
+
+    // A part that is written is one of a question that the parts of a run answer.
+    ensures answerable { let meaning = meaning_of (map string_bytes words.now) in
+        (settings : Settings) → meaning ≡ Ok (CommandLine.Test settings)
+        → result ≡ Status.Done → PartAnswers settings (S.held source.old settings.file) }
 
     // Before the first write `out` is as it was, and a report is told by no line.
     ensures unchanged { IsBeforeWriting result → out.new ≡ out.old }

@@ -1,12 +1,12 @@
 // The reports of the tests of groups: of two samples, and of several.
 ghost use Rattle.std.specs.Prelude.{◌≡◌, ◌≤◌, Ok, IfErr, IfOk, length};
 ghost use Rattle.record_reader.specs.Layouts.{MayPick};
-ghost use Rattle.weights.specs.Results.{and_then, with_fault};
+ghost use Rattle.weights.specs.Results.{with_fault};
 ghost use Rattle.sample_reader.specs.Data.{data_of};
 ghost use Rattle.sample_reader.specs.GroupLayout.{groups_in};
-ghost use Rattle.exact_run.specs.CauseSteps.{IsCauseOf, Meets};
+ghost use Rattle.exact_run.specs.CauseSteps.{Answers, IsCauseOf};
 ghost use Rattle.exact_run.specs.GroupQuestions.{group_rows, groups_of, has_peak, in_order, kruskal_wallis_of, ordered_of, two_samples_of, umbrella_of};
-ghost use Rattle.exact_run.specs.Outcome.{HasParts, outcome_of_question};
+ghost use Rattle.exact_run.specs.Outcome.{HasParts};
 ghost use Rattle.exact_run.specs.Question.{layout_refusal};
 
 use crate::dropping::dropped_told;
@@ -101,8 +101,7 @@ pub(crate) fn two_sample_report(
 ) -> Result<Bytes, Refusal>
     requires parts { HasParts asking }
     requires picks { MayPick 2 2 settings.now.picks }
-    ensures { let question = two_samples_of kind settings.now rows.now in
-        Meets (and_then (outcome_of_question asking) question) result }
+    ensures { Answers asking (two_samples_of kind settings.now rows.now) result }
 {
     let groups = groups_of(alloc, TWO_SAMPLES, settings, rows)?;
     let problem = prepare(alloc, kind, &groups);
@@ -123,8 +122,7 @@ pub(crate) fn kruskal_wallis_report(
 ) -> Result<Bytes, Refusal>
     requires parts { HasParts asking }
     requires picks { MayPick 2 2 settings.now.picks }
-    ensures { let question = kruskal_wallis_of settings.now rows.now in
-        Meets (and_then (outcome_of_question asking) question) result }
+    ensures { Answers asking (kruskal_wallis_of settings.now rows.now) result }
 {
     let kind = settings.scores;
     let groups = groups_of(alloc, MOST_SAMPLES, settings, rows)?;
@@ -146,8 +144,7 @@ pub(crate) fn ordered_report(
 ) -> Result<Bytes, Refusal>
     requires parts { HasParts asking }
     requires picks { MayPick 2 2 settings.now.picks }
-    ensures { let question = ordered_of settings.now rows.now in
-        Meets (and_then (outcome_of_question asking) question) result }
+    ensures { Answers asking (ordered_of settings.now rows.now) result }
 {
     let groups = groups_of(alloc, MOST_SAMPLES, settings, rows)?;
     let problem = prepare_umbrella(alloc, groups.labels.len() as u64, &groups);
@@ -175,8 +172,7 @@ pub(crate) fn umbrella_report(
 ) -> Result<Bytes, Refusal>
     requires parts { HasParts asking }
     requires picks { MayPick 2 2 settings.now.picks }
-    ensures { let question = umbrella_of settings.now rows.now in
-        Meets (and_then (outcome_of_question asking) question) result }
+    ensures { Answers asking (umbrella_of settings.now rows.now) result }
 {
     let peak = settings.peak;
     let groups = groups_of(alloc, MOST_SAMPLES, settings, rows)?;

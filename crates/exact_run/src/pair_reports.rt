@@ -1,10 +1,10 @@
 // The reports of the tests of one sample, of the differences of pairs.
 ghost use Rattle.std.specs.Prelude.{◌≡◌, Ok, IfErr, IfOk};
 ghost use Rattle.record_reader.specs.Layouts.{MayPick};
-ghost use Rattle.weights.specs.Results.{and_then, with_fault};
+ghost use Rattle.weights.specs.Results.{with_fault};
 ghost use Rattle.sample_reader.specs.CellLayouts.{differences_in};
-ghost use Rattle.exact_run.specs.CauseSteps.{IsCauseOf, Meets};
-ghost use Rattle.exact_run.specs.Outcome.{HasParts, outcome_of_question};
+ghost use Rattle.exact_run.specs.CauseSteps.{Answers, IsCauseOf};
+ghost use Rattle.exact_run.specs.Outcome.{HasParts};
 ghost use Rattle.exact_run.specs.PairQuestions.{pair_sizes, pairs_of};
 ghost use Rattle.exact_run.specs.Question.{layout_refusal};
 
@@ -49,8 +49,7 @@ pub(crate) fn pair_report(
 ) -> Result<Bytes, Refusal>
     requires parts { HasParts asking }
     requires picks { MayPick 1 2 settings.now.picks }
-    ensures { let question = pairs_of kind settings.now rows.now in
-        Meets (and_then (outcome_of_question asking) question) result }
+    ensures { Answers asking (pairs_of kind settings.now rows.now) result }
 {
     let pairs = pairs_read(alloc, settings, rows)?;
     let problem = prepare_pairs(alloc, kind, &pairs);

@@ -1,8 +1,9 @@
 // A part of a divided run.
-ghost use Rattle.std.specs.Prelude.{◌≡◌, ◌≤◌, true, None, IfOk};
+ghost use Rattle.std.specs.Prelude.{◌≡◌, ◌≤◌, true, None, IfOk, OnOk};
 ghost use Rattle.weights.specs.Wide.{too_wide};
 ghost use Rattle.stage_network.specs.Follows.{HasTails};
 ghost use Rattle.piece_texts.specs.PieceTexts.{piece_text};
+ghost use Rattle.exact_run.specs.Divided.{IsDivisible, Serves};
 ghost use Rattle.exact_run.specs.Outcome.{part_of, piece_for, tail_piece};
 ghost use Rattle.exact_run.specs.Question.{question_about};
 
@@ -11,7 +12,7 @@ use piece_texts::{Piece, PieceSum, name_of, piece_text};
 use pieces::part_sum;
 use report::compose_head;
 use settings::PieceOf;
-use stage_network::Prepared;
+use stage_network::{Prepared, Stages};
 use std::alloc::Global;
 use weights::{Bytes, NoMemory, Tail, Tails};
 
@@ -49,12 +50,16 @@ fn tail_piece<P: Prepared>(
 ) -> Result<Option<PieceSum>, NoMemory>
     requires parts { 1 ≤ part.parts }
     requires has { is_asked ≡ true → (P.test problem.now).has_tail tail ≡ true }
-    ensures { IfOk result (λ found. found ≡ tail_piece part (P.runs problem.now) tail is_asked) }
+    ensures sums { let runs = P.runs problem.now in
+        IfOk result (λ found. found ≡ tail_piece part runs tail is_asked) }
+    ensures serves { let serves = Serves (P.test problem.now) tail (P.runs problem.now tail) in
+        is_asked ≡ true → OnOk result serves }
 {
     if !is_asked {
         return Ok(None);
     }
     let stages = problem.stages_of(alloc, tail)?;
+    let _lawful = stages.stages();
     let sums = part_sum(
         alloc,
         &stages,
@@ -78,10 +83,12 @@ pub(crate) fn piece_for<P: Prepared>(
     requires parts { 1 ≤ part.parts }
     requires has { HasTails (P.test problem.now) tails }
     requires fits { too_wide (P.test problem.now) ≡ None }
-    ensures { let about = question_about P.test P.network P.runs problem.now in
+    ensures text { let about = question_about P.test P.network P.runs problem.now in
         let question = about heading.now.sizes heading.now.dropped heading.now.extra in
         IfOk result (λ text. text ≡ piece_text (piece_for part asking tails question)) }
+    ensures divisible { OnOk result (IsDivisible (P.test problem.now) (P.runs problem.now) tails) }
 {
+    let _shown = problem.has_tail(Tail::Less);
     let frame = problem.frame();
     let head = compose_head(
         alloc,

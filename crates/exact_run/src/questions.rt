@@ -1,7 +1,7 @@
 // The report of each test, and that of a shift.
 ghost use Rattle.settings.specs.Usable.{AreUsable};
-ghost use Rattle.exact_run.specs.CauseSteps.{Meets};
-ghost use Rattle.exact_run.specs.Outcome.{HasParts, outcome_of_rows};
+ghost use Rattle.exact_run.specs.CauseSteps.{AnswersRows};
+ghost use Rattle.exact_run.specs.Outcome.{HasParts};
 
 use crate::block_reports::block_report;
 use crate::group_reports::{
@@ -33,7 +33,7 @@ pub(crate) fn report_in(
 ) -> Result<Bytes, Refusal>
     requires parts { HasParts asking }
     requires usable { AreUsable settings.now }
-    ensures { Meets (outcome_of_rows asking settings.now rows.now) result }
+    ensures { AnswersRows settings.now.test asking settings.now rows.now result }
 {
     match settings.test {
         TestName::SignedRank => pair_report(alloc, SignKind::SignedRank, asking, settings, rows),

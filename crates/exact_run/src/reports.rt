@@ -1,9 +1,10 @@
 // The report of a prepared problem: the same for all tests.
-ghost use Rattle.std.specs.Prelude.{◌≡◌, ◌≤◌, None, IfOk, IfSome};
+ghost use Rattle.std.specs.Prelude.{◌≡◌, ◌≤◌, None, IfOk, IfSome, OnOk};
 ghost use Rattle.weights.specs.Wide.{too_wide};
 ghost use Rattle.settings.specs.Usable.{IsPieceOf};
 ghost use Rattle.stage_network.specs.Follows.{HasTails, answer_of, open_keys};
-ghost use Rattle.exact_run.specs.CauseSteps.{Meets, prepared_outcome};
+ghost use Rattle.exact_run.specs.CauseSteps.{IsDivided, MeetsAnd, prepared_outcome};
+ghost use Rattle.exact_run.specs.Divided.{IsDivisible};
 ghost use Rattle.exact_run.specs.Outcome.{HasParts, asked, asking_of, asking_of_made, only, report_for, spread_of, tails_in, text_for, way_of};
 ghost use Rattle.exact_run.specs.Question.{question_about};
 
@@ -195,9 +196,11 @@ fn text_for<P: Prepared>(
     requires parts { HasParts asking }
     requires has { HasTails (P.test problem.now) tails }
     requires fits { too_wide (P.test problem.now) ≡ None }
-    ensures { let about = question_about P.test P.network P.runs problem.now in
+    ensures text { let about = question_about P.test P.network P.runs problem.now in
         let question = about heading.now.sizes heading.now.dropped heading.now.extra in
         IfOk result (λ text. text ≡ text_for asking tails question) }
+    ensures divisible { let divisible = IsDivisible (P.test problem.now) (P.runs problem.now) in
+        OnOk result (IfSome asking.piece (λ part. divisible tails)) }
 {
     match asking.piece {
         None => report_for(alloc, asking, heading, tails, problem),
@@ -220,7 +223,8 @@ pub(crate) fn report_on<P: Prepared + Drop>(
     ensures { let tails = asked asking.tail has in
         let outcome = prepared_outcome P.test P.network P.runs asking in
         let told = outcome heading.now.sizes heading.now.dropped heading.now.extra in
-        Meets (told tails prepared) result }
+        let divided = IfSome asking.piece (λ part. IsDivided P.test P.runs tails prepared) in
+        MeetsAnd divided (told tails prepared) result }
 {
     let Some(tails) = asked(asking.tail, has) else {
         return Err(Refusal::Unfit(OptionName::Tail));

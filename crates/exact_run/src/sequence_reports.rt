@@ -1,12 +1,12 @@
 // The reports of Kendall's test and of the runs test.
 ghost use Rattle.std.specs.Prelude.{◌≡◌, Ok, IfErr, IfOk};
 ghost use Rattle.record_reader.specs.Layouts.{MayPick};
-ghost use Rattle.weights.specs.Results.{and_then, with_fault};
+ghost use Rattle.weights.specs.Results.{with_fault};
 ghost use Rattle.sample_reader.specs.Data.{sequence_data_of, twin_data_of};
 ghost use Rattle.sample_reader.specs.Sequences.{sequence_in};
 ghost use Rattle.sample_reader.specs.Twins.{twins_in};
-ghost use Rattle.exact_run.specs.CauseSteps.{IsCauseOf, Meets};
-ghost use Rattle.exact_run.specs.Outcome.{HasParts, outcome_of_question};
+ghost use Rattle.exact_run.specs.CauseSteps.{Answers, IsCauseOf};
+ghost use Rattle.exact_run.specs.Outcome.{HasParts};
 ghost use Rattle.exact_run.specs.Question.{layout_refusal};
 ghost use Rattle.exact_run.specs.SequenceQuestions.{kendall_of, runs_of, sequence_sizes, twin_sizes};
 
@@ -50,8 +50,7 @@ pub(crate) fn kendall_report(
 ) -> Result<Bytes, Refusal>
     requires parts { HasParts asking }
     requires picks { MayPick 2 2 settings.now.picks }
-    ensures { let question = kendall_of settings.now rows.now in
-        Meets (and_then (outcome_of_question asking) question) result }
+    ensures { Answers asking (kendall_of settings.now rows.now) result }
 {
     let twins = twins_read(alloc, settings, rows)?;
     let problem = prepare_kendall(alloc, &twins);
@@ -92,8 +91,7 @@ pub(crate) fn runs_report(
 ) -> Result<Bytes, Refusal>
     requires parts { HasParts asking }
     requires picks { MayPick 1 1 settings.now.picks }
-    ensures { let question = runs_of settings.now rows.now in
-        Meets (and_then (outcome_of_question asking) question) result }
+    ensures { Answers asking (runs_of settings.now rows.now) result }
 {
     let sequence = sequence_read(alloc, settings, rows)?;
     let problem = prepare_runs(alloc, &sequence);

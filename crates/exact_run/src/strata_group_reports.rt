@@ -1,11 +1,11 @@
 // The report of the rank sum test of two samples in strata.
 ghost use Rattle.std.specs.Prelude.{◌≡◌, Ok, IfErr, IfOk};
 ghost use Rattle.record_reader.specs.Layouts.{MayPick};
-ghost use Rattle.weights.specs.Results.{and_then, with_fault};
+ghost use Rattle.weights.specs.Results.{with_fault};
 ghost use Rattle.sample_reader.specs.Data.{strata_data_of};
 ghost use Rattle.sample_reader.specs.StrataGroups.{strata_groups_in};
-ghost use Rattle.exact_run.specs.CauseSteps.{IsCauseOf, Meets};
-ghost use Rattle.exact_run.specs.Outcome.{HasParts, outcome_of_question};
+ghost use Rattle.exact_run.specs.CauseSteps.{Answers, IsCauseOf};
+ghost use Rattle.exact_run.specs.Outcome.{HasParts};
 ghost use Rattle.exact_run.specs.Question.{layout_refusal};
 ghost use Rattle.exact_run.specs.StrataGroupQuestions.{in_strata_order, strata_group_sizes, strata_groups_of, stratified_ranks_of};
 
@@ -76,8 +76,7 @@ pub(crate) fn stratified_rank_report(
 ) -> Result<Bytes, Refusal>
     requires parts { HasParts asking }
     requires picks { MayPick 3 3 settings.now.picks }
-    ensures { let question = stratified_ranks_of settings.now rows.now in
-        Meets (and_then (outcome_of_question asking) question) result }
+    ensures { Answers asking (stratified_ranks_of settings.now rows.now) result }
 {
     let samples = samples_of(alloc, settings, rows)?;
     let problem = prepare_ranks(alloc, &samples);

@@ -2,11 +2,10 @@
 ghost use Rattle.std.specs.Prelude.{◌≡◌, None, Ok, IfErr, IfOk, IfSome};
 ghost use Rattle.record_reader.specs.Layouts.{MayPick};
 ghost use Rattle.weights.specs.Odds.{IsOdds};
-ghost use Rattle.weights.specs.Results.{and_then};
 ghost use Rattle.weights.specs.Wide.{Prepares};
 ghost use Rattle.stratified_tests.specs.StrataTests.{data_of, strata_test, tails_with};
-ghost use Rattle.exact_run.specs.CauseSteps.{IsCauseOf, Meets};
-ghost use Rattle.exact_run.specs.Outcome.{HasParts, outcome_of_question, tails_by};
+ghost use Rattle.exact_run.specs.CauseSteps.{Answers, IsCauseOf};
+ghost use Rattle.exact_run.specs.Outcome.{HasParts, tails_by};
 ghost use Rattle.exact_run.specs.StrataQuestions.{cells_of, strata_of, strata_sizes, zelen_of};
 
 use crate::refusing::layout_refusal;
@@ -77,8 +76,7 @@ pub(crate) fn strata_report(
     requires parts { HasParts asking }
     requires picks { MayPick 5 5 settings.now.picks }
     requires odds { IfSome settings.now.odds IsOdds }
-    ensures { let question = strata_of settings.now rows.now in
-        Meets (and_then (outcome_of_question asking) question) result }
+    ensures { Answers asking (strata_of settings.now rows.now) result }
 {
     let strata = strata_read(alloc, settings, rows)?;
     let problem = prepared(alloc, settings.odds, &strata);
@@ -95,8 +93,7 @@ pub(crate) fn zelen_report(
 ) -> Result<Bytes, Refusal>
     requires parts { HasParts asking }
     requires picks { MayPick 5 5 settings.now.picks }
-    ensures { let question = zelen_of settings.now rows.now in
-        Meets (and_then (outcome_of_question asking) question) result }
+    ensures { Answers asking (zelen_of settings.now rows.now) result }
 {
     let strata = strata_read(alloc, settings, rows)?;
     let problem = prepare_zelen(alloc, &strata);

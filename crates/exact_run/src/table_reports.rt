@@ -3,7 +3,6 @@ ghost use Rattle.std.specs.Prelude.{◌≡◌, ◌≤◌, pos, length, map, None
 ghost use Rattle.std.specs.List.{range_with_len};
 ghost use Rattle.record_reader.specs.Layouts.{MayPick};
 ghost use Rattle.weights.specs.Odds.{IsOdds};
-ghost use Rattle.weights.specs.Results.{and_then};
 ghost use Rattle.table_reader.specs.Data.{table_data_of};
 ghost use Rattle.table_reader.specs.Kept.{HasShape};
 ghost use Rattle.table_reader.specs.TableLayout.{table_shape};
@@ -11,8 +10,8 @@ ghost use Rattle.table_reader.specs.declared.TheConstants.{MOST_TABLE_COLUMNS};
 ghost use Rattle.table_tests.specs.Tables.{is_two_by_two};
 ghost use Rattle.settings.specs.Usable.{AreWithin};
 ghost use Rattle.settings.specs.Values.{column_scores_form, row_scores_form};
-ghost use Rattle.exact_run.specs.CauseSteps.{IsCauseOf, Meets};
-ghost use Rattle.exact_run.specs.Outcome.{HasParts, outcome_of_question};
+ghost use Rattle.exact_run.specs.CauseSteps.{Answers, IsCauseOf};
+ghost use Rattle.exact_run.specs.Outcome.{HasParts};
 ghost use Rattle.exact_run.specs.TableQuestions.{fisher_of, fisher_question, fitting_scores, linear_of, mcnemar_of, odds_question, scores_or_numbers, table_of, table_sizes};
 
 use crate::refusing::layout_refusal;
@@ -71,8 +70,7 @@ pub(crate) fn mcnemar_report(
 ) -> Result<Bytes, Refusal>
     requires parts { HasParts asking }
     requires picks { MayPick 2 2 settings.now.picks }
-    ensures { let question = mcnemar_of settings.now rows.now in
-        Meets (and_then (outcome_of_question asking) question) result }
+    ensures { Answers asking (mcnemar_of settings.now rows.now) result }
 {
     let table = table_of(alloc, true, settings, rows)?;
     let problem = prepare_mcnemar(alloc, &table);
@@ -82,8 +80,7 @@ pub(crate) fn mcnemar_report(
 // The report of Fisher's exact test of a table without odds, or the refusal.
 fn central_report(alloc: Global, asking: Asking, table: &Table) -> Result<Bytes, Refusal>
     requires parts { HasParts asking }
-    ensures { let question = fisher_question (table_data_of table.now) in
-        Meets (outcome_of_question asking question) result }
+    ensures { Answers asking (Ok (fisher_question (table_data_of table.now))) result }
 {
     let problem = prepare_fisher(alloc, table);
     let tails = fisher_tails(table);
@@ -100,8 +97,7 @@ fn is_two_by_two(table: &Table) -> bool
 fn odds_report(alloc: Global, asking: Asking, odds: Odds, table: &Table) -> Result<Bytes, Refusal>
     requires parts { HasParts asking }
     requires odds { IsOdds odds }
-    ensures { let question = odds_question odds (table_data_of table.now) in
-        Meets (and_then (outcome_of_question asking) question) result }
+    ensures { Answers asking (odds_question odds (table_data_of table.now)) result }
 {
     if !is_two_by_two(table) {
         return Err(Refusal::Unfit(OptionName::Tail));
@@ -120,8 +116,7 @@ pub(crate) fn fisher_report(
     requires parts { HasParts asking }
     requires picks { MayPick 2 MOST_TABLE_COLUMNS settings.now.picks }
     requires odds { IfSome settings.now.odds IsOdds }
-    ensures { let question = fisher_of settings.now rows.now in
-        Meets (and_then (outcome_of_question asking) question) result }
+    ensures { Answers asking (fisher_of settings.now rows.now) result }
 {
     let table = table_of(alloc, false, settings, rows)?;
     match settings.odds {
@@ -192,8 +187,7 @@ pub(crate) fn linear_report(
     requires picks { MayPick 2 MOST_TABLE_COLUMNS settings.now.picks }
     requires row_scores { AreWithin row_scores_form settings.now.row_scores }
     requires column_scores { AreWithin column_scores_form settings.now.column_scores }
-    ensures { let question = linear_of settings.now rows.now in
-        Meets (and_then (outcome_of_question asking) question) result }
+    ensures { Answers asking (linear_of settings.now rows.now) result }
 {
     let table = table_of(alloc, false, settings, rows)?;
     let of_rows = OptionName::RowScores;

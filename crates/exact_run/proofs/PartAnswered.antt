@@ -1,0 +1,155 @@
+-- From the rows of a file to its bytes and to the source: what is promised where a part is asked.
+use Rattle.std.proofs.Common.{◌≡◌, ◌≢◌, ℕ, Bool, true, false, cond, List, Option, Some, None, Result, Ok, Err, refl, subst}
+use Rattle.std.specs.Prelude.{IfSome, OnOk, option_map}
+use Rattle.std.specs.Option.{ok_or}
+use Rattle.weights.specs.Results.{and_then, with_value}
+use Rattle.record_reader.specs.Records.{records_of}
+use Rattle.settings.specs.Meaning.{command_for, command_of, is_complete, is_help, meaning_for, meaning_of, meaning_of_given, meaning_of_test, paired, settings_of}
+use Rattle.settings.specs.Tests.{test_named}
+use Rattle.settings.specs.Words.{Given, none_given, with_words}
+use Rattle.settings.specs.declared.command_line.CommandLine.TheVariants as command
+use Rattle.settings.specs.declared.names.OptionName.TheVariants as option
+use Rattle.settings.specs.declared.names.TestName.{TestName}
+use Rattle.settings.specs.declared.names.TestName.TheVariants as test
+use Rattle.settings.specs.declared.names.UsageFault.TheVariants.{Form, Value}
+use Rattle.settings.specs.declared.pieces.PieceOf.{PieceOf}
+use Rattle.settings.specs.declared.settings.Settings.{Settings}
+use Rattle.exact_run.specs.CauseSteps.{Answers, AnswersRows, Meets, MeetsAnd}
+use Rattle.exact_run.specs.Divided.{AsksAnswerable, IsAnswerable, PartAnswers}
+use Rattle.exact_run.specs.Outcome.{Outcome, asking_of, outcome_for, part_of}
+use Rattle.exact_run.specs.Questions.{question_for}
+use Rattle.exact_run.specs.declared.reports.Asking.{Asking}
+
+pub meets : (also : Type 0) (wanted result : Outcome) → MeetsAnd also wanted result → Meets wanted result
+meets also wanted (Ok text) m = m.0
+meets also wanted (Err cause) m = m
+
+also-holds : (also : Type 0) (wanted result : Outcome) → MeetsAnd also wanted result → OnOk result also
+also-holds also wanted (Ok text) m = m.1
+also-holds also wanted (Err cause) m = tt
+
+-- ---- rows
+
+-- what is said of rows is said of their outcome, and of a question where the test is no shift
+pub record AnsweredRows (name : TestName) (asking : Asking) (settings : Settings) (rows : List (List (List ℕ))) (result : Outcome) : Type 0 where
+  pub outcome : Meets (outcome_for name asking settings rows) result
+  pub answerable : name ≢ test.Shift → OnOk result (IfSome asking.piece (λ part. IsAnswerable asking.tail (question_for name settings rows)))
+
+-- where the outcome is that of the question
+by-question : (name : TestName) (asking : Asking) (settings : Settings) (rows : List (List (List ℕ))) (result : Outcome)
+    → (Answers asking (question_for name settings rows) result → Meets (outcome_for name asking settings rows) result)
+    → Answers asking (question_for name settings rows) result → AnsweredRows name asking settings rows result
+by-question name asking settings rows result is answers = record { outcome = is answers; answerable = λ other. also-holds _ _ result answers }
+
+pub answered-rows : (name : TestName) (asking : Asking) (settings : Settings) (rows : List (List (List ℕ))) (result : Outcome) → AnswersRows name asking settings rows result → AnsweredRows name asking settings rows result
+answered-rows test.SignedRank asking settings rows result a = by-question test.SignedRank asking settings rows result (meets _ _ result) a
+answered-rows test.Sign asking settings rows result a = by-question test.Sign asking settings rows result (meets _ _ result) a
+answered-rows test.RawSigned asking settings rows result a = by-question test.RawSigned asking settings rows result (meets _ _ result) a
+answered-rows test.Mcnemar asking settings rows result a = by-question test.Mcnemar asking settings rows result (meets _ _ result) a
+answered-rows test.RankSum asking settings rows result a = by-question test.RankSum asking settings rows result (meets _ _ result) a
+answered-rows test.Ansari asking settings rows result a = by-question test.Ansari asking settings rows result (meets _ _ result) a
+answered-rows test.Mood asking settings rows result a = by-question test.Mood asking settings rows result (meets _ _ result) a
+answered-rows test.Savage asking settings rows result a = by-question test.Savage asking settings rows result (meets _ _ result) a
+answered-rows test.Median asking settings rows result a = by-question test.Median asking settings rows result (meets _ _ result) a
+answered-rows test.Raw asking settings rows result a = by-question test.Raw asking settings rows result (meets _ _ result) a
+answered-rows test.Kw asking settings rows result a = by-question test.Kw asking settings rows result (meets _ _ result) a
+answered-rows test.Jt asking settings rows result a = by-question test.Jt asking settings rows result (meets _ _ result) a
+answered-rows test.Umbrella asking settings rows result a = by-question test.Umbrella asking settings rows result (meets _ _ result) a
+answered-rows test.Friedman asking settings rows result a = by-question test.Friedman asking settings rows result (meets _ _ result) a
+answered-rows test.Page asking settings rows result a = by-question test.Page asking settings rows result (meets _ _ result) a
+answered-rows test.Cochran asking settings rows result a = by-question test.Cochran asking settings rows result (meets _ _ result) a
+answered-rows test.Fisher asking settings rows result a = by-question test.Fisher asking settings rows result (meets _ _ result) a
+answered-rows test.Linear asking settings rows result a = by-question test.Linear asking settings rows result (meets _ _ result) a
+answered-rows test.Strata asking settings rows result a = by-question test.Strata asking settings rows result (meets _ _ result) a
+answered-rows test.Zelen asking settings rows result a = by-question test.Zelen asking settings rows result (meets _ _ result) a
+answered-rows test.StratRankSum asking settings rows result a = by-question test.StratRankSum asking settings rows result (meets _ _ result) a
+answered-rows test.Kendall asking settings rows result a = by-question test.Kendall asking settings rows result (meets _ _ result) a
+answered-rows test.Runs asking settings rows result a = by-question test.Runs asking settings rows result (meets _ _ result) a
+answered-rows test.Drill asking settings rows result a = by-question test.Drill asking settings rows result (meets _ _ result) a
+answered-rows test.Shift asking settings rows result a = record { outcome = a; answerable = λ other. absurd (other refl) }
+answered-rows test.Merge asking settings rows result a = by-question test.Merge asking settings rows result (meets _ _ result) a
+
+-- ---- bytes, and what a source holds
+
+part-asked : (P : Type 0) (bytes : List ℕ) (piece : Option PieceOf) → IfSome (option_map (part_of bytes) piece) (λ part. P) → IfSome piece (λ piece. P)
+part-asked P bytes None is = tt
+part-asked P bytes (Some piece) is = is
+
+on-ok : (P Q : Type 0) (result : Outcome) → (P → Q) → OnOk result P → OnOk result Q
+on-ok P Q (Ok text) more is = more is
+on-ok P Q (Err cause) more is = tt
+
+pub answered-bytes : (settings : Settings) (bytes : List ℕ) (result : Outcome)
+    → OnOk result (IfSome (asking_of settings bytes).piece (λ part. IsAnswerable settings.tail (question_for settings.test settings (records_of settings.separator bytes))))
+    → OnOk result (PartAnswers settings (Some bytes))
+answered-bytes settings bytes result = on-ok _ _ result (part-asked _ bytes settings.piece)
+
+held-part : (settings : Settings) (bytes : List ℕ) (held : Option (List ℕ)) → IfSome held (λ other. bytes ≡ other) → (piece : Option PieceOf) → IfSome piece (λ piece. AsksAnswerable settings bytes)
+    → IfSome piece (λ piece. IfSome held (AsksAnswerable settings))
+held-part settings bytes held same None is = tt
+held-part settings bytes None same (Some piece) is = tt
+held-part settings bytes (Some other) same (Some piece) is = subst (AsksAnswerable settings) same is
+
+pub answered-held : (settings : Settings) (bytes : List ℕ) (held : Option (List ℕ)) (result : Outcome) → IfSome held (λ other. bytes ≡ other) → OnOk result (PartAnswers settings (Some bytes)) → OnOk result (PartAnswers settings held)
+answered-held settings bytes held result same = on-ok _ _ result (held-part settings bytes held same settings.piece)
+
+-- ---- the words of a test ask for no shift
+
+no-shift : (name : TestName) (own settings : Settings) → own.test ≡ name → command_for name own ≡ command.Test settings → settings.test ≢ test.Shift
+no-shift test.SignedRank own settings is e = λ shift. cc
+no-shift test.Sign own settings is e = λ shift. cc
+no-shift test.RawSigned own settings is e = λ shift. cc
+no-shift test.Mcnemar own settings is e = λ shift. cc
+no-shift test.RankSum own settings is e = λ shift. cc
+no-shift test.Ansari own settings is e = λ shift. cc
+no-shift test.Mood own settings is e = λ shift. cc
+no-shift test.Savage own settings is e = λ shift. cc
+no-shift test.Median own settings is e = λ shift. cc
+no-shift test.Raw own settings is e = λ shift. cc
+no-shift test.Kw own settings is e = λ shift. cc
+no-shift test.Jt own settings is e = λ shift. cc
+no-shift test.Umbrella own settings is e = λ shift. cc
+no-shift test.Friedman own settings is e = λ shift. cc
+no-shift test.Page own settings is e = λ shift. cc
+no-shift test.Cochran own settings is e = λ shift. cc
+no-shift test.Fisher own settings is e = λ shift. cc
+no-shift test.Linear own settings is e = λ shift. cc
+no-shift test.Strata own settings is e = λ shift. cc
+no-shift test.Zelen own settings is e = λ shift. cc
+no-shift test.StratRankSum own settings is e = λ shift. cc
+no-shift test.Kendall own settings is e = λ shift. cc
+no-shift test.Runs own settings is e = λ shift. cc
+no-shift test.Drill own settings is e = absurd cc
+no-shift test.Shift own settings is e = absurd cc
+no-shift test.Merge own settings is e = absurd cc
+
+from-next : {S T F : Type 0} (next : S → Result T F) (r : Result S F) (y : T) → and_then next r ≡ Ok y → (x : S) × (next x ≡ Ok y)
+from-next next (Ok x) y e = (x, e)
+from-next next (Err fault) y e = absurd cc
+
+from-change : {S T F : Type 0} (change : S → T) (r : Result S F) (y : T) → with_value change r ≡ Ok y → (x : S) × (change x ≡ y)
+from-change change (Ok x) y e = (x, cc)
+from-change change (Err fault) y e = absurd cc
+
+of-name : (given : Given) (name : TestName) (settings : Settings) → meaning_for given name ≡ Ok (command.Test settings) → settings.test ≢ test.Shift
+of-name given name settings e = by (is_complete name given) e
+  where
+    by : (b : Bool) → cond b (with_value command_of (and_then paired (settings_of given name))) (Err Form) ≡ Ok (command.Test settings) → settings.test ≢ test.Shift
+    by true e =
+        let own = from-change command_of (and_then paired (settings_of given name)) (command.Test settings) e in
+        no-shift own.0.test own.0 settings refl own.1
+    by false e = absurd cc
+
+of-words : (words : List (List ℕ)) (settings : Settings) → and_then meaning_of_given (with_words words none_given) ≡ Ok (command.Test settings) → settings.test ≢ test.Shift
+of-words words settings e =
+    let given = from-next meaning_of_given (with_words words none_given) (command.Test settings) e in
+    let word = from-next (meaning_of_test given.0) (ok_or given.0.test Form) (command.Test settings) given.1 in
+    let name = from-next (meaning_for given.0) (ok_or (test_named word.0) (Value option.Test)) (command.Test settings) word.1 in
+    of-name given.0 name.0 settings name.1
+
+pub words-no-shift : (words : List (List ℕ)) (settings : Settings) → meaning_of words ≡ Ok (command.Test settings) → settings.test ≢ test.Shift
+words-no-shift words settings e = by (is_help words) e
+  where
+    by : (b : Bool) → cond b (Ok command.Help) (and_then meaning_of_given (with_words words none_given)) ≡ Ok (command.Test settings) → settings.test ≢ test.Shift
+    by true e = absurd cc
+    by false e = of-words words settings e

@@ -1,0 +1,98 @@
+-- A run that is divided into parts, and the run that is not.
+use Rattle.std.specs.Prelude.{◌≡◌, ◌≢◌, ◌<◌, ◌≤◌, ℕ, List, false, true, Option, Some, None, IfSome, Result, Ok, option_map}
+use Rattle.std.specs.List.{AllByRecursion, AllPairs, Contains, flat_map}
+use Rattle.weights.specs.Conditional.{ConditionalTest, total}
+use Rattle.weights.specs.Frames.{first_tail}
+use Rattle.weights.specs.Wide.{too_wide}
+use Rattle.weights.specs.declared.tails.Tail.{Tail}
+use Rattle.weights.specs.declared.tails.Tails.{Tails}
+use Rattle.stage_network.specs.Asked.{asks}
+use Rattle.stage_network.specs.Follows.{Follows}
+use Rattle.stage_network.specs.Laws.{IsLawful}
+use Rattle.stage_network.specs.Network.{Network}
+use Rattle.record_reader.specs.Records.{records_of}
+use Rattle.settings.specs.Usable.{IsPieceOf}
+use Rattle.settings.specs.declared.pieces.PieceOf.{PieceOf}
+use Rattle.settings.specs.declared.settings.Settings.{Settings}
+use Rattle.settings.specs.declared.tails.TailChoice.{TailChoice}
+use Rattle.report.specs.declared.refusals.Refusal.{Refusal}
+use Rattle.exact_run.specs.Outcome.{asked, outcome_of_bytes, tails_in}
+use Rattle.exact_run.specs.Promises.{ReportsWith}
+use Rattle.exact_run.specs.Question.{Question}
+use Rattle.exact_run.specs.Questions.{question_for}
+
+-- ---- the question of a divided run
+
+-- a network of which the parts of a run are cut
+pub record Serves (test : ConditionalTest) (tail : Tail) (n : Network) : Type 0 where
+  pub lawful : IsLawful n
+  pub follows : Follows test tail n
+
+-- a test that the parts of a run answer for these tails: it has a tail, its total is at least 1,
+-- nothing of it is too wide, and the network that runs for each of the tails is lawful and follows
+-- it
+pub record IsDivisible (test : ConditionalTest) (runs : Tail → Network) (tails : Tails)
+    : Type 0 where
+  pub some_tail : test.has_tail (first_tail test) ≡ true
+  pub some_total : 1 ≤ total test
+  pub fits : too_wide test ≡ None
+  pub networks : (tail : Tail) → asks tails tail ≡ true → Serves test tail (runs tail)
+
+-- the question is there, and the parts of a run answer it for the tails that are asked
+pub record IsAnswerable (choice : TailChoice) (wanted : Result Question Refusal) : Type 0 where
+  pub question : Question
+  pub tails : Tails
+  pub is_wanted : wanted ≡ Ok question
+  pub are_asked : asked choice (tails_in question.test) ≡ Some tails
+  pub divisible : IsDivisible question.test question.runs tails
+
+-- that of the question that settings ask of a file
+abbrev pub AsksAnswerable : Settings → List ℕ → Type 0
+AsksAnswerable settings file =
+    let rows = records_of settings.separator file in
+    IsAnswerable settings.tail (question_for settings.test settings rows)
+
+-- where a part is asked for, and the source tells what the file holds
+abbrev pub PartAnswers : Settings → Option (List ℕ) → Type 0
+PartAnswers settings held = IfSome settings.piece (λ piece. IfSome held (AsksAnswerable settings))
+
+-- ---- its parts
+
+abbrev pub of_part : ℕ → PieceOf → PieceOf
+of_part part piece = record piece { part = part }
+
+-- the settings of the run of another part
+abbrev pub with_part : ℕ → Settings → Settings
+with_part part settings =
+    record settings { piece = option_map (of_part part) settings.piece }
+
+-- the settings of the run that is not divided
+abbrev pub whole : Settings → Settings
+whole settings = record settings { piece = None }
+
+-- The bytes are texts that parts of one run write, one after another in any order. Beside a part no
+-- open keys and no distribution are asked for.
+pub record AreParts (settings : Settings) (file bytes : List ℕ) : Type 0 where
+  pub piece : PieceOf
+  pub is_asked : settings.piece ≡ Some piece
+  pub usable : IsPieceOf piece
+  pub no_nodes : settings.nodes ≡ false
+  pub no_distribution : settings.distribution ≡ false
+  pub order : List ℕ
+  pub are_parts : AllByRecursion (λ part. part < piece.parts) order
+  pub texts : ℕ → List ℕ
+  pub written : (part : ℕ) → part < piece.parts
+      → outcome_of_bytes (with_part part settings) file ≡ Ok (texts part)
+  pub joined : bytes ≡ flat_map texts order
+
+-- all parts of a run, each once
+pub record AreAll (parts : ℕ) (order : List ℕ) : Type 0 where
+  pub each : (part : ℕ) → part < parts → Contains order part
+  pub once : AllPairs ◌≢◌ order
+
+-- What was written for these bytes is the report of the run that is not divided, where they are
+-- texts of its parts, each of which promised that its question is answerable.
+abbrev pub WritesUndivided : (List ℕ → Type 0) → List ℕ → Type 0
+WritesUndivided took bytes = (settings : Settings) (file : List ℕ)
+    → AreParts settings file bytes → AsksAnswerable settings file
+    → ReportsWith (outcome_of_bytes (whole settings) file) took
