@@ -33,8 +33,8 @@ block_sizes blocks = sizes.Blocks blocks.blocks blocks.treatments
 
 abbrev pub block_question : BlockKind → Option ℕ → BlockData → Question
 block_question kind dropped blocks =
-    question_about block_test block_network running_network (blocks_for kind blocks) (block_sizes blocks) dropped
-    extra.None
+    question_about block_test block_network running_network (blocks_for kind blocks)
+    (block_sizes blocks) dropped extra.None
 
 abbrev pub blocks_of : BlockKind → Settings → List (List (List ℕ)) → Result Question Refusal
 blocks_of kind settings rows =

@@ -74,7 +74,8 @@ IsDivided test_of runs_of asked prepared =
 
 -- what a prepared problem, or why it is not prepared, comes to
 abbrev pub prepared_outcome : {V : Type 0} → (V → ConditionalTest) → (V → Tail → Network)
-    → (V → Tail → Network) → Asking → Sizes → Option ℕ → Extra → Option Tails → Result V PrepareFault → Outcome
+    → (V → Tail → Network) → Asking → Sizes → Option ℕ → Extra → Option Tails
+    → Result V PrepareFault → Outcome
 prepared_outcome test_of network_of runs_of asking sizes dropped extra None prepared =
     Err (refusal.Unfit option.Tail)
 prepared_outcome test_of network_of runs_of asking sizes dropped extra (Some tails) (Err fault) =

@@ -62,8 +62,8 @@ group_rows groups = sizes.Groups groups.labels (group_sizes groups)
 -- their test by the scores of a kind
 abbrev pub two_sample_question : ScoreKind → Option ℕ → GroupData → Question
 two_sample_question kind dropped groups =
-    question_about two_sample_test two_sample_network two_sample_network (record { kind = kind; groups = groups })
-    (group_rows groups) dropped extra.None
+    question_about two_sample_test two_sample_network two_sample_network
+    (record { kind = kind; groups = groups }) (group_rows groups) dropped extra.None
 
 abbrev pub two_samples_of : ScoreKind → Settings → List (List (List ℕ)) → Result Question Refusal
 two_samples_of kind settings rows =
@@ -75,7 +75,8 @@ two_samples_of kind settings rows =
 abbrev pub k_sample_question : OneOf ScoredGroups PeakedGroups → GroupData → Option ℕ → Extra
     → Question
 k_sample_question samples groups dropped extra =
-    question_about k_sample_test k_sample_network k_sample_network samples (group_rows groups) dropped extra
+    question_about k_sample_test k_sample_network k_sample_network samples (group_rows groups)
+    dropped extra
 
 -- whether they differ, by the scores of a kind
 abbrev pub kruskal_wallis_question : ScoreKind → Option ℕ → GroupData → Question

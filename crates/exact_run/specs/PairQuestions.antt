@@ -19,8 +19,8 @@ pair_sizes differences = sizes.Pairs (length differences) (length (nonzero diffe
 
 abbrev pub pair_question : SignKind → Option ℕ → List ℤ → Question
 pair_question kind dropped differences =
-    question_about one_sample_test one_sample_network one_sample_network (sample_of kind differences)
-    (pair_sizes differences) dropped extra.None
+    question_about one_sample_test one_sample_network one_sample_network
+    (sample_of kind differences) (pair_sizes differences) dropped extra.None
 
 abbrev pub pairs_of : SignKind → Settings → List (List (List ℕ)) → Result Question Refusal
 pairs_of kind settings rows =

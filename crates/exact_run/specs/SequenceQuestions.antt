@@ -23,8 +23,8 @@ twin_sizes twins = sizes.Pairs (length twins.first) (length twins.first)
 
 abbrev pub kendall_question : Option ℕ → TwinData → Question
 kendall_question dropped twins =
-    question_about sequence_test sequence_network sequence_network (First twins) (twin_sizes twins) dropped
-    extra.None
+    question_about sequence_test sequence_network sequence_network (First twins)
+    (twin_sizes twins) dropped extra.None
 
 abbrev pub kendall_of : Settings → List (List (List ℕ)) → Result Question Refusal
 kendall_of settings rows =
@@ -40,8 +40,8 @@ sequence_sizes sequence =
 
 abbrev pub runs_question : Option ℕ → SequenceData → Question
 runs_question dropped sequence =
-    question_about sequence_test sequence_network sequence_network (Second sequence) (sequence_sizes sequence)
-    dropped extra.None
+    question_about sequence_test sequence_network sequence_network (Second sequence)
+    (sequence_sizes sequence) dropped extra.None
 
 abbrev pub runs_of : Settings → List (List (List ℕ)) → Result Question Refusal
 runs_of settings rows =

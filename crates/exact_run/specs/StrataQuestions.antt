@@ -28,8 +28,8 @@ cells_of settings rows = with_fault layout_refusal (strata_in settings.picks row
 -- with odds, where they are given
 abbrev pub strata_question : Option Odds → List ℕ → Question
 strata_question odds cells =
-    question_about strata_test strata_network strata_network (data_of odds cells) (strata_sizes cells) None
-    extra.None
+    question_about strata_test strata_network strata_network (data_of odds cells)
+    (strata_sizes cells) None extra.None
 
 abbrev pub strata_of : Settings → List (List (List ℕ)) → Result Question Refusal
 strata_of settings rows =
@@ -39,8 +39,8 @@ strata_of settings rows =
 
 abbrev pub zelen_question : List ℕ → Question
 zelen_question cells =
-    question_about homogeneity_test homogeneity_network homogeneity_network (First cells) (strata_sizes cells) None
-    extra.None
+    question_about homogeneity_test homogeneity_network homogeneity_network (First cells)
+    (strata_sizes cells) None extra.None
 
 abbrev pub zelen_of : Settings → List (List (List ℕ)) → Result Question Refusal
 zelen_of settings rows = with_value zelen_question (cells_of settings rows)

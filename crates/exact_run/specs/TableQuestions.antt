@@ -36,8 +36,8 @@ table_sizes table = sizes.Table table.rows table.columns (sum table.cells)
 
 abbrev pub mcnemar_question : TableData → Question
 mcnemar_question table =
-    question_about one_sample_test one_sample_network one_sample_network (discordant table) (table_sizes table)
-    None extra.None
+    question_about one_sample_test one_sample_network one_sample_network (discordant table)
+    (table_sizes table) None extra.None
 
 abbrev pub mcnemar_of : Settings → List (List (List ℕ)) → Result Question Refusal
 mcnemar_of settings rows = with_value mcnemar_question (table_of true settings rows)

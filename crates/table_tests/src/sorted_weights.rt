@@ -20,8 +20,8 @@ use weights::{NoMemory, Tail, only};
 
 /// The weight of the table that a labelling gives, as [`WeightMeasure`], over rooms whose sizes
 /// stand in falling order. Neither the weight nor its interval depends on the order of the sizes,
-/// and so all choices that one stands for lead to the same. The interval is the narrower one of that
-/// of [`WeightMeasure`] and of one by the rows.
+/// and so all choices that one stands for lead to the same. The interval is the narrower one of
+/// that of [`WeightMeasure`] and of one by the rows.
 #[derive(Drop)]
 pub struct SortedWeights {
     measure: WeightMeasure,
