@@ -7,7 +7,6 @@ ghost use Rattle.table_reader.specs.Data.{table_data_of};
 ghost use Rattle.table_reader.specs.Kept.{HasShape};
 ghost use Rattle.table_reader.specs.TableLayout.{table_shape};
 ghost use Rattle.table_reader.specs.declared.TheConstants.{MOST_TABLE_COLUMNS};
-ghost use Rattle.table_tests.specs.Tables.{is_two_by_two};
 ghost use Rattle.settings.specs.Usable.{AreWithin};
 ghost use Rattle.settings.specs.Values.{column_scores_form, row_scores_form};
 ghost use Rattle.exact_run.specs.CauseSteps.{Answers, IsCauseOf};
@@ -23,7 +22,7 @@ use report::{Extra, Refusal, Sizes};
 use settings::{Nums64, OptionName, Settings};
 use std::alloc::Global;
 use table_reader::{Table, table};
-use table_tests::{fisher_tails, prepare_fisher, prepare_linear, prepare_odds};
+use table_tests::{fisher_tails, is_two_by_two, prepare_fisher, prepare_linear, prepare_odds};
 use weights::{Bytes, NoMemory, Odds};
 
 // The table of the rows, or the refusal of its fault.
@@ -85,12 +84,6 @@ fn central_report(alloc: Global, asking: Asking, table: &Table) -> Result<Bytes,
     let problem = prepare_fisher(alloc, table);
     let tails = fisher_tails(table);
     report_on(alloc, asking, &heading_of(table), tails, problem)
-}
-
-fn is_two_by_two(table: &Table) -> bool
-    ensures { result ≡ is_two_by_two (table_data_of table.now) }
-{
-    table.rows == 2 && table.columns == 2
 }
 
 // The report of Fisher's exact test of a table with odds, or the refusal.

@@ -64,7 +64,8 @@ pub fn fisher_tails(table: &Table) -> Tails
     }
 }
 
-fn is_two_by_two(table: &Table) -> bool
+/// Whether a table has two rows and two columns.
+pub fn is_two_by_two(table: &Table) -> bool
     ensures { result ≡ is_two_by_two (table_data_of table.now) }
 {
     table.rows == 2 && table.columns == 2

@@ -27,7 +27,7 @@ mod table_test;
 mod turned;
 mod weight_measure;
 
-pub use fisher_table::{FisherTable, fisher_tails};
+pub use fisher_table::{FisherTable, fisher_tails, is_two_by_two};
 pub use linear_table::LinearTable;
 pub use odds_rooms::OddsRooms;
 pub use odds_table::OddsTable;
