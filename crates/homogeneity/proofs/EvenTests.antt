@@ -23,7 +23,7 @@ use Rattle.room_network.proofs.RoomFollows.{room_follows}
 use Rattle.strata_cells.specs.declared.stratum.Stratum.{Stratum}
 use Rattle.strata_cells.specs.Strata.{cell_weight, cells_of, cells_weight, first_cell, first_cells, greatest_cell, least_cell, own_labels, size, strata_labellings}
 use Rattle.strata_cells.proofs.CellLaws.{cells_of-joined}
-use Rattle.strata_cells.proofs.FirstCells.{own-cells, weight-some}
+use Rattle.strata_cells.proofs.FirstCells.{own-cell, own-cells, own-long, weight-some}
 use Rattle.strata_cells.proofs.StrataSums.{sums-within}
 use Rattle.homogeneity.specs.Zelen.{even_labellings, even_test, has_sum, observed_labels, rarity}
 use Rattle.homogeneity.specs.ZelenNetwork.{even_meaning, even_network, even_weights, number_with, own_sum}
@@ -53,26 +53,6 @@ all-weigh [] = tt
 all-weigh (r ∷ rs) = (omega arith, all-weigh rs)
 
 -- ---- the labels as they are
-
-own-long : (s : Stratum) → length (own_labels s) ≡ size s
-own-long s =
-    omega (
-      arith,
-      length-append {A = ℕ} (replicate s.a 0 ++ replicate s.c 1) (replicate s.b 0 ++ replicate s.d 1),
-      length-append {A = ℕ} (replicate s.a 0) (replicate s.c 1),
-      length-append {A = ℕ} (replicate s.b 0) (replicate s.d 1),
-      length-replicate {A = ℕ} s.a 0,
-      length-replicate {A = ℕ} s.c 1,
-      length-replicate {A = ℕ} s.b 0,
-      length-replicate {A = ℕ} s.d 1,
-    )
-
-own-cell : (s : Stratum) → first_cell s (own_labels s) ≡ s.a
-own-cell s =
-    let whole : own_labels s ++ [] ≡ own_labels s = append-nil (own_labels s) in
-    let one : first_cells (s ∷ []) (own_labels s ++ []) ≡ sum_by (λ (t : Stratum). t.a) (s ∷ []) = own-cells (s ∷ []) in
-    let here : first_cell s (own_labels s) + 0 ≡ sum_by (λ (t : Stratum). t.a) (s ∷ []) = rw whole at one in
-    omega (arith, here, sum_by-cons (λ (t : Stratum). t.a) s [])
 
 -- the first cells of the strata as they are
 pub observed-cells : (strata : List Stratum) → cells_of strata (observed_labels strata) ≡ map (λ (s : Stratum). s.a) strata

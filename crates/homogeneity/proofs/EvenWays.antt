@@ -23,6 +23,7 @@ use Rattle.homogeneity.specs.Zelen.{even_labellings, has_sum, observed_labels}
 use Rattle.homogeneity.specs.ZelenNetwork.{choices_between, chosen, even_floor, even_plan, even_weights, greatest_choice, least_choice, number_with, own_sum, sum_left}
 use Rattle.homogeneity.specs.ZelenSteps.{CanHave}
 use Rattle.homogeneity.proofs.Given.{can-next, choice-range, number-is, over-none, with-choices, with_cell, with_sum}
+use Rattle.homogeneity.proofs.WaySums.{gather, gather-none, gather-step}
 
 -- ---- choices
 
@@ -59,28 +60,6 @@ different low high i j d below inside e =
     let first : get_or (choices_between low high) i d ≡ (low + i) ∷ [] = get_or-map-range_with_len (λ x. x ∷ []) low n i (low + i) d (omega arith) refl in
     let second : get_or (choices_between low high) j d ≡ (low + j) ∷ [] = get_or-map-range_with_len (λ x. x ∷ []) low n j (low + j) d within refl in
     ones-apart (low + i) (low + j) (omega arith) (sym first ∙ e ∙ second)
-
--- ---- sums over the ways from a room
-
-abbrev gather : Network → ℕ → ℕ → List ℤ → (List (List ℕ) → ℕ) → ℕ
-gather n m g k f = sum_by (λ w. path_weight n g k w * f w) (paths n m g k)
-
-times : (a b c : ℕ) → (a * b) * c ≡ a * (b * c)
-times a b c = grind arith
-
-gather-choice : (n : Network) (m g : ℕ) (k : List ℤ) (f : List (List ℕ) → ℕ) (c : List ℕ) → sum_by (λ w. path_weight n g k w * f w) (map (λ cs. c ∷ cs) (paths n m (g + 1) (n.next g k c))) ≡ n.weight g k c * gather n m (g + 1) (n.next g k c) (λ w. f (c ∷ w))
-gather-choice n m g k f c =
-    sum_by-map (λ w. path_weight n g k w * f w) (λ cs. c ∷ cs) (paths n m (g + 1) (n.next g k c))
-    ∙ sum_by-same _ (λ w. n.weight g k c * (path_weight n (g + 1) (n.next g k c) w * f (c ∷ w))) (λ w. times (n.weight g k c) (path_weight n (g + 1) (n.next g k c) w) (f (c ∷ w))) (paths n m (g + 1) (n.next g k c))
-    ∙ sum_by-scaled (n.weight g k c) (λ w. path_weight n (g + 1) (n.next g k c) w * f (c ∷ w)) (paths n m (g + 1) (n.next g k c))
-
-gather-step : (n : Network) (m g : ℕ) (k : List ℤ) (f : List (List ℕ) → ℕ) → gather n (suc m) g k f ≡ sum_by (λ c. n.weight g k c * gather n m (g + 1) (n.next g k c) (λ w. f (c ∷ w))) (n.choices g k)
-gather-step n m g k f =
-    sum_by-flat_map (λ w. path_weight n g k w * f w) (λ c. map (λ cs. c ∷ cs) (paths n m (g + 1) (n.next g k c))) (n.choices g k)
-    ∙ sum_by-same _ _ (gather-choice n m g k f) (n.choices g k)
-
-gather-none : (n : Network) (g : ℕ) (k : List ℤ) (f : List (List ℕ) → ℕ) → gather n 0 g k f ≡ f []
-gather-none n g k f = omega arith
 
 -- the choices of a way that has these first cells
 abbrev pub cut : List ℕ → List (List ℕ)

@@ -2,20 +2,10 @@
 use Rattle.std.proofs.Common.{◌≡◌, ℕ, zero, suc, ◌+◌, ◌-◌, ◌<◌, ◌≤◌, List, [], ◌∷◌, ◌++◌, length, length-append, get_or, inl, inr, refl, sym, ◌∙◌, ap, subst, arith}
 use Rattle.std.proofs.lemmas.Bool.{cases_lt}
 use Rattle.weights.specs.declared.TheConstants.{MAX}
+use Rattle.weights.proofs.Appended.{get-front, get-last}
 use Rattle.strata_cells.specs.declared.stratum.Stratum.{Stratum}
 use Rattle.homogeneity.specs.ZelenSteps.{AreNumbers, counted}
 use Rattle.homogeneity.specs.declared.laters.Later.{Later}
-
-pub get-front : {X : Type 0} (xs : List X) (y d : X) (i : ℕ) → i < length xs → get_or (xs ++ y ∷ []) i d ≡ get_or xs i d
-get-front [] y d i h = absurd (omega (arith, h))
-get-front (x ∷ xs) y d zero h = refl
-get-front (x ∷ xs) y d (suc i) h = get-front xs y d i (omega (arith, h))
-
-pub get-last : {X : Type 0} (xs : List X) (y d : X) (i : ℕ) → i ≡ length xs → get_or (xs ++ y ∷ []) i d ≡ y
-get-last [] y d zero h = refl
-get-last [] y d (suc i) h = absurd (omega (arith, h))
-get-last (x ∷ xs) y d zero h = absurd (omega (arith, h))
-get-last (x ∷ xs) y d (suc i) h = get-last xs y d i (omega (arith, h))
 
 module _ (s : Stratum) (later : Later) (first : ℕ) where
   pub numbers-none : AreNumbers s later first first []

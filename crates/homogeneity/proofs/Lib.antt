@@ -1,4 +1,5 @@
 mod TwoParts
+pub mod WaySums
 mod RankLaw
 mod RankSums
 mod RankPlans

@@ -5,6 +5,7 @@ use Rattle.std.proofs.lemmas.List.{get_or_append_left}
 use Rattle.std.specs.Prelude.{ℤ, pos, slice_index}
 use Rattle.std.specs.List.{Contains}
 use Rattle.weights.specs.declared.TheConstants.{MAX}
+use Rattle.weights.proofs.Appended.{get-last}
 use Rattle.weights.proofs.FirstLabel.{number_of_labellings-positive}
 use Rattle.stage_network.specs.Completions.{total_weight}
 use Rattle.stage_network.specs.Network.{IsReached}
@@ -128,10 +129,6 @@ table-read columns ways g a h =
     a.each (length columns - g) (omega arith) ∙ ap (λ i. later_ways (drop i columns)) back
 
 -- a place past the others of a list
-get-last : (xs : List ℕ) (w d : ℕ) → get_or (xs ++ w ∷ []) (length xs) d ≡ w
-get-last [] w d = refl
-get-last (x ∷ xs) w d = get-last xs w d
-
 pub table-more : (columns : List Column) (done : ℕ) (ways : List ℕ) (w : ℕ) → AreLaterWays columns done ways → done < length columns → w ≡ later_ways (column_at columns (length columns - done - 1) ∷ drop (length columns - done - 1 + 1) columns) → AreLaterWays columns (done + 1) (ways ++ w ∷ [])
 table-more columns done ways w a before e = record {
   long = omega (arith, length-append ways (w ∷ []), a.long);
@@ -144,7 +141,7 @@ table-more columns done ways w a before e = record {
       | inl l ↦ (let z : i ≡ length ways = omega (arith, l, h, a.long) in
           let back : length columns - done - 1 ≡ length columns - i = omega (arith, z, a.long) in
           let here = stage-split columns (length columns - done - 1) (omega (arith, before)) in
-          ap (λ n. get_or (ways ++ w ∷ []) n 0) z ∙ get-last ways w 0 ∙ e ∙ ap later_ways (sym here) ∙ ap (λ n. later_ways (drop n columns)) back)
+          ap (λ n. get_or (ways ++ w ∷ []) n 0) z ∙ get-last ways w 0 (length ways) refl ∙ e ∙ ap later_ways (sym here) ∙ ap (λ n. later_ways (drop n columns)) back)
       | inr l ↦ get_or_append_left ways (w ∷ []) 0 i (omega (arith, l, a.long)) ∙ a.each i l
     ]
 

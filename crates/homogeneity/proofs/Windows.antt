@@ -7,6 +7,7 @@ use Rattle.std.proofs.lemmas.List.Elements.{recursion_from_All}
 use Rattle.std.proofs.lemmas.List.Sums.{sum_by-take-drop}
 use Rattle.weights.specs.declared.TheConstants.{MAX}
 use Rattle.weights.proofs.CellSums.{same-within}
+use Rattle.weights.proofs.Appended.{get-front, get-last}
 use Rattle.strata_cells.specs.declared.stratum.Stratum.{Stratum}
 use Rattle.strata_cells.specs.Strata.{cell_weight, greatest_cell, least_cell, size, stratum_at}
 use Rattle.strata_cells.specs.StrataLimits.{IsSmall}
@@ -15,7 +16,6 @@ use Rattle.strata_cells.proofs.StrataSums.{next-drop, small-at, subjects-few, su
 use Rattle.homogeneity.specs.ZelenNetwork.{greatest_choice, greatest_sum, least_choice, least_sum, lesser_weight, lesser_weights, number_with}
 use Rattle.homogeneity.specs.ZelenSteps.{AreLaters, AreLesser, AreNumbers, AreSummed, CanHave, IsCountable, IsLater, IsLeft, IsPast, choice_from, choice_to, counted, counted_cell, kept_number, least_left, most_left}
 use Rattle.homogeneity.specs.declared.laters.Later.{Later}
-use Rattle.homogeneity.proofs.Growing.{get-front, get-last}
 use Rattle.homogeneity.proofs.Given.{can-next, choice-left, choice-range, number-step, number_by}
 use Rattle.homogeneity.proofs.Remaining.{can-here, left-can, left-first, left-meet, left-next, lesser-all_some, lesser-number, number-some, number-within}
 

@@ -10,7 +10,7 @@ ghost use Rattle.homogeneity.specs.ZelenSteps.{counted, counted_cell};
 
 use std::alloc::Global;
 use strata_cells::{Stratum, cell_weight};
-use weights::{List, MAX, NoMemory, bounded_product};
+use weights::{List, NoMemory, bounded_product, bounded_sum};
 
 /// What is known of the strata from one on.
 #[derive(Drop)]
@@ -66,16 +66,6 @@ pub(crate) fn choice_to(stratum: Stratum, later: &Later, left: u64) -> u64
     stratum
         .greatest_cell()
         .min(left.saturating_sub(later.least))
-}
-
-// The sum, or None exactly where it passes the greatest weight.
-fn bounded_sum(a: u128, b: u128) -> Option<u128>
-    requires a { a ≤ MAX }
-    requires b { b ≤ MAX }
-    ensures { SomeIff result (a + b ≤ MAX) (a + b) }
-{
-    let sum = a + b;
-    if sum <= MAX { Some(sum) } else { None }
 }
 
 // How many labellings have what is left with a first cell, or None exactly where they pass the

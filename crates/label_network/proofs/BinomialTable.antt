@@ -6,6 +6,7 @@ use Rattle.std.proofs.lemmas.List.Sums.{sum_by-take-drop}
 use Rattle.std.proofs.lemmas.Bool.{cases_lt}
 use Rattle.weights.specs.Numbers.{binomial}
 use Rattle.weights.specs.declared.TheConstants.{MAX}
+use Rattle.weights.proofs.Appended.{get-front, get-last}
 use Rattle.weights.proofs.Binomials.{binomial-zero, binomial-pascal, binomial-over, binomial-left_out, binomial-all}
 use Rattle.label_network.specs.LabelSteps.{AreBinomials, capped}
 
@@ -25,17 +26,6 @@ one_place w zero j (suc r) p h i e = absurd (omega arith)
 one_place w (suc m) j zero p h i e = absurd (omega arith)
 one_place w (suc m) j (suc r) p h i e = let both = one_place w m j r p h i (omega arith) in (ap suc both.0, both.1)
 
-get-front : (xs : List ℕ) (y i : ℕ) → i < length xs → get_or (xs ++ y ∷ []) i 0 ≡ get_or xs i 0
-get-front [] y i h = absurd (omega arith)
-get-front (x ∷ xs) y zero h = refl
-get-front (x ∷ xs) y (suc i) h = get-front xs y i (omega (arith, h))
-
-get-last : (xs : List ℕ) (y i : ℕ) → i ≡ length xs → get_or (xs ++ y ∷ []) i 0 ≡ y
-get-last [] y zero h = refl
-get-last [] y (suc i) h = absurd (omega (arith, h))
-get-last (x ∷ xs) y zero h = absurd (omega (arith, h))
-get-last (x ∷ xs) y (suc i) h = get-last xs y i (omega (arith, h))
-
 pub binomials-none : (width : ℕ) → 1 ≤ width → (table : List ℕ) → table ≡ [] → AreBinomials width (0 * width) table
 binomials-none width some table e = rw e (record { wide = some; long_is = omega arith; each = λ m j h l. absurd (omega arith) })
 
@@ -47,10 +37,10 @@ binomials-more width row place table entry within w e = record {
 }
   where
     by : (m j : ℕ) → j < width → m * width + j < row * width + (place + 1) → (m * width + j < row * width + place) ⊎ (row * width + place ≤ m * width + j) → get_or (table ++ entry ∷ []) (m * width + j) 0 ≡ capped (binomial m j)
-    by m j h l (inl before) = get-front table entry (m * width + j) (omega (arith, before, w.long_is)) ∙ w.each m j h before
+    by m j h l (inl before) = get-front table entry 0 (m * width + j) (omega (arith, before, w.long_is)) ∙ w.each m j h before
     by m j h l (inr after) =
         let both = one_place width m j row place h within (omega (arith, l, after)) in
-        get-last table entry (m * width + j) (omega (arith, l, after, w.long_is)) ∙ e ∙ ap (λ k. capped (binomial k place)) (sym both.0) ∙ ap (λ k. capped (binomial m k)) (sym both.1)
+        get-last table entry 0 (m * width + j) (omega (arith, l, after, w.long_is)) ∙ e ∙ ap (λ k. capped (binomial k place)) (sym both.0) ∙ ap (λ k. capped (binomial m k)) (sym both.1)
 
 pub binomials-row : (width row place : ℕ) (table : List ℕ) → place ≡ width → AreBinomials width (row * width + place) table → AreBinomials width ((row + 1) * width) table
 binomials-row width row place table e w = let same : row * width + place ≡ (row + 1) * width = omega (arith, e) in subst (λ n. AreBinomials width n table) same w

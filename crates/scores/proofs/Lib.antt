@@ -3,6 +3,6 @@ pub mod Positive
 pub mod LabelledSums
 mod AverageLemmas
 mod PlaceSums
-mod RawLemmas
+pub mod RawLemmas
 mod Answering
 mod Vectors

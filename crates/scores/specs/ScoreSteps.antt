@@ -1,12 +1,14 @@
 -- Scores on the way.
-use Rattle.std.specs.Prelude.{◌≡◌, ⊤, ℕ, ℤ, pos, ◌*◌, ◌/◌, ◌%◌, ◌<◌, ◌≤◌, nat_abs, nat_eq, Bool, List, [], ◌∷◌, map, take, drop, Result, Ok, Err}
+use Rattle.std.specs.Prelude.{◌≡◌, ⊤, ℕ, ℤ, pos, ◌*◌, ◌/◌, ◌%◌, ◌^◌, ◌<◌, ◌≤◌, nat_abs, nat_eq, Bool, List, [], ◌∷◌, map, take, drop, Result, Ok, Err}
 use Rattle.std.specs.List.{sum}
 use Rattle.midranks.specs.declared.ties.Tie.{Tie}
+use Rattle.scores.specs.RawScores.{decimals, raw_score}
 use Rattle.scores.specs.Scores.{averaged}
 use Rattle.weights.specs.Numbers.{absolute_sum}
 use Rattle.scores.specs.declared.kinds.ScoreFault.{ScoreFault}
 use Rattle.scores.specs.declared.kinds.ScoreFault.TheVariants.{TooWide, NoMemory}
 use Rattle.scores.specs.declared.kinds.Scored.{Scored}
+use Rattle.scores.specs.declared.whole.WholeValues.{WholeValues}
 use Rattle.weights.specs.declared.TheConstants.{MAX}
 
 -- these scores over this scale, or the refusal of a sum that is too wide
@@ -31,3 +33,8 @@ group_scores multiple (t ∷ ts) places =
 -- a value is a multiple of a number
 abbrev pub is_multiple_of : ℕ → ℤ → Bool
 is_multiple_of unit v = nat_eq (nat_abs v % unit) 0
+
+-- values times the least power of ten that makes them whole, and that power
+pub record AreWhole (values : List ℤ) (whole : WholeValues) : Type 0 where
+  pub list : whole.list ≡ map (raw_score (decimals values)) values
+  pub power : whole.power ≡ 10 ^ decimals values

@@ -11,8 +11,10 @@ mod ranks;
 mod raw;
 mod scores;
 mod sums;
+mod whole;
 
 pub use kinds::{ScoreFault, ScoreKind, Scored};
 pub use labelled_sums::labelled_sum;
 pub use multiples::common_multiple;
 pub use scores::scored;
+pub use whole::{WholeValues, whole_values};

@@ -7,10 +7,9 @@ ghost use Rattle.scores.specs.PlaceSteps.{place_score};
 ghost use Rattle.weights.specs.declared.TheConstants.{MAX};
 
 use crate::kinds::ScoreFault;
-use crate::sums::bounded_sum;
 use midranks::MOST_VALUES;
 use std::alloc::Global;
-use weights::{List, NoMemory};
+use weights::{List, NoMemory, bounded_sum};
 
 /// Scores that a place has by itself, without the sum of those before it.
 #[derive(Clone, Copy)]

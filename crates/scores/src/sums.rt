@@ -1,22 +1,12 @@
 // Sums up to the greatest statistic.
-ghost use Rattle.std.specs.Prelude.{◌≡◌, ◌+◌, ◌≤◌, nat_abs, SomeIff};
+ghost use Rattle.std.specs.Prelude.{◌≡◌, ◌≤◌, nat_abs, SomeIff};
 ghost use Rattle.std.specs.List.{sum, sum_by};
 ghost use Rattle.scores.specs.ScoreSteps.{IsScoredAs};
 ghost use Rattle.weights.specs.Numbers.{absolute_sum};
 ghost use Rattle.weights.specs.declared.TheConstants.{MAX};
 
 use crate::kinds::{ScoreFault, Scored};
-use weights::{Ints, MAX};
-
-/// The sum, or None exactly where it passes [`MAX`].
-pub(crate) fn bounded_sum(a: u128, b: u128) -> Option<u128>
-    ensures { SomeIff result (a + b ≤ MAX) (a + b) }
-{
-    match a.checked_add(b) {
-        Some(sum) if sum <= MAX => Some(sum),
-        _ => None,
-    }
-}
+use weights::{Ints, bounded_sum};
 
 /// The sum of numbers, or None exactly where it passes [`MAX`].
 pub(crate) fn total(numbers: &[u128]) -> Option<u128>

@@ -16,7 +16,7 @@ use Rattle.weights.specs.Odds.{IsMiss}
 use Rattle.shift_limits.specs.Limits.{AreShown, HasEitherSide, LimitsDivide, limit_at, limits_of, place_of_limits}
 use Rattle.shift_limits.proofs.Dividing.{downs-at, ups-at}
 use Rattle.shift_limits.proofs.Halving.{greatest-most, missed-part}
-use Rattle.shift_limits.proofs.WholeValues.{decimals-most}
+use Rattle.scores.proofs.RawLemmas.{decimals-most}
 
 some-is : (a b : ℤ) → Some a ≡ Some b → a ≡ b
 some-is a b e = cc e

@@ -13,7 +13,8 @@ use Rattle.sample_reader.specs.declared.samples.Groups.{Groups}
 use Rattle.shift_limits.specs.Differences.{differences, differences_between, sample}
 use Rattle.shift_limits.proofs.ChosenValues.{labelled-all, labelled-length}
 use Rattle.shift_limits.proofs.Pairwise.{between-length, between-range}
-use Rattle.shift_limits.proofs.WholeValues.{decimals-most, raw-in_range}
+use Rattle.scores.proofs.RawLemmas.{decimals-most}
+use Rattle.shift_limits.proofs.WholeValues.{raw-in_range}
 
 module _ (groups : Groups) where
   scaled-length : length groups.members ≡ length (map (raw_score (decimals groups.values)) groups.values)

@@ -8,8 +8,9 @@ ghost use Rattle.shift_limits.specs.Differences.{difference_at, differences_betw
 ghost use Rattle.shift_limits.specs.Limits.{limit_at};
 ghost use Rattle.shift_limits.specs.LimitSteps.{AreMade};
 
-use crate::samples::{ONE, greatest_unit, labelled_values, scaled};
+use crate::samples::labelled_values;
 use sample_reader::Groups;
+use scores::whole_values;
 use std::alloc::Global;
 use weights::NoMemory;
 
@@ -70,13 +71,12 @@ pub(crate) fn differences_of(alloc: Global, groups: &Groups) -> Result<Differenc
 {
     let values = groups.values.as_slice();
     let members = groups.members.as_slice();
-    let unit = greatest_unit(values);
-    let whole = scaled(alloc, values, unit)?;
-    let first = labelled_values(alloc, 0, whole.as_slice(), members)?;
-    let second = labelled_values(alloc, 1, whole.as_slice(), members)?;
+    let whole = whole_values(alloc, values)?;
+    let first = labelled_values(alloc, 0, whole.list.as_slice(), members)?;
+    let second = labelled_values(alloc, 1, whole.list.as_slice(), members)?;
     let list = ascending_between(alloc, first.as_slice(), second.as_slice())?;
     Ok(Differences {
-        places: ONE / unit,
+        places: whole.power,
         list,
     })
 }

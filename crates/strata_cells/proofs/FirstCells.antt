@@ -141,7 +141,7 @@ zeros-none : (n : ℕ) → zeros_in (replicate n 1) ≡ 0
 zeros-none zero = refl
 zeros-none (suc n) = omega (arith, zeros-none n, sum_by-cons (λ l. cond (nat_eq l 0) 1 0) 1 (replicate n 1))
 
-own-long : (s : Stratum) → length (own_labels s) ≡ size s
+pub own-long : (s : Stratum) → length (own_labels s) ≡ size s
 own-long s =
     let column : List ℕ = replicate s.a 0 ++ replicate s.c 1 in
     let others : List ℕ = replicate s.b 0 ++ replicate s.d 1 in
@@ -156,7 +156,7 @@ own-long s =
       length-replicate {A = ℕ} s.d 1,
     )
 
-own-cell : (s : Stratum) → first_cell s (own_labels s) ≡ s.a
+pub own-cell : (s : Stratum) → first_cell s (own_labels s) ≡ s.a
 own-cell s =
     let column : List ℕ = replicate s.a 0 ++ replicate s.c 1 in
     let others : List ℕ = replicate s.b 0 ++ replicate s.d 1 in

@@ -1,5 +1,5 @@
 // What the labellings of strata weigh together, with odds or without.
-ghost use Rattle.std.specs.Prelude.{◌≡◌, ◌+◌, ◌≤◌, SomeIff};
+ghost use Rattle.std.specs.Prelude.{◌≡◌, ◌≤◌, SomeIff};
 ghost use Rattle.weights.specs.declared.TheConstants.{MAX};
 ghost use Rattle.weights.specs.Odds.{IsOdds};
 ghost use Rattle.strata_cells.specs.StrataLimits.{AreSmall, IsSmall};
@@ -7,17 +7,7 @@ ghost use Rattle.stratified_tests.specs.StrataSteps.{AreOdds, strata_total, stra
 
 use crate::odds::weighed_cell;
 use strata_cells::{Stratum, labelled};
-use weights::{MAX, Odds, bounded_product};
-
-// The sum, or None exactly where it passes the greatest weight.
-fn bounded_sum(a: u128, b: u128) -> Option<u128>
-    requires a { a ≤ MAX }
-    requires b { b ≤ MAX }
-    ensures { SomeIff result (a + b ≤ MAX) (a + b) }
-{
-    let sum = a + b;
-    if sum <= MAX { Some(sum) } else { None }
-}
+use weights::{Odds, bounded_product, bounded_sum};
 
 // What the first cells of a stratum weigh by odds, or None exactly where that passes the greatest
 // weight. Of many first cells the sum of a few passes it, so the loop is short.

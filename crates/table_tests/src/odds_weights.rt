@@ -5,7 +5,7 @@ ghost use Rattle.weights.specs.Odds.{IsOdds, odds_weight};
 ghost use Rattle.table_tests.specs.OddsNetworks.{odds_at};
 ghost use Rattle.table_tests.specs.OddsSteps.{cell_weight, cells_weight};
 
-use weights::{MAX, Odds, binomial, bounded_product, power};
+use weights::{Odds, binomial, bounded_product, bounded_sum, power};
 
 /// A power that passes no limit.
 pub(crate) fn exact_power(base: u64, exponent: u64) -> u128
@@ -34,16 +34,6 @@ pub(crate) fn odds_weight(odds: Odds, upper: u64, cell: u64) -> u128
     ensures { result ≡ odds_weight odds upper cell }
 {
     exact_power(odds.above, cell) * exact_power(odds.below, upper - cell)
-}
-
-// The sum, or None exactly where it passes the greatest weight.
-fn bounded_sum(a: u128, b: u128) -> Option<u128>
-    ensures { SomeIff result (a + b ≤ MAX) (a + b) }
-{
-    match a.checked_add(b) {
-        Some(sum) if sum <= MAX => Some(sum),
-        _ => None,
-    }
 }
 
 // What all labellings with a first cell weigh, or None exactly where that passes the greatest

@@ -4,7 +4,7 @@ use Rattle.std.proofs.lemmas.Bool.{cases_eq}
 use Rattle.scores.specs.RawScores.{is_whole}
 use Rattle.scores.specs.ScoreSteps.{is_multiple_of}
 use Rattle.scores.proofs.RawLemmas.{all-at-18, all-whole, decimals-are, next-power, power-some}
-use Rattle.scores.proofs.raw.greatest_unit.Goals as goal
+use Rattle.scores.proofs.whole.greatest_unit.Goals as goal
 
 pub are_multiples-requires : goal.are_multiples-requires
 are_multiples-requires c = rw c.loop-decimals.invariant.unit (power-some (18 - c.loop-decimals._decimals))

@@ -3,7 +3,7 @@ use Rattle.std.specs.Int.{w128}
 use Rattle.std.proofs.lemmas.List.{map_more, take_all}
 use Rattle.scores.specs.RawScores.{decimals, raw_score}
 use Rattle.scores.proofs.RawLemmas.{decimals-most, division-gives, division-may, one-over, power-some}
-use Rattle.scores.proofs.raw.raw.Goals as goal
+use Rattle.scores.proofs.whole.whole_values.Goals as goal
 
 pub nonzero_div-value : goal.nonzero_div-value
 nonzero_div-value c =
@@ -21,12 +21,13 @@ loop-value-preserved c =
     let score = division-gives value c.greatest_unit-unit.result (decimals values) fits c.greatest_unit-unit.ensures (decimals-most values) in
     rw (c.in_ok-push.ensures.ok, score) (ap (λ (done : List ℤ). done ++ raw_score (decimals values) value ∷ []) c.loop-value.invariant ∙ sym (map_more (raw_score (decimals values)) values i (pos 0) here))
 
-pub nonzero_div-unit : goal.nonzero_div-unit
-nonzero_div-unit c = rw c.greatest_unit-unit.ensures (power-some (18 - decimals c.args.values.now))
+pub nonzero_div-result : goal.nonzero_div-result
+nonzero_div-result c = rw c.greatest_unit-unit.ensures (power-some (18 - decimals c.args.values.now))
 
 pub returns : goal.returns
 returns c =
     let values = c.args.values.now in
-    let list = c.loop-value.invariant ∙ ap (map (raw_score (decimals values))) (take_all c.loop-value.value-index values c.loop-value-test.false) in
-    let scale = ap (λ u. 10 ^ 18 / u) c.greatest_unit-unit.ensures ∙ one-over (decimals values) (decimals-most values) in
-    rw (list, scale) at c.summed.ensures
+    record {
+      list = c.loop-value.invariant ∙ ap (map (raw_score (decimals values))) (take_all c.loop-value.value-index values c.loop-value-test.false);
+      power = ap (λ u. 10 ^ 18 / u) c.greatest_unit-unit.ensures ∙ one-over (decimals values) (decimals-most values);
+    }

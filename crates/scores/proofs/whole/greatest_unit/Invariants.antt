@@ -1,7 +1,7 @@
 use Rattle.std.proofs.Common.{◌≡◌, ◌-◌, ◌^◌, ◌<◌, ℕ, false}
 use Rattle.std.specs.List.{list_all}
 use Rattle.scores.specs.RawScores.{is_whole}
-use Rattle.shift_limits.proofs.samples.greatest_unit.Given as goal
+use Rattle.scores.proofs.whole.greatest_unit.Given as goal
 
 abbrev pub invariant-loop-decimals : goal.invariant-loop-decimals
 invariant-loop-decimals l = record {
