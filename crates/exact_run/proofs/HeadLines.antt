@@ -8,7 +8,6 @@ use Rattle.scores.specs.declared.kinds.ScoreKind.{ScoreKind}
 use Rattle.scores.specs.declared.kinds.ScoreKind.TheVariants as scores
 use Rattle.settings.specs.Names.{score_word, test_word}
 use Rattle.settings.specs.declared.names.TestName.{TestName}
-use Rattle.settings.specs.declared.names.TestName.TheVariants as test
 use Rattle.piece_texts.specs.PieceTexts.{HasNoFeed, IsHead, ended}
 use Rattle.piece_texts.proofs.PieceRuns.{all-append}
 use Rattle.piece_texts.proofs.FreeLines.{free-append, free-words, no_feed}
@@ -18,6 +17,7 @@ use Rattle.report.specs.declared.headings.Extra.TheVariants as extra
 use Rattle.report.specs.declared.headings.Sizes.{Sizes}
 use Rattle.report.specs.declared.headings.Sizes.TheVariants.{Pairs, Groups, Blocks, Table, Strata}
 use Rattle.report.specs.declared.headings.Title.TheVariants as title
+use Rattle.exact_run.proofs.EachName.{free-test}
 
 -- ---- numbers and words without a line feed
 
@@ -49,34 +49,6 @@ free-signed (negsuc n) = ((λ e. cc), free-number (suc n))
 -- a number behind words
 free-told : (words : List ℕ) (n : ℕ) → HasNoFeed words → HasNoFeed (words ++ decimal n)
 free-told words n free = free-append words (decimal n) free (free-number n)
-
-free-test : (name : TestName) → no_feed (test_word name) ≡ true
-free-test test.SignedRank = refl
-free-test test.Sign = refl
-free-test test.RawSigned = refl
-free-test test.Mcnemar = refl
-free-test test.RankSum = refl
-free-test test.Ansari = refl
-free-test test.Mood = refl
-free-test test.Savage = refl
-free-test test.Median = refl
-free-test test.Raw = refl
-free-test test.Kw = refl
-free-test test.Jt = refl
-free-test test.Umbrella = refl
-free-test test.Friedman = refl
-free-test test.Page = refl
-free-test test.Cochran = refl
-free-test test.Fisher = refl
-free-test test.Linear = refl
-free-test test.Strata = refl
-free-test test.Zelen = refl
-free-test test.StratRankSum = refl
-free-test test.Kendall = refl
-free-test test.Runs = refl
-free-test test.Drill = refl
-free-test test.Shift = refl
-free-test test.Merge = refl
 
 free-scores : (kind : ScoreKind) → no_feed (score_word kind) ≡ true
 free-scores scores.Wilcoxon = refl

@@ -1,5 +1,6 @@
 pub mod AllParts
 pub mod Asking
+pub mod EachName
 pub mod HeadLines
 pub mod MadeValues
 pub mod MergedFits

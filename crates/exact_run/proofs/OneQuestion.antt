@@ -1,5 +1,5 @@
 -- Settings that ask one question of a file, whichever part of its run they ask for.
-use Rattle.std.proofs.Common.{◌≡◌, ◌∙◌, ℕ, Bool, true, false, cond, List, length, Option, Some, None, Ok, Err, ap, nat_lt, refl, sym}
+use Rattle.std.proofs.Common.{◌≡◌, ◌∙◌, ℕ, Bool, true, false, cond, List, length, Option, Some, None, Ok, Err, ap, inl, inr, nat_lt, refl, subst, sym}
 use Rattle.outside.specs.declared.source.TheConstants.{LONGEST_FILE}
 use Rattle.weights.specs.Results.{and_then}
 use Rattle.weights.specs.Wide.{too_wide}
@@ -15,39 +15,15 @@ use Rattle.exact_run.specs.Outcome.{Outcome, asked, asking_of, outcome_for, outc
 use Rattle.exact_run.specs.Question.{Question}
 use Rattle.exact_run.specs.Questions.{question_for}
 use Rattle.exact_run.specs.declared.reports.Asking.{Asking}
-
-abbrev of_piece : Settings → Option PieceOf → Settings
-of_piece settings piece = record settings { piece = piece }
+use Rattle.exact_run.proofs.EachName.{each-name, of_piece}
 
 -- no part is looked at to find the question
 one-question : (name : TestName) (asking : Asking) (settings : Settings) (piece : Option PieceOf) (rows : List (List (List ℕ))) (question : Question)
     → question_for name settings rows ≡ Ok question → outcome_for name asking (of_piece settings piece) rows ≡ outcome_of_question asking question
-one-question test.SignedRank asking settings piece rows question is = ap (and_then (outcome_of_question asking)) is
-one-question test.Sign asking settings piece rows question is = ap (and_then (outcome_of_question asking)) is
-one-question test.RawSigned asking settings piece rows question is = ap (and_then (outcome_of_question asking)) is
-one-question test.Mcnemar asking settings piece rows question is = ap (and_then (outcome_of_question asking)) is
-one-question test.RankSum asking settings piece rows question is = ap (and_then (outcome_of_question asking)) is
-one-question test.Ansari asking settings piece rows question is = ap (and_then (outcome_of_question asking)) is
-one-question test.Mood asking settings piece rows question is = ap (and_then (outcome_of_question asking)) is
-one-question test.Savage asking settings piece rows question is = ap (and_then (outcome_of_question asking)) is
-one-question test.Median asking settings piece rows question is = ap (and_then (outcome_of_question asking)) is
-one-question test.Raw asking settings piece rows question is = ap (and_then (outcome_of_question asking)) is
-one-question test.Kw asking settings piece rows question is = ap (and_then (outcome_of_question asking)) is
-one-question test.Jt asking settings piece rows question is = ap (and_then (outcome_of_question asking)) is
-one-question test.Umbrella asking settings piece rows question is = ap (and_then (outcome_of_question asking)) is
-one-question test.Friedman asking settings piece rows question is = ap (and_then (outcome_of_question asking)) is
-one-question test.Page asking settings piece rows question is = ap (and_then (outcome_of_question asking)) is
-one-question test.Cochran asking settings piece rows question is = ap (and_then (outcome_of_question asking)) is
-one-question test.Fisher asking settings piece rows question is = ap (and_then (outcome_of_question asking)) is
-one-question test.Linear asking settings piece rows question is = ap (and_then (outcome_of_question asking)) is
-one-question test.Strata asking settings piece rows question is = ap (and_then (outcome_of_question asking)) is
-one-question test.Zelen asking settings piece rows question is = ap (and_then (outcome_of_question asking)) is
-one-question test.StratRankSum asking settings piece rows question is = ap (and_then (outcome_of_question asking)) is
-one-question test.Kendall asking settings piece rows question is = ap (and_then (outcome_of_question asking)) is
-one-question test.Runs asking settings piece rows question is = ap (and_then (outcome_of_question asking)) is
-one-question test.Drill asking settings piece rows question is = ap (and_then (outcome_of_question asking)) is
-one-question test.Shift asking settings piece rows question is = absurd cc
-one-question test.Merge asking settings piece rows question is = ap (and_then (outcome_of_question asking)) is
+one-question name asking settings piece rows question is = elim (each-name name) [
+  | inl shift ↦ (let none : question_for test.Shift settings rows ≡ Ok question = subst (λ n. question_for n settings rows ≡ Ok question) shift is in absurd cc)
+  | inr a ↦ a.outcome asking (of_piece settings piece) rows ∙ ap (and_then (outcome_of_question asking)) (a.question settings piece rows ∙ is)
+]
 
 -- its outcome is a text
 told-text : (asking : Asking) (question : Question) (tails : Tails) → asked asking.tail (tails_in question.test) ≡ Some tails → too_wide question.test ≡ None

@@ -1,5 +1,5 @@
 -- From the rows of a file to its bytes and to the source: what is promised where a part is asked.
-use Rattle.std.proofs.Common.{◌≡◌, ◌≢◌, ℕ, Bool, true, false, cond, List, Option, Some, None, Result, Ok, Err, refl, subst}
+use Rattle.std.proofs.Common.{◌≡◌, ◌≢◌, ℕ, Bool, true, false, cond, List, Option, Some, None, Result, Ok, Err, inl, inr, refl, sym, ap, ◌∙◌, subst}
 use Rattle.std.specs.Prelude.{IfSome, OnOk, option_map}
 use Rattle.std.specs.Option.{ok_or}
 use Rattle.weights.specs.Results.{and_then, with_value}
@@ -19,6 +19,7 @@ use Rattle.exact_run.specs.Divided.{AsksAnswerable, IsAnswerable, PartAnswers}
 use Rattle.exact_run.specs.Outcome.{Outcome, asking_of, outcome_for, part_of}
 use Rattle.exact_run.specs.Questions.{question_for}
 use Rattle.exact_run.specs.declared.reports.Asking.{Asking}
+use Rattle.exact_run.proofs.EachName.{each-name}
 
 pub meets : (also : Type 0) (wanted result : Outcome) → MeetsAnd also wanted result → Meets wanted result
 meets also wanted (Ok text) m = m.0
@@ -35,39 +36,15 @@ pub record AnsweredRows (name : TestName) (asking : Asking) (settings : Settings
   pub outcome : Meets (outcome_for name asking settings rows) result
   pub answerable : name ≢ test.Shift → OnOk result (IfSome asking.piece (λ part. IsAnswerable asking.tail (question_for name settings rows)))
 
--- where the outcome is that of the question
-by-question : (name : TestName) (asking : Asking) (settings : Settings) (rows : List (List (List ℕ))) (result : Outcome)
-    → (Answers asking (question_for name settings rows) result → Meets (outcome_for name asking settings rows) result)
-    → Answers asking (question_for name settings rows) result → AnsweredRows name asking settings rows result
-by-question name asking settings rows result is answers = record { outcome = is answers; answerable = λ other. also-holds _ _ result answers }
-
 pub answered-rows : (name : TestName) (asking : Asking) (settings : Settings) (rows : List (List (List ℕ))) (result : Outcome) → AnswersRows name asking settings rows result → AnsweredRows name asking settings rows result
-answered-rows test.SignedRank asking settings rows result a = by-question test.SignedRank asking settings rows result (meets _ _ result) a
-answered-rows test.Sign asking settings rows result a = by-question test.Sign asking settings rows result (meets _ _ result) a
-answered-rows test.RawSigned asking settings rows result a = by-question test.RawSigned asking settings rows result (meets _ _ result) a
-answered-rows test.Mcnemar asking settings rows result a = by-question test.Mcnemar asking settings rows result (meets _ _ result) a
-answered-rows test.RankSum asking settings rows result a = by-question test.RankSum asking settings rows result (meets _ _ result) a
-answered-rows test.Ansari asking settings rows result a = by-question test.Ansari asking settings rows result (meets _ _ result) a
-answered-rows test.Mood asking settings rows result a = by-question test.Mood asking settings rows result (meets _ _ result) a
-answered-rows test.Savage asking settings rows result a = by-question test.Savage asking settings rows result (meets _ _ result) a
-answered-rows test.Median asking settings rows result a = by-question test.Median asking settings rows result (meets _ _ result) a
-answered-rows test.Raw asking settings rows result a = by-question test.Raw asking settings rows result (meets _ _ result) a
-answered-rows test.Kw asking settings rows result a = by-question test.Kw asking settings rows result (meets _ _ result) a
-answered-rows test.Jt asking settings rows result a = by-question test.Jt asking settings rows result (meets _ _ result) a
-answered-rows test.Umbrella asking settings rows result a = by-question test.Umbrella asking settings rows result (meets _ _ result) a
-answered-rows test.Friedman asking settings rows result a = by-question test.Friedman asking settings rows result (meets _ _ result) a
-answered-rows test.Page asking settings rows result a = by-question test.Page asking settings rows result (meets _ _ result) a
-answered-rows test.Cochran asking settings rows result a = by-question test.Cochran asking settings rows result (meets _ _ result) a
-answered-rows test.Fisher asking settings rows result a = by-question test.Fisher asking settings rows result (meets _ _ result) a
-answered-rows test.Linear asking settings rows result a = by-question test.Linear asking settings rows result (meets _ _ result) a
-answered-rows test.Strata asking settings rows result a = by-question test.Strata asking settings rows result (meets _ _ result) a
-answered-rows test.Zelen asking settings rows result a = by-question test.Zelen asking settings rows result (meets _ _ result) a
-answered-rows test.StratRankSum asking settings rows result a = by-question test.StratRankSum asking settings rows result (meets _ _ result) a
-answered-rows test.Kendall asking settings rows result a = by-question test.Kendall asking settings rows result (meets _ _ result) a
-answered-rows test.Runs asking settings rows result a = by-question test.Runs asking settings rows result (meets _ _ result) a
-answered-rows test.Drill asking settings rows result a = by-question test.Drill asking settings rows result (meets _ _ result) a
-answered-rows test.Shift asking settings rows result a = record { outcome = a; answerable = λ other. absurd (other refl) }
-answered-rows test.Merge asking settings rows result a = by-question test.Merge asking settings rows result (meets _ _ result) a
+answered-rows name asking settings rows result answers = elim (each-name name) [
+  | inl shift ↦ subst (λ n. AnsweredRows n asking settings rows result) (sym shift)
+      (record { outcome = subst (λ n. AnswersRows n asking settings rows result) shift answers; answerable = λ other. absurd (other refl) })
+  | inr a ↦ record {
+      outcome = subst (λ wanted. Meets wanted result) (sym (a.outcome asking settings rows)) (meets _ _ result (a.answers asking settings rows result answers));
+      answerable = λ other. also-holds _ _ result (a.answers asking settings rows result answers);
+    }
+]
 
 -- ---- bytes, and what a source holds
 
@@ -96,32 +73,10 @@ answered-held settings bytes held result same = on-ok _ _ result (held-part sett
 -- ---- the words of a test ask for no shift
 
 no-shift : (name : TestName) (own settings : Settings) → own.test ≡ name → command_for name own ≡ command.Test settings → settings.test ≢ test.Shift
-no-shift test.SignedRank own settings is e = λ shift. cc
-no-shift test.Sign own settings is e = λ shift. cc
-no-shift test.RawSigned own settings is e = λ shift. cc
-no-shift test.Mcnemar own settings is e = λ shift. cc
-no-shift test.RankSum own settings is e = λ shift. cc
-no-shift test.Ansari own settings is e = λ shift. cc
-no-shift test.Mood own settings is e = λ shift. cc
-no-shift test.Savage own settings is e = λ shift. cc
-no-shift test.Median own settings is e = λ shift. cc
-no-shift test.Raw own settings is e = λ shift. cc
-no-shift test.Kw own settings is e = λ shift. cc
-no-shift test.Jt own settings is e = λ shift. cc
-no-shift test.Umbrella own settings is e = λ shift. cc
-no-shift test.Friedman own settings is e = λ shift. cc
-no-shift test.Page own settings is e = λ shift. cc
-no-shift test.Cochran own settings is e = λ shift. cc
-no-shift test.Fisher own settings is e = λ shift. cc
-no-shift test.Linear own settings is e = λ shift. cc
-no-shift test.Strata own settings is e = λ shift. cc
-no-shift test.Zelen own settings is e = λ shift. cc
-no-shift test.StratRankSum own settings is e = λ shift. cc
-no-shift test.Kendall own settings is e = λ shift. cc
-no-shift test.Runs own settings is e = λ shift. cc
-no-shift test.Drill own settings is e = absurd cc
-no-shift test.Shift own settings is e = absurd cc
-no-shift test.Merge own settings is e = absurd cc
+no-shift name own settings is e = elim (each-name name) [
+  | inl shift ↦ (let none : command_for test.Shift own ≡ command.Test settings = subst (λ n. command_for n own ≡ command.Test settings) shift e in absurd cc)
+  | inr a ↦ λ shift. a.no_shift (sym is ∙ sym (ap (λ (s : Settings). s.test) (a.words own settings e)) ∙ shift)
+]
 
 from-next : {S T F : Type 0} (next : S → Result T F) (r : Result S F) (y : T) → and_then next r ≡ Ok y → (x : S) × (next x ≡ Ok y)
 from-next next (Ok x) y e = (x, e)
