@@ -14,7 +14,7 @@ use Rattle.settings.specs.declared.names.TestName.TheVariants as test
 use Rattle.settings.specs.declared.names.UsageFault.TheVariants.{Form, Value}
 use Rattle.settings.specs.declared.pieces.PieceOf.{PieceOf}
 use Rattle.settings.specs.declared.settings.Settings.{Settings}
-use Rattle.exact_run.specs.CauseSteps.{Answers, AnswersRows, Meets, MeetsAnd}
+use Rattle.exact_run.specs.CauseSteps.{AnswersRows, Meets, MeetsAnd}
 use Rattle.exact_run.specs.Divided.{AsksAnswerable, IsAnswerable, PartAnswers}
 use Rattle.exact_run.specs.Outcome.{Outcome, asking_of, outcome_for, part_of}
 use Rattle.exact_run.specs.Questions.{question_for}

@@ -1,27 +1,25 @@
 -- What holds of Zelen's test.
-use Rattle.std.proofs.Common.{◌≡◌, ℕ, ◌*◌, nat_eq, ◌+◌, ◌<◌, ◌≤◌, cond, List, [], ◌∷◌, ◌++◌, Some, None, length, length-append, map, replicate, append-nil, refl, sym, ◌∙◌, ap, subst, arith, lit≤}
-use Rattle.std.specs.Prelude.{ℤ, pos, ◌-ℤ◌, ◌*ℤ◌, nat_abs, Contains}
+use Rattle.std.proofs.Common.{◌≡◌, ℕ, ◌*◌, nat_eq, ◌<◌, ◌≤◌, cond, List, [], ◌∷◌, Some, None, length, map, refl, sym, ◌∙◌, ap, subst, arith}
+use Rattle.std.specs.Prelude.{ℤ, pos, Contains}
 use Rattle.std.specs.Cmp.Lexicographic.{pointwise}
-use Rattle.std.specs.List.{AllByRecursion, sum_by}
-use Rattle.std.proofs.Math.IntN.{zero-*ℤ}
+use Rattle.std.specs.List.{sum_by}
 use Rattle.std.proofs.lemmas.Bool.{eqb-true, le-ltb, lt-ltb}
-use Rattle.std.proofs.lemmas.List.{length-replicate}
-use Rattle.std.proofs.lemmas.List.Sums.{count_by-le-length, sum_by-cons}
+use Rattle.std.proofs.lemmas.List.Sums.{count_by-le-length}
 use Rattle.weights.specs.declared.tails.Tail.{Tail}
 use Rattle.weights.specs.declared.tails.Tail.TheVariants.{Less, Greater, Two}
-use Rattle.weights.specs.declared.rules.Rule.TheVariants.{AtLeast, AtMost}
 use Rattle.weights.specs.declared.TheConstants.{MAX}
 use Rattle.weights.specs.declared.wide.WideOf.TheVariants.{Total}
-use Rattle.weights.specs.Conditional.{distance, observed_statistic, total, unit_weight}
+use Rattle.weights.specs.Conditional.{observed_statistic, total}
 use Rattle.weights.specs.Frames.{IsShown, RulesFit}
 use Rattle.weights.specs.Rules.{RuleFits, measured, rule_of}
 use Rattle.weights.specs.Wide.{too_wide}
+use Rattle.weights.proofs.Centred.{all-weigh, at_least-fits, at_most-fits}
 use Rattle.weights.proofs.Sums.{sum_by-filter, sum_by-one}
 use Rattle.stage_network.specs.Follows.{AllFollow, Follows}
 use Rattle.stage_network.specs.Judged.{JudgeFits, judge_of, rule_in}
 use Rattle.room_network.proofs.RoomFollows.{room_follows}
 use Rattle.strata_cells.specs.declared.stratum.Stratum.{Stratum}
-use Rattle.strata_cells.specs.Strata.{cell_weight, cells_of, cells_weight, first_cell, first_cells, greatest_cell, least_cell, own_labels, size, strata_labellings}
+use Rattle.strata_cells.specs.Strata.{cell_weight, cells_of, cells_weight, first_cells, greatest_cell, least_cell, own_labels, strata_labellings}
 use Rattle.strata_cells.proofs.CellLaws.{cells_of-joined}
 use Rattle.strata_cells.proofs.FirstCells.{own-cell, own-cells, own-long, weight-some}
 use Rattle.strata_cells.proofs.StrataSums.{sums-within}
@@ -33,24 +31,6 @@ use Rattle.homogeneity.proofs.EvenWalk.{filter-in}
 use Rattle.homogeneity.proofs.EvenWays.{cut, even_gives, even_width}
 use Rattle.homogeneity.proofs.Rarities.{AreCells, cells-long, member-cells, rarity-by, rarity-is}
 use Rattle.homogeneity.proofs.Remaining.{number-some}
-
--- ---- rules
-
-no-distance : (v : ℤ) → distance 0 (pos 0) v ≤ MAX
-no-distance v = subst (λ z. nat_abs (z -ℤ pos 0) ≤ MAX) (sym (zero-*ℤ v)) (omega arith)
-
-no-times : (v : ℤ) → nat_abs (pos 0 *ℤ v) ≤ MAX
-no-times v = subst (λ z. nat_abs z ≤ MAX) (sym (zero-*ℤ v)) (omega arith)
-
-at_most-fits : (t v : ℤ) → RuleFits (AtMost t) v
-at_most-fits t v = record { least_factor = lit≤ tt; observed = lit≤ tt; times = no-times v; apart = no-distance v }
-
-at_least-fits : (t v : ℤ) → RuleFits (AtLeast t) v
-at_least-fits t v = record { least_factor = lit≤ tt; observed = lit≤ tt; times = no-times v; apart = no-distance v }
-
-all-weigh : (rs : List (List ℕ)) → AllByRecursion (λ r. 1 ≤ unit_weight r) rs
-all-weigh [] = tt
-all-weigh (r ∷ rs) = (omega arith, all-weigh rs)
 
 -- ---- the labels as they are
 

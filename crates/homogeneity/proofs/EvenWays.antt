@@ -9,9 +9,9 @@ use Rattle.weights.specs.Conditional.{unit_weight}
 use Rattle.weights.proofs.CellSums.{same-within}
 use Rattle.weights.proofs.Filters.{all_map, range-from}
 use Rattle.weights.proofs.Members.{range-below}
-use Rattle.weights.proofs.Sums.{sum_by-filter, sum_by-flat_map, sum_by-map, sum_by-same, sum_by-scaled}
+use Rattle.weights.proofs.Sums.{sum_by-filter, sum_by-map, sum_by-same}
 use Rattle.stage_network.specs.Completions.{path_weight, paths, total_weight}
-use Rattle.stage_network.specs.Network.{IsReached, Network}
+use Rattle.stage_network.specs.Network.{IsReached}
 use Rattle.room_network.specs.Plans.{Gives, IsPlan, Plan, alone}
 use Rattle.room_network.proofs.RoomKeys.{KeepsWidth, choices_before, is_allowed}
 use Rattle.strata_cells.specs.declared.stratum.Stratum.{Stratum}

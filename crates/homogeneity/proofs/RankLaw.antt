@@ -1,6 +1,6 @@
 -- The rooms of the stratified rank sum test give the labellings of the strata.
 use Rattle.std.proofs.Common.{◌≡◌, ℕ, suc, ◌+◌, ◌-◌, ◌*◌, ◌<◌, ◌≤◌, min, List, [], ◌∷◌, ◌++◌, map, take, drop, length, get_or, Bool, true, false, cond, nat_eq, inl, inr, refl, sym, ◌∙◌, ap, arith, add-one, drop-cons}
-use Rattle.std.specs.Prelude.{ℤ, pos}
+use Rattle.std.specs.Prelude.{pos}
 use Rattle.std.specs.List.{range_with_len, sum, sum_by}
 use Rattle.std.proofs.lemmas.Bool.{lt-ltb}
 use Rattle.std.proofs.lemmas.Bool.Decides.{eqb_tells}
@@ -9,11 +9,9 @@ use Rattle.std.proofs.lemmas.List.Sums.{sum_by-cons}
 use Rattle.weights.specs.Labellings.{labellings, number_of_labellings}
 use Rattle.weights.proofs.CellSums.{same-within}
 use Rattle.weights.proofs.FirstLabel.{two-none}
-use Rattle.weights.proofs.Sums.{sum_by-flat_map, sum_by-map, sum_by-one, sum_by-same, sum_by-same_where, sum_by-scaled, sum_by-times}
+use Rattle.weights.proofs.Sums.{sum_by-flat_map, sum_by-map, sum_by-one, sum_by-same, sum_by-same_where, sum_by-times}
 use Rattle.enumerate.specs.Joined.{joined_labellings}
 use Rattle.enumerate.proofs.JoinedMembers.{each-long, joined-front}
-use Rattle.stage_network.specs.Completions.{path_weight, paths}
-use Rattle.stage_network.specs.Network.{Network}
 use Rattle.room_network.specs.Plans.{Plan, alone}
 use Rattle.homogeneity.specs.RankRooms.{column_at, left, rank_plan, remaining_after, ways_of}
 use Rattle.homogeneity.specs.RankSteps.{AreColumns, IsColumn, later_ways}

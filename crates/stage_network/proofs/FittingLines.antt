@@ -1,16 +1,16 @@
 -- The weights of the lines of a distribution fit, and so do the rules of its test.
-use Rattle.std.proofs.Common.{◌≡◌, ℕ, ◌≤◌, List, map, sym, ◌∙◌, ap, subst, arith, lit≤, nat_abs, ◌-ℤ◌, ◌*ℤ◌}
+use Rattle.std.proofs.Common.{◌≡◌, ℕ, ◌≤◌, List, map, ◌∙◌, ap, arith}
 use Rattle.std.specs.Prelude.{ℤ, pos, Contains}
 use Rattle.std.specs.List.{All, AllByRecursion, sum_by}
-use Rattle.std.proofs.Math.IntN.{zero-*ℤ}
 use Rattle.std.proofs.lemmas.List.Elements.{All-contains_itself, All-from_recursion, recursion_from_All}
 use Rattle.weights.specs.declared.lines.Line.{Line}
 use Rattle.weights.specs.declared.rules.Rule.TheVariants.{AtLeast, AtMost}
 use Rattle.weights.specs.declared.tails.Tail.TheVariants.{Less, Greater, Two}
 use Rattle.weights.specs.declared.TheConstants.{MAX}
-use Rattle.weights.specs.Conditional.{ConditionalTest, TwoSided, ascending_values, by_distance, by_rarity, distance, distribution, observed_statistic, total, value_weight}
+use Rattle.weights.specs.Conditional.{ConditionalTest, TwoSided, ascending_values, by_distance, by_rarity, distribution, observed_statistic, total, value_weight}
 use Rattle.weights.specs.Frames.{RulesFit}
 use Rattle.weights.specs.Rules.{RuleFits, measured_on_both, rule_on_both}
+use Rattle.weights.proofs.Centred.{at_least-fits, at_most-fits}
 use Rattle.weights.proofs.Filters.{all_map, all_weaker}
 use Rattle.stage_network.specs.Network.{Network}
 use Rattle.stage_network.specs.Completions.{completions, ending_weight, path_weight, total_weight, value_weights}
@@ -32,20 +32,6 @@ test-weighs test fits lines s =
     let all : line_sum every lines ≡ total test = s.told every ∙ ap (sum_by test.weight) (filter-every test.reference) in
     omega (arith, all, fits)
 
--- a rule that compares with one number computes none
-
-no-times : (v : ℤ) → nat_abs (pos 0 *ℤ v) ≤ MAX
-no-times v = subst (λ z. nat_abs z ≤ MAX) (sym (zero-*ℤ v)) (omega arith)
-
-no-distance : (v : ℤ) → distance 0 (pos 0) v ≤ MAX
-no-distance v = subst (λ z. nat_abs (z -ℤ pos 0) ≤ MAX) (sym (zero-*ℤ v)) (omega arith)
-
-at_most : (t v : ℤ) → RuleFits (AtMost t) v
-at_most t v = record { least_factor = lit≤ tt; observed = lit≤ tt; times = no-times v; apart = no-distance v }
-
-at_least : (t v : ℤ) → RuleFits (AtLeast t) v
-at_least t v = record { least_factor = lit≤ tt; observed = lit≤ tt; times = no-times v; apart = no-distance v }
-
 -- what holds of the statistic of each rearrangement holds of the value of each line
 each-line : (test : ConditionalTest) (P : ℤ → Type 0) → ((r : List ℕ) → Contains test.reference r → P (test.statistic r)) → All (λ line. P line.value) (distribution test)
 each-line test P holds =
@@ -55,10 +41,10 @@ each-line test P holds =
     (all_map (λ (line : Line). P line.value) (value_weight test) (ascending_values values) (values-each P values (all_map P test.statistic test.reference each)))
 
 pub tails-fit : (test : ConditionalTest) → RulesFit test → TailsFit test (distribution test)
-tails-fit test f Less = each-line test (RuleFits (AtMost (observed_statistic test))) (λ r m. at_most (observed_statistic test) (test.statistic r))
-tails-fit test f Greater = each-line test (RuleFits (AtLeast (observed_statistic test))) (λ r m. at_least (observed_statistic test) (test.statistic r))
+tails-fit test f Less = each-line test (RuleFits (AtMost (observed_statistic test))) (λ r m. at_most-fits (observed_statistic test) (test.statistic r))
+tails-fit test f Greater = each-line test (RuleFits (AtLeast (observed_statistic test))) (λ r m. at_least-fits (observed_statistic test) (test.statistic r))
 tails-fit test f Two = sides test.two_sided (λ r m. f.fits Two r m)
   where
     sides : (s : TwoSided) → ((r : List ℕ) → Contains test.reference r → RuleFits (rule_on_both s test) (measured_on_both s test r)) → RuleFitsLines (rule_on_both s test) (distribution test)
     sides (by_distance q c) fits = each-line test (RuleFits (rule_on_both (by_distance q c) test)) fits
-    sides (by_rarity rarity) fits = each-line test (RuleFits (AtMost (pos (rarity test.observed)))) (λ r m. at_most (pos (rarity test.observed)) (test.statistic r))
+    sides (by_rarity rarity) fits = each-line test (RuleFits (AtMost (pos (rarity test.observed)))) (λ r m. at_most-fits (pos (rarity test.observed)) (test.statistic r))

@@ -3,7 +3,7 @@ use Rattle.std.proofs.Common.{◌≡◌, ℕ, zero, suc, ◌+◌, ◌-◌, ◌*�
 use Rattle.std.specs.Prelude.{ℤ, pos, ◌+ℤ◌, ◌*ℤ◌, Contains}
 use Rattle.std.specs.List.{count_by, range_with_len, sum, sum_by}
 use Rattle.std.proofs.Math.Nat.{mul-le-mul}
-use Rattle.std.proofs.lemmas.Bool.{eqb-true, le-leb, le-ltb, lt-ltb}
+use Rattle.std.proofs.lemmas.Bool.{eqb-true, le-leb, le-ltb}
 use Rattle.std.proofs.lemmas.Int.{ints}
 use Rattle.std.proofs.lemmas.List.FromFn.{get_or-map-range_with_len}
 use Rattle.std.proofs.lemmas.List.Sums.{get_or-le-sum_by, sum-map, sum_by-cons}
@@ -19,6 +19,7 @@ use Rattle.weights.specs.Grouped.{columns_of, fits, labellings_giving, minus, ta
 use Rattle.weights.specs.Labellings.{counts_of, labellings, number_of_labellings}
 use Rattle.weights.specs.Rules.{RuleFits, measured, rule_of}
 use Rattle.weights.specs.Wide.{too_wide}
+use Rattle.weights.proofs.Centred.{all-weigh, at_least-fits, at_most-fits, total-wide as wide-total}
 use Rattle.weights.proofs.FirstLabel.{number_of_labellings-positive}
 use Rattle.weights.proofs.Members.{labelling_from, same_refl}
 use Rattle.weights.proofs.Sized.{first_and}
@@ -41,7 +42,7 @@ use Rattle.table_tests.specs.Tables.{cell, column_of, column_sums, columns_in, i
 use Rattle.table_tests.specs.TableSteps.{AreColumns, IsTable, table_sum}
 use Rattle.table_tests.specs.Weighing.{past_of, weight_meaning}
 use Rattle.table_tests.specs.WeightSteps.{IsWeighing}
-use Rattle.table_tests.proofs.LinearTests.{all-weigh, at_least-fits, at_most-fits, is-linear, past-limit}
+use Rattle.table_tests.proofs.LinearTests.{is-linear}
 use Rattle.table_tests.proofs.MarginSums.{column-few, length-columns, length-rows, level, subjects-few}
 use Rattle.table_tests.proofs.Observed.{observed-columns}
 use Rattle.table_tests.proofs.Products.{product-table, product-value}
@@ -82,7 +83,7 @@ pub total-some : (t : TableData) → 1 ≤ total (fisher_test t)
 total-some t = omega (arith, total-is t, number_of_labellings-positive (row_sums t))
 
 pub total-wide : (t : TableData) → (number_of_labellings (row_sums t) ≤ MAX → ⊥) → too_wide (fisher_test t) ≡ Some Total
-total-wide t wide = rw (lt-ltb MAX (total (fisher_test t)) (omega (arith, past-limit (number_of_labellings (row_sums t)) wide, total-is t))) refl
+total-wide t wide = wide-total (fisher_test t) (total-is t) wide
 
 -- the observed table is one of those with its sums
 

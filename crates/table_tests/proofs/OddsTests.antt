@@ -1,5 +1,5 @@
 -- What holds of Fisher's test of a table with odds whose total passes no limit.
-use Rattle.std.proofs.Common.{◌≡◌, ℕ, ◌+◌, ◌-◌, ◌^◌, ◌<◌, ◌≤◌, List, [], ◌∷◌, length, true, Some, None, Err, inl, inr, refl, sym, ◌∙◌, subst, arith, lit≤}
+use Rattle.std.proofs.Common.{◌≡◌, ℕ, ◌+◌, ◌-◌, ◌^◌, ◌≤◌, List, [], ◌∷◌, length, true, Some, None, Err, inl, inr, refl, sym, ◌∙◌, subst, arith, lit≤}
 use Rattle.std.specs.Prelude.{ℤ, slice_index}
 use Rattle.std.specs.List.{AllByRecursion, Contains, sum_by}
 use Rattle.std.proofs.Math.Nat.{one-le-pow}
@@ -19,6 +19,7 @@ use Rattle.weights.specs.Grouped.{columns_of}
 use Rattle.weights.specs.Labellings.{labellings, number_of_labellings}
 use Rattle.weights.specs.Rules.{RuleFits, measured, rule_of}
 use Rattle.weights.specs.Wide.{Prepares, too_wide}
+use Rattle.weights.proofs.Centred.{at_least-fits, at_most-fits, no-distance, no-times, total-wide as wide-total}
 use Rattle.weights.proofs.FirstLabel.{number_of_labellings-positive}
 use Rattle.stage_network.specs.declared.verdicts.Judge.{Judge}
 use Rattle.stage_network.specs.Judged.{judge_of}
@@ -46,7 +47,6 @@ use Rattle.table_tests.specs.Tables.{column_sums, is_two_by_two, row_sums}
 use Rattle.table_tests.specs.TableSteps.{IsTable}
 use Rattle.table_tests.proofs.FisherTests.{first-value, few-labels, linear-by, square, statistic-first}
 use Rattle.table_tests.proofs.FisherTests as fisher
-use Rattle.table_tests.proofs.LinearTests.{at_least-fits, at_most-fits, no-distance, no-times}
 use Rattle.table_tests.proofs.MarginSums.{length-columns, length-rows, level, subjects-few}
 use Rattle.table_tests.proofs.OddsLaws.{cell-within-row, cells-total, odds_give, pair-sum, product_left, product_right, some-weight}
 
@@ -84,10 +84,7 @@ module _ (w : WeightedTable) (i : IsOdds w.odds) where
   total-some = omega (arith, labellings-weigh, number_of_labellings-positive (row_sums w.table))
 
   pub total-wide : (total (odds_test w) ≤ MAX → ⊥) → too_wide (odds_test w) ≡ Some Total
-  total-wide wide = rw (lt-ltb MAX (total (odds_test w)) (past (total (odds_test w)) wide)) refl
-    where
-      past : (n : ℕ) → (n ≤ MAX → ⊥) → MAX < n
-      past n cannot = omega (arith, cannot)
+  total-wide wide = wide-total (odds_test w) refl wide
 
   pub not-wide : total (odds_test w) ≤ MAX → too_wide (odds_test w) ≡ None
   not-wide h = rw (le-ltb MAX (total (odds_test w)) h) refl

@@ -16,6 +16,7 @@ use Rattle.weights.specs.Grouped.{columns_of, table_weight}
 use Rattle.weights.specs.Labellings.{labellings, number_of_labellings}
 use Rattle.weights.proofs.Filters.{all_map, all_weaker}
 use Rattle.weights.proofs.Sums.{sum_by-filter-≤, sum_by-map, sum_by-same_where, sum_by-times}
+use Rattle.weights.proofs.Centred.{all-weigh}
 use Rattle.completion_bounds.proofs.TableWeights.{table-all}
 use Rattle.stage_network.specs.Follows.{statistic_sums}
 use Rattle.stage_network.specs.Lines.{IsAscending, TailsFit, WeightsFit, line_sum}
@@ -29,7 +30,6 @@ use Rattle.table_tests.specs.FisherExact.{first_cell, fisher_test, rarity}
 use Rattle.table_tests.specs.Tables.{column_sums, is_two_by_two, row_sums}
 use Rattle.table_tests.specs.Turned.{AreInRatio, AreTurned, IsScalable, IsServedBy, scaled_line}
 use Rattle.table_tests.proofs.FisherTests.{given-table, rarity-is, rules-fit, total-is, total-some}
-use Rattle.table_tests.proofs.LinearTests.{all-weigh}
 use Rattle.table_tests.proofs.MarginSums.{level}
 use Rattle.table_tests.proofs.TurnedData.{turned-columns, turned-rows}
 use Rattle.table_tests.proofs.TurnedTests.{PassesTurned, lines-turned, numerators-turned, rare, rare-ratio, total-turned, turned-shape, weight_of}

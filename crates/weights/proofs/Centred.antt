@@ -1,5 +1,5 @@
 -- What a test owes whose tails all go by its statistic, both sides by its distance from a centre; and what of any test is too wide.
-use Rattle.std.proofs.Common.{◌≡◌, true, ℕ, ◌+◌, ◌*◌, ◌<◌, ◌≤◌, List, Some, None, refl, sym, ◌∙◌, ap, subst, arith, lit≤}
+use Rattle.std.proofs.Common.{◌≡◌, true, ℕ, ◌+◌, ◌*◌, ◌<◌, ◌≤◌, List, [], ◌∷◌, Some, None, refl, sym, ◌∙◌, ap, subst, arith, lit≤}
 use Rattle.std.specs.Prelude.{ℤ, pos, ◌-ℤ◌, ◌*ℤ◌, nat_abs, unsigned_abs, Contains}
 use Rattle.std.specs.List.{AllByRecursion}
 use Rattle.std.proofs.Math.IntN.{zero-*ℤ}
@@ -11,7 +11,7 @@ use Rattle.weights.specs.declared.tails.Tail.{Tail}
 use Rattle.weights.specs.declared.tails.Tail.TheVariants.{Less, Greater, Two}
 use Rattle.weights.specs.declared.wide.WideOf.TheVariants.{Total, Statistic}
 use Rattle.weights.specs.declared.TheConstants.{MAX}
-use Rattle.weights.specs.Conditional.{ConditionalTest, by_distance, distance, observed_statistic, total}
+use Rattle.weights.specs.Conditional.{ConditionalTest, by_distance, distance, observed_statistic, total, unit_weight}
 use Rattle.weights.specs.Frames.{IsFrameOf, IsShown, RulesFit, first_tail}
 use Rattle.weights.specs.Rules.{RuleFits, measured, measured_on_both, rule_of, rule_on_both}
 use Rattle.weights.specs.Wide.{too_wide}
@@ -37,10 +37,10 @@ apart-within x c h l = grind (arith, ints)
 pub far_natural-fits : (q c n : ℕ) → q ≤ MAX → c ≤ MAX → q * n ≤ MAX → RuleFits (Far q (pos c) 0) (pos n)
 far_natural-fits q c n least centre within = record { least_factor = least; observed = lit≤ tt; times = within; apart = apart-within (q * n) c within centre }
 
-no-distance : (v : ℤ) → distance 0 (pos 0) v ≤ MAX
+pub no-distance : (v : ℤ) → distance 0 (pos 0) v ≤ MAX
 no-distance v = subst (λ z. nat_abs (z -ℤ pos 0) ≤ MAX) (sym (zero-*ℤ v)) (omega arith)
 
-no-times : (v : ℤ) → nat_abs (pos 0 *ℤ v) ≤ MAX
+pub no-times : (v : ℤ) → nat_abs (pos 0 *ℤ v) ≤ MAX
 no-times v = subst (λ z. nat_abs z ≤ MAX) (sym (zero-*ℤ v)) (omega arith)
 
 -- a rule without a factor computes no great number
@@ -52,6 +52,12 @@ at_most-fits t v = record { least_factor = lit≤ tt; observed = lit≤ tt; time
 
 pub at_least-fits : (t v : ℤ) → RuleFits (AtLeast t) v
 at_least-fits t v = record { least_factor = lit≤ tt; observed = lit≤ tt; times = no-times v; apart = no-distance v }
+
+-- ---- weights of 1
+
+pub all-weigh : (rs : List (List ℕ)) → AllByRecursion (λ r. 1 ≤ unit_weight r) rs
+all-weigh [] = tt
+all-weigh (r ∷ rs) = (omega arith, all-weigh rs)
 
 -- ---- both sides by distance
 

@@ -9,7 +9,7 @@ use Rattle.table_reader.specs.Data.{table_data_of}
 use Rattle.table_tests.specs.LinearByLinear.{ScoredTable, linear_test}
 use Rattle.table_tests.specs.Tables.{column_sums, observed_labels, row_sums}
 use Rattle.table_tests.specs.TableSteps.{scored_of}
-use Rattle.table_tests.proofs.LinearTests.{as-long, as-wide, centre_fits, far_fits, observed-sum, scores-fit, total_is, whole-fits}
+use Rattle.table_tests.proofs.LinearTests.{as-long, as-wide, centre_fits, is-centred, observed-sum, scores-fit, total_is, whole-fits}
 use Rattle.table_tests.proofs.linear_table.frame_of.Goals as goal
 
 pub score_choice-requires-clause-level : goal.score_choice-requires-clause-level
@@ -58,7 +58,7 @@ far-requires c =
     let centre : to_z w128 (of_z w128 c.times-centre.result) ≡ row_sum c.args.row_scores.now (row_sums t.table) *ℤ row_sum c.args.column_scores.now (column_sums t.table) = to_z-of_z w128 c.times-centre.result r ∙ rw (one, two) at c.times-centre.ensures in
     let statistic : to_z w128 (of_z w128 c.observed_sum-statistic.result) ≡ (linear_test t).statistic (observed_labels t.table) = to_z-of_z w128 c.observed_sum-statistic.result v ∙ c.observed_sum-statistic.ensures ∙ observed-sum t c.requires.fitting in
     let subjects : c.total_of-subjects.result ≡ sum (row_sums t.table) = c.total_of-subjects.ensures ∙ ap sum (c.as_slice-rows.ensures ∙ c.requires.margins.rows) in
-    rw (subjects, centre, statistic) (far_fits t c.requires.fitting)
+    rw (subjects, centre, statistic) (is-centred t c.requires.fitting).observed
 
 pub returns : goal.returns
 returns c =
