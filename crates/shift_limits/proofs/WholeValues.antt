@@ -20,8 +20,3 @@ size-raw d v h = subst (λ z. nat_abs z ≤ nat_abs v) (sym (raw_score-is d v h)
 pub raw-in_range : (d : ℕ) (values : List ℤ) (b : ℕ) → d ≤ 18 → AllByRecursion (λ v. nat_abs v < b) values → AllByRecursion (λ v. nat_abs v < b) (map (raw_score d) values)
 raw-in_range d [] b h all = tt
 raw-in_range d (v ∷ values) b h all = (omega (arith, size-raw d v h, all.0), raw-in_range d values b h all.1)
-
-pub next-power : (d : ℕ) → d < 18 → 10 ^ (18 - d) / 10 ≡ 10 ^ (18 - (d + 1))
-next-power d h =
-    let step : 18 - d ≡ suc (18 - (d + 1)) = omega arith in
-    rw (step, pow-suc 10 (18 - (d + 1))) (omega arith)
