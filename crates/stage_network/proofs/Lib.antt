@@ -48,5 +48,6 @@ pub mod Shifted
 pub mod Stretches
 pub mod Spans
 pub mod RowCourses
+pub mod Gathering
 pub mod RowLines
 pub mod Folding

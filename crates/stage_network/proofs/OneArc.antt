@@ -1,5 +1,5 @@
 -- One arc: what is known of it by its own numbers, and of each node that it starts from.
-use Rattle.std.proofs.Common.{◌≡◌, ℕ, ◌+◌, ◌-◌, ◌*◌, ◌<◌, ◌≤◌, List, [], ◌++◌, length, get_or, take, drop, ap, arith, refl, sym, ◌∙◌, subst}
+use Rattle.std.proofs.Common.{◌≡◌, ◌≢◌, ℕ, zero, suc, ◌+◌, ◌-◌, ◌*◌, ◌<◌, ◌≤◌, List, [], ◌++◌, length, get_or, take, drop, ap, arith, refl, sym, ◌∙◌, subst}
 use Rattle.std.specs.Prelude.{ℤ}
 use Rattle.std.specs.List.{Contains}
 use Rattle.node_pool.specs.Nodes.{Node, node, weighted}
@@ -16,6 +16,14 @@ arc_is arcs i start end weight choice s e w c d = rw (s d, e d, w d, c d) refl
 
 abbrev pub no_arc : Arc
 no_arc = record { start = 0; end = 0; choice = []; weight = 0; target = 0 }
+
+-- behind a place that is not 0 stands an arc
+pub place_below : (place most : ℕ) → place ≢ 0 → place ≤ most → place - 1 < most
+place_below zero most h low = absurd (h refl)
+place_below (suc i) most h low = omega (arith, low)
+
+pub place_is : (place : ℕ) → place ≢ 0 → place ≡ suc (place - 1)
+place_is place h = omega (arith, h)
 
 pub fine_is : (n : Network) (g width : ℕ) (nodes rooms : List Node) (arcs : List Arc) → AllFine n g width nodes rooms arcs → (i start end weight : ℕ) (choice : List ℕ) → i < length arcs → ((d : Arc) → start ≡ (get_or arcs i d).start) → ((d : Arc) → end ≡ (get_or arcs i d).end) → ((d : Arc) → weight ≡ (get_or arcs i d).weight) → ((d : Arc) → choice ≡ (get_or arcs i d).choice) → IsFine n g width nodes rooms (record { start = start; end = end; choice = choice; weight = weight; target = (get_or arcs i no_arc).target })
 fine_is n g width nodes rooms arcs fine i start end weight choice low s e w c =

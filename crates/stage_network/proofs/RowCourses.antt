@@ -2,7 +2,6 @@
 use Rattle.std.proofs.Common.{◌≡◌, ℕ, suc, ◌+◌, ◌<◌, ◌≤◌, List, [], ◌∷◌, refl, sym, ◌∙◌, ap, subst, arith, take, length}
 use Rattle.std.specs.Prelude.{ℤ}
 use Rattle.std.specs.List.{IsDistinct}
-use Rattle.std.proofs.lemmas.List.{take_all}
 use Rattle.weights.specs.declared.tails.Tail.{Tail}
 use Rattle.weights.specs.declared.tails.Tail.TheVariants.{Less}
 use Rattle.weights.specs.declared.TheConstants.{MAX}
@@ -14,6 +13,10 @@ use Rattle.stage_network.specs.Completions.{total_weight}
 use Rattle.stage_network.specs.Laws.{IsLawful}
 use Rattle.stage_network.specs.NodeSteps.{all_successors, AllReached, AllHeavy, AreNodes}
 use Rattle.stage_network.specs.SweepSteps.{sum_for, stays, staying, closed_at, counted, Course, first_course, HasSwept, IsCourse, IsSwept}
+use Rattle.stage_network.specs.declared.row_sweeps.RowSweep.{RowSweep}
+use Rattle.stage_network.specs.Shifts.{IsShifting}
+use Rattle.stage_network.specs.RowSteps.{all_nodes}
+use Rattle.stage_network.specs.RowSweeps.{AreRowsHere, IsRowSweeping}
 use Rattle.stage_network.proofs.Bounds.{weights-le-weighted}
 use Rattle.stage_network.proofs.OpenKeys.{all_filter, one_distinct}
 use Rattle.stage_network.proofs.Carried.{open-distinct}
@@ -66,10 +69,7 @@ module _ (n : Network) (lawful : IsLawful n) (keep : Kept) where
         )
 
     -- one stage on
-    module _ (before : m < n.count) (all : List Node) (told : (f : List ℤ → ℕ) → weighted f all ≡ weighted f (all_successors n m nodes)) where
-      taken : (f : List ℤ → ℕ) → weighted f all ≡ weighted f (all_successors n m (take (length nodes) nodes))
-      taken f = told f ∙ ap (λ ns. weighted f (all_successors n m ns)) (sym (take_all (length nodes) nodes (omega arith)))
-
+    module _ (before : m < n.count) (all : List Node) (taken : (f : List ℤ → ℕ) → weighted f all ≡ weighted f (all_successors n m (take (length nodes) nodes))) where
       pub leads-light : weighted (total_weight n (m + 1)) all ≤ total_weight n 0 n.first
       leads-light = omega (arith, next-light n lawful MAX from_first starts m m keep (omega arith) before refl sums nodes all swept taken Less, one (total_weight n 0) n.first)
 
@@ -80,3 +80,12 @@ module _ (n : Network) (lawful : IsLawful n) (keep : Kept) where
 
   pub stands-last : (m : ℕ) (sums : TailSums) (nodes : List Node) → m ≡ n.count → HasSwept n from_first m sums nodes → IsSwept n keep sums nodes
   stands-last m sums nodes last swept = swept-last n lawful MAX keep starts sums nodes (subst (λ j. HasSwept n from_first j sums nodes) last swept)
+
+-- a sweep stands at rows of its stage
+pub rows-here : {C : Type 0} (n : Network) (width step_width limit : ℕ) (step_of : ℕ → List ℤ → List ℕ → List ℤ) (number : C → ℕ) (sweep : RowSweep C) → IsShifting n width step_width step_of → IsRowSweeping n width step_width limit number sweep → sweep.stage < n.count → AreRowsHere n width step_width step_of sweep.stage sweep.rows
+rows-here n width step_width limit step_of number sweep shifting s before = record {
+  nodes = stands-nodes n s.lawful sweep.keep sweep.stage sweep.sums (all_nodes sweep.rows.rows) s.swept before;
+  roomed = s.stores.roomed;
+  shifting = shifting;
+  room_width = s.stores.rows;
+}

@@ -1,15 +1,21 @@
 -- Which nodes are those of a row, and which shift an arc has.
-use Rattle.std.proofs.Common.{◌≡◌, ℕ, zero, suc, ◌+◌, ◌-◌, ◌<◌, ◌≤◌, ◌⊎◌, inl, inr, List, [], ◌∷◌, ◌++◌, length, take, drop, get_or, refl, sym, ◌∙◌, ap, arith}
-use Rattle.std.specs.Prelude.{ℤ}
+use Rattle.std.proofs.Common.{◌≡◌, ℕ, zero, suc, ◌+◌, ◌-◌, ◌<◌, ◌≤◌, ◌⊎◌, inl, inr, List, [], ◌∷◌, ◌++◌, length, take, drop, get_or, refl, sym, ◌∙◌, ap, subst, arith}
+use Rattle.std.specs.Prelude.{ℤ, pos, ◌+ℤ◌}
+use Rattle.std.specs.List.{Contains}
 use Rattle.std.proofs.lemmas.List.{length-append, get_or_append_left, get_or_push, length_push}
-use Rattle.node_pool.specs.Nodes.{Node}
+use Rattle.node_pool.specs.Nodes.{Node, node}
 use Rattle.dense_rows.specs.Rows.{row_nodes, stepped}
 use Rattle.dense_rows.proofs.RowSums.{positive}
-use Rattle.stage_network.specs.Network.{Network}
+use Rattle.stage_network.specs.Network.{Network, IsReached}
+use Rattle.stage_network.specs.Rooms.{IsArc}
+use Rattle.stage_network.specs.Shifts.{IsShifting}
 use Rattle.stage_network.specs.ArcSteps.{Arc, lift, segment}
-use Rattle.stage_network.proofs.Roomwise.{lift-length, segment-at, lift-rooms, all_at}
+use Rattle.stage_network.proofs.Roomwise.{lift-length, segment-at, lift-rooms, all_at, whole-key}
 use Rattle.stage_network.specs.declared.row_heads.Shift.{Shift}
 use Rattle.stage_network.specs.RowSteps.{Row, IsShift, AreShifts, IsSpan, all_nodes, row_whole}
+
+abbrev pub no_row : Row
+no_row = record { room = []; lowest = pos 0; stride = pos 0; cells = [] }
 
 -- nodes between others
 between : (xs ys zs : List Node) → take (length ys) (drop (length xs) (xs ++ (ys ++ zs))) ≡ ys
@@ -80,6 +86,7 @@ module _ (rows : List Row) (width i start end : ℕ) (d : Row) (low : i < length
     last = last_at;
     is = λ e. is_at ∙ ap row_whole (sym (same_row e));
     run = λ j e h k. rooms_at wide j e h k ∙ sym (rooms_at wide start e (omega arith) order);
+    room = λ r e. rooms_at wide start e (omega arith) order ∙ ap (λ (b : Row). b.room) (sym (same_row r));
   }
 
   -- the first key is that of the first full cell
@@ -110,6 +117,29 @@ module _ (rows : List Row) (width i start end : ℕ) (d : Row) (low : i < length
 
       front : (room : List ℤ) (z s : ℤ) (cells : List ℕ) → (c : ℕ) × (rest : List ℕ) × (cells ≡ suc c ∷ rest) → (e : Node) → (get_or (lift room (row_nodes z s cells)) 0 e).key ≡ room ++ z ∷ []
       front room z s cells b e = rw (b.2, positive b.0) refl
+
+-- an arc from a row, by its room and the key of its first node
+module _ (n : Network) (g width : ℕ) (rows : List Row) (i start end : ℕ) (span : IsSpan rows width i start end) (room : List ℤ) (here : (d : Row) → room ≡ (get_or rows i d).room) (wide : length room ≡ width) (choice : List ℕ) where
+  pub row-arc : (k : List ℤ) → ((d : Node) → k ≡ (get_or (all_nodes rows) start d).key) → IsReached n g k → Contains (n.choices g k) choice → IsArc n width g room choice
+  row-arc k key reached allowed =
+      let d : Node = node [] 0 in
+      let first : room ≡ take width k = here no_row ∙ sym (span.room no_row d) ∙ ap (take width) (sym (key d)) in
+      let whole : room ++ drop width k ≡ k = whole-key width room (drop width k) k first refl in
+      record {
+        partial = drop width k;
+        wide = wide;
+        reached = subst (IsReached n g) (sym whole) reached;
+        allowed = subst (λ j. Contains (n.choices g j) choice) (sym whole) allowed;
+      }
+
+  pub row-shift : (step_width : ℕ) (step_of : ℕ → List ℤ → List ℕ → List ℤ) → IsShifting n width step_width step_of → g < n.count → i < length rows → (weight target : ℕ) (step : ℤ) → step ≡ get_or (step_of g room choice) 0 (pos 0) → IsShift n g width rows (record { start = start; end = end; choice = choice; weight = weight; target = target }) (record { row = i; step = step })
+  row-shift step_width step_of shifting before low weight target step is = record {
+    low = low;
+    is = span.is;
+    moves = λ d p r a.
+        let raised : get_or (step_of g (get_or rows i d).room choice) 0 (pos 0) ≡ step = ap (λ x. get_or (step_of g x choice) 0 (pos 0)) (sym (here d)) ∙ sym is in
+        shifting.moves g (get_or rows i d).room p choice (ap length (sym (here d)) ∙ wide) r before a ∙ ap (λ x. (p +ℤ x) ∷ []) raised;
+  }
 
 -- one arc more
 last_or_before : (i n : ℕ) → i < n + 1 → (i ≡ n) ⊎ (i < n)

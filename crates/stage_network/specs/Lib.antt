@@ -19,5 +19,7 @@ pub mod ArcSteps
 pub mod StageSteps
 pub mod AdditiveSteps
 pub mod SweepSteps
+pub mod Listed
 pub mod RowSteps
+pub mod RowSweeps
 pub mod FromKeys

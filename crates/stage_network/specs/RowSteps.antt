@@ -1,17 +1,18 @@
 -- Rows of cells in rooms: the nodes that they stand for, and the arcs that shift them.
 use Rattle.std.specs.Prelude.{◌≡◌, ℕ, ◌+◌, ◌*◌, ◌<◌, ◌≤◌, ℤ, pos, ◌+ℤ◌, List, [], ◌∷◌, ◌++◌}
 use Rattle.std.specs.Prelude.{length, take, drop, get_or}
-use Rattle.std.specs.List.{Contains, IsDistinct, flat_map, AllByRecursion}
-use Rattle.node_pool.specs.Nodes.{Node, key_eq, keys, weighted}
+use Rattle.std.specs.List.{Contains, flat_map, AllByRecursion}
+use Rattle.weights.specs.declared.TheConstants.{MAX}
+use Rattle.node_pool.specs.Nodes.{Node, weighted}
 use Rattle.dense_rows.specs.Rows.{row_nodes}
 use Rattle.weights.specs.declared.tails.Tail.{Tail}
 use Rattle.stage_network.specs.declared.tail_sums.TailSums.{TailSums}
 use Rattle.stage_network.specs.declared.tail_sums.Kept.{Kept}
 use Rattle.stage_network.specs.Network.{Network, IsReached}
 use Rattle.stage_network.specs.Laws.{IsLawful}
-use Rattle.stage_network.specs.NodeSteps.{AllReached, AllHeavy}
+use Rattle.stage_network.specs.NodeSteps.{AllReached}
 use Rattle.stage_network.specs.SweepSteps.{sum_for, closed_at, counted, staying}
-use Rattle.stage_network.specs.ArcSteps.{Arc, IsRun, lift, segment, bucket, spread_out}
+use Rattle.stage_network.specs.ArcSteps.{Arc, IsRun, lift, segment}
 use Rattle.stage_network.specs.declared.row_heads.Head.{Head}
 use Rattle.stage_network.specs.declared.row_heads.Shift.{Shift}
 
@@ -31,7 +32,11 @@ pub record RowList : Type 0 where
 abbrev pub row_whole : Row → List Node
 row_whole r = lift r.room (row_nodes r.lowest r.stride r.cells)
 
--- those of many rows
+-- those that a step leads to, given by their partials
+abbrev pub moved : Row → ℤ → List Node
+moved r step = row_nodes (r.lowest +ℤ step) r.stride r.cells
+
+-- the nodes of many rows
 abbrev pub all_nodes : List Row → List Node
 all_nodes rows = flat_map row_whole rows
 
@@ -57,6 +62,8 @@ pub record IsSpan (rows : List Row) (width i start end : ℕ) : Type 0 where
   pub last : end ≤ length (all_nodes rows)
   pub is : (d : Row) → segment start end (all_nodes rows) ≡ row_whole (get_or rows i d)
   pub run : IsRun width (all_nodes rows) start end
+  pub room : (d : Row) (e : Node)
+      → take width (get_or (all_nodes rows) start e).key ≡ (get_or rows i d).room
 
 -- an arc's nodes are those of a row, and its choice raises each partial there by a step
 pub record IsShift (n : Network) (g width : ℕ) (rows : List Row) (a : Arc) (s : Shift)
@@ -82,17 +89,14 @@ pub record IsRowful (n : Network) (width g : ℕ) (room : List ℤ) (nodes : Lis
   pub within : g ≤ n.count
   pub reached : AllReached n g nodes
   pub wide : length room ≡ width
+  pub deep : n.width ≡ width + 1
+  pub fits : weighted (λ k. 1) nodes ≤ MAX
 
--- what settling the room t of stage g + 1 comes to
-pub record IsGathered (n : Network) (keep : Kept) (g : ℕ) (nodes : List Node) (arcs : List Arc)
-    (t : ℕ) (sums all : TailSums) (old new : List Node) : Type 0 where
-  pub work : List Node
-  pub is : new ≡ old ++ staying n keep (g + 1) work
-  pub told : (f : List ℤ → ℕ)
-      → weighted f work ≡ weighted f (spread_out n g nodes (bucket t arcs))
-  pub heavy : AllHeavy work
-  pub distinct : IsDistinct key_eq (keys work)
+-- what settling nodes of a room of stage g comes to: those that stay, and the sums
+pub record IsRowSettled (n : Network) (keep : Kept) (g : ℕ) (old new : List Node)
+    (sums all : TailSums) : Type 0 where
+  pub nodes : new ≡ staying n keep g old
   pub sum : (t : Tail)
-      → (sum_for all t).sum ≡ (sum_for sums t).sum + weighted (closed_at n keep t (g + 1)) work
+      → (sum_for all t).sum ≡ (sum_for sums t).sum + weighted (closed_at n keep t g) old
   pub opened : (t : Tail)
-      → (sum_for all t).opened ≡ (sum_for sums t).opened + counted n keep t (g + 1) work
+      → (sum_for all t).opened ≡ (sum_for sums t).opened + counted n keep t g old

@@ -1,26 +1,32 @@
-// The arcs of a stage, by the rows that they lead from and the rooms that they lead to.
-ghost use Rattle.std.specs.Prelude.{◌≡◌, ℕ, ℤ, ◌+ℤ◌, ◌+◌, ◌*◌, ◌<◌, ◌≤◌, List, [], ◌∷◌, ◌++◌};
-ghost use Rattle.std.specs.Prelude.{length, map};
-ghost use Rattle.std.specs.Prelude.{OnOk, IfOk, IfSome, pos, slice_index_or};
-ghost use Rattle.node_pool.specs.Nodes.{Node, weighted};
+// The arcs of a stage whose nodes are rows, by the rows that they lead from and the rooms that they
+// lead to.
+ghost use Rattle.std.specs.Prelude.{◌≡◌, ◌+ℤ◌, ◌+◌, ◌*◌, ◌<◌, [], ◌∷◌, ◌++◌, length, take};
+ghost use Rattle.std.specs.Prelude.{OnOk, IfOk, pos, slice_index_or};
+ghost use Rattle.node_pool.specs.Nodes.{Node};
 ghost use Rattle.dense_rows.specs.Rows.{stepped};
-ghost use Rattle.stage_network.specs.Rooms.{IsRoomed};
-ghost use Rattle.stage_network.specs.NodeSteps.{AreNodes, all_successors};
-ghost use Rattle.stage_network.specs.ArcSteps.{AreArcs, segment, spread_out};
-ghost use Rattle.stage_network.specs.Shifts.{IsShifting};
-ghost use Rattle.stage_network.specs.RowSteps.{Row, IsSpan, AreShifts, all_nodes};
+ghost use Rattle.stage_network.specs.RowSteps.{IsSpan, all_nodes};
+ghost use Rattle.stage_network.specs.RowSweeps.{AreRowsHere, AreRowsListed, HasRowBuffers};
 
-use crate::arcs::Arcs;
 use crate::keys::write_key;
 use crate::row_heads::Shift;
-use crate::row_plans::{Plan, note, plan_of};
+use crate::row_plans::{Plan, are_thick, note, plan_of};
 use crate::row_rooms::RoomRows;
-use crate::stage_arcs::place;
+use crate::stage_arcs::StageArcs;
 use crate::stages::{Roomed, Stages};
 use crate::stops::Stop;
 use dense_rows::{count_keys, first_full};
-use node_pool::NodePool;
-use weights::{Count, Narrow};
+use std::alloc::Global;
+use weights::{Count, NoMemory};
+
+/// The arcs of a stage whose nodes are rows, each with what it shifts, and what is planned for the
+/// row of each room that they lead to; with a buffer for a step.
+#[derive(Drop)]
+pub struct RowArcs {
+    pub listed: StageArcs,
+    pub step: Vec<i128>,
+    pub shifts: Vec<Shift>,
+    pub plans: Vec<Plan>,
+}
 
 // How far so many strides reach.
 fn far_of(i: usize, stride: u64) -> Result<i128, Stop>
@@ -64,84 +70,7 @@ fn push_shift(shifts: &mut Vec<Shift>, row: usize, step: i128) -> Result<(), Sto
     Ok(())
 }
 
-// Adds the arcs of the nodes of one row, one of which has this partial.
-fn add_arcs<C: Count, S: Roomed>(
-    stages: &S,
-    stage: usize,
-    rows: &RoomRows<C>,
-    row: usize,
-    start: usize,
-    end: usize,
-    partial: i128,
-    key: &mut [i128],
-    choice: &mut [u64],
-    target_room: &mut [i128],
-    step: &mut [i128],
-    rooms: &mut NodePool<Narrow>,
-    arcs: &mut Arcs,
-    shifts: &mut Vec<Shift>,
-    plans: &mut Vec<Plan>,
-) -> Result<(), Stop>
-    requires nodes { AreNodes (S.Stages.network stages.now) stage (all_nodes rows.now.rows) }
-    requires roomed { IsRoomed (S.Stages.network stages.now) (S.room_width stages.now) }
-    requires shifting { let n = S.Stages.network stages.now in
-        let width = S.room_width stages.now in
-        IsShifting n width (S.step_width stages.now) (S.step_of stages.now) }
-    requires row { row < length rows.now.rows }
-    requires span { IsSpan rows.now.rows (S.room_width stages.now) row start end }
-    requires first { (d : Node) (e : Row)
-        → (slice_index_or (all_nodes rows.now.rows) start d).key
-        ≡ (slice_index_or rows.now.rows row e).room ++ partial ∷ [] }
-    requires here { rows.now.width ≡ S.room_width stages.now }
-    requires key { length key.old ≡ (S.Stages.network stages.now).width }
-    requires choice { length choice.old ≡ (S.Stages.network stages.now).choice_width }
-    requires target { length target_room.old ≡ S.room_width stages.now }
-    requires step { length step.old ≡ S.step_width stages.now }
-    requires wide { rooms.old.width ≡ S.room_width stages.now }
-    requires light { weighted (λ k. 1) rooms.old.nodes ≡ 0 }
-    requires arcs { let n = S.Stages.network stages.now in
-        let width = S.room_width stages.now in
-        AreArcs n stage width (all_nodes rows.now.rows) rooms.old.nodes arcs.old }
-    requires shifts { let n = S.Stages.network stages.now in
-        let width = S.room_width stages.now in
-        AreShifts n stage width rows.now.rows arcs.old.arcs shifts.old.items }
-    ensures wide { OnOk result (rooms.new.width ≡ S.room_width stages.now) }
-    ensures light { OnOk result (weighted (λ k. 1) rooms.new.nodes ≡ 0) }
-    ensures arcs { let n = S.Stages.network stages.now in
-        let width = S.room_width stages.now in
-        OnOk result (AreArcs n stage width (all_nodes rows.now.rows) rooms.new.nodes arcs.new) }
-    ensures shifts { let n = S.Stages.network stages.now in
-        let width = S.room_width stages.now in
-        OnOk result (AreShifts n stage width rows.now.rows arcs.new.arcs shifts.new.items) }
-    ensures told { let n = S.Stages.network stages.now in
-        OnOk result ((f : List ℤ → ℕ)
-        → weighted f (spread_out n stage (all_nodes rows.now.rows) arcs.new.arcs)
-        ≡ weighted f (spread_out n stage (all_nodes rows.now.rows) arcs.old.arcs)
-        + weighted f (all_successors n stage (segment start end (all_nodes rows.now.rows)))) }
-    ensures key { OnOk result (length key.new ≡ length key.old) }
-    ensures choice { OnOk result (length choice.new ≡ length choice.old) }
-    ensures target { OnOk result (length target_room.new ≡ length target_room.old) }
-    ensures step { OnOk result (length step.new ≡ length step.old) }
-{
-    let own = match plan_of(rows.lowest(row), rows.stride(row), rows.cells(row).len()) {
-        Some(own) => own,
-        None => return Err(Stop::Thin),
-    };
-    let room = rows.room(row);
-    write_key(room, [partial].as_slice(), key);
-    let mut more = stages.first_choice(stage, key, choice);
-    while more {
-        let weight = stages.cross(stage, key, choice, target_room);
-        let target = place(rooms, target_room)?;
-        arcs.push(start, end, weight, choice, target)?;
-        stages.step(stage, room, choice, step);
-        push_shift(shifts, row, step[0])?;
-        note(plans, target, own, step[0])?;
-        more = stages.next_choice(stage, key, choice);
-    }
-    Ok(())
-}
-
+// The place behind so many keys.
 fn end_of(start: usize, keys: usize) -> Result<usize, Stop>
     ensures { IfOk result (λ end. end ≡ start + keys) }
 {
@@ -151,79 +80,124 @@ fn end_of(start: usize, keys: usize) -> Result<usize, Stop>
     }
 }
 
-/// Lists the arcs of a stage, what they shift, the rooms that they lead to, and how long rows these
-/// need.
-pub fn list_arcs<C: Count, S: Roomed>(
-    stages: &S,
-    stage: usize,
-    rows: &RoomRows<C>,
-    key: &mut [i128],
-    choice: &mut [u64],
-    target_room: &mut [i128],
-    step: &mut [i128],
-    rooms: &mut NodePool<Narrow>,
-    arcs: &mut Arcs,
-    shifts: &mut Vec<Shift>,
-    plans: &mut Vec<Plan>,
-) -> Result<(), Stop>
-    requires nodes { AreNodes (S.Stages.network stages.now) stage (all_nodes rows.now.rows) }
-    requires roomed { IsRoomed (S.Stages.network stages.now) (S.room_width stages.now) }
-    requires shifting { let n = S.Stages.network stages.now in
-        let width = S.room_width stages.now in
-        IsShifting n width (S.step_width stages.now) (S.step_of stages.now) }
-    requires here { rows.now.width ≡ S.room_width stages.now }
-    requires key { length key.old ≡ (S.Stages.network stages.now).width }
-    requires choice { length choice.old ≡ (S.Stages.network stages.now).choice_width }
-    requires target { length target_room.old ≡ S.room_width stages.now }
-    requires step { length step.old ≡ S.step_width stages.now }
-    requires wide { rooms.old.width ≡ S.room_width stages.now }
-    requires no_rooms { rooms.old.nodes ≡ [] }
-    requires deep { arcs.old.width ≡ (S.Stages.network stages.now).choice_width }
-    requires no_arcs { arcs.old.arcs ≡ [] }
-    requires none { arcs.old.rooms ≡ 0 }
-    requires no_shifts { shifts.old.items ≡ [] }
-    ensures wide { OnOk result (rooms.new.width ≡ S.room_width stages.now) }
-    ensures arcs { let n = S.Stages.network stages.now in
-        let width = S.room_width stages.now in
-        OnOk result (AreArcs n stage width (all_nodes rows.now.rows) rooms.new.nodes arcs.new) }
-    ensures shifts { let n = S.Stages.network stages.now in
-        let width = S.room_width stages.now in
-        OnOk result (AreShifts n stage width rows.now.rows arcs.new.arcs shifts.new.items) }
-    ensures told { let n = S.Stages.network stages.now in
-        OnOk result ((f : List ℤ → ℕ)
-        → weighted f (spread_out n stage (all_nodes rows.now.rows) arcs.new.arcs)
-        ≡ weighted f (all_successors n stage (all_nodes rows.now.rows))) }
-    ensures key { OnOk result (length key.new ≡ length key.old) }
-    ensures choice { OnOk result (length choice.new ≡ length choice.old) }
-    ensures target { OnOk result (length target_room.new ≡ length target_room.old) }
-    ensures step { OnOk result (length step.new ≡ length step.old) }
-{
-    let mut start = 0usize;
-    for row in 0..rows.len() {
+impl RowArcs {
+    /// No arcs, and buffers for a network.
+    pub fn new<S: Roomed>(alloc: Global, stages: &S) -> Result<RowArcs, NoMemory>
+        ensures { let n = S.Stages.network stages.now in
+            IfOk result (HasRowBuffers n (S.room_width stages.now) (S.step_width stages.now)) }
+    {
+        Ok(RowArcs {
+            listed: StageArcs::new(alloc, stages)?,
+            step: vec![in alloc; 0i128; stages.step_width()]?,
+            shifts: Vec::new(alloc),
+            plans: Vec::new(alloc),
+        })
+    }
+
+    // Lists those of the nodes of one row, the first key of which is written.
+    fn add_arcs<C: Count, S: Roomed>(
+        &mut self,
+        stages: &S,
+        stage: usize,
+        rows: &RoomRows<C>,
+        row: usize,
+        start: usize,
+        end: usize,
+    ) -> Result<(), Stop>
+        requires here { let n = S.Stages.network stages.now in
+            AreRowsHere n (S.room_width stages.now) (S.step_width stages.now)
+            (S.step_of stages.now) stage rows.now }
+        requires row { row < length rows.now.rows }
+        requires span { IsSpan rows.now.rows (S.room_width stages.now) row start end }
+        requires key { (d : Node) → self.old.listed.key.items
+            ≡ (slice_index_or (all_nodes rows.now.rows) start d).key }
+        requires listed { let n = S.Stages.network stages.now in
+            AreRowsListed n (S.room_width stages.now) (S.step_width stages.now) stage rows.now.rows
+            start self.old }
+        ensures listed { let n = S.Stages.network stages.now in
+            OnOk result (AreRowsListed n (S.room_width stages.now) (S.step_width stages.now) stage
+            rows.now.rows end self.new) }
+    {
+        let own = match plan_of(rows.lowest(row), rows.stride(row), rows.cells(row).len()) {
+            Some(own) => own,
+            None => return Err(Stop::Thin),
+        };
+        let room = rows.room(row);
+        let mut more = stages.first_choice(stage, &self.listed.key, &mut self.listed.choice);
+        while more {
+            let target = self.listed.add_arc(stages, stage, start, end)?;
+            stages.step(stage, room, &self.listed.choice, &mut self.step);
+            let step = self.step[0];
+            push_shift(&mut self.shifts, row, step)?;
+            note(&mut self.plans, target, own, step)?;
+            more = stages.next_choice(stage, &self.listed.key, &mut self.listed.choice);
+        }
+        Ok(())
+    }
+
+    // Lists those of the nodes of one row, and answers the place behind these.
+    fn add_row<C: Count, S: Roomed>(
+        &mut self,
+        stages: &S,
+        stage: usize,
+        rows: &RoomRows<C>,
+        row: usize,
+        start: usize,
+    ) -> Result<usize, Stop>
+        requires here { let n = S.Stages.network stages.now in
+            AreRowsHere n (S.room_width stages.now) (S.step_width stages.now)
+            (S.step_of stages.now) stage rows.now }
+        requires row { row < length rows.now.rows }
+        requires start { start ≡ length (all_nodes (take row rows.now.rows)) }
+        requires listed { let n = S.Stages.network stages.now in
+            AreRowsListed n (S.room_width stages.now) (S.step_width stages.now) stage rows.now.rows
+            start self.old }
+        ensures end { IfOk result
+            (λ end. end ≡ length (all_nodes (take (row + 1) rows.now.rows))) }
+        ensures listed { let n = S.Stages.network stages.now in
+            IfOk result (λ end. AreRowsListed n (S.room_width stages.now) (S.step_width stages.now)
+            stage rows.now.rows end self.new) }
+    {
         let cells = rows.cells(row);
         let end = end_of(start, count_keys(cells))?;
-        if start < end {
-            let _room = rows.room(row);
-            let partial = number_at(rows.lowest(row), rows.stride(row), first_full(cells))?;
-            add_arcs(
-                stages,
-                stage,
-                rows,
-                row,
-                start,
-                end,
-                partial,
-                key,
-                choice,
-                target_room,
-                step,
-                rooms,
-                arcs,
-                shifts,
-                plans,
-            )?;
+        if start == end {
+            return Ok(end);
         }
-        start = end;
+        let partial = number_at(rows.lowest(row), rows.stride(row), first_full(cells))?;
+        write_key(rows.room(row), [partial].as_slice(), &mut self.listed.key);
+        self.add_arcs(stages, stage, rows, row, start, end)?;
+        Ok(end)
     }
-    Ok(())
+
+    /// Lists those of the rows of a stage, where the rooms that they lead to are thick enough.
+    pub fn list<C: Count, S: Roomed>(
+        &mut self,
+        stages: &S,
+        stage: usize,
+        rows: &RoomRows<C>,
+    ) -> Result<(), Stop>
+        requires here { let n = S.Stages.network stages.now in
+            AreRowsHere n (S.room_width stages.now) (S.step_width stages.now)
+            (S.step_of stages.now) stage rows.now }
+        requires fitted { let n = S.Stages.network stages.now in
+            HasRowBuffers n (S.room_width stages.now) (S.step_width stages.now) self.old }
+        ensures listed { let n = S.Stages.network stages.now in
+            let all = rows.now.rows in
+            OnOk result (AreRowsListed n (S.room_width stages.now) (S.step_width stages.now) stage
+            all (length (all_nodes all)) self.new) }
+    {
+        self.listed.rooms.clear();
+        self.listed.arcs.clear();
+        self.shifts.clear();
+        self.plans.clear();
+        let mut start = 0usize;
+        for row in 0..rows.len() {
+            start = self.add_row(stages, stage, rows, row, start)?;
+        }
+        if are_thick(&self.plans) {
+            Ok(())
+        } else {
+            Err(Stop::Thin)
+        }
+    }
 }

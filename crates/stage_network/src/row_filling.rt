@@ -1,23 +1,34 @@
 // A room of the next stage, filled from all rows that lead there.
-ghost use Rattle.std.specs.Prelude.{◌≡◌, ℕ, ℤ, pos, ◌+ℤ◌, ◌+◌, ◌*◌, ◌<◌, ◌≤◌, List, [], ◌∷◌};
-ghost use Rattle.std.specs.Prelude.{◌++◌, length, map, true};
-ghost use Rattle.std.specs.Prelude.{drop, OnOk, IfOk, IfSome, slice_index_or};
+ghost use Rattle.std.specs.Prelude.{◌≡◌, ℕ, ℤ, pos, ◌+◌, ◌*◌, ◌<◌, ◌≤◌, List, [], ◌∷◌, length};
+ghost use Rattle.std.specs.Prelude.{map, replicate, true, OnOk, IfOk, slice_index_or};
 ghost use Rattle.weights.specs.declared.TheConstants.{MAX};
-ghost use Rattle.node_pool.specs.Nodes.{Node, weighted};
+ghost use Rattle.node_pool.specs.Nodes.{Node, node, weighted};
 ghost use Rattle.dense_rows.specs.Rows.{row_nodes};
-ghost use Rattle.stage_network.specs.NodeSteps.{AreNodes};
-ghost use Rattle.stage_network.specs.ArcSteps.{AreArcs, spread_out, bucket, lift};
-ghost use Rattle.stage_network.specs.RowSteps.{Row, AreShifts, all_nodes};
+ghost use Rattle.stage_network.specs.ArcSteps.{spread_out, bucket, lift};
+ghost use Rattle.stage_network.specs.SweepSteps.{IsWithin};
+ghost use Rattle.stage_network.specs.RowSteps.{Row, all_nodes, moved};
+ghost use Rattle.stage_network.specs.RowSweeps.{AreRowsHere, AreRowsListed};
+ghost use Rattle.stage_network.specs.RowSweeps.{IsRoomRow, row_partials};
 
-use crate::arcs::Arcs;
-use crate::row_arcs::sum_of;
+use crate::row_arcs::{RowArcs, sum_of};
 use crate::row_heads::Shift;
+use crate::row_plans::room_plan;
 use crate::row_rooms::RoomRows;
 use crate::stages::{Roomed, Stages};
 use crate::stops::Stop;
 use dense_rows::{cells_apart, place_of, pour};
-use node_pool::NodePool;
-use weights::{Count, Narrow};
+use std::alloc::Global;
+use weights::Count;
+
+/// The row of one room: its first cell is for the lowest number, and each other one a stride on.
+/// The count of no key clears it.
+#[derive(Drop)]
+pub struct RoomRow<C: Count> {
+    pub none: C,
+    pub lowest: i128,
+    pub stride: u64,
+    pub cells: Vec<C>,
+}
 
 // Whether so many cells, each so many places on, end within a row.
 fn has_room(place: usize, every: usize, count: usize, len: usize) -> bool
@@ -35,31 +46,43 @@ fn has_room(place: usize, every: usize, count: usize, len: usize) -> bool
     }
 }
 
-// Pours cells, the first for this number and each other one a stride on, into a row.
-fn pour_apart<C: Count>(
-    from: &[C],
-    first: i128,
-    of: u64,
+// The stride of cells, in place of which another one serves where there is one cell alone.
+fn stride_for<C: Count>(cells: &[C], own: u64, other: u64) -> u64
+    ensures { (lowest : ℤ) → row_nodes lowest (pos result) (map C.number cells.now)
+        ≡ row_nodes lowest (pos own) (map C.number cells.now) }
+{
+    if cells.len() == 1 { other } else { own }
+}
+
+// Pours the cells of a row, which are moved by a step, into another one.
+fn pour_row<C: Count>(
+    rows: &RoomRows<C>,
+    shift: Shift,
     weight: u128,
     lowest: i128,
     stride: u64,
     into: &mut [C],
 ) -> Result<(), Stop>
-    requires limit { weighted (λ k. 1) (row_nodes lowest (pos stride) (map C.number into.old))
-        + weighted (λ k. 1) (row_nodes first (pos of) (map C.number from.now)) * weight ≤ C.LIMIT }
-    requires fits { weighted (λ k. 1) (row_nodes first (pos of) (map C.number from.now)) * weight
-        ≤ MAX }
+    requires row { shift.row < length rows.now.rows }
+    requires limit { (d : Row) → let from = moved (slice_index_or rows.now.rows shift.row d) in
+        weighted (λ k. 1) (row_nodes lowest (pos stride) (map C.number into.old))
+        + weighted (λ k. 1) (from shift.step) * weight ≤ C.LIMIT }
+    requires fits { (d : Row) → let from = moved (slice_index_or rows.now.rows shift.row d) in
+        weighted (λ k. 1) (from shift.step) * weight ≤ MAX }
     ensures long { length into.new ≡ length into.old }
-    ensures told { OnOk result ((f : List ℤ → ℕ)
-        → weighted f (row_nodes lowest (pos stride) (map C.number into.new))
+    ensures told { OnOk result ((d : Row) (f : List ℤ → ℕ)
+        → let from = moved (slice_index_or rows.now.rows shift.row d) in
+        weighted f (row_nodes lowest (pos stride) (map C.number into.new))
         ≡ weighted f (row_nodes lowest (pos stride) (map C.number into.old))
-        + weighted f (row_nodes first (pos of) (map C.number from.now)) * weight) }
+        + weighted f (from shift.step) * weight) }
 {
+    let from = rows.cells(shift.row);
+    let first = sum_of(rows.lowest(shift.row), shift.step)?;
     let place = match place_of(lowest, stride, first) {
         Some(place) => place,
         None => return Err(Stop::Thin),
     };
-    let every = match cells_apart(of, stride) {
+    let every = match cells_apart(stride_for(from, rows.stride(shift.row), stride), stride) {
         Some(every) => every,
         None => return Err(Stop::Thin),
     };
@@ -70,85 +93,89 @@ fn pour_apart<C: Count>(
     Ok(())
 }
 
-// The same, where the stride of one cell alone is any.
-fn pour_row<C: Count>(
-    from: &[C],
-    first: i128,
-    of: u64,
-    weight: u128,
-    lowest: i128,
-    stride: u64,
-    into: &mut [C],
-) -> Result<(), Stop>
-    requires limit { weighted (λ k. 1) (row_nodes lowest (pos stride) (map C.number into.old))
-        + weighted (λ k. 1) (row_nodes first (pos of) (map C.number from.now)) * weight ≤ C.LIMIT }
-    requires fits { weighted (λ k. 1) (row_nodes first (pos of) (map C.number from.now)) * weight
-        ≤ MAX }
-    ensures long { length into.new ≡ length into.old }
-    ensures told { OnOk result ((f : List ℤ → ℕ)
-        → weighted f (row_nodes lowest (pos stride) (map C.number into.new))
-        ≡ weighted f (row_nodes lowest (pos stride) (map C.number into.old))
-        + weighted f (row_nodes first (pos of) (map C.number from.now)) * weight) }
+// So many cells of one weight.
+fn write_cells<C: Count>(cell: C, len: usize, cells: &mut Vec<C>) -> Result<(), Stop>
+    ensures { OnOk result (cells.new.items ≡ replicate len cell) }
 {
-    if from.len() == 1 {
-        pour_apart(from, first, stride, weight, lowest, stride, into)
-    } else {
-        pour_apart(from, first, of, weight, lowest, stride, into)
-    }
+    cells.clear();
+    cells.resize(len, cell)?;
+    Ok(())
 }
 
-/// Fills a row that has no key yet.
-pub fn fill<C: Count, S: Roomed>(
-    stages: &S,
-    stage: usize,
-    rows: &RoomRows<C>,
-    rooms: &NodePool<Narrow>,
-    arcs: &Arcs,
-    shifts: &[Shift],
-    target: usize,
-    lowest: i128,
-    stride: u64,
-    into: &mut [C],
-) -> Result<(), Stop>
-    requires nodes { AreNodes (S.Stages.network stages.now) stage (all_nodes rows.now.rows) }
-    requires arcs { let n = S.Stages.network stages.now in
-        let width = S.room_width stages.now in
-        AreArcs n stage width (all_nodes rows.now.rows) rooms.now.nodes arcs.now }
-    requires shifts { let n = S.Stages.network stages.now in
-        let width = S.room_width stages.now in
-        AreShifts n stage width rows.now.rows arcs.now.arcs shifts.now }
-    requires target { target < length rooms.now.nodes }
-    requires empty { row_nodes lowest (pos stride) (map C.number into.old) ≡ [] }
-    requires limit { let n = S.Stages.network stages.now in
-        let here = bucket target arcs.now.arcs in
-        weighted (λ k. 1) (spread_out n stage (all_nodes rows.now.rows) here) ≤ C.LIMIT }
-    requires fits { let n = S.Stages.network stages.now in
-        let here = bucket target arcs.now.arcs in
-        weighted (λ k. 1) (spread_out n stage (all_nodes rows.now.rows) here) ≤ MAX }
-    ensures long { length into.new ≡ length into.old }
-    ensures told { let n = S.Stages.network stages.now in
-        OnOk result ((d : Node) (f : List ℤ → ℕ)
-        → weighted f (lift (slice_index_or rooms.now.nodes target d).key
-        (row_nodes lowest (pos stride) (map C.number into.new)))
-        ≡ weighted f (spread_out n stage (all_nodes rows.now.rows) (bucket target arcs.now.arcs))) }
-{
-    let mut place = arcs.first(target);
-    while place != 0 {
-        let i = place - 1;
-        let arc = arcs.arc(i);
-        let _choice = arcs.choice(i);
-        let shift = shifts[i];
-        let first = sum_of(rows.lowest(shift.row), shift.step)?;
-        pour_row(
-            rows.cells(shift.row),
-            first,
-            rows.stride(shift.row),
-            arc.weight,
-            lowest,
-            stride,
-            into,
-        )?;
-        place = arc.next;
+impl<C: Count> RoomRow<C> {
+    /// No cells.
+    pub fn new(alloc: Global) -> Result<RoomRow<C>, Stop>
+        ensures { IfOk result (IsRoomRow C.number) }
+    {
+        match C::of(0) {
+            Some(none) => Ok(RoomRow {
+                none,
+                lowest: 0,
+                stride: 1,
+                cells: Vec::new(alloc),
+            }),
+            None => Err(Stop::Thin),
+        }
     }
-    Ok(())
+
+    /// Fills it, for a room of the next stage, from all rows that lead there.
+    pub fn fill<S: Roomed>(
+        &mut self,
+        stages: &S,
+        stage: usize,
+        rows: &RoomRows<C>,
+        all: &RowArcs,
+        target: usize,
+    ) -> Result<(), Stop>
+        requires ready { IsRoomRow C.number self.old }
+        requires here { let n = S.Stages.network stages.now in
+            AreRowsHere n (S.room_width stages.now) (S.step_width stages.now)
+            (S.step_of stages.now) stage rows.now }
+        requires listed { let n = S.Stages.network stages.now in
+            let nodes = all_nodes rows.now.rows in
+            AreRowsListed n (S.room_width stages.now) (S.step_width stages.now) stage rows.now.rows
+            (length nodes) all.now }
+        requires target { target < length all.now.listed.rooms.nodes }
+        requires light { let n = S.Stages.network stages.now in
+            let arcs = bucket target all.now.listed.arcs.arcs in
+            let new = spread_out n stage (all_nodes rows.now.rows) arcs in
+            IsWithin C.LIMIT (weighted (λ k. 1) new) }
+        ensures ready { OnOk result (IsRoomRow C.number self.new) }
+        ensures told { let n = S.Stages.network stages.now in
+            let arcs = bucket target all.now.listed.arcs.arcs in
+            OnOk result ((d : Node) (f : List ℤ → ℕ)
+            → weighted f (lift (slice_index_or all.now.listed.rooms.nodes target d).key
+            (row_partials C.number self.new))
+            ≡ weighted f (spread_out n stage (all_nodes rows.now.rows) arcs)) }
+    {
+        let (lowest, stride, len) = room_plan(&all.plans, target)?;
+        self.lowest = lowest;
+        self.stride = stride;
+        write_cells(self.none, len, &mut self.cells)?;
+        let into = self.cells.as_mut_slice();
+        let mut place = all.listed.arcs.first(target);
+        while place != 0 {
+            let i = place - 1;
+            let arc = all.listed.arcs.arc(i);
+            let _choice = all.listed.arcs.choice(i);
+            pour_row(rows, all.shifts[i], arc.weight, lowest, stride, into)?;
+            place = arc.next;
+        }
+        Ok(())
+    }
+
+    /// Makes it the row of one key, of weight 1.
+    pub fn write_one(&mut self, number: i128) -> Result<(), Stop>
+        requires { IsRoomRow C.number self.old }
+        ensures ready { OnOk result (IsRoomRow C.number self.new) }
+        ensures one { OnOk result (row_partials C.number self.new ≡ node (number ∷ []) 1 ∷ []) }
+    {
+        let one = match C::of(1) {
+            Some(one) => one,
+            None => return Err(Stop::Thin),
+        };
+        self.lowest = number;
+        self.stride = 1;
+        write_cells(one, 1, &mut self.cells)
+    }
 }

@@ -14,12 +14,12 @@ ghost use Rattle.stage_network.specs.ArcSteps.{lift};
 ghost use Rattle.stage_network.specs.Asked.{asked};
 ghost use Rattle.stage_network.specs.declared.stages.Verdict.TheVariants.{Outside};
 ghost use Rattle.stage_network.specs.SweepSteps.{some_undecided, sum_for, verdict_for};
-ghost use Rattle.stage_network.specs.SweepSteps.{closed_at, counted, staying};
-ghost use Rattle.stage_network.specs.Shifts.{IsShifting};
-ghost use Rattle.stage_network.specs.RowSteps.{IsRowful};
+ghost use Rattle.stage_network.specs.RowSteps.{IsRowful, IsRowSettled};
+ghost use Rattle.stage_network.specs.RowSweeps.{IsRoomRow, row_partials};
 
 use crate::checked_sums::{joined, raised};
 use crate::row_arcs::number_at;
+use crate::row_filling::RoomRow;
 use crate::settling::{rest_of, verdicts_of};
 use crate::stages::{Roomed, Stages};
 use crate::stops::Stop;
@@ -177,17 +177,12 @@ fn settle_open<C: Count, S: Roomed>(
     cells: &mut [C],
     sums: TailSums,
 ) -> Result<TailSums, Stop>
-    requires shifting { let n = S.Stages.network stages.now in
-        let width = S.room_width stages.now in
-        IsShifting n width (S.step_width stages.now) (S.step_of stages.now) }
     requires stride { 0 < stride }
     requires none { C.number none ≡ 0 }
     requires full { let n = S.Stages.network stages.now in
         let width = S.room_width stages.now in
         let nodes = lift room.now (row_nodes lowest (pos stride) (map C.number cells.old)) in
         IsRowful n width stage room.now nodes }
-    requires fits { (lowest stride : ℤ)
-        → weighted (λ k. 1) (row_nodes lowest stride (map C.number cells.old)) ≤ MAX }
     ensures long { length cells.new ≡ length cells.old }
     ensures nodes { let n = asked tails (S.Stages.network stages.now) in
         let old = lift room.now (row_nodes lowest (pos stride) (map C.number cells.old)) in
@@ -227,46 +222,43 @@ fn settle_open<C: Count, S: Roomed>(
     Ok(all)
 }
 
-/// Settles a room: the cells become empty that are open for no asked tail, or none does.
-pub fn settle<C: Count, S: Roomed>(
-    stages: &S,
-    stage: usize,
-    keep: Kept,
-    room: &[i128],
-    lowest: i128,
-    stride: u64,
-    none: C,
-    cells: &mut [C],
-    sums: TailSums,
-) -> Result<TailSums, Stop>
-    requires shifting { let n = S.Stages.network stages.now in
-        let width = S.room_width stages.now in
-        IsShifting n width (S.step_width stages.now) (S.step_of stages.now) }
-    requires stride { 0 < stride }
-    requires none { C.number none ≡ 0 }
-    requires full { let n = S.Stages.network stages.now in
-        let width = S.room_width stages.now in
-        let nodes = lift room.now (row_nodes lowest (pos stride) (map C.number cells.old)) in
-        IsRowful n width stage room.now nodes }
-    requires fits { (lowest stride : ℤ)
-        → weighted (λ k. 1) (row_nodes lowest stride (map C.number cells.old)) ≤ MAX }
-    ensures nodes { let n = S.Stages.network stages.now in
-        let old = lift room.now (row_nodes lowest (pos stride) (map C.number cells.old)) in
-        let new = lift room.now (row_nodes lowest (pos stride) (map C.number cells.new)) in
-        OnOk result (new ≡ staying n keep stage old) }
-    ensures sum { let n = S.Stages.network stages.now in
-        let old = lift room.now (row_nodes lowest (pos stride) (map C.number cells.old)) in
-        IfOk result (λ all. (t : Tail) → (sum_for all t).sum
-        ≡ (sum_for sums t).sum + weighted (closed_at n keep t stage) old) }
-    ensures opened { let n = S.Stages.network stages.now in
-        let old = lift room.now (row_nodes lowest (pos stride) (map C.number cells.old)) in
-        IfOk result (λ all. (t : Tail) → (sum_for all t).opened
-        ≡ (sum_for sums t).opened + counted n keep t stage old) }
-{
-    match keep {
-        Kept::Open(tails) => settle_open(
-            stages, stage, tails, room, lowest, stride, none, cells, sums,
-        ),
-        Kept::All => Ok(sums),
+impl<C: Count> RoomRow<C> {
+    /// Settles it: the cells become empty that are open for no asked tail, or none does.
+    pub fn settle<S: Roomed>(
+        &mut self,
+        stages: &S,
+        stage: usize,
+        keep: Kept,
+        room: &[i128],
+        sums: TailSums,
+    ) -> Result<TailSums, Stop>
+        requires ready { IsRoomRow C.number self.old }
+        requires full { let n = S.Stages.network stages.now in
+            let nodes = lift room.now (row_partials C.number self.old) in
+            IsRowful n (S.room_width stages.now) stage room.now nodes }
+        ensures ready { OnOk result (IsRoomRow C.number self.new) }
+        ensures settled { let n = S.Stages.network stages.now in
+            let old = lift room.now (row_partials C.number self.old) in
+            let new = lift room.now (row_partials C.number self.new) in
+            IfOk result (λ all. IsRowSettled n keep stage old new sums all) }
+    {
+        match keep {
+            Kept::Open(tails) => {
+                let cells = self.cells.as_mut_slice();
+                let all = settle_open(
+                    stages,
+                    stage,
+                    tails,
+                    room,
+                    self.lowest,
+                    self.stride,
+                    self.none,
+                    cells,
+                    sums,
+                )?;
+                Ok(all)
+            }
+            Kept::All => Ok(sums),
+        }
     }
 }

@@ -1,9 +1,12 @@
 // The arcs of a stage, listed once per room and choice.
 ghost use Rattle.std.specs.Prelude.{◌≡◌, ◌<◌, ◌≤◌, length, OnOk, IfOk};
+ghost use Rattle.std.specs.List.{Contains};
 ghost use Rattle.node_pool.specs.Nodes.{weighted};
 ghost use Rattle.node_pool.specs.Pool.{IsPlaced};
+ghost use Rattle.stage_network.specs.Network.{IsReached};
 ghost use Rattle.stage_network.specs.ArcSteps.{IsRun};
 ghost use Rattle.stage_network.specs.SweepSteps.{AreHere, HasBuffers, AreListed};
+ghost use Rattle.stage_network.specs.Listed.{HasArc};
 
 use crate::arcs::Arcs;
 use crate::keys::write_key;
@@ -56,6 +59,33 @@ impl StageArcs {
         })
     }
 
+    /// Lists the arc of the key and the choice that are written, and answers the place of its room.
+    #[inline(always)]
+    pub fn add_arc<S: Roomed>(
+        &mut self,
+        stages: &S,
+        stage: usize,
+        start: usize,
+        end: usize,
+    ) -> Result<usize, NoMemory>
+        requires before { stage < (S.Stages.network stages.now).count }
+        requires reached { IsReached (S.Stages.network stages.now) stage self.old.key.items }
+        requires allowed { let n = S.Stages.network stages.now in
+            Contains (n.choices stage self.old.key.items) self.old.choice.items }
+        requires fitted { let n = S.Stages.network stages.now in
+            HasBuffers n (S.room_width stages.now) self.old }
+        requires light { weighted (λ k. 1) self.old.rooms.nodes ≡ 0 }
+        requires count { self.old.arcs.rooms ≡ length self.old.rooms.nodes }
+        ensures added { let n = S.Stages.network stages.now in
+            IfOk result (λ target.
+            HasArc n (S.room_width stages.now) stage start end target self.old self.new) }
+    {
+        let weight = stages.cross(stage, &self.key, &self.choice, &mut self.target_room);
+        let target = place(&mut self.rooms, &self.target_room)?;
+        self.arcs.push(start, end, weight, &self.choice, target)?;
+        Ok(target)
+    }
+
     // Lists those of the nodes of one room.
     fn add_run<C: Count, S: Roomed>(
         &mut self,
@@ -78,9 +108,7 @@ impl StageArcs {
         write_key(nodes.room(start), nodes.partial(start), &mut self.key);
         let mut more = stages.first_choice(stage, &self.key, &mut self.choice);
         while more {
-            let weight = stages.cross(stage, &self.key, &self.choice, &mut self.target_room);
-            let target = place(&mut self.rooms, &self.target_room)?;
-            self.arcs.push(start, end, weight, &self.choice, target)?;
+            self.add_arc(stages, stage, start, end)?;
             more = stages.next_choice(stage, &self.key, &mut self.choice);
         }
         Ok(())

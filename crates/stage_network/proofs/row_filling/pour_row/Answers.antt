@@ -1,29 +1,37 @@
-use Rattle.std.proofs.Common.{◌≡◌, ℕ, List, map, ◌∙◌}
-use Rattle.std.specs.Prelude.{pos}
+use Rattle.std.proofs.Common.{◌≡◌, ◌+◌, ◌*◌, ℕ, List, map, get_or, ap, ◌∙◌, rules, FitsSigned}
+use Rattle.std.specs.Prelude.{ℤ, pos, ◌+ℤ◌}
 use Rattle.std.proofs.lemmas.Int.{to_z-of_z}
-use Rattle.std.proofs.lemmas.List.{length-map}
 use mir.Syntax.{w128}
-use Rattle.dense_rows.specs.Rows.{row_nodes}
-use Rattle.stage_network.proofs.Shifted.{one-cell}
+use Rattle.node_pool.specs.Nodes.{weighted}
+use Rattle.dense_rows.specs.Rows.{row_nodes, stepped}
+use Rattle.stage_network.specs.RowSteps.{Row, moved}
+use Rattle.stage_network.proofs.Shifted.{row-weight}
+use Rattle.stage_network.proofs.Spans.{no_row}
 use Rattle.stage_network.proofs.row_filling.pour_row.Goals as goal
 
-pub pour_apart-requires-clause-limit : goal.pour_apart-requires-clause-limit
-pour_apart-requires-clause-limit g c =
-    let xs : List ℕ = map g.C.Count.number c.args.from.now in
-    let one : row_nodes c.args.first (pos c.args.stride) xs ≡ row_nodes c.args.first (pos c.args.of) xs = one-cell c.args.first (pos c.args.stride) (pos c.args.of) xs (length-map c.args.from.now g.C.Count.number ∙ c.if-from-eq1.true) in
-    rw (to_z-of_z w128 c.args.lowest c.ranges.lowest, to_z-of_z w128 c.args.first c.ranges.first, one) c.requires.limit
+pub pour-requires-clause-limit : goal.pour-requires-clause-limit
+pour-requires-clause-limit g c =
+    let row : Row = get_or c.args.rows.now.rows c.args.shift.row no_row in
+    rw (c.cells-from.ensures no_row) (rw (row-weight c.args.lowest (pos c.args.stride) (map g.C.Count.number c.args.into.now), row-weight (row.lowest +ℤ c.args.shift.step) row.stride row.cells) at (c.requires.limit no_row))
 
-pub pour_apart-requires-clause-fits : goal.pour_apart-requires-clause-fits
-pour_apart-requires-clause-fits g c =
-    let xs : List ℕ = map g.C.Count.number c.args.from.now in
-    let one : row_nodes c.args.first (pos c.args.stride) xs ≡ row_nodes c.args.first (pos c.args.of) xs = one-cell c.args.first (pos c.args.stride) (pos c.args.of) xs (length-map c.args.from.now g.C.Count.number ∙ c.if-from-eq1.true) in
-    rw (to_z-of_z w128 c.args.first c.ranges.first, one) c.requires.fits
+pub pour-requires-clause-fits : goal.pour-requires-clause-fits
+pour-requires-clause-fits g c =
+    let row : Row = get_or c.args.rows.now.rows c.args.shift.row no_row in
+    rw (c.cells-from.ensures no_row) (rw (row-weight (row.lowest +ℤ c.args.shift.step) row.stride row.cells) at (c.requires.fits no_row))
 
-pub returns-then-from-eq1-clause-told : goal.returns-then-from-eq1-clause-told
-returns-then-from-eq1-clause-told g c =
-    let xs : List ℕ = map g.C.Count.number c.args.from.now in
-    let one : row_nodes c.args.first (pos c.args.stride) xs ≡ row_nodes c.args.first (pos c.args.of) xs = one-cell c.args.first (pos c.args.stride) (pos c.args.of) xs (length-map c.args.from.now g.C.Count.number ∙ c.if-from-eq1.true) in
-    rw (to_z-of_z w128 c.args.lowest c.ranges.lowest, to_z-of_z w128 c.args.first c.ranges.first, one) at c.pour_apart.ensures.told
-
-pub returns-else-from-eq1-clause-told : goal.returns-else-from-eq1-clause-told
-returns-else-from-eq1-clause-told g c = rw (to_z-of_z w128 c.args.lowest c.ranges.lowest, to_z-of_z w128 c.args.first c.ranges.first) at c.pour_apart-else-from-eq1.ensures.told
+pub returns-clause-told : goal.returns-clause-told
+returns-clause-told g c = λ d f.
+    let num = g.C.Count.number in
+    let row : Row = get_or c.args.rows.now.rows c.args.shift.row d in
+    let step : ℤ = c.args.shift.step in
+    let L : ℤ = c.args.lowest in
+    let S : ℤ = pos c.args.stride in
+    let F : ℤ = row.lowest +ℤ step in
+    let xs : List ℕ = map num c.cells-from.result.now in
+    let fa : FitsSigned w128 c.lowest.result = search rules in
+    let fb : FitsSigned w128 step = search rules in
+    let fc : FitsSigned w128 c.in_ok-first.first = search rules in
+    let first_is : stepped L S c.in-Some.place ≡ F = (rw (to_z-of_z w128 L c.ranges.lowest, to_z-of_z w128 c.in_ok-first.first fc) at c.in-Some.ensures) ∙ (rw (to_z-of_z w128 c.lowest.result fa, to_z-of_z w128 step fb) at c.in_ok-first.ensures) ∙ ap (λ z. z +ℤ step) (c.lowest.ensures d) in
+    let from_is : row_nodes (stepped L S c.in-Some.place) (stepped (pos 0) S c.in-Some-cells_apart.every) xs ≡ moved row step =
+    ap (λ z. row_nodes z (stepped (pos 0) S c.in-Some-cells_apart.every) xs) first_is ∙ ap (λ z. row_nodes F z xs) c.in-Some-cells_apart.ensures ∙ c.stride_for.ensures F ∙ ap (λ z. row_nodes F z xs) (c.stride.ensures d) ∙ ap (row_nodes F row.stride) (c.cells-from.ensures d) in
+    c.pour.ensures.told f L S ∙ ap (λ ns. weighted f (row_nodes L S (map num c.args.into.now)) + weighted f ns * c.args.weight) from_is

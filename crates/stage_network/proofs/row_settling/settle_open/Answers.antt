@@ -1,4 +1,4 @@
-use Rattle.std.proofs.Common.{◌≡◌, ◌<◌, ◌≤◌, ◌+◌, ◌-◌, ◌*◌, ◌++◌, ◌∷◌, [], ℕ, List, length, map, get_or, take, drop, cond, ap, sym, ◌∙◌, arith, rules, subst, FitsSigned, to_z, of_z}
+use Rattle.std.proofs.Common.{◌≡◌, ◌<◌, ◌≤◌, ◌+◌, ◌-◌, ◌*◌, ◌++◌, ◌∷◌, [], ℕ, List, length, map, get_or, take, drop, cond, ap, sym, ◌∙◌, arith, refl, rules, subst, FitsSigned, to_z, of_z}
 use Rattle.std.specs.Prelude.{ℤ, pos}
 use Rattle.std.proofs.lemmas.Int.{to_z-of_z}
 use Rattle.std.proofs.lemmas.List.{take_all, take-map, drop-map, length-map, length-append, length-drop, length-take-le}
@@ -29,6 +29,22 @@ length-put a k xs ys h j e = omega (arith, length-append (take a xs) (ys ++ drop
 -- a weight times what remains
 by_rest : (tails : Tails) (n : Network) (g : ℕ) (k : List ℤ) (inside : ℕ) → inside * total_weight (asked tails n) g k ≡ inside * total_weight n g k
 by_rest tails n g k inside = ap (λ m. inside * m) (asked-total tails n g k)
+
+-- cells before which none is full
+no_nodes : (lowest stride : ℤ) (xs : List ℕ) (i : ℕ) → i ≡ length xs → row_nodes lowest stride (take (i - 0) (drop 0 xs)) ≡ [] → row_nodes lowest stride xs ≡ []
+no_nodes lowest stride xs i last none = ap (row_nodes lowest stride) (sym (take_all (i - 0) xs (omega (arith, last)))) ∙ none
+
+pub returns-then-first-cells-clause-nodes : goal.returns-then-first-cells-clause-nodes
+returns-then-first-cells-clause-nodes g c =
+    rw (no_nodes c.args.lowest (pos c.args.stride) (map g.C.Count.number c.args.cells.now) c.next_full-first.result (c.if-first-cells.true ∙ sym (length-map c.args.cells.now g.C.Count.number)) (c.next_full-first.ensures.empty c.args.lowest (pos c.args.stride))) refl
+
+pub returns-then-first-cells-clause-sum : goal.returns-then-first-cells-clause-sum
+returns-then-first-cells-clause-sum g c t =
+    rw (no_nodes c.args.lowest (pos c.args.stride) (map g.C.Count.number c.args.cells.now) c.next_full-first.result (c.if-first-cells.true ∙ sym (length-map c.args.cells.now g.C.Count.number)) (c.next_full-first.ensures.empty c.args.lowest (pos c.args.stride))) (omega arith)
+
+pub returns-then-first-cells-clause-opened : goal.returns-then-first-cells-clause-opened
+returns-then-first-cells-clause-opened g c t =
+    rw (no_nodes c.args.lowest (pos c.args.stride) (map g.C.Count.number c.args.cells.now) c.next_full-first.result (c.if-first-cells.true ∙ sym (length-map c.args.cells.now g.C.Count.number)) (c.next_full-first.ensures.empty c.args.lowest (pos c.args.stride))) (omega arith)
 
 pub outlook-requires-clause-place : goal.outlook-requires-clause-place
 outlook-requires-clause-place g c =
@@ -94,7 +110,7 @@ settle_stretch-requires-clause-fits g c = λ lo st.
     let i : ℕ = c.loop-i.i in
     let j : ℕ = c.stretch_end-end.result in
     let seg : map num (take (j - i) (drop i c.loop-i.cells)) ≡ take (j - i) (drop i xs) = sym (take-map num (j - i) (drop i c.loop-i.cells)) ∙ ap (take (j - i)) (sym (drop-map num i c.loop-i.cells) ∙ c.loop-i.invariant.rest) in
-    omega (arith, ap (λ ws. weighted (λ k. 1) (row_nodes lo st ws)) seg, row-weight lo st (take (j - i) (drop i xs)), part-sum xs i (j - i), row-weight (pos 0) (pos 0) xs, c.requires.fits (pos 0) (pos 0))
+    omega (arith, ap (λ ws. weighted (λ k. 1) (row_nodes lo st ws)) seg, row-weight lo st (take (j - i) (drop i xs)), part-sum xs i (j - i), row-weight c.args.lowest S xs, lift-weighted (λ k. 1) r (row_nodes c.args.lowest S xs), c.requires.full.fits)
 
 pub loop-i-preserved : goal.loop-i-preserved
 loop-i-preserved g c =

@@ -1,20 +1,12 @@
-use Rattle.std.proofs.Common.{◌≡◌, ◌≢◌, ◌<◌, ◌≤◌, ◌+◌, ◌-◌, ◌++◌, ℕ, zero, suc, List, length, get_or, take, drop, ap, ◌∙◌, arith, refl, subst}
+use Rattle.std.proofs.Common.{◌≡◌, ◌<◌, ◌+◌, ◌-◌, ◌++◌, ℕ, List, length, get_or, take, drop, ap, ◌∙◌, arith, refl, subst}
 use Rattle.std.specs.Prelude.{ℤ}
 use Rattle.node_pool.specs.Nodes.{Node, weighted}
 use Rattle.stage_network.specs.Network.{Network}
 use Rattle.stage_network.specs.ArcSteps.{Arc, IsPlace, spread_out, bucket}
 use Rattle.stage_network.proofs.Roomwise.{fill-step, lift-weighted, whole-weighted}
 use Rattle.stage_network.proofs.Gathered.{spread-here}
-use Rattle.stage_network.proofs.OneArc.{no_arc, fine_is, nodes_are}
+use Rattle.stage_network.proofs.OneArc.{no_arc, place_below, place_is, fine_is, nodes_are}
 use Rattle.stage_network.proofs.rooms.RoomPool.fill.Goals as goal
-
--- behind a place that is not 0 stands an arc
-place_below : (place most : ℕ) → place ≢ 0 → place ≤ most → place - 1 < most
-place_below zero most h low = absurd (h refl)
-place_below (suc i) most h low = omega (arith, low)
-
-place_is : (place : ℕ) → place ≢ 0 → place ≡ suc (place - 1)
-place_is place h = omega (arith, h)
 
 pub pour-requires-clause-run : goal.pour-requires-clause-run
 pour-requires-clause-run g c =

@@ -1,26 +1,20 @@
-use Rattle.std.proofs.Common.{◌≡◌, length, ◌∙◌, arith, refl}
+use Rattle.std.proofs.Common.{◌≡◌, length, ◌∙◌, arith}
+use Rattle.stage_network.proofs.Listing.{listing-none}
 use Rattle.stage_network.proofs.stage_arcs.StageArcs.list.Goals as goal
 
 pub loop-start-init : goal.loop-start-init
-loop-start-init g c = record {
-  within = omega arith;
-  listed = record {
-    fitted = record {
-      arcs = c.clear-2.ensures.width ∙ c.requires.fitted.arcs;
-      rooms = c.clear.ensures.width ∙ c.requires.fitted.rooms;
-      key = c.requires.fitted.key;
-      choice = c.requires.fitted.choice;
-      target_room = c.requires.fitted.target_room;
-    };
-    light = rw c.clear.ensures.nodes refl;
-    arcs = record {
-      wide = c.clear-2.ensures.width ∙ c.requires.fitted.arcs;
-      count = rw (c.clear-2.ensures.rooms, c.clear.ensures.nodes) refl;
-      fine = rw c.clear-2.ensures.arcs tt;
-    };
-    told = λ f. rw c.clear-2.ensures.arcs refl;
-  };
-}
+loop-start-init g c =
+    let fitted = c.requires.fitted in
+    record {
+      within = omega arith;
+      listed = listing-none _ _ _ _ _ (record {
+        arcs = c.clear-2.ensures.width ∙ fitted.arcs;
+        rooms = c.clear.ensures.width ∙ fitted.rooms;
+        key = fitted.key;
+        choice = fitted.choice;
+        target_room = fitted.target_room;
+      }) c.clear.ensures.nodes c.clear-2.ensures.arcs c.clear-2.ensures.rooms;
+    }
 
 pub loop-start-preserved : goal.loop-start-preserved
 loop-start-preserved g c = record {

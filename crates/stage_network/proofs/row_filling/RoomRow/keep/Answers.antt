@@ -7,7 +7,7 @@ use mir.Syntax.{w128}
 use Rattle.dense_rows.specs.Rows.{row_nodes, stepped}
 use Rattle.stage_network.specs.ArcSteps.{lift}
 use Rattle.stage_network.specs.RowSteps.{Row, all_nodes, row_whole}
-use Rattle.stage_network.proofs.row_keeping.keep_row.Goals as goal
+use Rattle.stage_network.proofs.row_filling.RoomRow.keep.Goals as goal
 
 one-more : (rows rows' : List Row) (r : Row) → rows' ≡ rows ++ r ∷ [] → all_nodes rows' ≡ all_nodes rows ++ row_whole r
 one-more rows rows' r e = ap all_nodes e ∙ flat_map-append row_whole rows (r ∷ []) ∙ ap (λ ns. all_nodes rows ++ ns) (append-nil (row_whole r))
@@ -15,16 +15,19 @@ one-more rows rows' r e = ap all_nodes e ∙ flat_map-append row_whole rows (r �
 pub returns-clause-nodes : goal.returns-clause-nodes
 returns-clause-nodes g c =
     let num = g.C.Count.number in
-    let cells = c.args.cells.now in
-    let s : ℤ = pos c.args.stride in
+    let was = c.args.self.now in
+    let cells = c.as_slice-cells.result.now in
+    let s : ℤ = pos was.stride in
     let first : ℕ = c.first_full-first.result in
     let z : ℤ = c.in_ok-number.number in
     let f : FitsSigned w128 z = search rules in
+    let fl : FitsSigned w128 was.lowest = search rules in
     let rest : map num (take (length cells - first) (drop first cells)) ≡ drop first (map num cells) = ap (map num) (take_all (length cells - first) (drop first cells) (omega (arith, length-drop first cells))) ∙ sym (drop-map num first cells) in
     let row : Row = record { room = c.args.room.now; lowest = to_z w128 (of_z w128 z); stride = s; cells = map num c.trimmed.result.now } in
     one-more c.args.kept.now.rows c.push.new.self.rows row c.in_ok-push.ensures.rows
     ∙ ap (λ ns. all_nodes c.args.kept.now.rows ++ lift c.args.room.now ns)
-    (ap (λ l. row_nodes l s (map num c.trimmed.result.now)) (to_z-of_z w128 z f ∙ (rw (to_z-of_z w128 c.args.lowest c.ranges.lowest) at c.in_ok-number.ensures))
-    ∙ c.trimmed.ensures (stepped c.args.lowest s first) s
-    ∙ ap (row_nodes (stepped c.args.lowest s first) s) rest
-    ∙ sym (c.first_full-first.ensures.empty c.args.lowest s))
+    (ap (λ l. row_nodes l s (map num c.trimmed.result.now)) (to_z-of_z w128 z f ∙ (rw (to_z-of_z w128 was.lowest fl) at c.in_ok-number.ensures))
+    ∙ c.trimmed.ensures (stepped was.lowest s first) s
+    ∙ ap (row_nodes (stepped was.lowest s first) s) rest
+    ∙ sym (c.first_full-first.ensures.empty was.lowest s)
+    ∙ ap (λ xs. row_nodes was.lowest s (map num xs)) c.as_slice-cells.ensures.value)
