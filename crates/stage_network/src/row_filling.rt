@@ -1,7 +1,6 @@
 // A room of the next stage, filled from all rows that lead there.
 ghost use Rattle.std.specs.Prelude.{◌≡◌, ℕ, ℤ, pos, ◌+◌, ◌*◌, ◌<◌, ◌≤◌, List, [], ◌∷◌, length};
 ghost use Rattle.std.specs.Prelude.{map, replicate, true, OnOk, IfOk, slice_index_or};
-ghost use Rattle.weights.specs.declared.TheConstants.{MAX};
 ghost use Rattle.node_pool.specs.Nodes.{Node, node, weighted};
 ghost use Rattle.dense_rows.specs.Rows.{row_nodes};
 ghost use Rattle.stage_network.specs.ArcSteps.{spread_out, bucket, lift};
@@ -64,11 +63,10 @@ fn pour_row<C: Count>(
     into: &mut [C],
 ) -> Result<(), Stop>
     requires row { shift.row < length rows.now.rows }
-    requires limit { (d : Row) → let from = moved (slice_index_or rows.now.rows shift.row d) in
-        weighted (λ k. 1) (row_nodes lowest (pos stride) (map C.number into.old))
-        + weighted (λ k. 1) (from shift.step) * weight ≤ C.LIMIT }
-    requires fits { (d : Row) → let from = moved (slice_index_or rows.now.rows shift.row d) in
-        weighted (λ k. 1) (from shift.step) * weight ≤ MAX }
+    requires light { (d : Row) → let from = moved (slice_index_or rows.now.rows shift.row d) in
+        IsWithin C.LIMIT
+        (weighted (λ k. 1) (row_nodes lowest (pos stride) (map C.number into.old))
+        + weighted (λ k. 1) (from shift.step) * weight) }
     ensures long { length into.new ≡ length into.old }
     ensures told { OnOk result ((d : Row) (f : List ℤ → ℕ)
         → let from = moved (slice_index_or rows.now.rows shift.row d) in

@@ -1,4 +1,4 @@
-use Rattle.std.proofs.Common.{◌≡◌, ◌+◌, ◌*◌, ℕ, List, map, get_or, ap, ◌∙◌, rules, FitsSigned}
+use Rattle.std.proofs.Common.{◌≡◌, ◌+◌, ◌*◌, ℕ, List, map, get_or, ap, ◌∙◌, arith, rules, FitsSigned}
 use Rattle.std.specs.Prelude.{ℤ, pos, ◌+ℤ◌}
 use Rattle.std.proofs.lemmas.Int.{to_z-of_z}
 use mir.Syntax.{w128}
@@ -12,12 +12,13 @@ use Rattle.stage_network.proofs.row_filling.pour_row.Goals as goal
 pub pour-requires-clause-limit : goal.pour-requires-clause-limit
 pour-requires-clause-limit g c =
     let row : Row = get_or c.args.rows.now.rows c.args.shift.row no_row in
-    rw (c.cells-from.ensures no_row) (rw (row-weight c.args.lowest (pos c.args.stride) (map g.C.Count.number c.args.into.now), row-weight (row.lowest +ℤ c.args.shift.step) row.stride row.cells) at (c.requires.limit no_row))
+    rw (c.cells-from.ensures no_row) (rw (row-weight c.args.lowest (pos c.args.stride) (map g.C.Count.number c.args.into.now), row-weight (row.lowest +ℤ c.args.shift.step) row.stride row.cells) at ((c.requires.light no_row).limit))
 
 pub pour-requires-clause-fits : goal.pour-requires-clause-fits
 pour-requires-clause-fits g c =
     let row : Row = get_or c.args.rows.now.rows c.args.shift.row no_row in
-    rw (c.cells-from.ensures no_row) (rw (row-weight (row.lowest +ℤ c.args.shift.step) row.stride row.cells) at (c.requires.fits no_row))
+    let light = c.requires.light no_row in
+    rw (c.cells-from.ensures no_row, ← row-weight (row.lowest +ℤ c.args.shift.step) row.stride row.cells) (omega (arith, light.fits))
 
 pub returns-clause-told : goal.returns-clause-told
 returns-clause-told g c = λ d f.

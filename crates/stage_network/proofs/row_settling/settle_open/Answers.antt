@@ -1,4 +1,4 @@
-use Rattle.std.proofs.Common.{◌≡◌, ◌<◌, ◌≤◌, ◌+◌, ◌-◌, ◌*◌, ◌++◌, ◌∷◌, [], ℕ, List, length, map, get_or, take, drop, cond, ap, sym, ◌∙◌, arith, refl, rules, subst, FitsSigned, to_z, of_z}
+use Rattle.std.proofs.Common.{◌≡◌, ◌≢◌, ◌<◌, ◌≤◌, ◌+◌, ◌-◌, ◌*◌, ◌++◌, ◌∷◌, [], ℕ, List, length, map, get_or, take, drop, cond, ap, sym, ◌∙◌, arith, refl, rules, subst, FitsSigned, to_z, of_z}
 use Rattle.std.specs.Prelude.{ℤ, pos}
 use Rattle.std.proofs.lemmas.Int.{to_z-of_z}
 use Rattle.std.proofs.lemmas.List.{take_all, take-map, drop-map, length-map, length-append, length-drop, length-take-le}
@@ -12,7 +12,7 @@ use Rattle.stage_network.specs.declared.tail_sums.Verdicts.{Verdicts}
 use Rattle.stage_network.specs.Asked.{asked}
 use Rattle.stage_network.specs.Network.{Network, IsReached}
 use Rattle.stage_network.specs.Completions.{total_weight}
-use Rattle.stage_network.specs.NodeSteps.{inside_weight, opened_in, closed_weight}
+use Rattle.stage_network.specs.NodeSteps.{AllReached, inside_weight, opened_in, closed_weight}
 use Rattle.stage_network.specs.SweepSteps.{sum_for, some_undecided}
 use Rattle.stage_network.specs.ArcSteps.{lift}
 use Rattle.stage_network.proofs.Asked.{asked-roomed, asked-total}
@@ -34,6 +34,22 @@ by_rest tails n g k inside = ap (λ m. inside * m) (asked-total tails n g k)
 no_nodes : (lowest stride : ℤ) (xs : List ℕ) (i : ℕ) → i ≡ length xs → row_nodes lowest stride (take (i - 0) (drop 0 xs)) ≡ [] → row_nodes lowest stride xs ≡ []
 no_nodes lowest stride xs i last none = ap (row_nodes lowest stride) (sym (take_all (i - 0) xs (omega (arith, last)))) ∙ none
 
+-- the key of the first full cell
+first_reached : {X : Type 0} (n : Network) (s : ℕ) (r : List ℤ) (lowest stride : ℤ) (num : X → ℕ) (cells : List X) (first : ℕ) → AllReached n s (lift r (row_nodes lowest stride (map num cells))) → first ≢ length cells → first ≤ length cells → (first < length cells → 0 < get_or (map num cells) first 0) → IsReached n s (r ++ stepped lowest stride first ∷ [])
+first_reached n s r lowest stride num cells first reached some within full =
+    let low : first < length cells = omega (arith, some, within) in
+    cell-reached n s r lowest stride (map num cells) first reached (omega (arith, low, length-map cells num)) (full low)
+
+-- that of a full cell from which on nothing has changed
+next_reached : {X : Type 0} (n : Network) (s : ℕ) (r : List ℤ) (lowest stride : ℤ) (num : X → ℕ) (cells now : List X) (i : ℕ) → AllReached n s (lift r (row_nodes lowest stride (map num cells))) → i < length now → length now ≡ length cells → (i < length now → 0 < get_or (map num now) i 0) → drop i (map num now) ≡ drop i (map num cells) → IsReached n s (r ++ stepped lowest stride i ∷ [])
+next_reached n s r lowest stride num cells now i reached low long full rest =
+    let some : 0 < get_or (map num now) i 0 = full low in
+    cell-reached n s r lowest stride (map num cells) i reached (omega (arith, low, long, length-map cells num)) (omega (arith, some, cell-rest (map num cells) (map num now) i rest))
+
+-- the number of a cell, as it is passed on
+stored : (lowest stride z : ℤ) (i : ℕ) → FitsSigned w128 lowest → FitsSigned w128 z → z ≡ stepped (to_z w128 (of_z w128 lowest)) stride i → to_z w128 (of_z w128 z) ≡ stepped lowest stride i
+stored lowest stride z i low fits is = to_z-of_z w128 z fits ∙ is ∙ ap (λ l. stepped l stride i) (to_z-of_z w128 lowest low)
+
 pub returns-then-first-cells-clause-nodes : goal.returns-then-first-cells-clause-nodes
 returns-then-first-cells-clause-nodes g c =
     rw (no_nodes c.args.lowest (pos c.args.stride) (map g.C.Count.number c.args.cells.now) c.next_full-first.result (c.if-first-cells.true ∙ sym (length-map c.args.cells.now g.C.Count.number)) (c.next_full-first.ensures.empty c.args.lowest (pos c.args.stride))) refl
@@ -47,66 +63,34 @@ returns-then-first-cells-clause-opened g c t =
     rw (no_nodes c.args.lowest (pos c.args.stride) (map g.C.Count.number c.args.cells.now) c.next_full-first.result (c.if-first-cells.true ∙ sym (length-map c.args.cells.now g.C.Count.number)) (c.next_full-first.ensures.empty c.args.lowest (pos c.args.stride))) (omega arith)
 
 pub outlook-requires-clause-place : goal.outlook-requires-clause-place
-outlook-requires-clause-place g c =
-    let n : Network = asked c.args.tails (g.S.Stages.network c.args.stages.now) in
-    let s : ℕ = c.args.stage in
-    let r : List ℤ = c.args.room.now in
-    let num = g.C.Count.number in
-    let xs : List ℕ = map num c.args.cells.now in
-    let S : ℤ = pos c.args.stride in
-    let l = to_z-of_z w128 c.args.lowest c.ranges.lowest in
-    let first : ℕ = c.next_full-first.result in
-    let low : first < length c.args.cells.now = omega (arith, c.if-first-cells.false, c.next_full-first.ensures.within) in
-    let here : IsReached n s (r ++ stepped c.args.lowest S first ∷ []) = cell-reached n s r c.args.lowest S xs first c.requires.full.reached (omega (arith, low, length-map c.args.cells.now num)) (c.next_full-first.ensures.full low) in
-    record { partial = stepped c.args.lowest S first ∷ []; wide = c.requires.full.wide; reached = here }
+outlook-requires-clause-place g c = record {
+  partial = stepped c.args.lowest (pos c.args.stride) c.next_full-first.result ∷ [];
+  wide = c.requires.full.wide;
+  reached = first_reached (asked c.args.tails (g.S.Stages.network c.args.stages.now)) c.args.stage c.args.room.now c.args.lowest (pos c.args.stride) g.C.Count.number c.args.cells.now c.next_full-first.result c.requires.full.reached c.if-first-cells.false c.next_full-first.ensures.within c.next_full-first.ensures.full;
+}
 
 pub verdicts_of-verdicts-requires-clause-reached : goal.verdicts_of-verdicts-requires-clause-reached
 verdicts_of-verdicts-requires-clause-reached g c =
     let n : Network = asked c.args.tails (g.S.Stages.network c.args.stages.now) in
-    let s : ℕ = c.args.stage in
-    let r : List ℤ = c.args.room.now in
-    let num = g.C.Count.number in
-    let xs : List ℕ = map num c.args.cells.now in
-    let S : ℤ = pos c.args.stride in
-    let l = to_z-of_z w128 c.args.lowest c.ranges.lowest in
-    let i : ℕ = c.loop-i.i in
-    let ys : List ℕ = map num c.loop-i.cells in
-    let low : i < length xs = omega (arith, c.loop-i-test.true, c.loop-i.invariant.long, length-map c.args.cells.now num) in
-    let full : 0 < get_or xs i 0 = omega (arith, c.loop-i.invariant.full c.loop-i-test.true, cell-rest xs ys i c.loop-i.invariant.rest) in
-    let here : IsReached n s (r ++ stepped c.args.lowest S i ∷ []) = cell-reached n s r c.args.lowest S xs i c.requires.full.reached low full in
+    let i = c.loop-i.invariant in
     let f : FitsSigned w128 c.in_ok-partial.partial = search rules in
-    let p_is : to_z w128 (of_z w128 c.in_ok-partial.partial) ≡ stepped c.args.lowest S i = to_z-of_z w128 c.in_ok-partial.partial f ∙ (rw l at c.in_ok-partial.ensures) in
-    let as_is : c.as_slice.result.now ≡ stepped c.args.lowest S i ∷ [] = c.as_slice.ensures ∙ ap (λ z. z ∷ []) p_is in
-    subst (λ k. IsReached n s (r ++ k)) (sym as_is) here
+    let is = c.as_slice.ensures ∙ ap (λ z. z ∷ []) (stored c.args.lowest (pos c.args.stride) c.in_ok-partial.partial c.loop-i.i c.ranges.lowest f c.in_ok-partial.ensures) in
+    subst (λ k. IsReached n c.args.stage (c.args.room.now ++ k)) (sym is) (next_reached n c.args.stage c.args.room.now c.args.lowest (pos c.args.stride) g.C.Count.number c.args.cells.now c.loop-i.cells c.loop-i.i c.requires.full.reached c.loop-i-test.true i.long i.full i.rest)
 
 pub same_for_all-same-requires-clause-reached : goal.same_for_all-same-requires-clause-reached
 same_for_all-same-requires-clause-reached g c =
     let n : Network = asked c.args.tails (g.S.Stages.network c.args.stages.now) in
-    let s : ℕ = c.args.stage in
-    let r : List ℤ = c.args.room.now in
-    let num = g.C.Count.number in
-    let xs : List ℕ = map num c.args.cells.now in
-    let S : ℤ = pos c.args.stride in
-    let l = to_z-of_z w128 c.args.lowest c.ranges.lowest in
-    let i : ℕ = c.loop-i.i in
-    let ys : List ℕ = map num c.loop-i.cells in
-    let low : i < length xs = omega (arith, c.loop-i-test.true, c.loop-i.invariant.long, length-map c.args.cells.now num) in
-    let full : 0 < get_or xs i 0 = omega (arith, c.loop-i.invariant.full c.loop-i-test.true, cell-rest xs ys i c.loop-i.invariant.rest) in
-    let here : IsReached n s (r ++ stepped c.args.lowest S i ∷ []) = cell-reached n s r c.args.lowest S xs i c.requires.full.reached low full in
+    let i = c.loop-i.invariant in
     let f : FitsSigned w128 c.in_ok-partial.partial = search rules in
-    let p_is : to_z w128 (of_z w128 c.in_ok-partial.partial) ≡ stepped c.args.lowest S i = to_z-of_z w128 c.in_ok-partial.partial f ∙ (rw l at c.in_ok-partial.ensures) in
-    let as_is : c.as_slice.result.now ≡ stepped c.args.lowest S i ∷ [] = c.as_slice.ensures ∙ ap (λ z. z ∷ []) p_is in
-    subst (λ z. IsReached n s (r ++ z ∷ [])) (sym p_is) here
+    let is = stored c.args.lowest (pos c.args.stride) c.in_ok-partial.partial c.loop-i.i c.ranges.lowest f c.in_ok-partial.ensures in
+    subst (λ z. IsReached n c.args.stage (c.args.room.now ++ z ∷ [])) (sym is) (next_reached n c.args.stage c.args.room.now c.args.lowest (pos c.args.stride) g.C.Count.number c.args.cells.now c.loop-i.cells c.loop-i.i c.requires.full.reached c.loop-i-test.true i.long i.full i.rest)
 
 pub settle_stretch-requires-clause-fits : goal.settle_stretch-requires-clause-fits
 settle_stretch-requires-clause-fits g c = λ lo st.
-    let n : Network = asked c.args.tails (g.S.Stages.network c.args.stages.now) in
-    let s : ℕ = c.args.stage in
     let r : List ℤ = c.args.room.now in
     let num = g.C.Count.number in
     let xs : List ℕ = map num c.args.cells.now in
     let S : ℤ = pos c.args.stride in
-    let l = to_z-of_z w128 c.args.lowest c.ranges.lowest in
     let i : ℕ = c.loop-i.i in
     let j : ℕ = c.stretch_end-end.result in
     let seg : map num (take (j - i) (drop i c.loop-i.cells)) ≡ take (j - i) (drop i xs) = sym (take-map num (j - i) (drop i c.loop-i.cells)) ∙ ap (take (j - i)) (sym (drop-map num i c.loop-i.cells) ∙ c.loop-i.invariant.rest) in
@@ -124,10 +108,8 @@ loop-i-preserved g c =
     let i : ℕ = c.loop-i.i in
     let ys : List ℕ = map num c.loop-i.cells in
     let low : i < length xs = omega (arith, c.loop-i-test.true, c.loop-i.invariant.long, length-map c.args.cells.now num) in
-    let full : 0 < get_or xs i 0 = omega (arith, c.loop-i.invariant.full c.loop-i-test.true, cell-rest xs ys i c.loop-i.invariant.rest) in
-    let here : IsReached n s (r ++ stepped c.args.lowest S i ∷ []) = cell-reached n s r c.args.lowest S xs i c.requires.full.reached low full in
     let f : FitsSigned w128 c.in_ok-partial.partial = search rules in
-    let p_is : to_z w128 (of_z w128 c.in_ok-partial.partial) ≡ stepped c.args.lowest S i = to_z-of_z w128 c.in_ok-partial.partial f ∙ (rw l at c.in_ok-partial.ensures) in
+    let p_is : to_z w128 (of_z w128 c.in_ok-partial.partial) ≡ stepped c.args.lowest S i = stored c.args.lowest S c.in_ok-partial.partial i c.ranges.lowest f c.in_ok-partial.ensures in
     let as_is : c.as_slice.result.now ≡ stepped c.args.lowest S i ∷ [] = c.as_slice.ensures ∙ ap (λ z. z ∷ []) p_is in
     let j : ℕ = c.stretch_end-end.result in
     let seg : map num (take (j - i) (drop i c.loop-i.cells)) ≡ take (j - i) (drop i xs) = sym (take-map num (j - i) (drop i c.loop-i.cells)) ∙ ap (take (j - i)) (sym (drop-map num i c.loop-i.cells) ∙ c.loop-i.invariant.rest) in
@@ -165,52 +147,38 @@ loop-i-preserved g c =
 pub rest_of-rest-requires-clause-reached : goal.rest_of-rest-requires-clause-reached
 rest_of-rest-requires-clause-reached g c =
     let n : Network = asked c.args.tails (g.S.Stages.network c.args.stages.now) in
-    let s : ℕ = c.args.stage in
-    let r : List ℤ = c.args.room.now in
-    let num = g.C.Count.number in
-    let xs : List ℕ = map num c.args.cells.now in
-    let S : ℤ = pos c.args.stride in
-    let l = to_z-of_z w128 c.args.lowest c.ranges.lowest in
-    let first : ℕ = c.next_full-first.result in
-    let low : first < length c.args.cells.now = omega (arith, c.if-first-cells.false, c.next_full-first.ensures.within) in
-    let here : IsReached n s (r ++ stepped c.args.lowest S first ∷ []) = cell-reached n s r c.args.lowest S xs first c.requires.full.reached (omega (arith, low, length-map c.args.cells.now num)) (c.next_full-first.ensures.full low) in
     let f : FitsSigned w128 c.in_ok-some.some = search rules in
-    let some_is : c.as_slice-2.result.now ≡ stepped c.args.lowest S first ∷ [] = c.as_slice-2.ensures ∙ ap (λ z. z ∷ []) (to_z-of_z w128 c.in_ok-some.some f ∙ (rw l at c.in_ok-some.ensures)) in
-    let there : IsReached n s (r ++ c.as_slice-2.result.now) = subst (λ k. IsReached n s (r ++ k)) (sym some_is) here in
-    there
+    let is = c.as_slice-2.ensures ∙ ap (λ z. z ∷ []) (stored c.args.lowest (pos c.args.stride) c.in_ok-some.some c.next_full-first.result c.ranges.lowest f c.in_ok-some.ensures) in
+    subst (λ k. IsReached n c.args.stage (c.args.room.now ++ k)) (sym is) (first_reached n c.args.stage c.args.room.now c.args.lowest (pos c.args.stride) g.C.Count.number c.args.cells.now c.next_full-first.result c.requires.full.reached c.if-first-cells.false c.next_full-first.ensures.within c.next_full-first.ensures.full)
 
 pub returns-clause-sum : goal.returns-clause-sum
 returns-clause-sum g c t =
-    let n : Network = asked c.args.tails (g.S.Stages.network c.args.stages.now) in
+    let m : Network = g.S.Stages.network c.args.stages.now in
+    let n : Network = asked c.args.tails m in
     let s : ℕ = c.args.stage in
     let r : List ℤ = c.args.room.now in
-    let num = g.C.Count.number in
-    let xs : List ℕ = map num c.args.cells.now in
+    let L : ℤ = c.args.lowest in
     let S : ℤ = pos c.args.stride in
-    let l = to_z-of_z w128 c.args.lowest c.ranges.lowest in
-    let first : ℕ = c.next_full-first.result in
-    let low : first < length c.args.cells.now = omega (arith, c.if-first-cells.false, c.next_full-first.ensures.within) in
-    let here : IsReached n s (r ++ stepped c.args.lowest S first ∷ []) = cell-reached n s r c.args.lowest S xs first c.requires.full.reached (omega (arith, low, length-map c.args.cells.now num)) (c.next_full-first.ensures.full low) in
     let f : FitsSigned w128 c.in_ok-some.some = search rules in
-    let some_is : c.as_slice-2.result.now ≡ stepped c.args.lowest S first ∷ [] = c.as_slice-2.ensures ∙ ap (λ z. z ∷ []) (to_z-of_z w128 c.in_ok-some.some f ∙ (rw l at c.in_ok-some.ensures)) in
-    let there : IsReached n s (r ++ c.as_slice-2.result.now) = subst (λ k. IsReached n s (r ++ k)) (sym some_is) here in
-    let nodes : List Node = lift r (row_nodes c.args.lowest S xs) in
-    let all : take c.loop-i.i xs ≡ xs = take_all c.loop-i.i xs (omega (arith, c.loop-i-test.false, c.loop-i.invariant.long, length-map c.args.cells.now num)) in
-    let was : (sum_for c.loop-i.inside t).sum ≡ inside_weight n t s nodes = rw (l, all) at (c.loop-i.invariant.inside t) in
+    let is = c.as_slice-2.ensures ∙ ap (λ z. z ∷ []) (stored L S c.in_ok-some.some c.next_full-first.result c.ranges.lowest f c.in_ok-some.ensures) in
+    let key : List ℤ = r ++ c.as_slice-2.result.now in
+    let there : IsReached n s key = subst (λ k. IsReached n s (r ++ k)) (sym is) (first_reached n s r L S g.C.Count.number c.args.cells.now c.next_full-first.result c.requires.full.reached c.if-first-cells.false c.next_full-first.ensures.within c.next_full-first.ensures.full) in
+    let xs : List ℕ = map g.C.Count.number c.args.cells.now in
+    let nodes : List Node = lift r (row_nodes L S xs) in
+    let all : take c.loop-i.i xs ≡ xs = take_all c.loop-i.i xs (omega (arith, c.loop-i-test.false, c.loop-i.invariant.long, length-map c.args.cells.now g.C.Count.number)) in
+    let inside : ℕ = (sum_for c.loop-i.inside t).sum in
+    let was : inside ≡ inside_weight n t s nodes = rw (to_z-of_z w128 L c.ranges.lowest, all) at (c.loop-i.invariant.inside t) in
     let width : ℕ = g.S.Roomed.room_width c.args.stages.now in
-    let closed : closed_weight n t s nodes ≡ (sum_for c.loop-i.inside t).sum * total_weight n s (r ++ c.as_slice-2.result.now) = settled n width (asked-roomed c.args.tails (g.S.Stages.network c.args.stages.now) width c.room_width-width.ensures.roomed) t s c.requires.full.within r (sum_for c.loop-i.inside t).sum (r ++ c.as_slice-2.result.now) nodes c.requires.full.reached (lift-rooms width r (row_nodes c.args.lowest S xs) c.requires.full.wide) was (λ some. there) (front-room width r c.as_slice-2.result.now c.requires.full.wide) in
-    c.in_ok-all.ensures.sum t ∙ ap (λ m. (sum_for c.args.sums t).sum + m) (c.rest_of-rest.ensures t ∙ sym (by_rest c.args.tails (g.S.Stages.network c.args.stages.now) s (r ++ c.as_slice-2.result.now) (sum_for c.loop-i.inside t).sum) ∙ sym closed)
+    let closed : closed_weight n t s nodes ≡ inside * total_weight n s key = settled n width (asked-roomed c.args.tails m width c.room_width-width.ensures.roomed) t s c.requires.full.within r inside key nodes c.requires.full.reached (lift-rooms width r (row_nodes L S xs) c.requires.full.wide) was (λ some. there) (front-room width r c.as_slice-2.result.now c.requires.full.wide) in
+    c.in_ok-all.ensures.sum t ∙ ap (λ m. (sum_for c.args.sums t).sum + m) (c.rest_of-rest.ensures t ∙ sym (by_rest c.args.tails m s key inside) ∙ sym closed)
 
 pub returns-clause-opened : goal.returns-clause-opened
 returns-clause-opened g c t =
     let n : Network = asked c.args.tails (g.S.Stages.network c.args.stages.now) in
     let s : ℕ = c.args.stage in
     let r : List ℤ = c.args.room.now in
-    let num = g.C.Count.number in
-    let xs : List ℕ = map num c.args.cells.now in
-    let S : ℤ = pos c.args.stride in
-    let l = to_z-of_z w128 c.args.lowest c.ranges.lowest in
-    let nodes : List Node = lift r (row_nodes c.args.lowest S xs) in
-    let all : take c.loop-i.i xs ≡ xs = take_all c.loop-i.i xs (omega (arith, c.loop-i-test.false, c.loop-i.invariant.long, length-map c.args.cells.now num)) in
-    let was : (sum_for c.loop-i.inside t).opened ≡ opened_in n t s nodes = rw (l, all) at (c.loop-i.invariant.opened t) in
+    let xs : List ℕ = map g.C.Count.number c.args.cells.now in
+    let nodes : List Node = lift r (row_nodes c.args.lowest (pos c.args.stride) xs) in
+    let all : take c.loop-i.i xs ≡ xs = take_all c.loop-i.i xs (omega (arith, c.loop-i-test.false, c.loop-i.invariant.long, length-map c.args.cells.now g.C.Count.number)) in
+    let was : (sum_for c.loop-i.inside t).opened ≡ opened_in n t s nodes = rw (to_z-of_z w128 c.args.lowest c.ranges.lowest, all) at (c.loop-i.invariant.opened t) in
     c.in_ok-all.ensures.opened t ∙ ap (λ m. (sum_for c.args.sums t).opened + m) was

@@ -1,8 +1,7 @@
-use Rattle.std.proofs.Common.{◌≡◌, List, arith, subst}
-use Rattle.node_pool.specs.Nodes.{Node}
+use Rattle.std.proofs.Common.{◌≡◌, arith, subst}
 use Rattle.stage_network.specs.declared.tail_sums.Kept.{Kept}
 use Rattle.stage_network.specs.Network.{Network}
-use Rattle.stage_network.specs.SweepSteps.{HasSwept, IsSwept, first_course}
+use Rattle.stage_network.specs.SweepSteps.{IsSwept}
 use Rattle.stage_network.specs.RowSteps.{all_nodes}
 use Rattle.stage_network.proofs.RowCourses.{stands-reached, stands-light, stands-last}
 use Rattle.stage_network.proofs.row_sweeps.sweep_rows.Goals as goal

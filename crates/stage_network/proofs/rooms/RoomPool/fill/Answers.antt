@@ -1,4 +1,4 @@
-use Rattle.std.proofs.Common.{◌≡◌, ◌<◌, ◌+◌, ◌-◌, ◌++◌, ℕ, List, length, get_or, take, drop, ap, ◌∙◌, arith, refl, subst}
+use Rattle.std.proofs.Common.{◌≡◌, ◌<◌, ◌+◌, ◌-◌, ◌++◌, ℕ, List, length, get_or, take, drop, ap, ◌∙◌, arith, subst}
 use Rattle.std.specs.Prelude.{ℤ}
 use Rattle.node_pool.specs.Nodes.{Node, weighted}
 use Rattle.stage_network.specs.Network.{Network}

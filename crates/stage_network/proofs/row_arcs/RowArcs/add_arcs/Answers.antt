@@ -1,10 +1,9 @@
-use Rattle.std.proofs.Common.{◌≡◌, ◌++◌, ◌∷◌, [], ℕ, List, length, get_or, ap, sym, subst, refl, rules, ◌∙◌, FitsSigned}
+use Rattle.std.proofs.Common.{◌≡◌, ℕ, List, length, get_or, ap, sym, subst, refl, rules, ◌∙◌, FitsSigned}
 use Rattle.std.specs.Prelude.{ℤ, pos}
 use Rattle.std.specs.Vec.{with_items}
 use Rattle.std.proofs.lemmas.Int.{to_z-of_z}
 use Rattle.std.proofs.lemmas.List.{with_items_is}
 use mir.Syntax.{w128}
-use Rattle.node_pool.specs.Nodes.{Node}
 use Rattle.stage_network.specs.Network.{Network, IsReached, pending}
 use Rattle.stage_network.specs.Rooms.{IsArc}
 use Rattle.stage_network.proofs.Listing.{listing-reached, listing-first, listing-next, listing-done}

@@ -1,12 +1,11 @@
-use Rattle.std.proofs.Common.{◌≡◌, ◌<◌, ◌+◌, ◌++◌, ◌∷◌, [], ℕ, List, length, get_or, take, ap, sym, ◌∙◌, arith, rules, FitsSigned, to_z, of_z}
+use Rattle.std.proofs.Common.{◌≡◌, ◌+◌, ◌++◌, ◌∷◌, [], ℕ, List, length, get_or, ap, sym, ◌∙◌, arith, rules, FitsSigned, to_z, of_z}
 use Rattle.std.specs.Prelude.{ℤ, pos}
 use Rattle.std.proofs.lemmas.Int.{to_z-of_z}
 use Rattle.std.proofs.lemmas.List.{length-map, with_items_is}
 use mir.Syntax.{w128}
-use Rattle.node_pool.specs.Nodes.{Node}
 use Rattle.dense_rows.specs.Rows.{row_nodes, stepped}
 use Rattle.stage_network.proofs.Roomwise.{lift-length}
-use Rattle.stage_network.specs.RowSteps.{Row, all_nodes, row_whole}
+use Rattle.stage_network.specs.RowSteps.{Row, row_whole}
 use Rattle.stage_network.proofs.Spans.{no_row, spans, first-key, before-more}
 use Rattle.stage_network.proofs.row_arcs.RowArcs.add_row.Goals as goal
 

@@ -1,4 +1,4 @@
-use Rattle.std.proofs.Common.{◌≡◌, ◌+◌, ◌-◌, ◌++◌, ℕ, zero, suc, List, [], length, map, replicate, get_or, take, drop, ap, sym, ◌∙◌, arith, refl, rules, subst, to_z, of_z}
+use Rattle.std.proofs.Common.{◌≡◌, ◌+◌, ◌-◌, ◌++◌, ℕ, zero, suc, List, [], length, map, replicate, get_or, take, drop, ap, sym, ◌∙◌, arith, refl, subst, to_z, of_z}
 use Rattle.std.specs.Prelude.{ℤ, pos}
 use Rattle.std.proofs.lemmas.List.{take_all, with_items_is}
 use mir.Syntax.{w128}
@@ -44,19 +44,12 @@ pour_row-requires-clause-row g c =
     let i = c.loop-place.invariant in
     shift-low (g.S.Stages.network c.args.stages.now) c.args.stage _ c.args.rows.now.rows _ _ _ r.here.nodes r.listed.listed.arcs.fine r.listed.shifts c.args.target c.loop-place.place c.loop-place-test.true i.low i.here c.index.result.now c.index.ensures
 
-pub pour_row-requires-clause-limit : goal.pour_row-requires-clause-limit
-pour_row-requires-clause-limit g c = λ d.
+pub pour_row-requires-clause-light : goal.pour_row-requires-clause-light
+pour_row-requires-clause-light g c = λ d.
     let r = c.requires in
     let i = c.loop-place.invariant in
     let more = shift-more (g.S.Stages.network c.args.stages.now) c.args.stage (g.S.Roomed.room_width c.args.stages.now) c.args.rows.now.rows _ _ _ r.here.nodes r.listed.listed.arcs.fine r.listed.shifts c.args.target c.loop-place.place c.loop-place-test.true i.low i.here c.index.result.now c.index.ensures c.arc-arc.result.weight (c.arc-arc.ensures.weight no_arc) d (λ k. 1) in
-    omega (arith, more, i.told (λ k. 1), r.light.limit)
-
-pub pour_row-requires-clause-fits : goal.pour_row-requires-clause-fits
-pour_row-requires-clause-fits g c = λ d.
-    let r = c.requires in
-    let i = c.loop-place.invariant in
-    let more = shift-more (g.S.Stages.network c.args.stages.now) c.args.stage (g.S.Roomed.room_width c.args.stages.now) c.args.rows.now.rows _ _ _ r.here.nodes r.listed.listed.arcs.fine r.listed.shifts c.args.target c.loop-place.place c.loop-place-test.true i.low i.here c.index.result.now c.index.ensures c.arc-arc.result.weight (c.arc-arc.ensures.weight no_arc) d (λ k. 1) in
-    omega (arith, more, i.told (λ k. 1), r.light.fits)
+    record { limit = omega (arith, more, i.told (λ k. 1), r.light.limit); fits = omega (arith, more, i.told (λ k. 1), r.light.fits) }
 
 pub loop-place-smaller : goal.loop-place-smaller
 loop-place-smaller g c =

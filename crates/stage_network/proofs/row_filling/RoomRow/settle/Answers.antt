@@ -1,17 +1,13 @@
-use Rattle.std.proofs.Common.{◌≡◌, ◌+◌, ℕ, List, length, map, ap, sym, ◌∙◌, arith, rules, FitsSigned}
+use Rattle.std.proofs.Common.{◌+◌, ℕ, List, length, map, ap, sym, ◌∙◌, arith, rules, FitsSigned}
 use Rattle.std.specs.Prelude.{ℤ, pos}
 use Rattle.std.proofs.lemmas.Int.{to_z-of_z}
 use Rattle.std.proofs.lemmas.List.{with_items_is}
 use mir.Syntax.{w128}
 use Rattle.node_pool.specs.Nodes.{Node}
 use Rattle.dense_rows.specs.Rows.{row_nodes}
-use Rattle.weights.specs.declared.tails.Tails.{Tails}
-use Rattle.stage_network.specs.declared.tail_sums.TailSums.{TailSums}
-use Rattle.stage_network.specs.declared.tail_sums.Kept.TheVariants.{Open}
 use Rattle.stage_network.specs.Network.{Network}
 use Rattle.stage_network.specs.ArcSteps.{lift}
 use Rattle.stage_network.specs.SweepSteps.{sum_for}
-use Rattle.stage_network.specs.RowSteps.{IsRowSettled}
 use Rattle.stage_network.proofs.Sweeps.{closed-weighted, closed-none, staying-none}
 use Rattle.stage_network.proofs.row_filling.RoomRow.settle.Goals as goal
 

@@ -1,9 +1,8 @@
 use Rattle.std.proofs.Common.{◌≡◌, ◌++◌, ◌∷◌, [], take, ℕ, List, length, ap, sym, subst, refl, ◌∙◌}
 use Rattle.std.specs.Prelude.{ℤ}
-use Rattle.std.specs.List.{Contains}
 use Rattle.std.proofs.lemmas.List.{with_items_is}
 use Rattle.node_pool.specs.Pool.{IsPlaced}
-use Rattle.stage_network.specs.Network.{Network, IsReached}
+use Rattle.stage_network.specs.Network.{Network}
 use Rattle.stage_network.specs.ArcSteps.{Arc}
 use Rattle.stage_network.proofs.stage_arcs.StageArcs.add_arc.Goals as goal
 

@@ -1,6 +1,5 @@
 use Rattle.std.proofs.Common.{◌≡◌, ℕ, List, length, get_or, refl, ap, sym, subst, ◌∙◌}
 use Rattle.std.specs.Prelude.{ℤ}
-use Rattle.std.specs.List.{Contains}
 use Rattle.std.proofs.lemmas.List.{with_items_is}
 use Rattle.node_pool.specs.Nodes.{Node}
 use Rattle.stage_network.specs.Network.{Network, IsReached, pending}

@@ -1,19 +1,18 @@
-use Rattle.std.proofs.Common.{◌≡◌, ◌<◌, ◌+◌, ◌++◌, ℕ, suc, List, [], Bool, length, ap, sym, subst, ◌∙◌, arith, refl, nat_lt}
+use Rattle.std.proofs.Common.{◌≡◌, ◌<◌, ◌+◌, ℕ, suc, List, [], length, ap, sym, subst, ◌∙◌, arith, refl}
 use Rattle.std.specs.Prelude.{ℤ}
 use Rattle.std.specs.List.{IsDistinct}
 use Rattle.node_pool.specs.Nodes.{Node, node, key_eq, keys, weighted}
 use Rattle.stage_network.specs.declared.stage_arcs.StageArcs.{StageArcs}
-use Rattle.node_pool.proofs.Puts.{none_distinct}
 use Rattle.weights.specs.declared.tails.Tail.TheVariants.{Less}
 use Rattle.stage_network.specs.Network.{Network}
 use Rattle.stage_network.specs.Completions.{total_weight}
-use Rattle.stage_network.specs.NodeSteps.{AllHeavy}
 use Rattle.stage_network.specs.StageSteps.{Housed}
 use Rattle.stage_network.specs.ArcSteps.{Arc, spread_out, bucket, firsts, lift}
-use Rattle.stage_network.specs.SweepSteps.{sum_for, stays, closed_at, counted, staying, HasSwept, IsShaped}
+use Rattle.stage_network.specs.SweepSteps.{sum_for, closed_at, staying, HasSwept, IsShaped}
 use Rattle.stage_network.proofs.Roomwise.{lift-heavy, lift-distinct}
-use Rattle.stage_network.proofs.Gathered.{firsts-none, firsts-more, firsts-all, spread-heavy, spread-before, filled-reached, filled-here, bucket-fits, bucket-light, kept-apart, kept-heavy, clash}
-use Rattle.stage_network.proofs.Sweeps.{told-more, kept-holds, closed-le, counted-le, counted-more, counted-nothing}
+use Rattle.stage_network.proofs.Gathered.{filled-reached, bucket-fits, bucket-light}
+use Rattle.stage_network.proofs.Sweeps.{closed-le, counted-le}
+use Rattle.stage_network.proofs.Gathering.{gathering-first, gathering-next, all-gathered}
 use Rattle.stage_network.proofs.Courses.{sweeping-here, next-light, swept-next}
 use Rattle.stage_network.proofs.sweep.Sweep.advance.Goals as goal
 
@@ -29,7 +28,6 @@ loop-target-init g c =
     let n : Network = g.S.Stages.network c.args.stages.now in
     let s = c.requires.1.1.1 in
     let was = c.args.self.now in
-    let none : spread_out n was.stage was.nodes.nodes (firsts 0 c.list.new.self.arcs.arcs) ≡ [] = ap (spread_out n was.stage was.nodes.nodes) (firsts-none c.list.new.self.arcs.arcs) in
     record {
       keeps = refl;
       stands = refl;
@@ -40,11 +38,7 @@ loop-target-init g c =
       ahead = record { room_width = c.clear.ensures.room_width ∙ s.stores.ahead.room_width; wide = c.clear.ensures.width ∙ s.stores.ahead.wide };
       pool = s.stores.pool;
       light = next-light n s.lawful _ _ s.starts s.gone was.stage was.keep s.stands c.requires.1.1.0 s.keeps was.sums was.nodes.nodes (spread_out n was.stage was.nodes.nodes c.list.new.self.arcs.arcs) s.swept c.in_ok-list.ensures.listed.told;
-      sum = λ t. rw none (omega arith);
-      opened = λ t. rw c.clear.ensures.nodes (counted-nothing n was.keep t (was.stage + 1) (sum_for was.sums t).opened);
-      told = λ f. rw (c.clear.ensures.nodes, none) refl;
-      distinct = rw c.clear.ensures.nodes none_distinct;
-      heavy = rw c.clear.ensures.nodes tt;
+      gathering = gathering-first n was.keep was.stage was.nodes.nodes c.list.new.self.arcs.arcs was.sums _ c.clear.ensures.nodes;
     }
 
 pub fill-requires-clause-light : goal.fill-requires-clause-light
@@ -83,9 +77,9 @@ settle-requires g c =
         i.light t,
         c.requires.1.1.1.starts.light.fits,
         closed-le n was.keep t (s + 1) (spread_out n s nodes (firsts c.loop-target.target arcs)),
-        i.sum t,
+        i.gathering.sum t,
       );
-      few = λ t. omega (arith, i.opened t, counted-le n was.keep t (s + 1) was.ahead.nodes, c.requires.1.1.1.few t, i.stands, i.here.nodes.before, c.stages-count.ensures.count);
+      few = λ t. omega (arith, i.gathering.opened t, counted-le n was.keep t (s + 1) was.ahead.nodes, c.requires.1.1.1.few t, i.stands, i.here.nodes.before, c.stages-count.ensures.count);
       room_is = long;
       long = omega (arith, long, c.in_ok-fill.ensures.fitted.wide);
       here = i.ahead.room_width ∙ sym long;
@@ -95,31 +89,16 @@ settle-requires g c =
 pub loop-target-preserved : goal.loop-target-preserved
 loop-target-preserved g c =
     let n : Network = g.S.Stages.network c.args.stages.now in
-    let width : ℕ = g.S.Roomed.room_width c.args.stages.now in
     let was = c.loop-target.self in
     let i = c.loop-target.invariant in
-    let s : ℕ = was.stage in
-    let keep = was.keep in
-    let nodes : List Node = was.nodes.nodes in
     let rooms : List Node = was.arcs.rooms.nodes in
     let arcs : List Arc = was.arcs.arcs.arcs in
-    let t : ℕ = c.loop-target.target in
-    let low : t < length rooms = omega (arith, c.loop-target-test.true, c.len-target-end.ensures.count, ap (λ (a : StageArcs). length a.rooms.nodes) i.arcs) in
+    let low : c.loop-target.target < length rooms = omega (arith, c.loop-target-test.true, c.len-target-end.ensures.count, ap (λ (a : StageArcs). length a.rooms.nodes) i.arcs) in
     let apart : IsDistinct key_eq (keys rooms) = subst (λ (a : StageArcs). IsDistinct key_eq (keys a.rooms.nodes)) (sym i.arcs) c.len-target-end.ensures.apart in
     let e : Node = node [] 0 in
     let r : List ℤ = c.key.result.now in
     let partials : List Node = c.fill.new.self.partials.nodes in
-    let work : List Node = lift r partials in
-    let before : List Node = spread_out n s nodes (firsts t arcs) in
-    let here : List Node = spread_out n s nodes (bucket t arcs) in
-    let after : List Node = spread_out n s nodes (firsts (t + 1) arcs) in
-    let heavy : AllHeavy work = lift-heavy r partials c.in_ok-fill.ensures.heavy in
-    let told : (f : List ℤ → ℕ) → weighted f work ≡ weighted f here = λ f. told_of f r _ partials _ (c.key.ensures.key e) (c.in_ok-fill.ensures.told e f) in
-    let more : (f : List ℤ → ℕ) → weighted f after ≡ weighted f before + weighted f here = λ f. firsts-more n s nodes f t arcs in
-    let p : List ℤ → Bool = stays n keep (s + 1) in
-    let kept : List Node = was.ahead.nodes in
-    let is : c.settle.new.kept.nodes ≡ kept ++ staying n keep (s + 1) work = c.in_ok-self.ensures.nodes in
-    let solid : AllHeavy before = spread-heavy n s width nodes rooms i.here.nodes (λ a. nat_lt a.target t) arcs i.listed.arcs.fine in
+    let told : (f : List ℤ → ℕ) → weighted f (lift r partials) ≡ weighted f (spread_out n was.stage was.nodes.nodes (bucket c.loop-target.target arcs)) = λ f. told_of f r _ partials _ (c.key.ensures.key e) (c.in_ok-fill.ensures.told e f) in
     record {
       keeps = i.keeps;
       stands = i.stands;
@@ -130,13 +109,7 @@ loop-target-preserved g c =
       ahead = record { room_width = c.in_ok-self.ensures.here ∙ c.key.ensures.wide ∙ i.listed.fitted.rooms; wide = c.in_ok-self.ensures.wide ∙ i.ahead.wide };
       pool = c.in_ok-fill.ensures.fitted;
       light = i.light;
-      sum = λ t. omega (arith, c.in_ok-self.ensures.sum t, i.sum t, told (closed_at n keep t (s + 1)), more (closed_at n keep t (s + 1)));
-      opened = λ t. omega (arith, c.in_ok-self.ensures.opened t, i.opened t, ap (counted n keep t (s + 1)) is, counted-more n keep t (s + 1) kept work);
-      told = λ f. ap (weighted f) is ∙ told-more p kept work before here after i.told told more f;
-      distinct = rw is (kept-apart p kept work _ _ (clash width rooms t e apart low) i.distinct (lift-distinct r partials c.len-apart.ensures.apart)
-          (kept-holds _ p kept before i.heavy solid (spread-before n s width nodes rooms i.here.nodes e t arcs i.listed.arcs.fine) i.told)
-          (filled-here n s width nodes rooms i.here.nodes t arcs i.listed.arcs.fine work heavy told e));
-      heavy = rw is (kept-heavy p kept work i.heavy heavy);
+      gathering = gathering-next n was.keep was.stage was.nodes.nodes arcs _ (g.S.Roomed.room_width c.args.stages.now) rooms i.here.nodes i.listed.arcs.fine c.loop-target.target low apart was.sums _ was.ahead.nodes _ (lift r partials) i.gathering (lift-heavy r partials c.in_ok-fill.ensures.heavy) (lift-distinct r partials c.len-apart.ensures.apart) told c.in_ok-self.ensures.nodes c.in_ok-self.ensures.sum c.in_ok-self.ensures.opened;
     }
 
 pub fill-requires-clause-here : goal.fill-requires-clause-here
@@ -171,15 +144,15 @@ returns-clause-sweeping g c =
     let s = c.requires.1.1.1 in
     let all : List Node = spread_out n was.stage was.nodes.nodes was.arcs.arcs.arcs in
     let last : c.loop-target.target ≡ length was.arcs.rooms.nodes = omega (arith, c.loop-target-test.false, c.loop-target.auto.target-end, c.len-target-end.ensures.count, ap (λ (a : StageArcs). length a.rooms.nodes) i.arcs) in
-    let done : spread_out n was.stage was.nodes.nodes (firsts c.loop-target.target was.arcs.arcs.arcs) ≡ all = ap (λ m. spread_out n was.stage was.nodes.nodes (firsts m was.arcs.arcs.arcs)) last ∙ ap (spread_out n was.stage was.nodes.nodes) (firsts-all n was.stage _ was.nodes.nodes _ was.arcs.arcs.arcs i.listed.arcs.fine) in
+    let done = all-gathered n was.keep was.stage was.nodes.nodes was.arcs.arcs.arcs c.args.self.now.sums _ _ i.here.nodes i.listed.arcs.fine c.loop-target.target last in
     let at : was.stage ≡ g.course.stage + s.gone = i.stands ∙ s.stands in
     let before : was.stage < n.count = i.here.nodes.before in
     let swept : HasSwept n g.course s.gone c.args.self.now.sums was.nodes.nodes = subst (λ (h : Housed). HasSwept n g.course s.gone c.args.self.now.sums h.nodes) (sym i.nodes) s.swept in
     let next : HasSwept n g.course (suc s.gone) was.sums was.ahead.nodes =
     swept-next n s.lawful _ g.course s.starts s.gone was.stage was.keep at before (i.keeps ∙ s.keeps) c.args.self.now.sums was.nodes.nodes all swept i.listed.told was.sums was.ahead.nodes
-    (λ f. i.told f ∙ ap (λ ns. weighted f (staying n was.keep (was.stage + 1) ns)) done)
-    (λ t. i.sum t ∙ ap (λ ns. (sum_for c.args.self.now.sums t).sum + weighted (closed_at n was.keep t (was.stage + 1)) ns) done)
-    i.opened i.distinct i.heavy in
+    (λ f. i.gathering.told f ∙ ap (λ ns. weighted f (staying n was.keep (was.stage + 1) ns)) done)
+    (λ t. i.gathering.sum t ∙ ap (λ ns. (sum_for c.args.self.now.sums t).sum + weighted (closed_at n was.keep t (was.stage + 1)) ns) done)
+    i.gathering.opened i.gathering.distinct i.gathering.heavy in
     record {
       lawful = s.lawful;
       starts = s.starts;
@@ -195,5 +168,5 @@ returns-clause-sweeping g c =
       stands = omega (arith, at);
       within = omega (arith, before);
       swept = subst (λ (h : Housed). HasSwept n g.course (suc s.gone) was.sums h.nodes) (sym c.swap.ensures.x_after) next;
-      few = λ t. omega (arith, i.opened t, s.few t, i.stands, counted-le n was.keep t (was.stage + 1) was.ahead.nodes, c.len-held.ensures, ap (λ (h : Housed). length h.nodes) c.swap.ensures.x_after);
+      few = λ t. omega (arith, i.gathering.opened t, s.few t, i.stands, counted-le n was.keep t (was.stage + 1) was.ahead.nodes, c.len-held.ensures, ap (λ (h : Housed). length h.nodes) c.swap.ensures.x_after);
     }

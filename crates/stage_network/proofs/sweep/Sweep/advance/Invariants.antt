@@ -1,13 +1,11 @@
 use Rattle.std.proofs.Common.{◌≡◌, ◌≤◌, ◌+◌, ℕ, List, length}
-use Rattle.std.specs.Prelude.{ℤ}
-use Rattle.std.specs.List.{IsDistinct}
-use Rattle.node_pool.specs.Nodes.{Node, key_eq, keys, weighted}
+use Rattle.node_pool.specs.Nodes.{Node, weighted}
 use Rattle.stage_network.specs.Network.{Network}
 use Rattle.stage_network.specs.Completions.{total_weight}
-use Rattle.stage_network.specs.NodeSteps.{AllHeavy}
-use Rattle.stage_network.specs.ArcSteps.{Arc, firsts, spread_out}
-use Rattle.stage_network.specs.SweepSteps.{AreHere, AreListed, IsFitted, IsShaped, sum_for, closed_at, counted, staying}
+use Rattle.stage_network.specs.ArcSteps.{Arc, spread_out}
+use Rattle.stage_network.specs.SweepSteps.{AreHere, AreListed, IsFitted, IsShaped, sum_for}
 use Rattle.weights.specs.declared.tails.Tail.{Tail}
+use Rattle.stage_network.proofs.Gathering.{IsGathering}
 use Rattle.stage_network.proofs.sweep.Sweep.advance.Given as goal
 
 -- the rooms before this one are settled
@@ -18,7 +16,6 @@ invariant-loop-target g l =
     let next : ℕ = l.self.stage + 1 in
     let from : List Node = l.self.nodes.nodes in
     let by : List Arc = l.self.arcs.arcs.arcs in
-    let done : List Node = spread_out n l.self.stage from (firsts l.target by) in
     record {
       keeps : l.self.keep ≡ l.fn.self.keep;
       stands : l.self.stage ≡ l.fn.self.stage;
@@ -29,9 +26,5 @@ invariant-loop-target g l =
       ahead : IsShaped n width l.self.ahead;
       pool : IsFitted n width (g.S.Roomed.step_width l.stages) l.self.pool;
       light : (t : Tail) → (sum_for l.fn.self.sums t).sum + weighted (total_weight n next) (spread_out n l.self.stage from by) ≤ weighted (total_weight n g.course.stage) g.course.nodes;
-      sum : (t : Tail) → (sum_for l.self.sums t).sum ≡ (sum_for l.fn.self.sums t).sum + weighted (closed_at n l.self.keep t next) done;
-      opened : (t : Tail) → (sum_for l.self.sums t).opened ≡ (sum_for l.fn.self.sums t).opened + counted n l.self.keep t next l.self.ahead.nodes;
-      told : (f : List ℤ → ℕ) → weighted f l.self.ahead.nodes ≡ weighted f (staying n l.self.keep next done);
-      distinct : IsDistinct key_eq (keys l.self.ahead.nodes);
-      heavy : AllHeavy l.self.ahead.nodes;
+      gathering : IsGathering n l.self.keep l.self.stage from by l.target l.fn.self.sums l.self.sums l.self.ahead.nodes;
     }
