@@ -1,11 +1,11 @@
 -- Rows kept in lists of rooms, of cells and of heads.
-use Rattle.std.proofs.Common.{◌≡◌, ℕ, zero, suc, ◌+◌, ◌*◌, ◌<◌, ◌≤◌, List, [], ◌∷◌, ◌++◌, length, take, drop, get_or, refl, ◌∙◌, ap, arith}
+use Rattle.std.proofs.Common.{◌≡◌, ℕ, zero, suc, ◌+◌, ◌*◌, ◌<◌, ◌≤◌, List, [], ◌∷◌, ◌++◌, length, take, drop, get_or, refl, sym, ◌∙◌, ap, arith}
 use Rattle.std.specs.Prelude.{ℤ, pos}
 use Rattle.std.specs.List.{AllByRecursion}
 use Rattle.std.proofs.lemmas.List.{drop-drop, take_all, take-append-le, drop-append-le, length-drop, length-append, length_push}
 use Rattle.stage_network.proofs.Roomwise.{all_at}
 use Rattle.stage_network.specs.declared.row_heads.Head.{Head}
-use Rattle.stage_network.specs.RowSteps.{Row, AreRows, rows_of}
+use Rattle.stage_network.specs.RowSteps.{Row, RowList, AreRows, rows_of}
 
 abbrev pub row_at : ℕ → List ℤ → List ℕ → ℕ → Head → Row
 row_at width rooms cells i h = record { room = take width (drop (i * width) rooms); lowest = h.lowest; stride = pos h.stride; cells = take h.len (drop h.start cells) }
@@ -24,6 +24,14 @@ rows-at width rooms cells (a ∷ heads) (suc i) d e h =
     let on : width + i * width ≡ suc i * width = omega arith in
     rows-at width (drop width rooms) cells heads i d e (omega (arith, h))
     ∙ ap (λ r. record { room = take width r; lowest = (get_or heads i e).lowest; stride = pos (get_or heads i e).stride; cells = take (get_or heads i e).len (drop (get_or heads i e).start cells) }) (drop-drop (i * width) width rooms ∙ ap (λ m. drop m rooms) on)
+
+-- a row of a list, by its head
+module _ (width : ℕ) (rooms : List ℤ) (cells : List ℕ) (heads : List Head) (all : RowList) (is : record { width = width; rows = rows_of width rooms cells heads } ≡ all) (i : ℕ) (low : i < length all.rows) where
+  pub row-below : i < length heads
+  row-below = omega (arith, low, ap (λ (p : RowList). length p.rows) is, length-rows width rooms cells heads)
+
+  pub row-is : (d : Row) (e : Head) → row_at width rooms cells i (get_or heads i e) ≡ get_or all.rows i d
+  row-is d e = sym (rows-at width rooms cells heads i d e row-below) ∙ ap (λ (p : RowList). get_or p.rows i d) is
 
 -- cells behind others
 behind : (cells more : List ℕ) → take (length more) (drop (length cells) (cells ++ more)) ≡ more

@@ -1,5 +1,5 @@
 // A room of the next stage, filled from all rows that lead there.
-ghost use Rattle.std.specs.Prelude.{◌≡◌, ℕ, ℤ, pos, ◌+◌, ◌*◌, ◌<◌, ◌≤◌, List, [], ◌∷◌, length};
+ghost use Rattle.std.specs.Prelude.{◌≡◌, ℕ, ℤ, pos, ◌+◌, ◌*◌, ◌<◌, List, [], ◌∷◌, length};
 ghost use Rattle.std.specs.Prelude.{map, replicate, true, OnOk, IfOk, slice_index_or};
 ghost use Rattle.node_pool.specs.Nodes.{Node, node, weighted};
 ghost use Rattle.dense_rows.specs.Rows.{row_nodes};

@@ -1,11 +1,11 @@
 // What is decided in a room, stretch by stretch, and which of its cells stay open.
-ghost use Rattle.std.specs.Prelude.{◌≡◌, ℕ, ℤ, pos, ◌+ℤ◌, ◌+◌, ◌-◌, ◌*◌, ◌<◌, ◌≤◌, List, [], ◌∷◌};
+ghost use Rattle.std.specs.Prelude.{◌≡◌, ℕ, ℤ, pos, ◌+ℤ◌, ◌+◌, ◌-◌, ◌*◌, ◌<◌, ◌≤◌, [], ◌∷◌};
 ghost use Rattle.std.specs.Prelude.{◌++◌, length, map, cond, true, false};
 ghost use Rattle.std.specs.Prelude.{take, drop, OnOk, IfOk, slice_index_or, if◌then◌else◌};
 ghost use Rattle.weights.specs.declared.tails.Tail.{Tail};
 ghost use Rattle.weights.specs.declared.TheConstants.{MAX};
 ghost use Rattle.node_pool.specs.Nodes.{weighted};
-ghost use Rattle.dense_rows.specs.Rows.{row_nodes, stepped};
+ghost use Rattle.dense_rows.specs.Rows.{row_nodes};
 ghost use Rattle.stage_network.specs.Network.{IsReached};
 ghost use Rattle.stage_network.specs.Completions.{is_inside};
 ghost use Rattle.stage_network.specs.Opened.{is_undecided};
