@@ -41,9 +41,9 @@ answered-rows name asking settings rows result answers = elim (each-name name) [
   | inl shift ↦ subst (λ n. AnsweredRows n asking settings rows result) (sym shift)
       (record { outcome = subst (λ n. AnswersRows n asking settings rows result) shift answers; answerable = λ other. absurd (other refl) })
   | inr a ↦ record {
-      outcome = subst (λ wanted. Meets wanted result) (sym (a.outcome asking settings rows)) (meets _ _ result (a.answers asking settings rows result answers));
-      answerable = λ other. also-holds _ _ result (a.answers asking settings rows result answers);
-    }
+    outcome = subst (λ wanted. Meets wanted result) (sym (a.outcome asking settings rows)) (meets _ _ result (a.answers asking settings rows result answers));
+    answerable = λ other. also-holds _ _ result (a.answers asking settings rows result answers);
+  }
 ]
 
 -- ---- bytes, and what a source holds
