@@ -16,7 +16,8 @@ use Rattle.homogeneity.specs.RankRooms.{added_by, column_at, column_ranks, colum
 use Rattle.homogeneity.specs.StratifiedRanks.{ranked_strata_test, two_sizes}
 use Rattle.homogeneity.specs.declared.rank_columns.Column.{Column}
 use Rattle.homogeneity.proofs.RankData.{IsStratum, columns-ranks, columns-sizes, columns-sound, second-within}
-use Rattle.homogeneity.proofs.RankLaw.{at-drop, gather, none-behind, rest-drop, second_counts, ways_give}
+use Rattle.homogeneity.proofs.RankLaw.{at-drop, none-behind, rest-drop, second_counts, ways_give}
+use Rattle.homogeneity.proofs.WaySums.{gather}
 use Rattle.homogeneity.proofs.TwoParts.{ones}
 
 -- ---- the sum of the labelled ranks
