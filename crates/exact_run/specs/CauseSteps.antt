@@ -20,6 +20,7 @@ use Rattle.exact_run.specs.Question.{Question, prepare_refusal, question_about}
 use Rattle.exact_run.specs.Questions.{question_for}
 use Rattle.exact_run.specs.ShiftReports.{shift_of}
 use Rattle.exact_run.specs.declared.reports.Asking.{Asking}
+use Rattle.exact_run.specs.declared.requests.Request.{Request}
 
 -- a refusal of data is the wanted one, or want of memory
 abbrev pub IsCauseOf : {X : Type 0} → Result X Refusal → Refusal → Type 0
@@ -45,6 +46,12 @@ abbrev pub Answers : Asking → Result Question Refusal → Outcome → Type 0
 Answers asking question result =
     let answerable = IfSome asking.piece (λ part. IsAnswerable asking.tail question) in
     MeetsAnd answerable (and_then (outcome_of_question asking) question) result
+
+-- the same of a question about the settings and the rows of a request
+abbrev pub Fulfils : Request → (Settings → List (List (List ℕ)) → Result Question Refusal)
+    → Outcome → Type 0
+Fulfils request question result =
+    Answers request.asking (question request.settings.now request.rows.now) result
 
 -- what the settings ask of the rows; a shift is no test
 abbrev pub AnswersRows : TestName → Asking → Settings → List (List (List ℕ)) → Outcome → Type 0

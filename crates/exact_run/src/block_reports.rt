@@ -5,13 +5,13 @@ ghost use Rattle.weights.specs.Results.{with_fault};
 ghost use Rattle.sample_reader.specs.Data.{block_data_of};
 ghost use Rattle.block_tests.specs.BlockTests.{TakesCells, has_tail};
 ghost use Rattle.exact_run.specs.BlockQuestions.{block_sizes, blocks_of, blocks_read, layout_read};
-ghost use Rattle.exact_run.specs.CauseSteps.{Answers, IsCauseOf};
-ghost use Rattle.exact_run.specs.Outcome.{HasParts, tails_by};
+ghost use Rattle.exact_run.specs.CauseSteps.{Fulfils, IsCauseOf};
+ghost use Rattle.exact_run.specs.Outcome.{tails_by};
 ghost use Rattle.exact_run.specs.Question.{layout_refusal};
 
-use crate::dropping::dropped_told;
 use crate::refusing::layout_refusal;
-use crate::reports::{ALL, Asking, GREATER, Heading, report_on};
+use crate::reports::{ALL, GREATER, report_on};
+use crate::requests::Request;
 use block_tests::{BlockKind, prepare};
 use record_reader::Rows;
 use report::{Extra, Refusal, Sizes};
@@ -74,20 +74,13 @@ fn sizes_of(blocks: &Blocks) -> Sizes
 pub(crate) fn block_report(
     alloc: Global,
     kind: BlockKind,
-    asking: Asking,
-    settings: &Settings,
-    rows: &Rows,
+    request: &Request,
 ) -> Result<Bytes, Refusal>
-    requires parts { HasParts asking }
-    requires picks { MayPick 2 8 settings.now.picks }
-    ensures { Answers asking (blocks_of kind settings.now rows.now) result }
+    requires { MayPick 2 8 request.now.settings.now.picks }
+    ensures { Fulfils request.now (blocks_of kind) result }
 {
-    let blocks = blocks_read(alloc, kind, settings, rows)?;
+    let blocks = blocks_read(alloc, kind, request.settings, request.rows)?;
     let problem = prepare(alloc, kind, &blocks);
-    let heading = Heading {
-        sizes: sizes_of(&blocks),
-        dropped: dropped_told(settings, layout_read(kind), rows),
-        extra: Extra::None,
-    };
-    report_on(alloc, asking, &heading, tails_of(kind), problem)
+    let heading = request.heading(sizes_of(&blocks), layout_read(kind), Extra::None);
+    report_on(alloc, request.asking, &heading, tails_of(kind), problem)
 }

@@ -20,6 +20,7 @@ use crate::merged::merged_report;
 use crate::questions::report_in;
 use crate::refusing::usage_refusal;
 use crate::reports::Asking;
+use crate::requests::Request;
 use crate::status::Status;
 use outside::{ReadFail, Sink, Source, read_all, write_all};
 use record_reader::records;
@@ -57,7 +58,14 @@ fn report_of(alloc: Global, settings: &Settings, bytes: &[u8]) -> Result<Bytes, 
         settings.now.test ≢ TestName.Shift → OnOk result answers }
 {
     match records(alloc, bytes, settings.separator) {
-        Ok(rows) => report_in(alloc, Asking::of(settings, bytes), settings, &rows),
+        Ok(rows) => {
+            let request = Request {
+                asking: Asking::of(settings, bytes),
+                settings,
+                rows: &rows,
+            };
+            report_in(alloc, &request)
+        }
         Err(_) => Err(Refusal::NoMemory),
     }
 }

@@ -4,14 +4,13 @@ ghost use Rattle.record_reader.specs.Layouts.{MayPick};
 ghost use Rattle.weights.specs.Results.{with_fault};
 ghost use Rattle.sample_reader.specs.Data.{data_of};
 ghost use Rattle.sample_reader.specs.GroupLayout.{groups_in};
-ghost use Rattle.exact_run.specs.CauseSteps.{Answers, IsCauseOf};
+ghost use Rattle.exact_run.specs.CauseSteps.{Fulfils, IsCauseOf};
 ghost use Rattle.exact_run.specs.GroupQuestions.{group_rows, groups_of, has_peak, in_order, kruskal_wallis_of, ordered_of, two_samples_of, umbrella_of};
-ghost use Rattle.exact_run.specs.Outcome.{HasParts};
 ghost use Rattle.exact_run.specs.Question.{layout_refusal};
 
-use crate::dropping::dropped_told;
 use crate::refusing::layout_refusal;
-use crate::reports::{ALL, Asking, GREATER, Heading, report_on};
+use crate::reports::{ALL, GREATER, report_on};
+use crate::requests::Request;
 use k_sample_tests::{prepare_kw, prepare_umbrella};
 use record_reader::Rows;
 use report::{Extra, Refusal, Sizes};
@@ -95,65 +94,38 @@ pub(crate) fn sizes_of(groups: Groups) -> Sizes
 pub(crate) fn two_sample_report(
     alloc: Global,
     kind: ScoreKind,
-    asking: Asking,
-    settings: &Settings,
-    rows: &Rows,
+    request: &Request,
 ) -> Result<Bytes, Refusal>
-    requires parts { HasParts asking }
-    requires picks { MayPick 2 2 settings.now.picks }
-    ensures { Answers asking (two_samples_of kind settings.now rows.now) result }
+    requires { MayPick 2 2 request.now.settings.now.picks }
+    ensures { Fulfils request.now (two_samples_of kind) result }
 {
-    let groups = groups_of(alloc, TWO_SAMPLES, settings, rows)?;
+    let groups = groups_of(alloc, TWO_SAMPLES, request.settings, request.rows)?;
     let problem = prepare(alloc, kind, &groups);
-    let heading = Heading {
-        sizes: sizes_of(groups),
-        dropped: dropped_told(settings, Layout::Groups, rows),
-        extra: Extra::None,
-    };
-    report_on(alloc, asking, &heading, ALL, problem)
+    let heading = request.heading(sizes_of(groups), Layout::Groups, Extra::None);
+    report_on(alloc, request.asking, &heading, ALL, problem)
 }
 
 /// The report of the test of Kruskal and Wallis by the scores that are asked, or the refusal.
-pub(crate) fn kruskal_wallis_report(
-    alloc: Global,
-    asking: Asking,
-    settings: &Settings,
-    rows: &Rows,
-) -> Result<Bytes, Refusal>
-    requires parts { HasParts asking }
-    requires picks { MayPick 2 2 settings.now.picks }
-    ensures { Answers asking (kruskal_wallis_of settings.now rows.now) result }
+pub(crate) fn kruskal_wallis_report(alloc: Global, request: &Request) -> Result<Bytes, Refusal>
+    requires { MayPick 2 2 request.now.settings.now.picks }
+    ensures { Fulfils request.now kruskal_wallis_of result }
 {
-    let kind = settings.scores;
-    let groups = groups_of(alloc, MOST_SAMPLES, settings, rows)?;
+    let kind = request.settings.scores;
+    let groups = groups_of(alloc, MOST_SAMPLES, request.settings, request.rows)?;
     let problem = prepare_kw(alloc, kind, &groups);
-    let heading = Heading {
-        sizes: sizes_of(groups),
-        dropped: dropped_told(settings, Layout::Groups, rows),
-        extra: Extra::Scores(kind),
-    };
-    report_on(alloc, asking, &heading, GREATER, problem)
+    let heading = request.heading(sizes_of(groups), Layout::Groups, Extra::Scores(kind));
+    report_on(alloc, request.asking, &heading, GREATER, problem)
 }
 
 /// The report of the test of ordered groups, or the refusal.
-pub(crate) fn ordered_report(
-    alloc: Global,
-    asking: Asking,
-    settings: &Settings,
-    rows: &Rows,
-) -> Result<Bytes, Refusal>
-    requires parts { HasParts asking }
-    requires picks { MayPick 2 2 settings.now.picks }
-    ensures { Answers asking (ordered_of settings.now rows.now) result }
+pub(crate) fn ordered_report(alloc: Global, request: &Request) -> Result<Bytes, Refusal>
+    requires { MayPick 2 2 request.now.settings.now.picks }
+    ensures { Fulfils request.now ordered_of result }
 {
-    let groups = groups_of(alloc, MOST_SAMPLES, settings, rows)?;
+    let groups = groups_of(alloc, MOST_SAMPLES, request.settings, request.rows)?;
     let problem = prepare_umbrella(alloc, groups.labels.len() as u64, &groups);
-    let heading = Heading {
-        sizes: sizes_of(groups),
-        dropped: dropped_told(settings, Layout::Groups, rows),
-        extra: Extra::None,
-    };
-    report_on(alloc, asking, &heading, ALL, problem)
+    let heading = request.heading(sizes_of(groups), Layout::Groups, Extra::None);
+    report_on(alloc, request.asking, &heading, ALL, problem)
 }
 
 // The peak is the number of a group.
@@ -164,26 +136,16 @@ fn has_peak(peak: u64, groups: &Groups) -> bool
 }
 
 /// The report of the test of groups that are ordered up to a peak and down from it, or the refusal.
-pub(crate) fn umbrella_report(
-    alloc: Global,
-    asking: Asking,
-    settings: &Settings,
-    rows: &Rows,
-) -> Result<Bytes, Refusal>
-    requires parts { HasParts asking }
-    requires picks { MayPick 2 2 settings.now.picks }
-    ensures { Answers asking (umbrella_of settings.now rows.now) result }
+pub(crate) fn umbrella_report(alloc: Global, request: &Request) -> Result<Bytes, Refusal>
+    requires { MayPick 2 2 request.now.settings.now.picks }
+    ensures { Fulfils request.now umbrella_of result }
 {
-    let peak = settings.peak;
-    let groups = groups_of(alloc, MOST_SAMPLES, settings, rows)?;
+    let peak = request.settings.peak;
+    let groups = groups_of(alloc, MOST_SAMPLES, request.settings, request.rows)?;
     if !has_peak(peak, &groups) {
         return Err(Refusal::Unfit(OptionName::Peak));
     }
     let problem = prepare_umbrella(alloc, peak, &groups);
-    let heading = Heading {
-        sizes: sizes_of(groups),
-        dropped: dropped_told(settings, Layout::Groups, rows),
-        extra: Extra::Peak(peak),
-    };
-    report_on(alloc, asking, &heading, ALL, problem)
+    let heading = request.heading(sizes_of(groups), Layout::Groups, Extra::Peak(peak));
+    report_on(alloc, request.asking, &heading, ALL, problem)
 }

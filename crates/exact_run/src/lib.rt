@@ -12,6 +12,7 @@ mod parts;
 mod questions;
 mod refusing;
 mod reports;
+mod requests;
 mod sequence_reports;
 mod shift_reports;
 mod status;

@@ -3,14 +3,13 @@ ghost use Rattle.std.specs.Prelude.{◌≡◌, Ok, IfErr, IfOk};
 ghost use Rattle.record_reader.specs.Layouts.{MayPick};
 ghost use Rattle.weights.specs.Results.{with_fault};
 ghost use Rattle.sample_reader.specs.CellLayouts.{differences_in};
-ghost use Rattle.exact_run.specs.CauseSteps.{Answers, IsCauseOf};
-ghost use Rattle.exact_run.specs.Outcome.{HasParts};
+ghost use Rattle.exact_run.specs.CauseSteps.{Fulfils, IsCauseOf};
 ghost use Rattle.exact_run.specs.PairQuestions.{pair_sizes, pairs_of};
 ghost use Rattle.exact_run.specs.Question.{layout_refusal};
 
-use crate::dropping::dropped_told;
 use crate::refusing::layout_refusal;
-use crate::reports::{ALL, Asking, Heading, report_on};
+use crate::reports::{ALL, report_on};
+use crate::requests::Request;
 use one_sample_tests::{SignKind, prepare_pairs, used_pairs};
 use record_reader::Rows;
 use report::{Extra, Refusal, Sizes};
@@ -43,20 +42,13 @@ fn sizes_of(pairs: &Pairs) -> Sizes
 pub(crate) fn pair_report(
     alloc: Global,
     kind: SignKind,
-    asking: Asking,
-    settings: &Settings,
-    rows: &Rows,
+    request: &Request,
 ) -> Result<Bytes, Refusal>
-    requires parts { HasParts asking }
-    requires picks { MayPick 1 2 settings.now.picks }
-    ensures { Answers asking (pairs_of kind settings.now rows.now) result }
+    requires { MayPick 1 2 request.now.settings.now.picks }
+    ensures { Fulfils request.now (pairs_of kind) result }
 {
-    let pairs = pairs_read(alloc, settings, rows)?;
+    let pairs = pairs_read(alloc, request.settings, request.rows)?;
     let problem = prepare_pairs(alloc, kind, &pairs);
-    let heading = Heading {
-        sizes: sizes_of(&pairs),
-        dropped: dropped_told(settings, Layout::Pairs, rows),
-        extra: Extra::None,
-    };
-    report_on(alloc, asking, &heading, ALL, problem)
+    let heading = request.heading(sizes_of(&pairs), Layout::Pairs, Extra::None);
+    report_on(alloc, request.asking, &heading, ALL, problem)
 }

@@ -5,14 +5,13 @@ ghost use Rattle.weights.specs.Results.{with_fault};
 ghost use Rattle.sample_reader.specs.Data.{sequence_data_of, twin_data_of};
 ghost use Rattle.sample_reader.specs.Sequences.{sequence_in};
 ghost use Rattle.sample_reader.specs.Twins.{twins_in};
-ghost use Rattle.exact_run.specs.CauseSteps.{Answers, IsCauseOf};
-ghost use Rattle.exact_run.specs.Outcome.{HasParts};
+ghost use Rattle.exact_run.specs.CauseSteps.{Fulfils, IsCauseOf};
 ghost use Rattle.exact_run.specs.Question.{layout_refusal};
 ghost use Rattle.exact_run.specs.SequenceQuestions.{kendall_of, runs_of, sequence_sizes, twin_sizes};
 
-use crate::dropping::dropped_told;
 use crate::refusing::layout_refusal;
-use crate::reports::{ALL, Asking, Heading, report_on};
+use crate::reports::{ALL, report_on};
+use crate::requests::Request;
 use record_reader::Rows;
 use report::{Extra, Refusal, Sizes};
 use sample_reader::{Layout, Sequence, Twins, sequence, twins};
@@ -42,24 +41,14 @@ fn twin_sizes(twins: &Twins) -> Sizes
 }
 
 /// The report of Kendall's test, or the refusal.
-pub(crate) fn kendall_report(
-    alloc: Global,
-    asking: Asking,
-    settings: &Settings,
-    rows: &Rows,
-) -> Result<Bytes, Refusal>
-    requires parts { HasParts asking }
-    requires picks { MayPick 2 2 settings.now.picks }
-    ensures { Answers asking (kendall_of settings.now rows.now) result }
+pub(crate) fn kendall_report(alloc: Global, request: &Request) -> Result<Bytes, Refusal>
+    requires { MayPick 2 2 request.now.settings.now.picks }
+    ensures { Fulfils request.now kendall_of result }
 {
-    let twins = twins_read(alloc, settings, rows)?;
+    let twins = twins_read(alloc, request.settings, request.rows)?;
     let problem = prepare_kendall(alloc, &twins);
-    let heading = Heading {
-        sizes: twin_sizes(&twins),
-        dropped: dropped_told(settings, Layout::Twins, rows),
-        extra: Extra::None,
-    };
-    report_on(alloc, asking, &heading, ALL, problem)
+    let heading = request.heading(twin_sizes(&twins), Layout::Twins, Extra::None);
+    report_on(alloc, request.asking, &heading, ALL, problem)
 }
 
 // The sequence of the rows, or the refusal of its fault.
@@ -83,22 +72,12 @@ fn sequence_sizes(sequence: Sequence) -> Sizes
 }
 
 /// The report of the runs test, or the refusal.
-pub(crate) fn runs_report(
-    alloc: Global,
-    asking: Asking,
-    settings: &Settings,
-    rows: &Rows,
-) -> Result<Bytes, Refusal>
-    requires parts { HasParts asking }
-    requires picks { MayPick 1 1 settings.now.picks }
-    ensures { Answers asking (runs_of settings.now rows.now) result }
+pub(crate) fn runs_report(alloc: Global, request: &Request) -> Result<Bytes, Refusal>
+    requires { MayPick 1 1 request.now.settings.now.picks }
+    ensures { Fulfils request.now runs_of result }
 {
-    let sequence = sequence_read(alloc, settings, rows)?;
+    let sequence = sequence_read(alloc, request.settings, request.rows)?;
     let problem = prepare_runs(alloc, &sequence);
-    let heading = Heading {
-        sizes: sequence_sizes(sequence),
-        dropped: dropped_told(settings, Layout::Sequence, rows),
-        extra: Extra::None,
-    };
-    report_on(alloc, asking, &heading, ALL, problem)
+    let heading = request.heading(sequence_sizes(sequence), Layout::Sequence, Extra::None);
+    report_on(alloc, request.asking, &heading, ALL, problem)
 }

@@ -4,14 +4,13 @@ ghost use Rattle.record_reader.specs.Layouts.{MayPick};
 ghost use Rattle.weights.specs.Results.{with_fault};
 ghost use Rattle.sample_reader.specs.Data.{strata_data_of};
 ghost use Rattle.sample_reader.specs.StrataGroups.{strata_groups_in};
-ghost use Rattle.exact_run.specs.CauseSteps.{Answers, IsCauseOf};
-ghost use Rattle.exact_run.specs.Outcome.{HasParts};
+ghost use Rattle.exact_run.specs.CauseSteps.{Fulfils, IsCauseOf};
 ghost use Rattle.exact_run.specs.Question.{layout_refusal};
 ghost use Rattle.exact_run.specs.StrataGroupQuestions.{in_strata_order, strata_group_sizes, strata_groups_of, stratified_ranks_of};
 
-use crate::dropping::dropped_told;
 use crate::refusing::layout_refusal;
-use crate::reports::{ALL, Asking, Heading, report_on};
+use crate::reports::{ALL, report_on};
+use crate::requests::Request;
 use homogeneity::prepare_ranks;
 use record_reader::Rows;
 use report::{Extra, Refusal, Sizes};
@@ -68,22 +67,12 @@ fn sizes_of(samples: &StrataGroups) -> Sizes
 }
 
 /// The report of the rank sum test of two samples in strata, or the refusal.
-pub(crate) fn stratified_rank_report(
-    alloc: Global,
-    asking: Asking,
-    settings: &Settings,
-    rows: &Rows,
-) -> Result<Bytes, Refusal>
-    requires parts { HasParts asking }
-    requires picks { MayPick 3 3 settings.now.picks }
-    ensures { Answers asking (stratified_ranks_of settings.now rows.now) result }
+pub(crate) fn stratified_rank_report(alloc: Global, request: &Request) -> Result<Bytes, Refusal>
+    requires { MayPick 3 3 request.now.settings.now.picks }
+    ensures { Fulfils request.now stratified_ranks_of result }
 {
-    let samples = samples_of(alloc, settings, rows)?;
+    let samples = samples_of(alloc, request.settings, request.rows)?;
     let problem = prepare_ranks(alloc, &samples);
-    let heading = Heading {
-        sizes: sizes_of(&samples),
-        dropped: dropped_told(settings, Layout::StrataGroups, rows),
-        extra: Extra::None,
-    };
-    report_on(alloc, asking, &heading, ALL, problem)
+    let heading = request.heading(sizes_of(&samples), Layout::StrataGroups, Extra::None);
+    report_on(alloc, request.asking, &heading, ALL, problem)
 }

@@ -4,12 +4,13 @@ ghost use Rattle.record_reader.specs.Layouts.{MayPick};
 ghost use Rattle.weights.specs.Odds.{IsOdds};
 ghost use Rattle.weights.specs.Wide.{Prepares};
 ghost use Rattle.stratified_tests.specs.StrataTests.{data_of, strata_test, tails_with};
-ghost use Rattle.exact_run.specs.CauseSteps.{Answers, IsCauseOf};
-ghost use Rattle.exact_run.specs.Outcome.{HasParts, tails_by};
+ghost use Rattle.exact_run.specs.CauseSteps.{Fulfils, IsCauseOf};
+ghost use Rattle.exact_run.specs.Outcome.{tails_by};
 ghost use Rattle.exact_run.specs.StrataQuestions.{cells_of, strata_of, strata_sizes, zelen_of};
 
 use crate::refusing::layout_refusal;
-use crate::reports::{ALL, Asking, Heading, ONE_SIDED, TWO, report_on};
+use crate::reports::{ALL, Heading, ONE_SIDED, TWO, report_on};
+use crate::requests::Request;
 use crate::sums::cell_sum;
 use homogeneity::prepare_zelen;
 use record_reader::Rows;
@@ -67,35 +68,23 @@ fn tails_of(odds: Option<Odds>) -> Tails
 }
 
 /// The report of the test of strata, with odds where they are given, or the refusal.
-pub(crate) fn strata_report(
-    alloc: Global,
-    asking: Asking,
-    settings: &Settings,
-    rows: &Rows,
-) -> Result<Bytes, Refusal>
-    requires parts { HasParts asking }
-    requires picks { MayPick 5 5 settings.now.picks }
-    requires odds { IfSome settings.now.odds IsOdds }
-    ensures { Answers asking (strata_of settings.now rows.now) result }
+pub(crate) fn strata_report(alloc: Global, request: &Request) -> Result<Bytes, Refusal>
+    requires picks { MayPick 5 5 request.now.settings.now.picks }
+    requires odds { IfSome request.now.settings.now.odds IsOdds }
+    ensures { Fulfils request.now strata_of result }
 {
-    let strata = strata_read(alloc, settings, rows)?;
-    let problem = prepared(alloc, settings.odds, &strata);
-    let tails = tails_of(settings.odds);
-    report_on(alloc, asking, &heading_of(&strata), tails, problem)
+    let strata = strata_read(alloc, request.settings, request.rows)?;
+    let problem = prepared(alloc, request.settings.odds, &strata);
+    let tails = tails_of(request.settings.odds);
+    report_on(alloc, request.asking, &heading_of(&strata), tails, problem)
 }
 
 /// The report of the test of equal odds ratios in strata, or the refusal.
-pub(crate) fn zelen_report(
-    alloc: Global,
-    asking: Asking,
-    settings: &Settings,
-    rows: &Rows,
-) -> Result<Bytes, Refusal>
-    requires parts { HasParts asking }
-    requires picks { MayPick 5 5 settings.now.picks }
-    ensures { Answers asking (zelen_of settings.now rows.now) result }
+pub(crate) fn zelen_report(alloc: Global, request: &Request) -> Result<Bytes, Refusal>
+    requires { MayPick 5 5 request.now.settings.now.picks }
+    ensures { Fulfils request.now zelen_of result }
 {
-    let strata = strata_read(alloc, settings, rows)?;
+    let strata = strata_read(alloc, request.settings, request.rows)?;
     let problem = prepare_zelen(alloc, &strata);
-    report_on(alloc, asking, &heading_of(&strata), TWO, problem)
+    report_on(alloc, request.asking, &heading_of(&strata), TWO, problem)
 }

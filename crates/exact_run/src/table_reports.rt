@@ -9,12 +9,13 @@ ghost use Rattle.table_reader.specs.TableLayout.{table_shape};
 ghost use Rattle.table_reader.specs.declared.TheConstants.{MOST_TABLE_COLUMNS};
 ghost use Rattle.settings.specs.Usable.{AreWithin};
 ghost use Rattle.settings.specs.Values.{column_scores_form, row_scores_form};
-ghost use Rattle.exact_run.specs.CauseSteps.{Answers, IsCauseOf};
+ghost use Rattle.exact_run.specs.CauseSteps.{Answers, Fulfils, IsCauseOf};
 ghost use Rattle.exact_run.specs.Outcome.{HasParts};
 ghost use Rattle.exact_run.specs.TableQuestions.{fisher_of, fisher_question, fitting_scores, linear_of, mcnemar_of, odds_question, scores_or_numbers, table_of, table_sizes};
 
 use crate::refusing::layout_refusal;
 use crate::reports::{ALL, Asking, Heading, ONE_SIDED, report_on};
+use crate::requests::Request;
 use crate::sums::cell_sum;
 use one_sample_tests::prepare_mcnemar;
 use record_reader::Rows;
@@ -61,19 +62,13 @@ fn heading_of(table: &Table) -> Heading
 }
 
 /// The report of McNemar's test, or the refusal.
-pub(crate) fn mcnemar_report(
-    alloc: Global,
-    asking: Asking,
-    settings: &Settings,
-    rows: &Rows,
-) -> Result<Bytes, Refusal>
-    requires parts { HasParts asking }
-    requires picks { MayPick 2 2 settings.now.picks }
-    ensures { Answers asking (mcnemar_of settings.now rows.now) result }
+pub(crate) fn mcnemar_report(alloc: Global, request: &Request) -> Result<Bytes, Refusal>
+    requires { MayPick 2 2 request.now.settings.now.picks }
+    ensures { Fulfils request.now mcnemar_of result }
 {
-    let table = table_of(alloc, true, settings, rows)?;
+    let table = table_of(alloc, true, request.settings, request.rows)?;
     let problem = prepare_mcnemar(alloc, &table);
-    report_on(alloc, asking, &heading_of(&table), ALL, problem)
+    report_on(alloc, request.asking, &heading_of(&table), ALL, problem)
 }
 
 // The report of Fisher's exact test of a table without odds, or the refusal.
@@ -100,21 +95,15 @@ fn odds_report(alloc: Global, asking: Asking, odds: Odds, table: &Table) -> Resu
 }
 
 /// The report of Fisher's exact test, with odds where they are given, or the refusal.
-pub(crate) fn fisher_report(
-    alloc: Global,
-    asking: Asking,
-    settings: &Settings,
-    rows: &Rows,
-) -> Result<Bytes, Refusal>
-    requires parts { HasParts asking }
-    requires picks { MayPick 2 MOST_TABLE_COLUMNS settings.now.picks }
-    requires odds { IfSome settings.now.odds IsOdds }
-    ensures { Answers asking (fisher_of settings.now rows.now) result }
+pub(crate) fn fisher_report(alloc: Global, request: &Request) -> Result<Bytes, Refusal>
+    requires picks { MayPick 2 MOST_TABLE_COLUMNS request.now.settings.now.picks }
+    requires odds { IfSome request.now.settings.now.odds IsOdds }
+    ensures { Fulfils request.now fisher_of result }
 {
-    let table = table_of(alloc, false, settings, rows)?;
-    match settings.odds {
-        None => central_report(alloc, asking, &table),
-        Some(odds) => odds_report(alloc, asking, odds, &table),
+    let table = table_of(alloc, false, request.settings, request.rows)?;
+    match request.settings.odds {
+        None => central_report(alloc, request.asking, &table),
+        Some(odds) => odds_report(alloc, request.asking, odds, &table),
     }
 }
 
@@ -170,28 +159,27 @@ fn numbers(alloc: Global, count: u64) -> Result<Nums64, NoMemory>
 }
 
 /// The report of the linear-by-linear test, or the refusal.
-pub(crate) fn linear_report(
-    alloc: Global,
-    asking: Asking,
-    settings: &Settings,
-    rows: &Rows,
-) -> Result<Bytes, Refusal>
-    requires parts { HasParts asking }
-    requires picks { MayPick 2 MOST_TABLE_COLUMNS settings.now.picks }
-    requires row_scores { AreWithin row_scores_form settings.now.row_scores }
-    requires column_scores { AreWithin column_scores_form settings.now.column_scores }
-    ensures { Answers asking (linear_of settings.now rows.now) result }
+pub(crate) fn linear_report(alloc: Global, request: &Request) -> Result<Bytes, Refusal>
+    requires picks { MayPick 2 MOST_TABLE_COLUMNS request.now.settings.now.picks }
+    requires row_scores { AreWithin row_scores_form request.now.settings.now.row_scores }
+    requires column_scores { AreWithin column_scores_form request.now.settings.now.column_scores }
+    ensures { Fulfils request.now linear_of result }
 {
-    let table = table_of(alloc, false, settings, rows)?;
+    let table = table_of(alloc, false, request.settings, request.rows)?;
     let of_rows = OptionName::RowScores;
     let of_columns = OptionName::ColumnScores;
-    let row_scores = fitting_scores(alloc, of_rows, table.rows, &settings.row_scores)?;
-    let column_scores = fitting_scores(alloc, of_columns, table.columns, &settings.column_scores)?;
+    let row_scores = fitting_scores(alloc, of_rows, table.rows, &request.settings.row_scores)?;
+    let column_scores = fitting_scores(
+        alloc,
+        of_columns,
+        table.columns,
+        &request.settings.column_scores,
+    )?;
     let problem = prepare_linear(
         alloc,
         &table,
         row_scores.as_slice(),
         column_scores.as_slice(),
     );
-    report_on(alloc, asking, &heading_of(&table), ALL, problem)
+    report_on(alloc, request.asking, &heading_of(&table), ALL, problem)
 }

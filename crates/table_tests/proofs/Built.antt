@@ -1,17 +1,18 @@
--- Networks that are built of a measure, which they are seen as.
-use Rattle.std.proofs.Common.{◌≡◌, ℕ, ◌≤◌, List, length, refl, sym, subst, arith}
-use Rattle.weights.specs.declared.TheConstants.{MAX}
-use Rattle.weights.specs.Labellings.{number_of_labellings}
+-- A measure over the columns and the rows of a table.
+use Rattle.std.proofs.Common.{◌≡◌, arith}
 use Rattle.label_network.specs.LabelNetwork.{IsMargin}
 use Rattle.label_network.specs.Meanings.{Meaning}
+use Rattle.table_reader.specs.TableLayout.{TableData}
+use Rattle.table_tests.specs.Tables.{column_sums, row_sums}
+use Rattle.table_tests.specs.TableSteps.{IsTable}
+use Rattle.table_tests.proofs.MarginSums.{few-labels, some-labels}
 
--- a measure of some columns and rows
-pub margin-of : (m goal : Meaning) (columns rows : List ℕ) → m ≡ goal → columns ≡ goal.columns → rows ≡ goal.rows → goal.slots ≡ 1 → 2 ≤ length goal.rows → length goal.rows ≤ 8 → number_of_labellings goal.rows ≤ MAX → IsMargin m columns rows
-margin-of m goal columns rows e c r one some few total = subst (λ x. IsMargin x columns rows) (sym e) (rw (c, r) (record {
-  columns_are = refl;
-  rows_are = refl;
-  some = some;
-  few = few;
-  wide = omega (arith, few, one);
-  total = total;
-}))
+pub is-margin : (t : TableData) → IsTable t → (m : Meaning) → column_sums t ≡ m.columns → row_sums t ≡ m.rows → m.slots ≡ 1 → IsMargin m (column_sums t) (row_sums t)
+is-margin t i m columns rows one = record {
+  columns_are = columns;
+  rows_are = rows;
+  some = some-labels t i;
+  few = few-labels t i;
+  wide = omega (arith, few-labels t i, one);
+  total = i.total_fits;
+}

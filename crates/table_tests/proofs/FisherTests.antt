@@ -1,7 +1,7 @@
 -- What holds of Fisher's test of a table whose total passes no limit.
 use Rattle.std.proofs.Common.{◌≡◌, ℕ, zero, suc, ◌+◌, ◌-◌, ◌*◌, ◌<◌, ◌≤◌, Bool, true, false, cond, List, [], ◌∷◌, length, map, take, drop, get_or, Some, None, refl, sym, ◌∙◌, ap, subst, arith, nat_eq}
 use Rattle.std.specs.Prelude.{ℤ, pos, ◌+ℤ◌, ◌*ℤ◌, Contains}
-use Rattle.std.specs.List.{count_by, range_with_len, sum, sum_by}
+use Rattle.std.specs.List.{count_by, range_with_len, sum_by}
 use Rattle.std.proofs.Math.Nat.{mul-le-mul}
 use Rattle.std.proofs.lemmas.Bool.{eqb-true, le-leb, le-ltb}
 use Rattle.std.proofs.lemmas.Int.{ints}
@@ -29,7 +29,7 @@ use Rattle.completion_bounds.proofs.TableWeights.{table-all}
 use Rattle.stage_network.specs.declared.verdicts.Judge.{Judge}
 use Rattle.stage_network.specs.Judged.{JudgeFits, judge_of}
 use Rattle.stage_network.proofs.Following.{judge-fits}
-use Rattle.label_network.specs.LabelNetwork.{label_network}
+use Rattle.label_network.specs.LabelNetwork.{IsMargin, label_network}
 use Rattle.stage_network.specs.Follows.{Follows}
 use Rattle.label_network.specs.Endings.{labelling_value, partial_after}
 use Rattle.label_network.specs.Linear.{IsLinear, linear_meaning, row_sum, so_far}
@@ -39,11 +39,12 @@ use Rattle.table_reader.specs.TableLayout.{TableData}
 use Rattle.table_tests.specs.FisherExact.{first_cell, fisher_test, has_fisher_tail, rarity}
 use Rattle.table_tests.specs.TableNetworks.{first_cell_meaning, first_scores, fisher_network, rarity_meaning}
 use Rattle.table_tests.specs.Tables.{cell, column_of, column_sums, columns_in, is_two_by_two, observed_labels, row_sums}
-use Rattle.table_tests.specs.TableSteps.{AreColumns, IsTable, table_sum}
+use Rattle.table_tests.specs.TableSteps.{IsTable, table_sum}
 use Rattle.table_tests.specs.Weighing.{past_of, weight_meaning}
 use Rattle.table_tests.specs.WeightSteps.{IsWeighing}
-use Rattle.table_tests.proofs.LinearTests.{is-linear}
-use Rattle.table_tests.proofs.MarginSums.{column-few, length-columns, length-rows, level, subjects-few}
+use Rattle.table_tests.proofs.ProductLimits.{is-linear}
+use Rattle.table_tests.proofs.Built.{is-margin}
+use Rattle.table_tests.proofs.MarginSums.{are-columns, even, few-labels, length-columns, length-rows, level, some-labels, subjects-few}
 use Rattle.table_tests.proofs.Observed.{observed-columns}
 use Rattle.table_tests.proofs.Products.{product-table, product-value}
 use Rattle.table_tests.proofs.WeightNarrows.{weight_measure}
@@ -195,15 +196,6 @@ first-two (c ∷ d ∷ []) xs e = first-sum (count_by (λ l. nat_eq l 0) (take c
 first-two (c ∷ d ∷ b ∷ cs) xs e = absurd (omega (arith, e))
 
 module _ (t : TableData) (i : IsTable t) where
-  even : sum (column_sums t) ≡ sum (row_sums t)
-  even = sym (level t)
-
-  pub few-labels : length (row_sums t) ≤ 8
-  few-labels = omega (arith, length-rows t, i.few_rows)
-
-  pub some-labels : 2 ≤ length (row_sums t)
-  some-labels = omega (arith, length-rows t, i.two_rows)
-
   pub some-cells : 0 < length t.cells
   some-cells =
       let most : 2 * 2 ≤ t.rows * t.columns = mul-le-mul i.two_rows i.two_columns in
@@ -223,25 +215,18 @@ module _ (t : TableData) (i : IsTable t) where
 
   -- of a labelling
   module _ (xs : List ℕ) (m : Contains (labellings (row_sums t)) xs) where
-    pub are-columns : AreColumns (column_sums t) xs
-    are-columns = record {
-      level = even ∙ sym (labelling_from (row_sums t) xs m).over.long;
-      few_columns = omega (arith, length-columns t, i.few_columns);
-      few = column-few t i;
-    }
-
     pub weight-few : table_weight (columns_of t.rows (column_sums t) xs) ≤ MAX
     weight-few = omega (arith, table-all (row_sums t) (column_sums t) (columns_of t.rows (column_sums t) xs) (given-table t xs m), i.total_fits)
 
     -- the first column's subjects are there
     pub first-within : get_or (column_sums t) 0 0 ≤ length xs
-    first-within = omega (arith, get_or-le-sum_by (λ v. v) (column_sums t) 0 0 some-columns, are-columns.level)
+    first-within = omega (arith, get_or-le-sum_by (λ v. v) (column_sums t) 0 0 some-columns, (are-columns t i xs m).level)
 
   pub weighing : (judge : Judge) → judge ≡ judge_of (fisher_test t) → IsWeighing (row_sums t) (column_sums t) judge
   weighing judge e = record {
-    some = omega (arith, some-labels);
-    few = few-labels;
-    level = even;
+    some = omega (arith, some-labels t i);
+    few = few-labels t i;
+    level = even t;
     units = omega (arith, subjects-few t i);
     total_fits = i.total_fits;
     rules_fit = λ v h. judge-fits (fisher_test t) judge e v (λ tail. rule-fits t tail v);
@@ -249,16 +234,22 @@ module _ (t : TableData) (i : IsTable t) where
 
   pub linear-by : (judge : Judge) → is_two_by_two t ≡ true → ((v : ℤ) → JudgeFits judge v) → IsLinear first_scores (row_sums t) first_scores (column_sums t) judge
   linear-by judge two fits =
-      is-linear (row_sums t) (column_sums t) first_scores first_scores (observed_labels t) even (subjects-few t i) (omega arith) (omega arith)
-      (omega (arith, length-rows t, (square t two).0)) (omega (arith, length-columns t, (square t two).1)) few-labels judge (λ v h. fits v)
+      is-linear (row_sums t) (column_sums t) first_scores first_scores (even t) (subjects-few t i) (omega arith) (omega arith)
+      (omega (arith, length-rows t, (square t two).0)) (omega (arith, length-columns t, (square t two).1)) (few-labels t i) judge (λ v h. fits v)
 
   pub linear-of : (judge : Judge) → is_two_by_two t ≡ true → judge ≡ judge_of (fisher_test t) → IsLinear first_scores (row_sums t) first_scores (column_sums t) judge
   linear-of judge two e = linear-by judge two (λ v. judge-fits (fisher_test t) judge e v (λ tail. rule-fits t tail v))
 
+  pub first-margin : (judge : Judge) → IsMargin (linear_meaning first_scores (row_sums t) first_scores (column_sums t) judge) (column_sums t) (row_sums t)
+  first-margin judge = is-margin t i (linear_meaning first_scores (row_sums t) first_scores (column_sums t) judge) refl refl refl
+
+  pub weight-margin : (judge : Judge) → IsMargin (weight_meaning (row_sums t) (column_sums t) judge) (column_sums t) (row_sums t)
+  weight-margin judge = is-margin t i (weight_meaning (row_sums t) (column_sums t) judge) refl refl refl
+
   follows-weight : Follows (fisher_test t) Two (fisher_network t Two)
   follows-weight =
       let judge : Judge = judge_of (fisher_test t) in
-      label_follows (rarity_meaning t) (weight_measure (row_sums t) (column_sums t) judge even (omega (arith, some-labels)) (omega (arith, subjects-few t i))) (fisher_test t) Two (record {
+      label_follows (rarity_meaning t) (weight_measure (row_sums t) (column_sums t) judge (even t) (omega (arith, some-labels t i)) (omega (arith, subjects-few t i))) (fisher_test t) Two (record {
         judge_is = refl;
         reference = refl;
         alike = λ xs. refl;

@@ -1,6 +1,8 @@
 mod MarginSums
+mod Built
 mod Observed
 mod Products
+mod ProductLimits
 mod LinearTests
 mod WeightNarrows
 mod WeightKeys
@@ -17,7 +19,6 @@ mod TurnedSpreads
 mod AboveLast
 mod TurnedParts
 mod ColumnSums
-mod Built
 mod OddsLaws
 mod OddsTests
 mod Vectors

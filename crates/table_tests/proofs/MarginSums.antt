@@ -1,6 +1,6 @@
 -- The sums of a table's rows and columns: how many they are, and how great.
 use Rattle.std.proofs.Common.{◌≡◌, ℕ, zero, suc, ◌+◌, ◌*◌, ◌<◌, ◌≤◌, List, [], ◌∷◌, length, map, get_or, inl, inr, refl, sym, ◌∙◌, ap, arith}
-use Rattle.std.specs.Prelude.{slice_index}
+use Rattle.std.specs.Prelude.{Contains, slice_index}
 use Rattle.std.specs.List.{range_with_len, sum, sum_by}
 use Rattle.std.proofs.Math.Nat.{mul-le-mul}
 use Rattle.std.proofs.lemmas.Bool.{cases_lt}
@@ -11,10 +11,11 @@ use Rattle.table_reader.specs.Data.{table_data_of}
 use Rattle.table_reader.specs.TableLayout.{TableData}
 use Rattle.table_reader.specs.declared.tables.Table.{Table}
 use Rattle.weights.specs.declared.TheConstants.{MAX}
-use Rattle.weights.specs.Labellings.{number_of_labellings}
+use Rattle.weights.specs.Labellings.{labellings, number_of_labellings}
+use Rattle.weights.proofs.Members.{labelling_from}
 use Rattle.weights.proofs.Sums.{sum_by-same, sum_by-swap}
 use Rattle.table_tests.specs.Tables.{cell, column_sums, row_sums}
-use Rattle.table_tests.specs.TableSteps.{IsTable, most_subjects}
+use Rattle.table_tests.specs.TableSteps.{AreColumns, IsTable, most_subjects}
 
 past : (xs : List ℕ) (n : ℕ) → length xs ≤ n → get_or xs n 0 ≡ 0
 past [] zero h = refl
@@ -84,7 +85,16 @@ module _ (t : TableData) where
         let most : t.rows * (t.columns * 1000000) ≤ 8 * 64000000 = mul-le-mul rows wide in
         omega (arith, sum-map (λ i. sum_by (λ j. cell t i j) (range_with_len 0 t.columns)) (range_with_len 0 t.rows), all, most)
 
+  pub even : sum (column_sums t) ≡ sum (row_sums t)
+  even = sym level
+
   module _ (i : IsTable t) where
+    pub few-labels : length (row_sums t) ≤ 8
+    few-labels = omega (arith, length-rows, i.few_rows)
+
+    pub some-labels : 2 ≤ length (row_sums t)
+    some-labels = omega (arith, length-rows, i.two_rows)
+
     pub subjects-few : sum (row_sums t) ≤ 512000000
     subjects-few = subjects-most i.counts i.few_rows i.few_columns
 
@@ -92,6 +102,14 @@ module _ (t : TableData) where
     column-few j h =
         let at : get_or (column_sums t) j 0 ≡ sum_by (λ i. cell t i j) (range_with_len 0 t.rows) = get_or-map-range_with_len (λ j. sum_by (λ i. cell t i j) (range_with_len 0 t.rows)) 0 t.columns j j 0 (omega (arith, h, length-columns)) (omega arith) in
         omega (arith, at, range-most (λ i. cell t i j) 1000000 (λ k. count-few t.cells i.counts (k * t.columns + j)) 0 t.rows, i.few_rows)
+
+    -- of a labelling
+    pub are-columns : (xs : List ℕ) → Contains (labellings (row_sums t)) xs → AreColumns (column_sums t) xs
+    are-columns xs m = record {
+      level = even ∙ sym (labelling_from (row_sums t) xs m).over.long;
+      few_columns = omega (arith, length-columns, i.few_columns);
+      few = column-few;
+    }
 
 -- a table that was read
 pub table-few : (t : Table) → sum (row_sums (table_data_of t)) ≤ 512000000

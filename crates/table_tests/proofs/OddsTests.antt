@@ -45,9 +45,9 @@ use Rattle.table_tests.specs.OddsSteps.{AreWeighted, IsWeightedTable, cells_weig
 use Rattle.table_tests.specs.TableNetworks.{first_scores}
 use Rattle.table_tests.specs.Tables.{column_sums, is_two_by_two, row_sums}
 use Rattle.table_tests.specs.TableSteps.{IsTable}
-use Rattle.table_tests.proofs.FisherTests.{first-value, few-labels, linear-by, square, statistic-first}
+use Rattle.table_tests.proofs.FisherTests.{first-value, linear-by, square, statistic-first}
 use Rattle.table_tests.proofs.FisherTests as fisher
-use Rattle.table_tests.proofs.MarginSums.{length-columns, length-rows, level, subjects-few}
+use Rattle.table_tests.proofs.MarginSums.{few-labels, length-columns, length-rows, level, subjects-few}
 use Rattle.table_tests.proofs.OddsLaws.{cell-within-row, cells-total, odds_give, pair-sum, product_left, product_right, some-weight}
 
 -- with weights of at least 1

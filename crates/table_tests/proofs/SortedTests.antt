@@ -1,16 +1,13 @@
 -- Fisher's test of a table by the network of its weight over sorted rooms.
-use Rattle.std.proofs.Common.{◌≡◌, ◌∙◌, Bool, true, false, length, refl, sym, ap, subst, arith}
+use Rattle.std.proofs.Common.{◌≡◌, ◌∙◌, true, false, refl, sym, ap, subst, arith}
 use Rattle.std.specs.Prelude.{pos}
-use Rattle.std.specs.List.{sum}
 use Rattle.weights.specs.declared.tails.Tail.{Tail}
 use Rattle.weights.specs.declared.tails.Tail.TheVariants.{Less, Greater, Two}
-use Rattle.weights.specs.Conditional.{ConditionalTest}
 use Rattle.weights.specs.Grouped.{columns_of, table_weight}
 use Rattle.completion_bounds.specs.Fillings.{falling}
 use Rattle.stage_network.specs.declared.verdicts.Judge.{Judge}
-use Rattle.stage_network.specs.Follows.{AllFollow, Follows, FollowsAlong}
+use Rattle.stage_network.specs.Follows.{Follows, FollowsAlong}
 use Rattle.stage_network.specs.Judged.{judge_of}
-use Rattle.stage_network.specs.Network.{Network}
 use Rattle.sorted_tables.specs.SortedRooms.{rising}
 use Rattle.table_reader.specs.TableLayout.{TableData}
 use Rattle.table_tests.specs.FisherExact.{fisher_test, has_fisher_tail}
@@ -19,20 +16,17 @@ use Rattle.table_tests.specs.TableNetworks.{fisher_network}
 use Rattle.table_tests.specs.Tables.{column_sums, is_two_by_two, row_sums}
 use Rattle.table_tests.specs.TableSteps.{IsTable}
 use Rattle.table_tests.specs.WeightSteps.{IsWeighing}
-use Rattle.table_tests.proofs.FisherTests.{rarity-is, some-labels, weighing}
-use Rattle.table_tests.proofs.MarginSums.{length-rows, level}
+use Rattle.table_tests.proofs.FisherTests.{rarity-is, weighing}
+use Rattle.table_tests.proofs.MarginSums.{even, length-rows, some-labels}
 use Rattle.table_tests.proofs.SortedFollows.{sorted_follows, weighing-sorted}
 
 module _ (t : TableData) (i : IsTable t) where
-  even : sum (column_sums t) ≡ sum (row_sums t)
-  even = sym (level t)
-
   pub weighing-ordered : (judge : Judge) → judge ≡ judge_of (fisher_test t) → IsWeighing (falling (row_sums t)) (rising (column_sums t)) judge
-  weighing-ordered judge e = weighing-sorted (row_sums t) (column_sums t) even judge (weighing t i judge e)
+  weighing-ordered judge e = weighing-sorted (row_sums t) (column_sums t) (even t) judge (weighing t i judge e)
 
   pub follows-sorted : Follows (fisher_test t) Two (sorted_network t)
   follows-sorted =
-      sorted_follows (row_sums t) (column_sums t) even (omega (arith, some-labels t i)) (fisher_test t) Two refl (λ xs. refl)
+      sorted_follows (row_sums t) (column_sums t) (even t) (omega (arith, some-labels t i)) (fisher_test t) Two refl (λ xs. refl)
       (λ xs m. ap pos (rarity-is t xs m) ∙ ap (λ k. pos (table_weight (columns_of k (column_sums t) xs))) (sym (length-rows t)))
 
   -- of a table that is not of 2 by 2 the test has no other tail

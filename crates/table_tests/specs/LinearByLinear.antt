@@ -23,21 +23,24 @@ product_sum us [] labels = pos 0
 product_sum us (v ∷ vs) [] = pos 0
 product_sum us (v ∷ vs) (l ∷ labels) = (score_of us l *ℤ v) +ℤ product_sum us vs labels
 
--- all ways to label the subjects with the rows' sizes, and that sum; with N subjects its mean is
--- 1/N of the sum of all subjects' row scores times the sum of their column scores
-abbrev pub product_test : List ℕ → List ℕ → List ℤ → List ℤ → List ℕ → ConditionalTest
-product_test rows columns us vs observed = record {
-  reference = labellings rows;
-  statistic = product_sum us (subjects vs columns);
-  observed = observed;
-  weight = unit_weight;
-  has_tail = every_tail;
-  two_sided = by_distance (sum rows) (row_sum us rows *ℤ row_sum vs columns);
-  scale = 1;
-  bound = 2 * (sum rows * sum rows) * (greatest_score us * greatest_score vs);
-}
+-- as many times its mean as there are subjects: the sum of all subjects' row scores times the sum
+-- of their column scores
+abbrev pub centre : ScoredTable → ℤ
+centre t =
+    row_sum t.row_scores (row_sums t.table) *ℤ row_sum t.column_scores (column_sums t.table)
 
+-- all ways to label the subjects with the rows' sizes, and that sum
 abbrev pub linear_test : ScoredTable → ConditionalTest
-linear_test scored =
-    product_test (row_sums scored.table) (column_sums scored.table)
-    scored.row_scores scored.column_scores (observed_labels scored.table)
+linear_test t =
+    let subjects_in : ℕ = sum (row_sums t.table) in
+    record {
+      reference = labellings (row_sums t.table);
+      statistic = product_sum t.row_scores (subjects t.column_scores (column_sums t.table));
+      observed = observed_labels t.table;
+      weight = unit_weight;
+      has_tail = every_tail;
+      two_sided = by_distance subjects_in (centre t);
+      scale = 1;
+      bound = 2 * (subjects_in * subjects_in)
+          * (greatest_score t.row_scores * greatest_score t.column_scores);
+    }

@@ -1,5 +1,5 @@
 -- What the bodies compute of a table, column by column, and what is kept of a prepared one.
-use Rattle.std.specs.Prelude.{◌≡◌, ℕ, ◌*◌, ◌<◌, ◌≤◌, ℤ, pos, ◌+ℤ◌, ◌*ℤ◌, List, [], ◌∷◌, length, slice_index}
+use Rattle.std.specs.Prelude.{◌≡◌, ℕ, ◌*◌, ◌<◌, ◌≤◌, ℤ, pos, ◌+ℤ◌, ◌*ℤ◌, List, [], ◌∷◌, length, slice_index, unsigned_abs}
 use Rattle.std.specs.List.{sum}
 use Rattle.weights.specs.declared.TheConstants.{MAX}
 use Rattle.weights.specs.Frames.{IsFrameOf}
@@ -35,6 +35,28 @@ most_subjects = MOST_TABLE_ROWS * MOST_COUNT
 abbrev pub most_added : ℕ
 most_added = MOST_SCORE * (MOST_SCORE * most_subjects)
 
+-- columns of subjects, and their labels
+pub record AreColumns (columns labels : List ℕ) : Type 0 where
+  pub level : sum columns ≡ length labels
+  pub few_columns : length columns ≤ MOST_TABLE_COLUMNS
+  pub few : (j : ℕ) → j < length columns → slice_index columns j ≤ most_subjects
+
+-- scores of rows and of columns, and labels of the columns' subjects
+pub record AreScored (us vs : List ℤ) (columns labels : List ℕ) : Type 0 where
+  pub row_sizes : AreScores us
+  pub column_sizes : AreScores vs
+  pub few : length us ≤ MOST_TABLE_ROWS
+  pub level : length vs ≡ length columns
+  pub whole : AreColumns columns labels
+
+-- a score for each row and for each column, whose sums over the subjects can be multiplied
+pub record AreCentred (rows : List ℕ) (us : List ℤ) (columns : List ℕ) (vs : List ℤ) : Type 0 where
+  pub rows_level : length rows ≡ length us
+  pub columns_level : length columns ≡ length vs
+  pub rows_fit : greatest_score us * sum rows ≤ MAX
+  pub columns_fit : greatest_score vs * sum columns ≤ MAX
+  pub fits : unsigned_abs (row_sum us rows) * unsigned_abs (row_sum vs columns) ≤ MAX
+
 -- the sums of the rows and of the columns
 pub record AreMargins (table : TableData) (margins : Margins) : Type 0 where
   pub rows : margins.rows ≡ row_sums table
@@ -49,12 +71,6 @@ pub record IsTable (table : TableData) : Type 0 where
   pub one_each : length table.cells ≡ table.rows * table.columns
   pub total_fits : number_of_labellings (row_sums table) ≤ MAX
   pub counts : AreCounts table.cells
-
--- columns of subjects, and their labels
-pub record AreColumns (columns labels : List ℕ) : Type 0 where
-  pub level : sum columns ≡ length labels
-  pub few_columns : length columns ≤ MOST_TABLE_COLUMNS
-  pub few : (j : ℕ) → j < length columns → slice_index columns j ≤ most_subjects
 
 abbrev pub table_of : ℕ → ℕ → List ℕ → TableData
 table_of rows columns cells = record { rows = rows; columns = columns; cells = cells }

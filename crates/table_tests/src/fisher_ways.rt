@@ -12,6 +12,7 @@ ghost use Rattle.table_tests.specs.Weighing.{weight_meaning};
 
 use crate::by_turning::{quick_spread, quick_sum};
 use crate::fisher_table::{FisherTable, held};
+use crate::product_stages::product_stages;
 use crate::sorted_weights::{SortedStages, sorted_stages};
 use crate::sums::{count_label, front, labelled_weight};
 use crate::weight_measure::WeightMeasure;
@@ -52,11 +53,8 @@ impl FisherTable {
         ensures follows { AllFollow (fisher_test self.now) (fisher_network self.now) }
     {
         let made = self.made();
-        let rows = made.margins.rows.as_slice();
-        let columns = made.margins.columns.as_slice();
         let judge = Judge::of(&made.frame);
-        let measure = LinearMeasure::new(alloc, &[1, 0], rows, &[1, 0], columns, judge)?;
-        label_stages(alloc, columns, rows, measure)
+        product_stages(alloc, &made.margins, &[1, 0], &[1, 0], judge)
     }
 
     // The network of the table's weight.

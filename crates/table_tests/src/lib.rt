@@ -20,6 +20,7 @@ mod odds_rooms;
 mod odds_table;
 mod odds_ways;
 mod odds_weights;
+mod product_stages;
 mod scaled;
 mod sorted_weights;
 mod sums;

@@ -1,11 +1,12 @@
 // A table with scores that is prepared for its test.
-ghost use Rattle.std.specs.Prelude.{◌≡◌, length, IfOk};
+ghost use Rattle.std.specs.Prelude.{◌≡◌, ◌*ℤ◌, length, IfOk};
 ghost use Rattle.weights.specs.Frames.{IsFrameOf};
 ghost use Rattle.weights.specs.Labellings.{number_of_labellings};
 ghost use Rattle.weights.specs.Wide.{Prepares};
+ghost use Rattle.label_network.specs.Linear.{row_sum};
 ghost use Rattle.table_reader.specs.Data.{table_data_of};
 ghost use Rattle.table_tests.specs.LinearByLinear.{linear_test};
-ghost use Rattle.table_tests.specs.TableSteps.{AreFitting, AreMargins, AreScores, IsScored, scored_of};
+ghost use Rattle.table_tests.specs.TableSteps.{AreCentred, AreFitting, AreMargins, AreScores, IsScored, scored_of};
 
 use crate::margins::{Margins, margins_of};
 use crate::sums::observed_sum;
@@ -62,6 +63,17 @@ fn widened(alloc: Global, scores: &[i64]) -> Result<Ints, NoMemory>
     Ok(wide)
 }
 
+// The sum of the row scores of all subjects, times that of their column scores.
+fn centre_of(rows: &[u64], row_scores: &[i128], columns: &[u64], column_scores: &[i128]) -> i128
+    requires { AreCentred rows.now row_scores.now columns.now column_scores.now }
+    ensures { result ≡ row_sum row_scores.now rows.now *ℤ row_sum column_scores.now columns.now }
+{
+    times(
+        score_choice(row_scores, rows),
+        score_choice(column_scores, columns),
+    )
+}
+
 // What is said of the test of a table with these sums, scores and total.
 fn frame_of(
     table: &Table,
@@ -78,18 +90,13 @@ fn frame_of(
         (scored_of (table_data_of table.now) row_scores.now column_scores.now)) result }
 {
     let rows = margins.rows.as_slice();
-    let columns = margins.columns.as_slice();
+    let centre = centre_of(rows, row_scores, margins.columns.as_slice(), column_scores);
     let statistic = observed_sum(table, row_scores, column_scores);
-    let centre = times(
-        score_choice(row_scores, rows),
-        score_choice(column_scores, columns),
-    );
-    let subjects = total_of(rows);
     Frame {
         statistic,
         scale: 1,
         total,
-        two: Rule::far(subjects as u128, centre, statistic),
+        two: Rule::far(total_of(rows) as u128, centre, statistic),
     }
 }
 

@@ -1,8 +1,9 @@
 // Both ways to the answer of the linear-by-linear test.
 use crate::linear_table::LinearTable;
+use crate::product_stages::product_stages;
 use crate::sums::labelled_sum;
 use enumerate::{Plain, first_labelling, next_labelling};
-use label_network::{LabelStages, LinearMeasure, label_stages};
+use label_network::{LabelStages, LinearMeasure};
 use stage_network::{Judge, Prepared};
 use std::alloc::Global;
 use weights::{Bytes, Frame, NoMemory, Tail};
@@ -62,12 +63,9 @@ impl Prepared for LinearTable {
 
     fn stages_of(&self, alloc: Global, _tail: Tail) -> Result<Self::Built, NoMemory> {
         let made = self.made();
-        let rows = made.margins.rows.as_slice();
-        let columns = made.margins.columns.as_slice();
+        let judge = Judge::of(&made.frame);
         let row_scores = made.row_scores.as_slice();
         let column_scores = made.column_scores.as_slice();
-        let judge = Judge::of(&made.frame);
-        let measure = LinearMeasure::new(alloc, row_scores, rows, column_scores, columns, judge)?;
-        label_stages(alloc, columns, rows, measure)
+        product_stages(alloc, &made.margins, row_scores, column_scores, judge)
     }
 }

@@ -10,7 +10,7 @@ ghost use Rattle.label_network.specs.Linear.{row_sum};
 ghost use Rattle.table_reader.specs.Data.{table_data_of};
 ghost use Rattle.table_tests.specs.declared.TheConstants.{MOST_SCORE};
 ghost use Rattle.table_tests.specs.Tables.{columns_in};
-ghost use Rattle.table_tests.specs.TableSteps.{AreColumns, AreScores, most_added, most_subjects, table_sum};
+ghost use Rattle.table_tests.specs.TableSteps.{AreColumns, AreScored, AreScores, most_added, most_subjects, table_sum};
 
 use crate::margins::read_column;
 use label_network::score_choice;
@@ -87,11 +87,7 @@ pub(crate) fn labelled_sum(
     columns: &[u64],
     labels: &[u8],
 ) -> i128
-    requires rows { AreScores row_scores.now }
-    requires columns { AreScores column_scores.now }
-    requires few { length row_scores.now ≤ 8 }
-    requires level { length column_scores.now ≡ length columns.now }
-    requires whole { AreColumns columns.now labels.now }
+    requires { AreScored row_scores.now column_scores.now columns.now labels.now }
     ensures { let table = columns_of (length row_scores.now) columns.now labels.now in
         result ≡ table_sum row_scores.now column_scores.now table }
 {

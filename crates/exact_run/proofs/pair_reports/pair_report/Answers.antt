@@ -1,3 +1,4 @@
+use Rattle.std.proofs.Common.{◌∙◌}
 use Rattle.sample_reader.specs.declared.layout.Layout.TheVariants.{Pairs}
 use Rattle.report.specs.declared.headings.Extra.TheVariants as extra
 use Rattle.one_sample_tests.specs.SignNetwork.{one_sample_network}
@@ -10,7 +11,7 @@ use Rattle.exact_run.proofs.pair_reports.pair_report.Goals as goal
 pub returns : goal.returns
 returns c =
     let differences = c.in_ok-pairs.pairs.differences in
-    let dropped = dropped_told c.args.settings.now Pairs c.args.rows.now in
+    let dropped = dropped_told c.args.request.now.settings.now Pairs c.args.request.now.rows.now in
     rw c.in_ok-pairs.ensures.ok
-    (asked_outcome one_sample_test one_sample_network one_sample_network c.args.asking (pair_sizes differences) dropped extra.None
-    (sample_of c.args.kind differences) _ _ c.prepare_pairs-problem.ensures (rw (c.sizes_of.ensures, c.dropped_told.ensures) at c.report_on.ensures))
+    (asked_outcome one_sample_test one_sample_network one_sample_network c.args.request.now.asking (pair_sizes differences) dropped extra.None
+    (sample_of c.args.kind differences) _ _ c.prepare_pairs-problem.ensures (rw (c.heading-heading.ensures.sizes ∙ c.sizes_of.ensures, c.heading-heading.ensures.dropped, c.heading-heading.ensures.extra) at c.report_on.ensures))

@@ -1,3 +1,4 @@
+use Rattle.std.proofs.Common.{◌∙◌}
 use Rattle.sample_reader.specs.Data.{twin_data_of}
 use Rattle.sample_reader.specs.declared.layout.Layout.TheVariants as layout
 use Rattle.stage_network.specs.declared.one_of.OneOf.TheVariants.{First}
@@ -11,7 +12,7 @@ use Rattle.exact_run.proofs.sequence_reports.kendall_report.Goals as goal
 pub returns : goal.returns
 returns c =
     let twins = twin_data_of c.in_ok-twins.twins in
-    let dropped = dropped_told c.args.settings.now layout.Twins c.args.rows.now in
+    let dropped = dropped_told c.args.request.now.settings.now layout.Twins c.args.request.now.rows.now in
     rw c.in_ok-twins.ensures.ok
-    (asked_outcome sequence_test sequence_network sequence_network c.args.asking (twin_sizes twins) dropped extra.None
-    (First twins) _ _ c.prepare_kendall-problem.ensures (rw (c.twin_sizes.ensures, c.dropped_told.ensures) at c.report_on.ensures))
+    (asked_outcome sequence_test sequence_network sequence_network c.args.request.now.asking (twin_sizes twins) dropped extra.None
+    (First twins) _ _ c.prepare_kendall-problem.ensures (rw (c.heading-heading.ensures.sizes ∙ c.twin_sizes.ensures, c.heading-heading.ensures.dropped, c.heading-heading.ensures.extra) at c.report_on.ensures))

@@ -11,5 +11,5 @@ pub returns : goal.returns
 returns c =
     let table = table_data_of c.in_ok-table.table in
     rw c.in_ok-table.ensures.ok
-    (asked_outcome one_sample_test one_sample_network one_sample_network c.args.asking (table_sizes table) None extra.None
+    (asked_outcome one_sample_test one_sample_network one_sample_network c.args.request.now.asking (table_sizes table) None extra.None
     (discordant table) _ _ c.prepare_mcnemar-problem.ensures (rw (c.heading_of.ensures.sizes, c.heading_of.ensures.dropped, c.heading_of.ensures.extra) at c.report_on.ensures))

@@ -26,7 +26,7 @@ back-later-requires c = column-within (length c.args.row_scores.now) c.args.colu
 pub column_term-requires-clause-score : goal.column_term-requires-clause-score
 column_term-requires-clause-score c =
     let v : FitsSigned w128 (get_or c.args.column_scores.now c.loop-j.j (pos 0)) = search rules in
-    rw (to_z-of_z w128 (get_or c.args.column_scores.now c.loop-j.j (pos 0)) v) (score-small c.args.column_scores.now c.loop-j.j c.requires.columns)
+    rw (to_z-of_z w128 (get_or c.args.column_scores.now c.loop-j.j (pos 0)) v) (score-small c.args.column_scores.now c.loop-j.j c.requires.column_sizes)
 
 pub column_term-requires-clause-few : goal.column_term-requires-clause-few
 column_term-requires-clause-few c =

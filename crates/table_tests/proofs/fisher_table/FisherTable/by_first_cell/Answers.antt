@@ -1,37 +1,26 @@
-use Rattle.std.proofs.Common.{◌≡◌, ◌∙◌, refl, sym, ap}
+use Rattle.std.proofs.Common.{◌≡◌, sym}
 use Rattle.std.proofs.lemmas.Result.{IfOk-weaker}
 use Rattle.stage_network.specs.Judged.{judge_of}
-use Rattle.label_network.specs.Linear.{linear_meaning}
-use Rattle.label_network.specs.declared.linear.LinearMeasure.{LinearMeasure}
 use Rattle.table_tests.specs.FisherExact.{fisher_test}
-use Rattle.table_tests.specs.TableNetworks.{first_cell_meaning}
-use Rattle.table_tests.proofs.Built.{margin-of}
-use Rattle.table_tests.proofs.FisherTests.{few-labels, follows, linear-of, some-labels}
+use Rattle.table_tests.proofs.FisherTests.{first-margin, follows, linear-of}
 use Rattle.table_tests.proofs.fisher_table.FisherTable.by_first_cell.Goals as goal
 
-pub new-requires : goal.new-requires
-new-requires c =
+pub product_stages-requires-clause-linear : goal.product_stages-requires-clause-linear
+product_stages-requires-clause-linear c =
     let made = c.made-made.ensures in
-    let judge : c.of-judge.result ≡ judge_of (fisher_test c.args.self.now) = c.of-judge.ensures (fisher_test c.args.self.now) made.frame in
-    rw (c.as_slice-rows.ensures ∙ made.margins.rows, c.as_slice-columns.ensures ∙ made.margins.columns) (linear-of c.args.self.now made.fitting c.of-judge.result c.requires judge)
+    rw (made.margins.rows, made.margins.columns) (linear-of c.args.self.now made.fitting c.of-judge.result c.requires (c.of-judge.ensures (fisher_test c.args.self.now) made.frame))
 
-pub label_stages-requires : goal.label_stages-requires
-label_stages-requires c =
+pub product_stages-requires-clause-margin : goal.product_stages-requires-clause-margin
+product_stages-requires-clause-margin c =
     let made = c.made-made.ensures in
-    let judge : c.of-judge.result ≡ judge_of (fisher_test c.args.self.now) = c.of-judge.ensures (fisher_test c.args.self.now) made.frame in
-    let given = rw (c.as_slice-rows.ensures ∙ made.margins.rows, c.as_slice-columns.ensures ∙ made.margins.columns, judge) at c.in_ok-measure.ensures in
-    margin-of _ (first_cell_meaning c.args.self.now) c.as_slice-columns.result.now c.as_slice-rows.result.now given (c.as_slice-columns.ensures ∙ made.margins.columns) (c.as_slice-rows.ensures ∙ made.margins.rows) refl
-    (some-labels c.args.self.now made.fitting) (few-labels c.args.self.now made.fitting) made.fitting.total_fits
+    rw (made.margins.rows, made.margins.columns) (first-margin c.args.self.now made.fitting c.of-judge.result)
 
 pub returns-clause-built : goal.returns-clause-built
 returns-clause-built c =
     let made = c.made-made.ensures in
     let judge : c.of-judge.result ≡ judge_of (fisher_test c.args.self.now) = c.of-judge.ensures (fisher_test c.args.self.now) made.frame in
-    let given = rw (c.as_slice-rows.ensures ∙ made.margins.rows, c.as_slice-columns.ensures ∙ made.margins.columns, judge) at c.in_ok-measure.ensures in
-    IfOk-weaker c.label_stages.result (λ s. s.1 ≡ c.in_ok-measure.measure) _ (λ s e. sym (ap (λ (m : LinearMeasure). linear_meaning m.scores.items m.rows.items m.later.scores.items m.later.columns.items m.judge) e ∙ given)) c.label_stages.ensures
-
-pub returns-in_err-measure-clause-follows : goal.returns-in_err-measure-clause-follows
-returns-in_err-measure-clause-follows c t has = follows c.args.self.now c.made-made.ensures.fitting t has
+    let given = rw (made.margins.rows, made.margins.columns, judge) at c.product_stages.ensures in
+    IfOk-weaker c.product_stages.result _ _ (λ s e. sym e) given
 
 pub returns-clause-follows : goal.returns-clause-follows
 returns-clause-follows c t has = follows c.args.self.now c.made-made.ensures.fitting t has

@@ -7,7 +7,7 @@ use Rattle.stage_network.specs.Judged.{judge_of}
 use Rattle.sorted_tables.specs.SortedRooms.{rising}
 use Rattle.table_tests.specs.FisherExact.{fisher_test}
 use Rattle.table_tests.specs.Tables.{column_sums, row_sums}
-use Rattle.table_tests.proofs.FisherTests.{few-labels}
+use Rattle.table_tests.proofs.MarginSums.{few-labels}
 use Rattle.table_tests.proofs.SortedTests.{follows-sorted, weighing-ordered}
 use Rattle.table_tests.proofs.fisher_table.FisherTable.by_sorted_weight.Goals as goal
 

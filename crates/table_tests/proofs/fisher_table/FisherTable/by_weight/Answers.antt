@@ -1,12 +1,13 @@
-use Rattle.std.proofs.Common.{◌≡◌, ◌∙◌, refl, sym, ap}
+use Rattle.std.proofs.Common.{◌≡◌, ◌∙◌, sym, ap, subst}
 use Rattle.std.proofs.lemmas.Result.{IfOk-weaker}
 use Rattle.stage_network.specs.Judged.{judge_of}
+use Rattle.label_network.specs.LabelNetwork.{IsMargin}
+use Rattle.table_reader.specs.TableLayout.{TableData}
 use Rattle.table_tests.specs.FisherExact.{fisher_test}
-use Rattle.table_tests.specs.TableNetworks.{rarity_meaning}
+use Rattle.table_tests.specs.Tables.{column_sums, row_sums}
 use Rattle.table_tests.specs.Weighing.{weight_meaning}
 use Rattle.table_tests.specs.declared.weight_measure.WeightMeasure.{WeightMeasure}
-use Rattle.table_tests.proofs.Built.{margin-of}
-use Rattle.table_tests.proofs.FisherTests.{few-labels, follows, some-labels, weighing}
+use Rattle.table_tests.proofs.FisherTests.{follows, weighing, weight-margin}
 use Rattle.table_tests.proofs.fisher_table.FisherTable.by_weight.Goals as goal
 
 pub new-requires : goal.new-requires
@@ -20,8 +21,9 @@ label_stages-requires c =
     let made = c.made-made.ensures in
     let judge : c.of-judge.result ≡ judge_of (fisher_test c.args.self.now) = c.of-judge.ensures (fisher_test c.args.self.now) made.frame in
     let given = rw (c.as_slice-rows.ensures ∙ made.margins.rows, c.as_slice-columns.ensures ∙ made.margins.columns, judge) at c.in_ok-measure.ensures in
-    margin-of _ (rarity_meaning c.args.self.now) c.as_slice-columns.result.now c.as_slice-rows.result.now given (c.as_slice-columns.ensures ∙ made.margins.columns) (c.as_slice-rows.ensures ∙ made.margins.rows) refl
-    (some-labels c.args.self.now made.fitting) (few-labels c.args.self.now made.fitting) made.fitting.total_fits
+    let t : TableData = c.args.self.now in
+    rw (c.as_slice-rows.ensures ∙ made.margins.rows, c.as_slice-columns.ensures ∙ made.margins.columns)
+    (subst (λ m. IsMargin m (column_sums t) (row_sums t)) (sym given) (weight-margin t made.fitting (judge_of (fisher_test t))))
 
 pub returns-clause-built : goal.returns-clause-built
 returns-clause-built c =

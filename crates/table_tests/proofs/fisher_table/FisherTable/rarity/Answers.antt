@@ -6,7 +6,8 @@ use Rattle.table_reader.specs.TableLayout.{TableData}
 use Rattle.table_tests.specs.Tables.{column_sums}
 use Rattle.weights.specs.declared.TheConstants.{MAX}
 use Rattle.weights.specs.Grouped.{columns_of, table_weight}
-use Rattle.table_tests.proofs.FisherTests.{are-columns, few-labels, rarity-is, weight-few}
+use Rattle.table_tests.proofs.FisherTests.{rarity-is, weight-few}
+use Rattle.table_tests.proofs.MarginSums.{are-columns, few-labels}
 use Rattle.table_tests.proofs.MarginSums.{length-rows}
 use Rattle.table_tests.proofs.fisher_table.FisherTable.rarity.Goals as goal
 

@@ -1,5 +1,6 @@
 use Rattle.std.proofs.Common.{◌∙◌, arith}
-use Rattle.table_tests.proofs.FisherTests.{bounded, few-labels}
+use Rattle.table_tests.proofs.FisherTests.{bounded}
+use Rattle.table_tests.proofs.MarginSums.{few-labels}
 use Rattle.table_tests.proofs.fisher_ways.FisherTablePlain.first.Goals as goal
 
 pub first_labelling-requires : goal.first_labelling-requires

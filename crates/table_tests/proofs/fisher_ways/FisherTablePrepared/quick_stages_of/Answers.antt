@@ -1,4 +1,4 @@
-use Rattle.std.proofs.Common.{◌≡◌, ◌∙◌, false, ap, sym, subst, rules}
+use Rattle.std.proofs.Common.{◌≡◌, ◌∙◌, false, sym, subst, rules}
 use Rattle.std.proofs.lemmas.Result.{IfOk-weaker}
 use Rattle.stage_network.specs.Follows.{Follows}
 use Rattle.room_network.specs.Meanings.{Meaning}

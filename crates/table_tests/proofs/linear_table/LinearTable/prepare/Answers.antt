@@ -1,12 +1,9 @@
 use Rattle.std.proofs.Common.{◌∙◌, refl, arith}
 use Rattle.table_reader.specs.Data.{table_data_of}
 use Rattle.table_tests.specs.LinearByLinear.{ScoredTable, linear_test}
-use Rattle.table_tests.specs.Tables.{row_sums}
 use Rattle.table_tests.specs.TableSteps.{AreFitting, scored_of}
 use Rattle.weights.proofs.Centred.{total-wide}
-use Rattle.weights.proofs.Sums.{sum_by-one}
-use Rattle.weights.specs.Labellings.{labellings}
-use Rattle.table_tests.proofs.LinearTests.{fitting-of, not-wide}
+use Rattle.table_tests.proofs.LinearTests.{fitting-of, not-wide, total-is}
 use Rattle.table_tests.proofs.MarginSums.{table-few}
 use Rattle.table_tests.proofs.linear_table.LinearTable.prepare.Goals as goal
 
@@ -16,7 +13,7 @@ multinomial-requires c = rw (c.as_slice.ensures ∙ c.in_ok-margins.ensures.rows
 pub returns-in_default : goal.returns-in_default
 returns-in_default c =
     let t : ScoredTable = scored_of (table_data_of c.args.table.now) c.args.row_scores.now c.args.column_scores.now in
-    total-wide (linear_test t) (sum_by-one (labellings (row_sums t.table))) (rw (c.as_slice.ensures ∙ c.in_ok-margins.ensures.rows) at c.in_default.ensures)
+    total-wide (linear_test t) (total-is t) (rw (c.as_slice.ensures ∙ c.in_ok-margins.ensures.rows) at c.in_default.ensures)
 
 pub returns : goal.returns
 returns c =
