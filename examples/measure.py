@@ -5,6 +5,7 @@ usage: measure.py PROGRAM TABLE [TEST...]        the rows of all tests, or of th
 TABLE   largest  the largest inputs of each command: what it answers, within a minute and a gigabyte
         growth   how large a problem of each shape may be, within a second, and within a minute and a gigabyte
         fisher   tables of counts, beside `fisher.test` of R, whose time is taken within R
+        peers    problems that R or its packages coin, exactRankTests and kSamples answer exactly, beside those
 
 Times are processor seconds of the whole process, which other work on the machine lengthens; memory is the greatest
 that lay in the machine, and up to some 12 MB it may be that of Python, from which the process starts.
@@ -126,7 +127,7 @@ def strata_of_samples(number, size, dice):
     rows = []
     for place in range(number):
         values = distinct(size, dice)
-        rows += [[f"s{place}", f"g{2 * j // size}", value + j // (size // 2)] for j, value in enumerate(values)]
+        rows += [[f"s{place}", f"g{2 * j // size}", round(value + j // (size // 2), 3)] for j, value in enumerate(values)]
     return csv(rows)
 
 
@@ -438,8 +439,96 @@ def fisher(_):
         print(f"| {name} | {p} | {least:.3f} | {memory:.0f} | {theirs} | {drawn} | {took} | {space} |", flush=True)
 
 
+# ---- beside other exact tests of R
+
+# the test's words, the problem, the file, and who else answers it: a package and its call on `d`
+TWO = [65, 65]
+PEERS = [
+    (["ranksum"], "65 and 65, all different", lambda dice: samples(TWO, dice), {
+        "stats": "wilcox.test(d[[2]] ~ d[[1]], exact = TRUE)",
+        "coin": "coin::wilcox_test(d[[2]] ~ factor(d[[1]]), distribution = 'exact')",
+        "exactRankTests": "exactRankTests::wilcox.exact(d[[2]] ~ factor(d[[1]]), exact = TRUE)",
+    }),
+    (["ranksum"], "65 and 65 with ties", lambda dice: samples(TWO, dice, step=0.25), {
+        "coin": "coin::wilcox_test(d[[2]] ~ factor(d[[1]]), distribution = 'exact')",
+        "exactRankTests": "exactRankTests::wilcox.exact(d[[2]] ~ factor(d[[1]]), exact = TRUE)",
+    }),
+    (["ansari"], "55 and 55, all different", lambda dice: samples([55, 55], dice, 0, 2), {
+        "stats": "ansari.test(d[[2]] ~ factor(d[[1]]), exact = TRUE)",
+        "coin": "coin::ansari_test(d[[2]] ~ factor(d[[1]]), distribution = 'exact')",
+        "exactRankTests": "exactRankTests::ansari.exact(d[[2]] ~ factor(d[[1]]), exact = TRUE)",
+    }),
+    (["mood"], "20 and 20, all different", lambda dice: samples([20, 20], dice, 0, 2), {
+        "coin": "coin::mood_test(d[[2]] ~ factor(d[[1]]), distribution = 'exact')",
+    }),
+    (["savage"], "12 and 12, all different", lambda dice: samples([12, 12], dice), {
+        "coin": "coin::savage_test(d[[2]] ~ factor(d[[1]]), distribution = 'exact')",
+    }),
+    (["median"], "65 and 65, all different", lambda dice: samples(TWO, dice), {
+        "coin": "coin::median_test(d[[2]] ~ factor(d[[1]]), mid.score = '0.5', distribution = 'exact')",
+    }),
+    (["raw"], "25 and 25, three decimals", lambda dice: samples([25, 25], dice), {
+        "coin": "coin::oneway_test(d[[2]] ~ factor(d[[1]]), distribution = 'exact')",
+        "exactRankTests": "exactRankTests::perm.test(round(1000 * d[[2]]) ~ factor(d[[1]]), exact = TRUE)",
+    }),
+    (["signedrank"], "126 differences with ties", lambda dice: differences(126, dice, 2, 8), {
+        "coin": "coin::wilcoxsign_test(d[[1]] ~ rep(0, 126), zero.method = 'Wilcoxon', distribution = 'exact')",
+        "exactRankTests": "exactRankTests::wilcox.exact(d[[1]], exact = TRUE)",
+    }),
+    (["rawsigned"], "60 differences", lambda dice: differences(60, dice), {
+        "exactRankTests": "exactRankTests::perm.test(d[[1]], exact = TRUE)",
+    }),
+    (["kendall"], "33 pairs without ties", lambda dice: twins(33, dice), {
+        "stats": "cor.test(d[[1]], d[[2]], method = 'kendall', exact = TRUE)",
+    }),
+    (["strata"], "15 tables of ten", lambda dice: strata(15, 10, dice), {
+        "stats": "mantelhaen.test(array(t(as.matrix(d[, c(2, 4, 3, 5)])), c(2, 2, 15)), exact = TRUE)",
+    }),
+    (["kw"], "3 groups of 5", lambda dice: samples([5, 5, 5], dice), {
+        "kSamples": "kSamples::qn.test(split(d[[2]], d[[1]]), test = 'KW', method = 'exact', Nsim = 1e7)",
+    }),
+    (["jt", "--tail", "greater"], "3 groups of 5", lambda dice: samples([5, 5, 5], dice), {
+        "kSamples": "kSamples::jt.test(split(d[[2]], d[[1]]), method = 'exact', Nsim = 1e7)",
+    }),
+]
+PEER = r"""
+words <- commandArgs(TRUE)
+d <- read.csv(words[1])
+call <- parse(text = words[2])
+p_of <- function(x) {
+    if (isS4(x)) return(as.numeric(coin::pvalue(x)))
+    if (inherits(x, "kSamples")) return(tail(unlist(x[[if (is.null(x$qn)) "JT" else "qn"]]), 1))
+    x$p.value
+}
+setTimeLimit(elapsed = 120)
+told <- tryCatch({
+    suppressWarnings(suppressMessages(p <- p_of(eval(call))))
+    took <- sapply(1:5, function(i) sum(system.time(suppressWarnings(eval(call)))[1:2]))
+    sprintf("%.6f %.3f", p, min(took))
+}, error = function(fault) "- -")
+cat(told)
+"""
+
+
+def peers(tests):
+    print("| test | problem | p | seconds | package | its p | its seconds |\n|---|---|---|---|---|---|---|")
+    Path("peer.R").write_text(PEER, encoding="utf-8")
+    for words, what, made, others in PEERS:
+        if tests and words[0] not in tests:
+            continue
+        text = made(random.Random(f"{what} {words[0]}"))
+        Path("peer.csv").write_text(text, encoding="utf-8")
+        runs = [run([words[0], "f.csv", *words[1:]], text) for _ in range(5)]
+        least = min(one.seconds for one in runs)
+        p = runs[0].text.split()[-1]
+        for package, call in others.items():
+            told = subprocess.run(["Rscript", "peer.R", "peer.csv", call], capture_output=True, text=True, check=True)
+            theirs, took = told.stdout.split()
+            print(f"| `{words[0]}` | {what} | {p} | {least:.3f} | {package} | {theirs} | {took} |", flush=True)
+
+
 PROGRAM = os.path.realpath(sys.argv[1])
 with tempfile.TemporaryDirectory() as folder:
     os.chdir(folder)
-    {"largest": largest, "growth": growth, "fisher": fisher}[sys.argv[2]](sys.argv[3:])
+    {"largest": largest, "growth": growth, "fisher": fisher, "peers": peers}[sys.argv[2]](sys.argv[3:])
     os.chdir(EXAMPLES)
