@@ -1,30 +1,18 @@
 -- What the bodies of the rooms and of the measure read and write.
-use Rattle.std.proofs.Common.{◌≡◌, ℕ, ◌+◌, ◌*◌, ◌<◌, ◌≤◌, ◌^◌, List, [], ◌∷◌, length, drop, get_or, set, refl, sym, ap, subst, arith}
-use Rattle.std.specs.Prelude.{ℤ, pos, ◌*ℤ◌, unsigned_abs, slice_index_or}
-use Rattle.std.proofs.Math.IntN.{pos-*ℤ-pos}
+use Rattle.std.proofs.Common.{◌≡◌, ℕ, ◌+◌, ◌<◌, ◌^◌, List, [], ◌∷◌, length, drop, get_or, set, sym, subst, arith}
+use Rattle.std.specs.Prelude.{ℤ, pos}
 use Rattle.std.proofs.lemmas.Int.{ints}
 use mir.Syntax.{w128}
 use mir.Val.{to_z}
-use Rattle.weights.specs.declared.TheConstants.{MAX}
+use Rattle.room_network.proofs.Items.{one_item}
 use Rattle.strata_cells.specs.declared.stratum.Stratum.{Stratum}
 use Rattle.strata_cells.specs.Strata.{stratum_at}
-use Rattle.homogeneity.specs.ZelenNetwork.{choices_between, chosen, even_plan, greatest_choice, least_choice, product_of, sum_left}
+use Rattle.homogeneity.specs.ZelenNetwork.{choices_between, chosen, even_plan, greatest_choice, least_choice, sum_left}
 use Rattle.homogeneity.specs.ZelenSteps.{AreSummed}
 use Rattle.homogeneity.proofs.EvenMeasures.{RoomParts}
 use Rattle.homogeneity.proofs.EvenWays.{first-choice, here-can}
 use Rattle.homogeneity.proofs.Given.{choice-range}
 use Rattle.homogeneity.proofs.Windows.{most-few}
-
-pub one-item : {X : Type 0} (xs : List X) (x : X) → length xs ≡ 1 → set xs 0 x ≡ x ∷ []
-one-item [] x e = absurd (omega (arith, e))
-one-item (y ∷ []) x e = refl
-one-item (y ∷ z ∷ ys) x e = absurd (omega (arith, e))
-
-pub two-items : {X : Type 0} (xs : List X) (x y : X) → length xs ≡ 2 → set (set xs 0 x) 1 y ≡ x ∷ y ∷ []
-two-items [] x y e = absurd (omega (arith, e))
-two-items (a ∷ []) x y e = absurd (omega (arith, e))
-two-items (a ∷ b ∷ []) x y e = refl
-two-items (a ∷ b ∷ c ∷ xs) x y e = absurd (omega (arith, e))
 
 pub signed : (n : ℕ) → n < 2 ^ 64 → to_z w128 n ≡ pos n
 signed n h = omega (arith, ints, h)
@@ -32,17 +20,6 @@ signed n h = omega (arith, ints, h)
 -- a list that has one number
 pub one-number : (c : List ℕ) → c ≡ chosen c ∷ [] → 0 < length c
 one-number c e = subst (λ xs. 0 < length xs) (sym e) (omega arith)
-
--- products of whole numbers
-pub sized : (z w : ℤ) (n m : ℕ) → z ≡ pos n → w ≡ pos m → n * m ≤ MAX → unsigned_abs z * unsigned_abs w ≤ MAX
-sized z w n m e f h = rw (e, f) h
-
-pub multiplied : (z w : ℤ) (n m : ℕ) → z ≡ pos n → w ≡ pos m → z *ℤ w ≡ pos (n * m)
-multiplied z w n m e f = rw (e, f) (pos-*ℤ-pos n m)
-
--- the one number of a partial
-pub partial-number : (p : List ℤ) → p ≡ pos (product_of p) ∷ [] → slice_index_or p 0 (pos 0) ≡ pos (product_of p)
-partial-number p e = ap (λ (q : List ℤ). slice_index_or q 0 (pos 0)) e
 
 module _ (strata : List Stratum) (sum : ℕ) (d : AreSummed strata sum) where
   pub left-small : (g : ℕ) (room : List ℤ) → RoomParts strata sum d.can g room → sum_left room < 2 ^ 64
@@ -55,7 +32,7 @@ module _ (strata : List Stratum) (sum : ℕ) (d : AreSummed strata sum) where
       let later = drop (g + 1) strata in
       let left : ℕ = sum_left room in
       let range = choice-range s later left (here-can strata sum d.can g room r.room_is before) in
-      rw (one-item choice x long, e) (first-choice (least_choice s later left) (greatest_choice s later left) range.some)
+      rw (one_item choice x long, e) (first-choice (least_choice s later left) (greatest_choice s later left) range.some)
 
 pub room-next : (most : ℕ) (choice : List ℕ) → length choice ≡ 1 → get_or choice 0 0 < most → choices_between (chosen choice + 1) most ≡ set choice 0 (get_or choice 0 0 + 1) ∷ choices_between (chosen (set choice 0 (get_or choice 0 0 + 1)) + 1) most
 room-next most [] long h = absurd (omega (arith, long))

@@ -1,23 +1,31 @@
 -- The measure of Zelen's test: what a reached room and partial have, that the intervals narrow, and what a way is worth.
 use Rattle.std.proofs.Common.{◌≡◌, ℕ, zero, suc, ◌+◌, ◌-◌, ◌*◌, ◌<◌, ◌≤◌, List, [], ◌∷◌, length, drop, refl, sym, ◌∙◌, ap, subst, arith, add-one, drop_of_length-le}
-use Rattle.std.specs.Prelude.{ℤ, pos, ◌≤ℤ◌, slice_index_or, Contains}
+use Rattle.std.specs.Prelude.{ℤ, pos, ◌≤ℤ◌, nat_abs, slice_index_or, Contains}
 use Rattle.std.proofs.Math.Nat.{mul-le-mul_left, mul-le-mul_right}
 use Rattle.std.proofs.lemmas.Int.{ints}
+use Rattle.weights.specs.declared.TheConstants.{MAX}
+use Rattle.stage_network.specs.Judged.{JudgeFits}
 use Rattle.stage_network.specs.Network.{IsReached}
 use Rattle.stage_network.specs.declared.verdicts.Judge.{Judge}
 use Rattle.room_network.specs.Meanings.{AreReached, IsMeasure, Meaning, partial_after, way_value}
+use Rattle.room_network.specs.Numbers.{AreWeights, IsNumber, so_far}
 use Rattle.room_network.specs.Plans.{Plan, alone}
+use Rattle.room_network.proofs.NumberLaws.{weights-of}
 use Rattle.room_network.proofs.RoomKeys.{choices_before, is_allowed}
 use Rattle.strata_cells.specs.declared.stratum.Stratum.{Stratum}
 use Rattle.strata_cells.specs.Strata.{cell_weight, cells_weight, stratum_at}
 use Rattle.strata_cells.proofs.FirstCells.{left-within}
 use Rattle.strata_cells.proofs.StrataSums.{drop-head, next-drop}
-use Rattle.homogeneity.specs.ZelenNetwork.{chosen, even_meaning, even_plan, even_weights, lesser_weight, lesser_weights, number_with, product_of, sum_left}
+use Rattle.homogeneity.specs.ZelenNetwork.{chosen, even_floor, even_meaning, even_numbers, even_plan, even_weights, lesser_weight, lesser_weights, number_with, sum_left}
 use Rattle.homogeneity.specs.ZelenSteps.{CanHave, IsLeft}
 use Rattle.homogeneity.proofs.EvenWays.{IsEvenChoice, IsEvenRoom, choice-of, cut, even-room, here-can}
 use Rattle.homogeneity.proofs.Given.{number_by}
 use Rattle.homogeneity.proofs.Remaining.{left-can, left-first, left-next, lesser-number, number-some, number-term, number-within}
 use Rattle.homogeneity.proofs.Unimodal.{lesser-least}
+
+-- the product so far
+abbrev product_of : List ℤ → ℕ
+product_of p = nat_abs (so_far p)
 
 risen : (a b : ℕ) → a ≤ b → pos a ≤ℤ pos b
 risen a b h = omega (arith, ints, h)
@@ -141,22 +149,31 @@ module _ (strata : List Stratum) (sum : ℕ) (can : CanHave strata sum) where
 
     -- ---- what the bodies compute
 
-    pub high-within : (g : ℕ) (r p : List ℤ) → AreReached m g r p → product_of p * number_with (drop g strata) (sum_left r) ≤ number_with strata sum
-    high-within g r p a = (place-of g r p a).small
-
-    pub low-within : (g : ℕ) (r p : List ℤ) → AreReached m g r p → product_of p * lesser_weights (drop g strata) ≤ number_with strata sum
+    low-within : (g : ℕ) (r p : List ℤ) → AreReached m g r p → product_of p * lesser_weights (drop g strata) ≤ number_with strata sum
     low-within g r p a =
         let place = place-of g r p a in
         let more : product_of p * lesser_weights (drop g strata) ≤ product_of p * number_with (drop g strata) (sum_left r) = mul-le-mul_left (product_of p) (lesser-number (drop g strata) (sum_left r) (left-can strata sum can g (sum_left r) place.parts.left)) in
         omega (arith, more, place.small)
 
-    pub next-within : (g : ℕ) (r p : List ℤ) (c : List ℕ) → AreReached m g r p → g < length strata → Contains (plan.floor.choices g r) c → product_of p * even_weights strata g r c ≤ number_with strata sum
+    next-within : (g : ℕ) (r p : List ℤ) (c : List ℕ) → AreReached m g r p → g < length strata → Contains (plan.floor.choices g r) c → product_of p * even_weights strata g r c ≤ number_with strata sum
     next-within g r p c a before o =
         let place = place-of g r p a in
         let i = choice g r c place.parts before o in
         let n : ℕ = product_of p * even_weights strata g r c in
         let some : 1 ≤ number_with (drop (g + 1) strata) (sum_left r - chosen c) = number-some (drop (g + 1) strata) (sum_left r - chosen c) i.can in
         omega (arith, small-next g r c (product_of p) place.parts before o place.small, left-within n (number_with (drop (g + 1) strata) (sum_left r - chosen c)) some)
+
+    module _ (fits : number_with strata sum ≤ MAX) (ruled : (v : ℤ) → JudgeFits judge v) where
+      weighing : (g : ℕ) (r p : List ℤ) (n : ℕ) → AreReached m g r p → product_of p * n ≤ number_with strata sum → AreWeights (so_far p) (pos n)
+      weighing g r p n a h = weights-of (so_far p) (product_of p) n (ap so_far (place-of g r p a).held) (omega (arith, h, fits))
+
+      pub even_number : IsNumber (even_floor strata sum) (even_numbers strata judge)
+      even_number = record {
+        narrows = even_measure;
+        steps = λ g r c p v. weighing g r p _ v.reached (next-within g r p c v.reached v.before v.allowed);
+        lows = λ g r p a. record { fits = weighing g r p _ a (low-within g r p a); ruled = ruled _ };
+        highs = λ g r p a. record { fits = weighing g r p _ a (place-of g r p a).small; ruled = ruled _ };
+      }
 
     -- ---- the value of a way
 

@@ -1,19 +1,22 @@
 -- What the bodies of the measure read of a reached room and partial.
 use Rattle.std.proofs.Common.{◌≡◌, ℕ, zero, suc, ◌+◌, ◌*◌, ◌<◌, ◌≤◌, List, [], ◌∷◌, drop, length, refl, sym, ◌∙◌, ap, subst, arith}
-use Rattle.std.specs.Prelude.{ℤ, pos, ◌+ℤ◌, slice_index}
+use Rattle.std.specs.Prelude.{ℤ, pos, ◌+ℤ◌, slice_index, unsigned_abs}
 use Rattle.std.specs.List.{Contains, sum}
+use Rattle.weights.specs.declared.TheConstants.{MAX}
 use Rattle.stage_network.specs.declared.verdicts.Judge.{Judge}
 use Rattle.room_network.specs.Meanings.{AreReached, IsMove}
-use Rattle.homogeneity.specs.RankRooms.{column_at, column_ranks, greatest_added, least_added, left, rank_floor, rank_meaning, remaining, so_far}
-use Rattle.homogeneity.specs.RankSteps.{AreColumns, AreFitColumns, IsOneCount, IsOneSum}
+use Rattle.homogeneity.specs.RankRooms.{column_at, column_ranks, greatest_added, least_added, left, rank_floor, rank_meaning, rank_numbers, remaining}
+use Rattle.room_network.specs.Numbers.{IsNumber, IsOutcome, so_far}
+use Rattle.room_network.specs.declared.numbers.Operation.TheVariants.{Sum}
+use Rattle.homogeneity.specs.RankSteps.{AreColumns, AreFitColumns, AreRankSums, IsOneCount}
 use Rattle.homogeneity.specs.declared.rank_columns.Column.{Column}
-use Rattle.homogeneity.proofs.RankPlans.{IsChoiceAt, IsPlaceAt, choice_at, columns-from, place_at}
+use Rattle.homogeneity.proofs.RankPlans.{IsChoiceAt, IsPlaceAt, choice_at, columns-from, measure_sound, place_at}
 use Rattle.homogeneity.proofs.RankSeats.{left-few}
 use Rattle.homogeneity.proofs.RankSums.{columns-sound_at, greatest-within, least-within}
 
 pub record Place (columns : List Column) (g : ℕ) (room p : List ℤ) : Type 0 where
   pub one : IsOneCount room
-  pub sum_is : IsOneSum p
+  pub sum_is : p ≡ pos (remaining p) ∷ []
   pub stage : g ≤ length columns
   pub sound : AreColumns (drop g columns)
   pub within : remaining room ≤ left (drop g columns)
@@ -38,7 +41,7 @@ module _ (columns : List Column) (second : ℕ) (f : AreFitColumns columns secon
       let within : remaining room ≤ left (drop g columns) = omega (arith, same, at.lies.within) in
       record {
         one = record { is = at.lies.is ∙ ap (λ n. pos n ∷ []) (sym same); small = omega (arith, within, left-few (drop g columns) sound) };
-        sum_is = record { is = at.partial_is ∙ ap (λ n. pos n ∷ []) (sym sum_same) };
+        sum_is = at.partial_is ∙ ap (λ n. pos n ∷ []) (sym sum_same);
         stage = stage-of g room p r;
         sound = sound;
         within = within;
@@ -62,5 +65,21 @@ module _ (columns : List Column) (second : ℕ) (f : AreFitColumns columns secon
       let next_same : remaining ((rank_meaning columns second judge).advance g room x p) ≡ next.sum_so_far = ap remaining next.partial_is in
       record { long = omega (arith, long); fits = omega (arith, sum_same, told, next_same, next.within) }
 
-pub added-sum : (p : List ℤ) (t : ℕ) → IsOneSum p → so_far p +ℤ pos t ≡ pos (remaining p + t)
-added-sum p t e = ap (λ q. so_far q +ℤ pos t) e.is
+-- what a partial and what is added come to
+module _ (columns : List Column) (second : ℕ) (judge : Judge) (h : AreRankSums columns second judge) where
+  fits-sum : (p : List ℤ) (t : ℕ) → p ≡ pos (remaining p) ∷ [] → remaining p + t ≤ sum (column_ranks columns) → unsigned_abs (so_far p) + unsigned_abs (pos t) ≤ MAX
+  fits-sum p t e l = let here : so_far p ≡ pos (remaining p) = ap so_far e in rw here (omega (arith, l, h.fit.ranks_fit))
+
+  outcome : (p : List ℤ) (t : ℕ) → p ≡ pos (remaining p) ∷ [] → remaining p + t ≤ sum (column_ranks columns) → IsOutcome Sum judge (so_far p) (pos t)
+  outcome p t e l = record {
+    fits = fits-sum p t e l;
+    ruled = h.judge_fits (so_far p +ℤ pos t) (let here : so_far p ≡ pos (remaining p) = ap so_far e in rw here l);
+  }
+
+  pub rank_number : IsNumber (rank_floor columns second) (rank_numbers columns judge)
+  rank_number = record {
+    narrows = measure_sound columns second (columns-sound_at columns h.fit.sound) h.fit.within judge;
+    steps = λ g room x p v. fits-sum p _ (place columns second h.fit judge g room p v.reached).sum_is (moves columns second h.fit judge g room x p v).fits;
+    lows = λ g room p r. let here = place columns second h.fit judge g room p r in outcome p _ here.sum_is here.least;
+    highs = λ g room p r. let here = place columns second h.fit judge g room p r in outcome p _ here.sum_is here.greatest;
+  }

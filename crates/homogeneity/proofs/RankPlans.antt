@@ -17,7 +17,8 @@ use Rattle.stage_network.proofs.Steps.{reached-next, total_weight-step}
 use Rattle.room_network.specs.Meanings.{AreReached, IsMeasure}
 use Rattle.room_network.specs.Plans.{IsPlan, alone}
 use Rattle.room_network.proofs.RoomKeys.{choices_before, is_allowed}
-use Rattle.homogeneity.specs.RankRooms.{added_by, column_at, column_ranks, counts_from, left, rank_floor, rank_meaning, rank_plan, remaining, remaining_after, so_far, ways_of}
+use Rattle.homogeneity.specs.RankRooms.{added_by, column_at, column_ranks, counts_from, left, rank_floor, rank_meaning, rank_plan, remaining, remaining_after, ways_of}
+use Rattle.room_network.specs.Numbers.{so_far}
 use Rattle.homogeneity.specs.RankSteps.{AreColumns, AreFitColumns, later_ways}
 use Rattle.homogeneity.specs.declared.rank_columns.Column.{Column}
 use Rattle.homogeneity.proofs.RankLaw.{later-ways, later_sizes, number-more, ways_give}

@@ -17,11 +17,6 @@ use Rattle.homogeneity.proofs.RankPlans.{IsChoiceAt, IsRoomAt, Weighs, choice_at
 use Rattle.homogeneity.proofs.RankSums.{columns-sound_at}
 use Rattle.homogeneity.proofs.TwoParts.{halves}
 
-pub one_item : {X : Type 0} (xs : List X) (x : X) → length xs ≡ 1 → set xs 0 x ≡ x ∷ []
-one_item [] x e = absurd (omega (arith, e))
-one_item (y ∷ []) x e = refl
-one_item (y ∷ z ∷ ys) x e = absurd (omega (arith, e))
-
 pub left-few : (columns : List Column) → AreColumns columns → left columns ≤ 10000
 left-few [] s = omega arith
 left-few (c ∷ columns) s = s.0.small

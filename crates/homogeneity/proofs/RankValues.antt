@@ -12,7 +12,8 @@ use Rattle.sample_reader.specs.declared.subjects.Subject.{Subject}
 use Rattle.stage_network.specs.declared.verdicts.Judge.{Judge}
 use Rattle.room_network.specs.Meanings.{partial_after, way_value}
 use Rattle.room_network.specs.Plans.{Gives, alone}
-use Rattle.homogeneity.specs.RankRooms.{added_by, column_at, column_ranks, columns_of, first_second, rank_floor, rank_meaning, rank_plan, so_far}
+use Rattle.homogeneity.specs.RankRooms.{added_by, column_at, column_ranks, columns_of, first_second, rank_floor, rank_meaning, rank_plan}
+use Rattle.room_network.specs.Numbers.{so_far}
 use Rattle.homogeneity.specs.StratifiedRanks.{ranked_strata_test, two_sizes}
 use Rattle.homogeneity.specs.declared.rank_columns.Column.{Column}
 use Rattle.homogeneity.proofs.RankData.{IsStratum, columns-ranks, columns-sizes, columns-sound, second-within}

@@ -1,7 +1,7 @@
 -- The network of the stratified rank sum test: a stage is a distinct value of a stratum, by stratum
 -- and then ascending, with the subjects that have it. A room is how many of the second group remain
 -- in the stratum, and a choice how many of the value's subjects are of that group.
-use Rattle.std.specs.Prelude.{ℕ, ℤ, pos, ◌+◌, ◌-◌, ◌*◌, ◌+ℤ◌, List, [], ◌∷◌, ◌++◌, length, map, take, drop, min, nat_abs, nat_eq, replicate, slice_index, slice_index_or, if◌then◌else◌}
+use Rattle.std.specs.Prelude.{ℕ, ℤ, pos, ◌+◌, ◌-◌, ◌*◌, List, [], ◌∷◌, ◌++◌, length, map, take, drop, min, nat_abs, nat_eq, replicate, slice_index, slice_index_or, if◌then◌else◌}
 use Rattle.std.specs.List.{range_with_len, sum}
 use Rattle.weights.specs.Labellings.{number_of_labellings}
 use Rattle.midranks.specs.Ties.{tie_groups, values_in}
@@ -10,7 +10,9 @@ use Rattle.sample_reader.specs.PooledSample.{values_of}
 use Rattle.sample_reader.specs.declared.subjects.Subject.{Subject}
 use Rattle.stage_network.specs.declared.verdicts.Judge.{Judge}
 use Rattle.room_network.specs.Meanings.{Meaning}
+use Rattle.room_network.specs.Numbers.{Numbers, number_meaning}
 use Rattle.room_network.specs.Plans.{Floor, Plan, Weights}
+use Rattle.room_network.specs.declared.numbers.Operation.TheVariants.{Sum}
 use Rattle.homogeneity.specs.StratifiedRanks.{second_size}
 use Rattle.homogeneity.specs.declared.rank_columns.Column.{Column}
 
@@ -115,27 +117,18 @@ least_added columns r = least_sum columns r + of_later least_sum columns
 abbrev pub greatest_added : List Column → ℕ → ℕ
 greatest_added columns r = greatest_sum columns r + of_later greatest_sum columns
 
--- the partial sum, the one number that is kept
-abbrev pub so_far : List ℤ → ℤ
-so_far partial = slice_index_or partial 0 (pos 0)
-
 abbrev pub added_by : List Column → ℕ → List ℕ → ℤ
 added_by columns g x = pos (slice_index x 0 * (column_at columns g).rank)
 
-abbrev pub rank_meaning : List Column → ℕ → Judge → Meaning
-rank_meaning columns second judge = record {
-  floor = rank_floor columns second;
-  slots = 1;
-  step_width = 1;
-  outlook_width = 2;
-  first = pos 0 ∷ [];
-  step = λ g room x. added_by columns g x ∷ [];
-  advance = λ g room x p. (so_far p +ℤ added_by columns g x) ∷ [];
-  outlook = λ g room.
-      pos (least_added (drop g columns) (remaining room))
-      ∷ pos (greatest_added (drop g columns) (remaining room)) ∷ [];
-  value = so_far;
-  low = λ g room p. so_far p +ℤ pos (least_added (drop g columns) (remaining room));
-  high = λ g room p. so_far p +ℤ pos (greatest_added (drop g columns) (remaining room));
+abbrev pub rank_numbers : List Column → Judge → Numbers (List ℤ)
+rank_numbers columns judge = record {
+  operation = Sum;
+  step = λ g room x. added_by columns g x;
+  least = λ g room. pos (least_added (drop g columns) (remaining room));
+  greatest = λ g room. pos (greatest_added (drop g columns) (remaining room));
   judge = judge;
 }
+
+abbrev pub rank_meaning : List Column → ℕ → Judge → Meaning
+rank_meaning columns second judge =
+    number_meaning (rank_floor columns second) (rank_numbers columns judge)

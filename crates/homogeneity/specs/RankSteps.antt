@@ -1,5 +1,5 @@
 -- Words for the bodies: what columns owe each other, and what is kept of each stage.
-use Rattle.std.specs.Prelude.{◌≡◌, ⊤, ℕ, ℤ, pos, ◌+◌, ◌-◌, ◌*◌, ◌<◌, ◌≤◌, List, [], ◌∷◌, drop, get_or, length, nat_abs, nat_eq, slice_index_or, unsigned_abs, if◌then◌else◌}
+use Rattle.std.specs.Prelude.{◌≡◌, ⊤, ℕ, ℤ, pos, ◌+◌, ◌-◌, ◌*◌, ◌<◌, ◌≤◌, List, [], ◌∷◌, drop, get_or, length, nat_eq, unsigned_abs, if◌then◌else◌}
 use Rattle.std.specs.List.{sum}
 use Rattle.weights.specs.declared.TheConstants.{MAX}
 use Rattle.midranks.specs.declared.TheConstants.{MOST_VALUES}
@@ -62,13 +62,3 @@ pub record IsOneCount (room : List ℤ) : Type 0 where
 pub record AreRankSums (columns : List Column) (second : ℕ) (judge : Judge) : Type 0 where
   pub fit : AreFitColumns columns second
   pub judge_fits : (v : ℤ) → unsigned_abs v ≤ sum (column_ranks columns) → JudgeFits judge v
-
--- lists of one sum, and of two
-pub record IsOneSum (numbers : List ℤ) : Type 0 where
-  pub is : numbers ≡ pos (remaining numbers) ∷ []
-
-abbrev pub second_in : List ℤ → ℕ
-second_in numbers = nat_abs (slice_index_or numbers 1 (pos 0))
-
-pub record AreTwoSums (numbers : List ℤ) : Type 0 where
-  pub are : numbers ≡ pos (remaining numbers) ∷ pos (second_in numbers) ∷ []

@@ -7,8 +7,10 @@ use Rattle.stage_network.specs.Judged.{judge_of}
 use Rattle.stage_network.specs.Network.{Network}
 use Rattle.stage_network.specs.declared.verdicts.Judge.{Judge}
 use Rattle.room_network.specs.Meanings.{Meaning}
+use Rattle.room_network.specs.Numbers.{Numbers, number_meaning}
 use Rattle.room_network.specs.Plans.{Floor, Plan, Weights}
 use Rattle.room_network.specs.RoomNetworks.{room_network}
+use Rattle.room_network.specs.declared.numbers.Operation.TheVariants.{Product}
 use Rattle.strata_cells.specs.declared.stratum.Stratum.{Stratum}
 use Rattle.strata_cells.specs.Strata.{cell_weight, greatest_cell, least_cell, stratum_at, strata_labellings, strata_of}
 use Rattle.homogeneity.specs.Zelen.{even_test, has_sum}
@@ -34,15 +36,12 @@ greatest_choice s later sum = min (greatest_cell s) (sum - least_sum later)
 abbrev pub choices_between : ℕ → ℕ → List (List ℕ)
 choices_between least greatest = map (λ x. x ∷ []) (range_with_len least (greatest + 1 - least))
 
--- the one number of a room, a choice and a partial
+-- the one number of a room, and of a choice
 abbrev pub sum_left : List ℤ → ℕ
 sum_left room = nat_abs (slice_index_or room 0 (pos 0))
 
 abbrev pub chosen : List ℕ → ℕ
 chosen choice = slice_index choice 0
-
-abbrev pub product_of : List ℤ → ℕ
-product_of partial = nat_abs (slice_index_or partial 0 (pos 0))
 
 abbrev pub even_floor : List Stratum → ℕ → Floor
 even_floor strata sum = record {
@@ -79,22 +78,18 @@ number_with strata sum = count_by (has_sum strata sum) (strata_labellings strata
 
 -- What is measured is the product of the weights. The later strata multiply it at least by their
 -- lesser weights, and at most by the number of their labellings that have the sum that is left.
-abbrev pub even_meaning : List Stratum → ℕ → Judge → Meaning
-even_meaning strata sum judge = record {
-  floor = even_floor strata sum;
-  slots = 1;
-  step_width = 1;
-  outlook_width = 2;
-  first = pos 1 ∷ [];
-  step = λ g room c. pos (even_weights strata g room c) ∷ [];
-  advance = λ g room c p. pos (product_of p * even_weights strata g room c) ∷ [];
-  outlook = λ g room. pos (lesser_weights (drop g strata))
-      ∷ pos (number_with (drop g strata) (sum_left room)) ∷ [];
-  value = λ p. slice_index_or p 0 (pos 0);
-  low = λ g room p. pos (product_of p * lesser_weights (drop g strata));
-  high = λ g room p. pos (product_of p * number_with (drop g strata) (sum_left room));
+abbrev pub even_numbers : List Stratum → Judge → Numbers (List ℤ)
+even_numbers strata judge = record {
+  operation = Product;
+  step = λ g room c. pos (even_weights strata g room c);
+  least = λ g room. pos (lesser_weights (drop g strata));
+  greatest = λ g room. pos (number_with (drop g strata) (sum_left room));
   judge = judge;
 }
+
+abbrev pub even_meaning : List Stratum → ℕ → Judge → Meaning
+even_meaning strata sum judge =
+    number_meaning (even_floor strata sum) (even_numbers strata judge)
 
 abbrev pub even_network : List Stratum → Network
 even_network strata =

@@ -4,7 +4,7 @@ use crate::rank_rooms::RankRooms;
 use crate::ranked::first_labels;
 use crate::stratified_ranks::StratifiedRanks;
 use enumerate::{Plain, next_joined};
-use room_network::RoomNetwork;
+use room_network::{Numbered, RoomNetwork};
 use scores::labelled_sum;
 use stage_network::{Judge, Prepared};
 use std::alloc::Global;
@@ -43,7 +43,7 @@ impl Plain for StratifiedRanks {
 impl Prepared for StratifiedRanks {
     ghost use Rattle.homogeneity.specs.RankNetworks.{stratified_rank_network};
 
-    type Built = RoomNetwork<RankRooms, RankMeasure>;
+    type Built = RoomNetwork<RankRooms, Numbered<RankMeasure>>;
 
     ghost network = { stratified_rank_network };
 
@@ -65,6 +65,6 @@ impl Prepared for StratifiedRanks {
             second: made.second,
             judge: Judge::of(&made.frame),
         };
-        Ok(RoomNetwork::new(rooms, measure))
+        Ok(RoomNetwork::new(rooms, Numbered::new(measure)))
     }
 }

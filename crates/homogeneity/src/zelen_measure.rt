@@ -1,25 +1,25 @@
 // The weight of the tables of strata as a measure of their rooms.
-ghost use Rattle.std.specs.Prelude.{◌≡◌, ◌*◌, ◌+◌, ◌<◌, ◌≤◌, ◌*ℤ◌, ℤ, length, drop, pos, slice_index_or, unsigned_abs, IfOk};
+ghost use Rattle.std.specs.Prelude.{◌≡◌, ◌≤◌, ℤ, length, drop, pos, IfOk};
 ghost use Rattle.weights.specs.declared.TheConstants.{MAX};
-ghost use Rattle.stage_network.specs.Judged.{JudgeFits, rule_in, verdict_of};
+ghost use Rattle.stage_network.specs.Judged.{JudgeFits};
 ghost use Rattle.strata_cells.specs.Strata.{cell_weight, greatest_cell, least_cell};
 ghost use Rattle.strata_cells.specs.StrataLimits.{IsSmall};
 ghost use Rattle.homogeneity.specs.ZelenNetwork.{lesser_weight, lesser_weights};
 ghost use Rattle.homogeneity.specs.ZelenSteps.{AreLesser, AreRests, IsEvenMeasure};
 
 use crate::rests::{Rests, left_in};
-use room_network::Measure;
-use stage_network::{Interval, Judge, Verdict};
+use room_network::{NumberMeasure, Operation};
+use stage_network::{Interval, Judge};
 use std::alloc::Global;
 use strata_cells::{Stratum, cell_weight};
-use weights::{List, NoMemory, Tail, only, times};
+use weights::{List, NoMemory};
 
 /// How many labellings give the tables that a labelling gives: the product over the strata of the
 /// weights of their first cells.
 ///
-/// A partial is one number, the product so far. Each later stratum multiplies it at least by the
-/// lesser weight of its least and its greatest first cell, and all together at most by the number
-/// of their labellings with what is left of the sum.
+/// Each later stratum multiplies it at least by the lesser weight of its least and its greatest
+/// first cell, and all together at most by the number of their labellings with what is left of the
+/// sum.
 #[derive(Drop)]
 pub struct ZelenMeasure {
     rests: Rests,
@@ -61,23 +61,6 @@ fn lesser_weights(alloc: Global, rests: &Rests) -> Result<List<u128>, NoMemory>
     Ok(products)
 }
 
-// A product with what it can be multiplied by, at least and at most.
-#[inline(always)]
-fn both_times(product: i128, outlook: &[i128]) -> Interval
-    requires two { length outlook.now ≡ 2 }
-    requires low { unsigned_abs product
-        * unsigned_abs (slice_index_or outlook.now 0 (pos 0)) ≤ MAX }
-    requires high { unsigned_abs product
-        * unsigned_abs (slice_index_or outlook.now 1 (pos 0)) ≤ MAX }
-    ensures low { result.low ≡ product *ℤ slice_index_or outlook.now 0 (pos 0) }
-    ensures high { result.high ≡ product *ℤ slice_index_or outlook.now 1 (pos 0) }
-{
-    Interval {
-        low: times(product, outlook[0]),
-        high: times(product, outlook[1]),
-    }
-}
-
 /// A weight as partials hold it.
 #[inline(always)]
 pub(crate) fn held(weight: u128) -> i128
@@ -111,65 +94,33 @@ impl ZelenMeasure {
     }
 }
 
-impl Measure for ZelenMeasure {
-    ghost use Rattle.homogeneity.specs.ZelenNetwork.{even_meaning};
+impl NumberMeasure for ZelenMeasure {
+    ghost use Rattle.homogeneity.specs.ZelenNetwork.{even_floor, even_numbers};
 
-    ghost meaning = { λ m. even_meaning m.rests.strata m.rests.sum m.judge };
+    ghost floor = { λ m. even_floor m.rests.strata m.rests.sum };
 
-    fn slots(&self) -> usize {
-        1
-    }
+    ghost numbers = { λ m. even_numbers m.rests.strata m.judge };
 
-    fn step_width(&self) -> usize {
-        1
-    }
-
-    fn outlook_width(&self) -> usize {
-        2
-    }
-
-    fn first(&self, partial: &mut [i128]) {
-        partial[0] = 1;
+    #[inline(always)]
+    fn judge(&self) -> &Judge {
+        &self.judge
     }
 
     #[inline(always)]
-    fn step(&self, stage: usize, _room: &[i128], choice: &[u64], step: &mut [i128]) {
-        step[0] = held(self.rests.weight(stage, choice[0]));
+    fn operation(&self) -> Operation {
+        Operation::Product
     }
 
     #[inline(always)]
-    fn follow(
-        &self,
-        _stage: usize,
-        _room: &[i128],
-        _choice: &[u64],
-        step: &[i128],
-        partial: &[i128],
-        next: &mut [i128],
-    ) {
-        next[0] = times(only(partial), only(step));
+    fn number(&self, stage: usize, _room: &[i128], choice: &[u64]) -> i128 {
+        held(self.rests.weight(stage, choice[0]))
     }
 
     #[inline(always)]
-    fn outlook(&self, stage: usize, room: &[i128], outlook: &mut [i128]) {
-        outlook[0] = held(self.least_factor(stage));
-        outlook[1] = held(self.rests.number(stage, left_in(room)));
-    }
-
-    #[inline(always)]
-    fn verdict_by(
-        &self,
-        _stage: usize,
-        _room: &[i128],
-        outlook: &[i128],
-        partial: &[i128],
-        tail: Tail,
-    ) -> Verdict {
-        self.judge.verdict(tail, both_times(only(partial), outlook))
-    }
-
-    #[inline(always)]
-    fn value(&self, partial: &[i128]) -> i128 {
-        only(partial)
+    fn later(&self, stage: usize, room: &[i128]) -> Interval {
+        Interval {
+            low: held(self.least_factor(stage)),
+            high: held(self.rests.number(stage, left_in(room))),
+        }
     }
 }

@@ -11,7 +11,7 @@ use crate::zelen::Zelen;
 use crate::zelen_measure::{ZelenMeasure, held};
 use crate::zelen_rooms::ZelenRooms;
 use enumerate::Plain;
-use room_network::RoomNetwork;
+use room_network::{Numbered, RoomNetwork};
 use stage_network::{Judge, Prepared};
 use std::alloc::Global;
 use strata_cells::Stratum;
@@ -78,7 +78,7 @@ impl Plain for Zelen {
 impl Prepared for Zelen {
     ghost use Rattle.homogeneity.specs.ZelenNetwork.{zelen_network};
 
-    type Built = RoomNetwork<ZelenRooms, ZelenMeasure>;
+    type Built = RoomNetwork<ZelenRooms, Numbered<ZelenMeasure>>;
 
     ghost network = { zelen_network };
 
@@ -100,6 +100,6 @@ impl Prepared for Zelen {
         let rooms = ZelenRooms::new(rests_of(alloc, &made.strata, made.sum)?);
         let rests = rests_of(alloc, &made.strata, made.sum)?;
         let measure = ZelenMeasure::new(alloc, rests, Judge::of(&made.frame))?;
-        Ok(RoomNetwork::new(rooms, measure))
+        Ok(RoomNetwork::new(rooms, Numbered::new(measure)))
     }
 }

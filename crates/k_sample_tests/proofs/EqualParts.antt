@@ -19,10 +19,10 @@ use Rattle.scores.specs.PlaceScores.{common_multiple}
 use Rattle.room_network.proofs.RoomKeys.{choices_before, is_key, weighed}
 use Rattle.label_network.specs.LabelNetwork.{label_network, over_rooms}
 use Rattle.label_network.specs.LabelRooms.{label_weight}
-use Rattle.label_network.specs.Meanings.{IsPlace, allowed, sizes_in}
+use Rattle.room_network.specs.Meanings.{AreReached}
+use Rattle.label_network.specs.Meanings.{allowed, sizes_in}
 use Rattle.label_network.proofs.LabelPlans.{label_width}
 use Rattle.label_network.proofs.Narrowing.{chosen}
-use Rattle.label_network.proofs.OverRooms.{over_place}
 use Rattle.label_network.proofs.Rows.{length-pos}
 use Rattle.k_sample_tests.specs.EqualGroups.{equal_groups_network}
 use Rattle.k_sample_tests.specs.EqualGroupSteps.{AreEqualGroups}
@@ -59,11 +59,10 @@ module _ (m : RankSums) (sizes : List ℕ) (a : AreEqualGroups m sizes) where
   abbrev key-network : Network
   key-network = label_network (sums_meaning m)
 
-  pub in-place : (g : ℕ) (room partial : List ℤ) → length room ≡ length m.rows.items → IsReached key-network g (room ++ partial) → IsPlace (sums_meaning m) g room partial
+  pub in-place : (g : ℕ) (room partial : List ℤ) → length room ≡ length m.rows.items → IsReached key-network g (room ++ partial) → AreReached (over_rooms (sums_meaning m)) g room partial
   in-place g room partial l r =
       rw (front-key (length m.rows.items) room partial l, back-key (length m.rows.items) room partial l) at
-      (over_place (sums_meaning m) g (take (length m.rows.items) (room ++ partial)) (drop (length m.rows.items) (room ++ partial))
-      (is_key (over_rooms (sums_meaning m)) label_weight (label_width m.later.columns.items m.rows.items) g (room ++ partial) r).reached)
+      (is_key (over_rooms (sums_meaning m)) label_weight (label_width m.later.columns.items m.rows.items) g (room ++ partial) r).reached
 
   -- what a choice leaves
   pub in-next : (g : ℕ) (room partial : List ℤ) (c : List ℕ) → length room ≡ length m.rows.items → map pos (minus (sizes_in room) c) ++ drop (length m.rows.items) (key-network.next g (room ++ partial) c) ≡ key-network.next g (room ++ partial) c

@@ -35,7 +35,8 @@ use Rattle.stage_network.specs.Judged.{judge_of}
 use Rattle.stage_network.proofs.Following.{judge-fits}
 use Rattle.stage_network.specs.Follows.{Follows}
 use Rattle.label_network.specs.Endings.{labelling_value}
-use Rattle.label_network.specs.LabelNetwork.{IsMargin, label_network}
+use Rattle.label_network.specs.LabelRooms.{IsLabelled}
+use Rattle.label_network.specs.LabelNetwork.{IsMargin, label_network, over_rooms}
 use Rattle.label_network.specs.LaterSums.{subjects}
 use Rattle.label_network.specs.Meanings.{IsMeasure, Meaning}
 use Rattle.label_network.proofs.LabelFollows.{label_follows}
@@ -145,15 +146,16 @@ module _ (samples : ScoredGroups) (f : AreFitting samples) where
   })
 
   -- what is measured has the groups' columns and sizes
-  pub margin : (m : Meaning) (columns rows : List ℕ) → m.columns ≡ column_sizes (pooled_values samples.groups) → m.rows ≡ group_sizes samples.groups → m.slots ≤ 8 → columns ≡ column_sizes (pooled_values samples.groups) → rows ≡ group_sizes samples.groups → IsMargin m columns rows
+  pub margin : (m : Meaning) (columns rows : List ℕ) → m.columns ≡ column_sizes (pooled_values samples.groups) → m.rows ≡ group_sizes samples.groups → m.slots ≤ 8 → columns ≡ column_sizes (pooled_values samples.groups) → rows ≡ group_sizes samples.groups → IsMargin (over_rooms m) columns rows
   margin m columns rows mc mr slots c r = record {
-    columns_are = c ∙ sym mc;
-    rows_are = r ∙ sym mr;
+    floor_is = rw (c ∙ sym mc, r ∙ sym mr) refl;
+    labelled = rw (c, r) labelled;
     some = subst (λ sizes. 2 ≤ length sizes) (sym r) f.some;
-    few = subst (λ sizes. length sizes ≤ 8) (sym r) f.few_rows;
     wide = subst (λ sizes. length sizes + m.slots ≤ 16) (sym r) (omega (arith, f.few_rows, slots));
-    total = subst (λ sizes. number_of_labellings sizes ≤ MAX) (sym r) f.total_fits;
   }
+    where
+      labelled : IsLabelled (column_sizes (pooled_values samples.groups)) (group_sizes samples.groups)
+      labelled = record { level = columns-sum samples.groups ∙ sym f.whole; units = omega (arith, f.whole, f.few); few = f.few_rows; total = f.total_fits }
 
   -- where all scores together are less than half of the base
   module _ (tail : Tail) (half : ℕ) (e : absolute_sum (pooled_scores samples) < half) where

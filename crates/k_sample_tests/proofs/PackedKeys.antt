@@ -11,7 +11,12 @@ use Rattle.label_network.specs.declared.ends.End.TheVariants.{Least, Greatest}
 use Rattle.label_network.specs.LaterSums.{later_scores, subjects}
 use Rattle.weights.specs.Numbers.{absolute_sum}
 use Rattle.label_network.specs.Linear.{score_of}
-use Rattle.label_network.specs.Meanings.{Meaning, AreReached, IsEnd, IsMeasure, IsMove, IsPlace, IsRoom, IsStep, sizes_in}
+use Rattle.room_network.specs.Meanings.{AreReached, IsEnd, IsMove, IsRoom, IsStep}
+use Rattle.room_network.specs.Meanings.{Meaning as RoomMeaning}
+use Rattle.label_network.specs.LabelNetwork.{over_rooms}
+use Rattle.label_network.specs.Meanings.{Meaning, IsMeasure, sizes_in}
+use Rattle.label_network.specs.Meanings.{AreReached as LabelReached}
+use Rattle.label_network.proofs.OverRooms.{over_place, under_place}
 use Rattle.k_sample_tests.specs.PackedSums.{numeral, pack, packed_meaning, unpack, unpacked}
 use Rattle.k_sample_tests.specs.PackedSumSteps.{AreDigits, AreNarrow, sums_meaning}
 use Rattle.k_sample_tests.specs.RankSums.{plus_each, score_parts, squares_meaning}
@@ -19,16 +24,16 @@ use Rattle.k_sample_tests.specs.RankSumSteps.{IsSquaring, parts_of}
 use Rattle.k_sample_tests.specs.declared.packed_sums.PackedSums.{PackedSums}
 use Rattle.k_sample_tests.proofs.Corners.{corners, plus-within}
 use Rattle.k_sample_tests.proofs.Digits.{pack-plus, packed, unpack-pack}
-use Rattle.k_sample_tests.proofs.PackedNarrows.{end_of, move_of, packed_measure, place_of, reached_next, reached_pack, room_of, step_of}
+use Rattle.k_sample_tests.proofs.PackedNarrows.{packed_measure, place_of, reached_next, reached_pack}
 use Rattle.k_sample_tests.proofs.RankWriting.{sums-room}
 use Rattle.k_sample_tests.proofs.RankKeys.{back-is, choice-long, column-fits, counts-within, end-long, end-within, front-is, long, outlook-long, partial_is}
 use Rattle.k_sample_tests.proofs.RankNarrows.{length-parts, length-plus, reached_partial, squares_measure}
 
 module _ (factors : List ℕ) (bound : ℕ) (scores : List ℤ) (columns rows : List ℕ) (judge : Judge) (h : IsSquaring factors bound scores columns rows judge) (half : ℕ) (small : absolute_sum (subjects scores columns) < half) where
-  pub within : (g : ℕ) (r : List ℕ) (p : List ℤ) → AreReached (squares_meaning factors bound scores columns rows judge) g r p → absolute_sum p < half
+  pub within : (g : ℕ) (r : List ℕ) (p : List ℤ) → LabelReached (squares_meaning factors bound scores columns rows judge) g r p → absolute_sum p < half
   within g r p a = omega (arith, (reached_partial factors bound scores columns rows judge h g r p a).small, small)
 
-  pub back : (g : ℕ) (r : List ℕ) (p : List ℤ) → AreReached (squares_meaning factors bound scores columns rows judge) g r p → unpack half (length rows) (pack half p) ≡ p
+  pub back : (g : ℕ) (r : List ℕ) (p : List ℤ) → LabelReached (squares_meaning factors bound scores columns rows judge) g r p → unpack half (length rows) (pack half p) ≡ p
   back g r p a = unpack-pack half (length rows) p (reached_partial factors bound scores columns rows judge h g r p a).wide (within g r p a)
 
   pub packed_squares : IsMeasure (packed_meaning half (squares_meaning factors bound scores columns rows judge))
@@ -56,32 +61,39 @@ module _ (s : PackedSums) where
   squaring : IsSquaring s.sums.factors.items s.sums.bound s.sums.later.scores.items s.sums.later.columns.items s.sums.rows.items s.sums.judge
   squaring = s.sums.right.squaring
 
-  back-of : (g : ℕ) (r : List ℕ) (p : List ℤ) → AreReached m g r p → unpack half groups (pack half p) ≡ p
+  back-of : (g : ℕ) (r : List ℕ) (p : List ℤ) → LabelReached m g r p → unpack half groups (pack half p) ≡ p
   back-of = back s.sums.factors.items s.sums.bound s.sums.later.scores.items s.sums.later.columns.items s.sums.rows.items s.sums.judge squaring half s.right.small
 
   pub sound : IsMeasure (packed_meaning half m)
   sound = packed_squares s.sums.factors.items s.sums.bound s.sums.later.scores.items s.sums.later.columns.items s.sums.rows.items s.sums.judge squaring half s.right.small
 
-  pub place : (g : ℕ) (f e : List ℤ) → IsPlace (packed_meaning half m) g f e → IsPlace m g f (sums e)
-  place = place_of half m back-of
+  abbrev packed_rooms : RoomMeaning
+  packed_rooms = over_rooms (packed_meaning half m)
 
-  pub room : (g : ℕ) (f : List ℤ) → IsRoom (packed_meaning half m) g f → IsRoom m g f
-  room = room_of half m back-of
+  there : (g : ℕ) (f e : List ℤ) → AreReached packed_rooms g f e → LabelReached (packed_meaning half m) g (sizes_in f) e
+  there g f e r = (over_place (packed_meaning half m) g f e r).reached
 
-  pub move : (g : ℕ) (f : List ℤ) (c : List ℕ) (e : List ℤ) → IsMove (packed_meaning half m) g f c e → IsMove m g f c (sums e)
-  move = move_of half m back-of
+  -- the places are the same ones
+  pub place : (g : ℕ) (f e : List ℤ) → AreReached packed_rooms g f e → AreReached (over_rooms m) g f (sums e)
+  place g f e r = under_place m g f (sums e) (place_of half m back-of g f e (over_place (packed_meaning half m) g f e r))
 
-  pub step : (g : ℕ) (f : List ℤ) (c : List ℕ) → IsStep (packed_meaning half m) g f c → IsStep m g f c
-  step = step_of half m back-of
+  pub room : (g : ℕ) (f : List ℤ) → IsRoom packed_rooms g f → IsRoom (over_rooms m) g f
+  room g f a = record { partial = sums a.partial; reached = place g f a.partial a.reached }
 
-  pub end : (e : List ℤ) → IsEnd (packed_meaning half m) e → IsEnd m (sums e)
-  end = end_of half m back-of
+  pub move : (g : ℕ) (f : List ℤ) (c : List ℕ) (e : List ℤ) → IsMove packed_rooms g f c e → IsMove (over_rooms m) g f c (sums e)
+  move g f c e a = record { before = a.before; reached = place g f e a.reached; allowed = a.allowed }
 
-  pub one-long : (g : ℕ) (f e : List ℤ) → IsPlace (packed_meaning half m) g f e → length e ≡ 1
-  one-long g f e a = sound.wide g (sizes_in f) e a.reached
+  pub step : (g : ℕ) (f : List ℤ) (c : List ℕ) → IsStep packed_rooms g f c → IsStep (over_rooms m) g f c
+  step g f c a = record { partial = sums a.partial; move = move g f c a.partial a.move }
 
-  pub one-end : (e : List ℤ) → IsEnd (packed_meaning half m) e → length e ≡ 1
-  one-end e a = sound.wide (length s.sums.later.columns.items) a.sizes e a.reached
+  pub end : (e : List ℤ) → IsEnd packed_rooms e → IsEnd (over_rooms m) (sums e)
+  end e a = record { room = a.room; reached = place (length m.columns) a.room e a.reached }
+
+  pub one-long : (g : ℕ) (f e : List ℤ) → AreReached packed_rooms g f e → length e ≡ 1
+  one-long g f e r = sound.wide g (sizes_in f) e (there g f e r)
+
+  pub one-end : (e : List ℤ) → IsEnd packed_rooms e → length e ≡ 1
+  one-end e a = one-long (length m.columns) a.room e a.reached
 
   pub few-groups : groups ≤ 8
   few-groups = squaring.few_rows
@@ -98,16 +110,16 @@ module _ (s : PackedSums) where
   sums-are e n z l t = ap (λ k. unpack half k z) l ∙ ap (unpack half groups) t
 
   -- as many sizes as groups
-  pub sizes-long : (g : ℕ) (f p : List ℤ) → IsPlace m g f p → length f ≡ groups
+  pub sizes-long : (g : ℕ) (f p : List ℤ) → AreReached (over_rooms m) g f p → length f ≡ groups
   sizes-long g f p a = long s.sums g f p a
 
   pub some-half : 0 < half
   some-half = omega (arith, s.right.small)
 
   -- a choice from a partial
-  module _ (g : ℕ) (f : List ℤ) (c : List ℕ) (p : List ℤ) (a : IsMove m g f c p) where
+  module _ (g : ℕ) (f : List ℤ) (c : List ℕ) (p : List ℤ) (a : IsMove (over_rooms m) g f c p) where
     pub choice-wide : length c ≡ groups
-    choice-wide = choice-long s.sums g f p a.place a.before c a.allowed
+    choice-wide = choice-long s.sums g f p a.reached a.before c a.allowed
 
     pub parts-wide : length (parts g c) ≡ groups
     parts-wide = length-parts (score_of s.sums.later.scores.items g) c ∙ choice-wide
@@ -115,8 +127,8 @@ module _ (s : PackedSums) where
     parts-each : (i : ℕ) → unsigned_abs (get_or (parts g c) i (pos 0)) < 2 * half
     parts-each i =
         let part = counts-within (score_of s.sums.later.scores.items g) c i in
-        let all = column-fits s.sums g f p a.place a.before c a.allowed in
-        let most = (partial_is s.sums g f p a.place).small in
+        let all = column-fits s.sums g f p a.reached a.before c a.allowed in
+        let most = (partial_is s.sums g f p a.reached).small in
         omega (arith, part, all, most, s.right.small)
 
     pub parts-digits : AreDigits (2 * half) (parts g c)
@@ -126,16 +138,16 @@ module _ (s : PackedSums) where
     }
 
   -- what a step adds to a packed partial
-  module _ (g : ℕ) (f : List ℤ) (c : List ℕ) (e : List ℤ) (a : IsMove (packed_meaning half m) g f c e) where
-    after : AreReached m (suc g) (minus (sizes_in f) c) (plus_each (sums e) (parts g c))
-    after = reached_next half m back-of g (sizes_in f) e c a.place.reached a.before a.allowed
+  module _ (g : ℕ) (f : List ℤ) (c : List ℕ) (e : List ℤ) (a : IsMove packed_rooms g f c e) where
+    after : LabelReached m (suc g) (minus (sizes_in f) c) (plus_each (sums e) (parts g c))
+    after = reached_next half m back-of g (sizes_in f) e c (there g f e a.reached) a.before a.allowed
 
     sums-wide : length (sums e) ≡ groups
-    sums-wide = (partial_is s.sums g f (sums e) (place g f e a.place)).wide
+    sums-wide = (partial_is s.sums g f (sums e) (place g f e a.reached)).wide
 
     pub step-sum : get_or e 0 (pos 0) +ℤ numeral (2 * half) (parts g c) ≡ pack half (plus_each (sums e) (parts g c))
     step-sum =
-        ap (λ p. get_or p 0 (pos 0) +ℤ numeral (2 * half) (parts g c)) (reached_pack half m back-of g (sizes_in f) e a.place.reached).is
+        ap (λ p. get_or p 0 (pos 0) +ℤ numeral (2 * half) (parts g c)) (reached_pack half m back-of g (sizes_in f) e (there g f e a.reached)).is
         ∙ sym (pack-plus half (sums e) (parts g c) (parts-wide g f c (sums e) (move g f c e a) ∙ sym sums-wide))
 
     pub step-fits : unsigned_abs (get_or e 0 (pos 0) +ℤ numeral (2 * half) (parts g c)) ≤ MAX
@@ -148,7 +160,7 @@ module _ (s : PackedSums) where
         omega (arith, same, it.below, most)
 
   -- the sums of a place's number
-  module _ (g : ℕ) (f e : List ℤ) (a : IsPlace (packed_meaning half m) g f e) where
+  module _ (g : ℕ) (f e : List ℤ) (a : AreReached packed_rooms g f e) where
     pub places-long : length f ≡ groups
     places-long = sizes-long g f (sums e) (place g f e a)
 

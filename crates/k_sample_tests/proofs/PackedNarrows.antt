@@ -3,7 +3,7 @@ use Rattle.std.proofs.Common.{◌≡◌, ℕ, zero, suc, ◌+◌, ◌<◌, List,
 use Rattle.std.specs.Prelude.{ℤ, ◌≤ℤ◌}
 use Rattle.std.specs.List.{Contains}
 use Rattle.weights.specs.Grouped.{minus}
-use Rattle.label_network.specs.Meanings.{Meaning, AreReached, IsEnd, IsMeasure, IsMove, IsPlace, IsRoom, IsStep, allowed, sizes_in}
+use Rattle.label_network.specs.Meanings.{Meaning, AreReached, IsMeasure, IsPlace, allowed, sizes_in}
 use Rattle.k_sample_tests.specs.PackedSums.{pack, packed_meaning, unpack, unpacked}
 
 module _ (half : ℕ) (m : Meaning) (back : (g : ℕ) (r : List ℕ) (p : List ℤ) → AreReached m g r p → unpack half m.slots (pack half p) ≡ p) where
@@ -36,7 +36,6 @@ module _ (half : ℕ) (m : Meaning) (back : (g : ℕ) (r : List ℕ) (p : List �
   pub packed_measure : IsMeasure m → IsMeasure (packed_meaning half m)
   packed_measure i = record {
     level = i.level;
-    units = i.units;
     wide = λ g r e a. ap length (reached_pack g r e a).is;
     low_rises = λ g r e c a h o. subst (λ p. m.low g r (unpacked half m e) ≤ℤ m.low (g + 1) (minus r c) p) (sym (next-back g r e c a h o)) (i.low_rises g r (unpacked half m e) c (reached_pack g r e a).reached h o);
     high_falls = λ g r e c a h o. subst (λ p. m.high (g + 1) (minus r c) p ≤ℤ m.high g r (unpacked half m e)) (sym (next-back g r e c a h o)) (i.high_falls g r (unpacked half m e) c (reached_pack g r e a).reached h o);
@@ -47,15 +46,3 @@ module _ (half : ℕ) (m : Meaning) (back : (g : ℕ) (r : List ℕ) (p : List �
   -- the places are the same ones
   pub place_of : (g : ℕ) (f e : List ℤ) → IsPlace (packed_meaning half m) g f e → IsPlace m g f (unpacked half m e)
   place_of g f e a = record { whole = a.whole; reached = (reached_pack g (sizes_in f) e a.reached).reached }
-
-  pub room_of : (g : ℕ) (f : List ℤ) → IsRoom (packed_meaning half m) g f → IsRoom m g f
-  room_of g f a = record { partial = unpacked half m a.partial; place = place_of g f a.partial a.place }
-
-  pub move_of : (g : ℕ) (f : List ℤ) (c : List ℕ) (e : List ℤ) → IsMove (packed_meaning half m) g f c e → IsMove m g f c (unpacked half m e)
-  move_of g f c e a = record { before = a.before; place = place_of g f e a.place; allowed = a.allowed }
-
-  pub step_of : (g : ℕ) (f : List ℤ) (c : List ℕ) → IsStep (packed_meaning half m) g f c → IsStep m g f c
-  step_of g f c a = record { partial = unpacked half m a.partial; move = move_of g f c a.partial a.move }
-
-  pub end_of : (e : List ℤ) → IsEnd (packed_meaning half m) e → IsEnd m (unpacked half m e)
-  end_of e a = record { sizes = a.sizes; reached = (reached_pack (length m.columns) a.sizes e a.reached).reached }

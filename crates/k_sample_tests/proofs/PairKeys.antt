@@ -1,5 +1,5 @@
 -- What the measure of points knows at each of its keys.
-use Rattle.std.proofs.Common.{◌≡◌, ℕ, ◌+◌, ◌-◌, ◌*◌, ◌≤◌, List, [], ◌∷◌, length, min, take, sym, ◌∙◌, ap, arith}
+use Rattle.std.proofs.Common.{◌≡◌, ℕ, ◌+◌, ◌-◌, ◌*◌, ◌≤◌, List, [], ◌∷◌, length, min, take, sym, ◌∙◌, arith}
 use Rattle.std.specs.Prelude.{ℤ, pos, ◌+ℤ◌, nat_abs, unsigned_abs, slice_index}
 use Rattle.std.specs.List.{sum, Contains}
 use Rattle.std.proofs.lemmas.Int.{ints}
@@ -7,24 +7,31 @@ use Rattle.std.proofs.lemmas.List.{length-take}
 use Rattle.std.proofs.lemmas.List.Sums.{sum_by-take-drop}
 use Rattle.weights.specs.declared.TheConstants.{MAX}
 use Rattle.stage_network.specs.declared.verdicts.Judge.{Judge}
-use Rattle.stage_network.specs.Judged.{JudgeFits}
 use Rattle.weights.proofs.ChoiceLists.{IsChoice}
 use Rattle.label_network.specs.LabelSteps.{AreSizes}
-use Rattle.label_network.specs.Linear.{score_of, so_far}
+use Rattle.room_network.specs.Meanings.{AreReached}
+use Rattle.room_network.specs.Numbers.{IsNumber, IsOutcome, so_far}
+use Rattle.room_network.specs.declared.numbers.Operation.TheVariants.{Sum}
+use Rattle.label_network.specs.LabelNetwork.{over_rooms, over_sizes}
+use Rattle.label_network.specs.LabelRooms.{label_floor}
 use Rattle.label_network.specs.Meanings.{IsPlace, allowed, sizes_in}
 use Rattle.label_network.proofs.Later.{fits-length}
 use Rattle.label_network.proofs.Narrowing.{IsLeft, chosen}
+use Rattle.label_network.proofs.OverRooms.{over_number, over_place}
 use Rattle.label_network.proofs.Rows.{length-abs}
 use Rattle.label_network.proofs.Sizes.{sizes-of_pos}
 use Rattle.k_sample_tests.specs.declared.used_pairs.UsedPair.{UsedPair}
-use Rattle.k_sample_tests.specs.PairCounts.{column_points, open_points, pairs_meaning, sure_points}
+use Rattle.k_sample_tests.specs.PairCounts.{column_points, open_points, pairs_meaning, pairs_numbers, sure_points}
 use Rattle.k_sample_tests.specs.Umbrella.{subject_pairs}
 use Rattle.k_sample_tests.specs.UmbrellaSteps.{IsCounting}
 use Rattle.k_sample_tests.proofs.PairFits.{pairs-most, points-most}
-use Rattle.k_sample_tests.proofs.PairPoints.{IsPartial, middle-is, open-is, reached_left, reached_partial}
+use Rattle.k_sample_tests.proofs.PairPoints.{IsPartial, middle-is, open-is, pairs_measure, reached_left, reached_partial}
 
 module _ (qs : List UsedPair) (rows columns : List ℕ) (judge : Judge) (h : IsCounting qs rows columns judge) where
-  module _ (g : ℕ) (f p : List ℤ) (a : IsPlace (pairs_meaning qs rows columns judge) g f p) where
+  module _ (g : ℕ) (f p : List ℤ) (r : AreReached (over_rooms (pairs_meaning qs rows columns judge)) g f p) where
+    a : IsPlace (pairs_meaning qs rows columns judge) g f p
+    a = over_place (pairs_meaning qs rows columns judge) g f p r
+
     pub left : IsLeft (pairs_meaning qs rows columns judge) g (sizes_in f)
     left = reached_left qs rows columns judge h g (sizes_in f) p a.reached
 
@@ -43,36 +50,37 @@ module _ (qs : List UsedPair) (rows columns : List ℕ) (judge : Judge) (h : IsC
     all-few : 2 * subject_pairs qs rows ≤ 12800000000
     all-few = omega (arith, pairs-most qs rows h.pairs_are.few h.few)
 
-    pub low-fits : unsigned_abs (so_far p) + sure_points qs rows (sizes_in f) ≤ 12800000000
+    low-fits : unsigned_abs (so_far p) + sure_points qs rows (sizes_in f) ≤ 12800000000
     low-fits = omega (arith, partial_is.most, all-few)
-
-    pub high-fits : unsigned_abs (so_far p) + (sure_points qs rows (sizes_in f) + open_points qs (sizes_in f)) ≤ 12800000000
-    high-fits = omega (arith, partial_is.most, all-few)
 
     whole-sum : (s : ℤ) (n : ℕ) → s ≡ pos (nat_abs s) → s +ℤ pos n ≡ pos (nat_abs s + n)
     whole-sum s n e = omega (arith, ints, e)
 
-    pub low-rule : JudgeFits judge (so_far p +ℤ pos (sure_points qs rows (sizes_in f)))
-    low-rule = rw (whole-sum (so_far p) (sure_points qs rows (sizes_in f)) partial_is.whole) (h.rules_fit _ (omega (arith, partial_is.most)))
+    -- of what is no more than all points
+    outcome : (n : ℕ) → nat_abs (so_far p) + n ≤ 2 * subject_pairs qs rows → IsOutcome Sum judge (so_far p) (pos n)
+    outcome n l = record {
+      fits = omega (arith, l, all-few);
+      ruled = rw (whole-sum (so_far p) n partial_is.whole) (h.rules_fit _ l);
+    }
 
-    pub high-rule : JudgeFits judge (so_far p +ℤ pos (sure_points qs rows (sizes_in f) + open_points qs (sizes_in f)))
-    high-rule = rw (whole-sum (so_far p) (sure_points qs rows (sizes_in f) + open_points qs (sizes_in f)) partial_is.whole) (h.rules_fit _ (omega (arith, partial_is.most)))
+    least-outcome : IsOutcome Sum judge (so_far p) (pos (sure_points qs rows (sizes_in f)))
+    least-outcome = outcome _ (omega (arith, partial_is.most))
+
+    greatest-outcome : IsOutcome Sum judge (so_far p) (pos (sure_points qs rows (sizes_in f) + open_points qs (sizes_in f)))
+    greatest-outcome = outcome _ (omega (arith, partial_is.most))
 
     -- a choice for a column
     module _ (x : List ℕ) (o : Contains (allowed (pairs_meaning qs rows columns judge) g (sizes_in f)) x) where
       pub choice : IsChoice (slice_index columns g) (sizes_in f) x
       choice = chosen (slice_index columns g) (sizes_in f) x o
 
-      pub added-fits : unsigned_abs (so_far p) + column_points qs rows (sizes_in f) x ≤ MAX
+      added-fits : unsigned_abs (so_far p) + column_points qs rows (sizes_in f) x ≤ MAX
       added-fits = omega (arith, low-fits, points-most rows (sizes_in f) x h.few left.within choice.fitting qs h.pairs_are.few)
 
-  -- what the outlook says
-  module _ (r : List ℕ) (low high : ℤ) (e : low ∷ high ∷ [] ≡ pos (sure_points qs rows r) ∷ pos (sure_points qs rows r + open_points qs r) ∷ []) where
-    pub least-is : low ≡ pos (sure_points qs rows r)
-    least-is = ap (λ l. score_of l 0) e
-
-    pub greatest-is : high ≡ pos (sure_points qs rows r + open_points qs r)
-    greatest-is = ap (λ l. score_of l 1) e
+  pub pairs_number : IsNumber (label_floor columns rows) (over_sizes (pairs_numbers qs rows judge))
+  pairs_number =
+      over_number columns rows (pairs_numbers qs rows judge) (pairs_measure qs rows columns judge h)
+      (λ g f x p v. added-fits g f p v.reached x v.allowed) (λ g f p r. least-outcome g f p r) (λ g f p r. greatest-outcome g f p r)
 
 -- the middle, less and more the open pairs
 pub around : (qs : List UsedPair) (rows r : List ℕ) (beside middle : ℕ) → beside ≡ subject_pairs qs r → middle ≡ column_points qs rows r r → (beside ≤ middle) × (middle - beside ≡ sure_points qs rows r) × (middle + beside ≡ sure_points qs rows r + open_points qs r)

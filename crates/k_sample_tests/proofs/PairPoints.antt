@@ -10,7 +10,7 @@ use Rattle.stage_network.specs.declared.verdicts.Judge.{Judge}
 use Rattle.weights.specs.Grouped.{fits, minus}
 use Rattle.weights.proofs.Sized.{first_and}
 use Rattle.weights.proofs.Sums.{sum_by-plus, sum_by-scaled}
-use Rattle.label_network.specs.Linear.{so_far}
+use Rattle.room_network.specs.Numbers.{so_far}
 use Rattle.label_network.specs.Meanings.{AreReached, IsMeasure}
 use Rattle.label_network.proofs.Narrowing.{IsLeft, IsNarrowing, measured, reached-kept, reached-left}
 use Rattle.k_sample_tests.specs.declared.used_pairs.UsedPair.{UsedPair}
@@ -163,7 +163,7 @@ module _ (qs : List UsedPair) (rows columns : List ℕ) (judge : Judge) where
 
   module _ (h : IsCounting qs rows columns judge) where
     pub pairs_measure : IsMeasure (pairs_meaning qs rows columns judge)
-    pairs_measure = measured (pairs_meaning qs rows columns judge) h.level (IsPartial qs rows) pairs_narrowing first-partial (omega (arith, h.few)) (λ g r p k. k.one)
+    pairs_measure = measured (pairs_meaning qs rows columns judge) h.level (IsPartial qs rows) pairs_narrowing first-partial (λ g r p k. k.one)
 
     pub reached_partial : (g : ℕ) (r : List ℕ) (p : List ℤ) → AreReached (pairs_meaning qs rows columns judge) g r p → IsPartial qs rows g r p
     reached_partial g r p a = reached-kept (pairs_meaning qs rows columns judge) h.level (IsPartial qs rows) pairs_narrowing first-partial g r p a

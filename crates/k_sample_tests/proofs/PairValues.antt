@@ -22,7 +22,7 @@ use Rattle.sample_reader.specs.PooledSample.{paired_subjects}
 use Rattle.sample_reader.specs.declared.subjects.Subject.{Subject}
 use Rattle.label_network.specs.Endings.{labelling_value, partial_after}
 use Rattle.label_network.specs.LaterSums.{subjects}
-use Rattle.label_network.specs.Linear.{so_far}
+use Rattle.room_network.specs.Numbers.{so_far}
 use Rattle.label_network.proofs.Narrowing.{minus-within}
 use Rattle.k_sample_tests.specs.declared.used_pairs.UsedPair.{UsedPair}
 use Rattle.k_sample_tests.specs.PairCounts.{column_points, pairs_meaning, placed}

@@ -18,12 +18,15 @@ use Rattle.label_network.specs.LaterSums.{later_scores, part_sum, subjects}
 use Rattle.weights.specs.Numbers.{absolute_sum}
 use Rattle.label_network.specs.LaterTables.{IsTabled}
 use Rattle.label_network.specs.Linear.{score_of}
+use Rattle.room_network.specs.Meanings.{AreReached}
+use Rattle.label_network.specs.LabelNetwork.{over_rooms}
 use Rattle.label_network.specs.Meanings.{IsPlace, allowed, sizes_in}
 use Rattle.label_network.proofs.Absolute.{part-size}
 use Rattle.label_network.proofs.Enough.{group-enough}
 use Rattle.label_network.proofs.Later.{fits-length, later-length}
 use Rattle.label_network.proofs.LinearKeys.{reached-stage}
 use Rattle.label_network.proofs.Narrowing.{IsLeft, chosen}
+use Rattle.label_network.proofs.OverRooms.{over_place}
 use Rattle.label_network.proofs.Rows.{length-abs}
 use Rattle.label_network.proofs.Sizes.{sizes-of_pos}
 use Rattle.k_sample_tests.specs.RankSums.{greatest_parts, least_parts, score_parts}
@@ -55,7 +58,10 @@ module _ (m : RankSums) where
   abbrev later : ℕ → List ℤ
   later g = later_scores m.later.scores.items m.later.columns.items g
 
-  module _ (g : ℕ) (f p : List ℤ) (a : IsPlace (sums_meaning m) g f p) where
+  module _ (g : ℕ) (f p : List ℤ) (r : AreReached (over_rooms (sums_meaning m)) g f p) where
+    a : IsPlace (sums_meaning m) g f p
+    a = over_place (sums_meaning m) g f p r
+
     pub left : IsLeft (sums_meaning m) g (sizes_in f)
     left = reached_left m.factors.items m.bound m.later.scores.items m.later.columns.items m.rows.items m.judge m.right.squaring g (sizes_in f) p a.reached
 

@@ -164,7 +164,7 @@ module _ (factors : List ℕ) (bound : ℕ) (scores : List ℤ) (columns rows : 
   first-partial = record { wide = length-replicate (length rows) (pos 0); small = omega (arith, sizes-zeros (length rows)) }
 
   pub squares_measure : IsMeasure (squares_meaning factors bound scores columns rows judge)
-  squares_measure = measured (squares_meaning factors bound scores columns rows judge) h.level (IsPartial scores columns rows) squares_narrowing first-partial (omega (arith, h.few)) (λ g r p k. k.wide)
+  squares_measure = measured (squares_meaning factors bound scores columns rows judge) h.level (IsPartial scores columns rows) squares_narrowing first-partial (λ g r p k. k.wide)
 
   pub reached_partial : (g : ℕ) (r : List ℕ) (p : List ℤ) → AreReached (squares_meaning factors bound scores columns rows judge) g r p → IsPartial scores columns rows g r p
   reached_partial g r p a = reached-kept (squares_meaning factors bound scores columns rows judge) h.level (IsPartial scores columns rows) squares_narrowing first-partial g r p a

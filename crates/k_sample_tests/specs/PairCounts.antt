@@ -1,16 +1,17 @@
 -- The network of a test of ordered samples: a stage is a distinct value, ascending, with the
 -- subjects that have it, and its choice says how many of them are of each group. A key's partial
 -- counts the pairs of subjects that are both placed.
-use Rattle.std.specs.Prelude.{ℕ, ◌+◌, ◌-◌, ◌*◌, pos, ◌+ℤ◌, List, [], ◌∷◌, length, slice_index}
+use Rattle.std.specs.Prelude.{ℕ, ◌+◌, ◌-◌, ◌*◌, pos, List, length, slice_index}
 use Rattle.std.specs.List.{sum_by}
 use Rattle.weights.specs.declared.tails.Tail.{Tail}
 use Rattle.sample_reader.specs.Groups.{group_sizes}
 use Rattle.stage_network.specs.declared.verdicts.Judge.{Judge}
 use Rattle.stage_network.specs.Judged.{judge_of}
 use Rattle.stage_network.specs.Network.{Network}
+use Rattle.room_network.specs.Numbers.{Numbers}
+use Rattle.room_network.specs.declared.numbers.Operation.TheVariants.{Sum}
 use Rattle.label_network.specs.LabelNetwork.{label_network}
-use Rattle.label_network.specs.Linear.{so_far}
-use Rattle.label_network.specs.Meanings.{Meaning}
+use Rattle.label_network.specs.Meanings.{Meaning, numbered}
 use Rattle.pooled_columns.specs.PooledColumns.{column_sizes, pooled_values}
 use Rattle.k_sample_tests.specs.declared.used_pairs.UsedPair.{UsedPair}
 use Rattle.k_sample_tests.specs.Umbrella.{PeakedGroups, umbrella_test, used_pairs}
@@ -37,24 +38,17 @@ open_points pairs r =
     sum_by (λ q. 2 * (slice_index r q.lesser * slice_index r q.greater)) pairs
 
 -- The count over the used pairs of groups, from what is sure to what all open pairs can add.
-abbrev pub pairs_meaning : List UsedPair → List ℕ → List ℕ → Judge → Meaning
-pairs_meaning pairs rows columns judge = record {
-  columns = columns;
-  rows = rows;
-  slots = 1;
-  step_width = 1;
-  outlook_width = 2;
-  first = pos 0 ∷ [];
-  step = λ g r x. pos (column_points pairs rows r x) ∷ [];
-  advance = λ g r x p. (so_far p +ℤ pos (column_points pairs rows r x)) ∷ [];
-  outlook = λ g r.
-      pos (sure_points pairs rows r)
-      ∷ pos (sure_points pairs rows r + open_points pairs r) ∷ [];
-  value = so_far;
-  low = λ g r p. so_far p +ℤ pos (sure_points pairs rows r);
-  high = λ g r p. so_far p +ℤ pos (sure_points pairs rows r + open_points pairs r);
+abbrev pub pairs_numbers : List UsedPair → List ℕ → Judge → Numbers (List ℕ)
+pairs_numbers pairs rows judge = record {
+  operation = Sum;
+  step = λ g r x. pos (column_points pairs rows r x);
+  least = λ g r. pos (sure_points pairs rows r);
+  greatest = λ g r. pos (sure_points pairs rows r + open_points pairs r);
   judge = judge;
 }
+
+abbrev pub pairs_meaning : List UsedPair → List ℕ → List ℕ → Judge → Meaning
+pairs_meaning pairs rows columns judge = numbered columns rows (pairs_numbers pairs rows judge)
 
 abbrev pub umbrella_meaning : PeakedGroups → Meaning
 umbrella_meaning samples =

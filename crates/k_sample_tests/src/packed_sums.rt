@@ -3,14 +3,16 @@ ghost use Rattle.std.specs.Prelude.{◌≡◌, ◌+◌, ◌*◌, ◌/◌, ◌%�
 ghost use Rattle.weights.specs.declared.TheConstants.{MAX};
 ghost use Rattle.label_network.specs.LaterSums.{subjects};
 ghost use Rattle.weights.specs.Numbers.{absolute_sum};
-ghost use Rattle.label_network.specs.Meanings.{IsPlace, sizes_in};
+ghost use Rattle.room_network.specs.Meanings.{AreReached};
+ghost use Rattle.label_network.specs.LabelNetwork.{over_rooms};
+ghost use Rattle.label_network.specs.Meanings.{sizes_in};
 ghost use Rattle.stage_network.specs.Judged.{rule_in, verdict_of};
 ghost use Rattle.k_sample_tests.specs.PackedSums.{numeral, packed_meaning, unpack, unpacked};
 ghost use Rattle.k_sample_tests.specs.PackedSumSteps.{AreDigits, AreNarrow, ArePacked, IsHalf, sums_meaning};
 ghost use Rattle.k_sample_tests.specs.RankSums.{half_for, plus_each};
 
 use crate::rank_sums::RankSums;
-use label_network::Measure;
+use room_network::Measure;
 use stage_network::Verdict;
 use weights::{Tail, only};
 
@@ -187,8 +189,8 @@ impl PackedSums {
         partial: &[i128],
         tail: Tail,
     ) -> Verdict
-        requires place { let m = packed_meaning self.now.half (sums_meaning self.now.sums) in
-            IsPlace m stage remaining.now partial.now }
+        requires reached { let m = packed_meaning self.now.half (sums_meaning self.now.sums) in
+            AreReached (over_rooms m) stage remaining.now partial.now }
         requires outlook { let m = sums_meaning self.now.sums in
             outlook.now ≡ m.outlook stage (sizes_in remaining.now) }
         ensures { let m = sums_meaning self.now.sums in
@@ -205,7 +207,7 @@ impl PackedSums {
 }
 
 impl Measure for PackedSums {
-    ghost meaning = { λ m. packed_meaning m.half (sums_meaning m.sums) };
+    ghost meaning = { λ m. over_rooms (packed_meaning m.half (sums_meaning m.sums)) };
 
     fn slots(&self) -> usize {
         1

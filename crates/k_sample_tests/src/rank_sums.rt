@@ -5,14 +5,17 @@ ghost use Rattle.weights.specs.declared.TheConstants.{MAX};
 ghost use Rattle.completion_bounds.specs.Boxes.{greatest_squares, least_squares};
 ghost use Rattle.label_network.specs.LaterSums.{later_scores};
 ghost use Rattle.label_network.specs.Linear.{score_of};
-ghost use Rattle.label_network.specs.Meanings.{IsMove, IsPlace, IsRoom, IsStep, sizes_in};
+ghost use Rattle.room_network.specs.Meanings.{IsRoom};
+ghost use Rattle.label_network.specs.LabelNetwork.{over_rooms};
+ghost use Rattle.label_network.specs.Meanings.{sizes_in};
 ghost use Rattle.stage_network.specs.Judged.{rule_in, verdict_of};
 ghost use Rattle.k_sample_tests.specs.RankSums.{greatest_parts, least_parts, plus_each, score_parts, squares_meaning};
 ghost use Rattle.k_sample_tests.specs.RankSumSteps.{AreAddable, AreEnough, AreRankSums, AreTabled, IsSquaring, parts_of};
 
 use crate::group_sums::squares_of;
 use completion_bounds::{box_bounds, narrow_squares};
-use label_network::{End, LaterScores, Measure, read_sizes};
+use label_network::{End, LaterScores, read_sizes};
+use room_network::Measure;
 use stage_network::{Interval, Judge, Verdict};
 use std::alloc::Global;
 use weights::{NoMemory, Tail, count_times, plus};
@@ -132,7 +135,7 @@ impl RankSums {
         requires sizes { let m = squares_meaning self.now.factors.items self.now.bound
             self.now.later.scores.items self.now.later.columns.items self.now.rows.items
             self.now.judge in
-            IsRoom m stage remaining.now }
+            IsRoom (over_rooms m) stage remaining.now }
         requires least { length least.old ≡ length remaining.now }
         requires greatest { length greatest.old ≡ length remaining.now }
         ensures least { let later =
@@ -203,9 +206,9 @@ impl RankSums {
 }
 
 impl Measure for RankSums {
-    ghost meaning = { λ m.
-        squares_meaning m.factors.items m.bound m.later.scores.items m.later.columns.items
-        m.rows.items m.judge };
+    ghost meaning = { λ m. over_rooms
+        (squares_meaning m.factors.items m.bound m.later.scores.items m.later.columns.items
+        m.rows.items m.judge) };
 
     fn slots(&self) -> usize {
         self.rows.len()

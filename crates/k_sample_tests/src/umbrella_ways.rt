@@ -4,6 +4,7 @@ use crate::pair_points::labelling_points;
 use crate::umbrella::Umbrella;
 use enumerate::{Plain, first_labelling, next_labelling};
 use label_network::{LabelStages, label_stages};
+use room_network::Numbered;
 use stage_network::{Judge, Prepared};
 use std::alloc::Global;
 use weights::{Bytes, Frame, NoMemory, Tail};
@@ -47,7 +48,7 @@ impl Plain for Umbrella {
 impl Prepared for Umbrella {
     ghost use Rattle.k_sample_tests.specs.PairCounts.{umbrella_network};
 
-    type Built = LabelStages<PairCounts>;
+    type Built = LabelStages<Numbered<PairCounts>>;
 
     ghost network = { umbrella_network };
 
@@ -67,6 +68,6 @@ impl Prepared for Umbrella {
         let columns = made.columns.as_slice();
         let judge = Judge::of(&made.frame);
         let measure = PairCounts::new(alloc, made.pairs.as_slice(), rows, columns, judge)?;
-        label_stages(alloc, columns, rows, measure)
+        label_stages(alloc, columns, rows, Numbered::new(measure))
     }
 }

@@ -25,11 +25,11 @@ pub mod LinearSizes
 pub mod LinearNarrows
 pub mod RowOrder
 pub mod Summing
-pub mod LinearKeys
 pub mod LinearPairings
 pub mod Rows
 pub mod Sizes
 pub mod LabelPlans
 pub mod OverRooms
+pub mod LinearKeys
 pub mod LabelFollows
 pub mod Vectors

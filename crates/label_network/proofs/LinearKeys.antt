@@ -1,19 +1,25 @@
 -- What the measure of sums of products knows at each of its keys.
-use Rattle.std.proofs.Common.{◌≡◌, ℕ, zero, suc, ◌+◌, ◌-◌, ◌*◌, ◌^◌, ◌<◌, ◌≤◌, ◌⊎◌, List, [], ◌∷◌, length, get_or, set, take, drop, refl, sym, ◌∙◌, ap, subst, arith, inl, inr}
-use Rattle.std.specs.Prelude.{ℤ, ◌+ℤ◌, unsigned_abs, slice_index}
+use Rattle.std.proofs.Common.{◌≡◌, ℕ, zero, suc, ◌+◌, ◌-◌, ◌*◌, ◌^◌, ◌<◌, ◌≤◌, ◌⊎◌, List, [], ◌∷◌, length, get_or, take, drop, refl, sym, ◌∙◌, ap, subst, arith, inl, inr}
+use Rattle.std.specs.Prelude.{ℤ, unsigned_abs, slice_index}
 use Rattle.std.specs.List.{sum, Contains}
 use Rattle.std.proofs.Math.Nat.{mul-le-mul, mul-le-mul_left}
 use Rattle.std.proofs.lemmas.Bool.{cases_lt}
 use Rattle.std.proofs.lemmas.List.Sums.{sum_by-take-drop, sum_by-drop_more}
 use Rattle.weights.specs.declared.TheConstants.{MAX}
 use Rattle.stage_network.specs.declared.verdicts.Judge.{Judge}
-use Rattle.stage_network.specs.Judged.{JudgeFits}
 use Rattle.weights.proofs.ChoiceLists.{IsChoice}
 use Rattle.completion_bounds.specs.Pairings.{greatest_score}
-use Rattle.label_network.specs.Meanings.{Meaning, AreReached, IsPlace, IsEnd, allowed, sizes_in}
+use Rattle.room_network.specs.Numbers.{IsNumber, IsOutcome, so_far}
+use Rattle.room_network.specs.declared.numbers.Operation.TheVariants.{Sum}
+use Rattle.label_network.specs.LabelNetwork.{over_rooms, over_sizes}
+use Rattle.label_network.specs.LabelRooms.{label_floor}
+use Rattle.room_network.specs.Meanings.{AreReached}
+use Rattle.label_network.specs.Meanings.{Meaning, IsPlace, allowed, sizes_in}
+use Rattle.label_network.specs.Meanings.{AreReached as LabelReached}
+use Rattle.label_network.specs.declared.linear.LinearMeasure.{LinearMeasure}
 use Rattle.label_network.specs.LaterSums.{later_scores}
 use Rattle.weights.specs.Numbers.{absolute_sum}
-use Rattle.label_network.specs.Linear.{row_sum, least_added, greatest_added, score_of, picked, order_of, ordered, ordered_scores, so_far, linear_low, linear_high, linear_outlook, column_sum, linear_meaning, greatest_sizes}
+use Rattle.label_network.specs.Linear.{row_sum, least_added, greatest_added, score_of, picked, order_of, ordered, ordered_scores, column_sum, linear_meaning, linear_numbers, greatest_sizes}
 use Rattle.label_network.specs.LinearSteps.{whole_reach, HasTails, ArePlaces, IsLinearMeasure}
 use Rattle.label_network.proofs.Sizes.{sizes-of_pos}
 use Rattle.label_network.proofs.Narrowing.{IsLeft, chosen}
@@ -24,28 +30,48 @@ use Rattle.label_network.proofs.LinearSizes.{picked-within, reach-within, row-si
 use Rattle.label_network.proofs.Absolute.{sizes-block}
 use Rattle.label_network.proofs.Stages.{sizes-some}
 use Rattle.label_network.proofs.Later.{later-next}
-use Rattle.label_network.proofs.LinearNarrows.{IsPartial, reached_left, reached_partial, rows-level, ordered-whole, low-small, high-small, low-rule, high-rule, choice-level, column-small}
-
-pub one_item : {X : Type 0} (xs : List X) (x : X) → length xs ≡ 1 → set xs 0 x ≡ x ∷ []
-one_item [] x e = absurd (omega (arith, e))
-one_item (y ∷ []) x e = refl
-one_item (y ∷ z ∷ ys) x e = absurd (omega (arith, e))
-
-pub two_items : {X : Type 0} (xs : List X) (x y : X) → length xs ≡ 2 → set (set xs 0 x) 1 y ≡ x ∷ y ∷ []
-two_items [] x y e = absurd (omega (arith, e))
-two_items (a ∷ []) x y e = absurd (omega (arith, e))
-two_items (a ∷ b ∷ []) x y e = refl
-two_items (a ∷ b ∷ c ∷ xs) x y e = absurd (omega (arith, e))
+use Rattle.label_network.proofs.OverRooms.{over_number, over_place}
+use Rattle.label_network.proofs.LinearNarrows.{IsPartial, linear_measure, reached_left, reached_partial, rows-level, ordered-whole, low-small, high-small, low-rule, high-rule, choice-level, column-small}
 
 sizes-long : (zs : List ℤ) → length (sizes_in zs) ≡ length zs
 sizes-long [] = refl
 sizes-long (z ∷ zs) = ap suc (sizes-long zs)
 
-pub reached-stage : (m : Meaning) (g : ℕ) (r : List ℕ) (p : List ℤ) → AreReached m g r p → g ≤ length m.columns
+pub reached-stage : (m : Meaning) (g : ℕ) (r : List ℕ) (p : List ℤ) → LabelReached m g r p → g ≤ length m.columns
 reached-stage m zero r p a = omega arith
 reached-stage m (suc g) r p (s, q, c, a, before, o, e, f) = omega (arith, before)
 
-module _ (us : List ℤ) (rows : List ℕ) (scores : List ℤ) (columns : List ℕ) (width : ℕ) (order : List ℕ) (ordered_us : List ℤ) (judge : Judge) (h : IsLinearMeasure us rows scores columns width order ordered_us judge) where
+module _ (m : LinearMeasure) where
+  abbrev us : List ℤ
+  us = m.scores.items
+
+  abbrev rows : List ℕ
+  rows = m.rows.items
+
+  abbrev scores : List ℤ
+  scores = m.later.scores.items
+
+  abbrev columns : List ℕ
+  columns = m.later.columns.items
+
+  abbrev order : List ℕ
+  order = m.order.items
+
+  abbrev ordered_us : List ℤ
+  ordered_us = m.ordered.items
+
+  abbrev judge : Judge
+  judge = m.judge
+
+  abbrev width : ℕ
+  width = m.later.width
+
+  abbrev meaning : Meaning
+  meaning = linear_meaning us rows scores columns judge
+
+  h : IsLinearMeasure us rows scores columns width order ordered_us judge
+  h = m.right
+
   pub ordered-level_is : length ordered_us ≡ length order
   ordered-level_is = ap length h.ordered_is ∙ picked_scores-length (order_of us) us ∙ ap length (sym h.order_is)
 
@@ -55,8 +81,11 @@ module _ (us : List ℤ) (rows : List ℕ) (scores : List ℤ) (columns : List �
   pub steps-fit : whole_reach ordered_us < 2 ^ 127
   steps-fit = omega (arith, reach-small, h.linear.scores_fit)
 
-  module _ (g : ℕ) (f p : List ℤ) (a : IsPlace (linear_meaning us rows scores columns judge) g f p) where
-    left : IsLeft (linear_meaning us rows scores columns judge) g (sizes_in f)
+  module _ (g : ℕ) (f p : List ℤ) (r : AreReached (over_rooms meaning) g f p) where
+    a : IsPlace meaning g f p
+    a = over_place meaning g f p r
+
+    left : IsLeft meaning g (sizes_in f)
     left = reached_left us rows scores columns judge h.linear g (sizes_in f) p a.reached
 
     pub partial_is : IsPartial us scores columns g (sizes_in f) p
@@ -65,8 +94,8 @@ module _ (us : List ℤ) (rows : List ℕ) (scores : List ℤ) (columns : List �
     pub one-number : length p ≡ 1
     one-number = partial_is.one
 
-    pub within-stages : g ≤ length columns
-    within-stages = reached-stage (linear_meaning us rows scores columns judge) g (sizes_in f) p a.reached
+    within-stages : g ≤ length columns
+    within-stages = reached-stage meaning g (sizes_in f) p a.reached
 
     sizes-few : sum (sizes_in f) < 2 ^ 64
     sizes-few = omega (arith, left.whole, h.linear.level, h.linear.units, sum_by-take-drop (λ v. v) columns g)
@@ -111,37 +140,21 @@ module _ (us : List ℤ) (rows : List ℕ) (scores : List ℤ) (columns : List �
     sums-within : greatest_sizes us scores columns ≤ MAX
     sums-within = omega (arith, h.linear.sums_fit)
 
-    -- the outlook of the sizes
-    pub outlook-is : least_added ordered_us (picked order (sizes_in f)) (later_scores scores columns g) ∷ greatest_added ordered_us (picked order (sizes_in f)) (later_scores scores columns g) ∷ [] ≡ linear_outlook us scores columns g (sizes_in f)
-    outlook-is = rw (h.ordered_is, h.order_is) refl
+    -- what later columns add
+    least-outcome : IsOutcome Sum judge (so_far p) (least_added (ordered_scores us) (ordered us (sizes_in f)) (later_scores scores columns g))
+    least-outcome = record {
+      fits = omega (arith, sums-within, low-small us rows scores columns judge h.linear g (sizes_in f) left p partial_is);
+      ruled = low-rule us rows scores columns judge h.linear g (sizes_in f) left p partial_is;
+    }
 
-    module _ (low high : ℤ) (e : low ∷ high ∷ [] ≡ linear_outlook us scores columns g (sizes_in f)) where
-      least-is : low ≡ least_added (ordered_scores us) (ordered us (sizes_in f)) (later_scores scores columns g)
-      least-is = ap (λ l. score_of l 0) e
-
-      greatest-is : high ≡ greatest_added (ordered_scores us) (ordered us (sizes_in f)) (later_scores scores columns g)
-      greatest-is = ap (λ l. score_of l 1) e
-
-      pub low-fits : unsigned_abs (so_far p) + unsigned_abs low ≤ MAX
-      low-fits = rw least-is (omega (arith, sums-within, low-small us rows scores columns judge h.linear g (sizes_in f) left p partial_is))
-
-      pub high-fits : unsigned_abs (so_far p) + unsigned_abs high ≤ MAX
-      high-fits = rw greatest-is (omega (arith, sums-within, high-small us rows scores columns judge h.linear g (sizes_in f) left p partial_is))
-
-      pub low-is : so_far p +ℤ low ≡ linear_low us scores columns g (sizes_in f) p
-      low-is = ap (λ t. so_far p +ℤ t) least-is
-
-      pub high-is : so_far p +ℤ high ≡ linear_high us scores columns g (sizes_in f) p
-      high-is = ap (λ t. so_far p +ℤ t) greatest-is
-
-    pub low-rule_fits : JudgeFits judge (linear_low us scores columns g (sizes_in f) p)
-    low-rule_fits = low-rule us rows scores columns judge h.linear g (sizes_in f) left p partial_is
-
-    pub high-rule_fits : JudgeFits judge (linear_high us scores columns g (sizes_in f) p)
-    high-rule_fits = high-rule us rows scores columns judge h.linear g (sizes_in f) left p partial_is
+    greatest-outcome : IsOutcome Sum judge (so_far p) (greatest_added (ordered_scores us) (ordered us (sizes_in f)) (later_scores scores columns g))
+    greatest-outcome = record {
+      fits = omega (arith, sums-within, high-small us rows scores columns judge h.linear g (sizes_in f) left p partial_is);
+      ruled = high-rule us rows scores columns judge h.linear g (sizes_in f) left p partial_is;
+    }
 
     -- a choice there
-    module _ (before : g < length columns) (x : List ℕ) (o : Contains (allowed (linear_meaning us rows scores columns judge) g (sizes_in f)) x) where
+    module _ (before : g < length columns) (x : List ℕ) (o : Contains (allowed meaning g (sizes_in f)) x) where
       choice : IsChoice (slice_index columns g) (sizes_in f) x
       choice = chosen (slice_index columns g) (sizes_in f) x o
 
@@ -154,8 +167,10 @@ module _ (us : List ℤ) (rows : List ℕ) (scores : List ℤ) (columns : List �
       pub arc-fits : unsigned_abs (so_far p) + unsigned_abs (column_sum us scores g x) ≤ MAX
       arc-fits = omega (arith, sums-within, partial_is.small, column-small us rows scores columns judge h.linear g (sizes_in f) x before left choice)
 
-  pub end-one : (p : List ℤ) → IsEnd (linear_meaning us rows scores columns judge) p → length p ≡ 1
-  end-one p e = (reached_partial us rows scores columns judge h.linear (length columns) e.sizes p e.reached).one
+  pub linear_number : IsNumber (label_floor columns rows) (over_sizes (linear_numbers us scores columns judge))
+  linear_number =
+      over_number columns rows (linear_numbers us scores columns judge) (linear_measure us rows scores columns judge h.linear)
+      (λ g f x p v. arc-fits g f p v.reached v.before x v.allowed) (λ g f p r. least-outcome g f p r) (λ g f p r. greatest-outcome g f p r)
 
   -- of a column and counts of so many subjects
   module _ (g : ℕ) (before : g < length columns) (x : List ℕ) (whole : sum x ≡ slice_index columns g) where

@@ -10,10 +10,11 @@ use Rattle.stage_network.specs.Judged.{JudgeFits}
 use Rattle.weights.specs.Grouped.{minus}
 use Rattle.weights.proofs.ChoiceLists.{IsChoice}
 use Rattle.completion_bounds.specs.Pairings.{greatest_score}
+use Rattle.room_network.specs.Numbers.{so_far}
 use Rattle.label_network.specs.Meanings.{AreReached, IsMeasure}
 use Rattle.label_network.specs.LaterSums.{later_scores}
 use Rattle.weights.specs.Numbers.{absolute_sum}
-use Rattle.label_network.specs.Linear.{row_sum, least_added, greatest_added, score_of, order_of, ordered, ordered_scores, so_far, linear_low, linear_high, column_sum, linear_meaning, greatest_sizes, IsLinear}
+use Rattle.label_network.specs.Linear.{row_sum, least_added, greatest_added, score_of, order_of, ordered, ordered_scores, column_sum, linear_meaning, greatest_sizes, IsLinear}
 use Rattle.label_network.proofs.Absolute.{size-plus, sizes-block}
 use Rattle.label_network.proofs.Ascending.{ascending, each-once}
 use Rattle.label_network.proofs.Rearranging.{picked-minus, picked-fits, picked-sum, picked-row, picked-length, picked_scores-length}
@@ -21,6 +22,13 @@ use Rattle.label_network.proofs.LinearArcs.{least-added, greatest-added, added-n
 use Rattle.label_network.proofs.Later.{fits-length, later-length, later-next, later-end, sizes-next}
 use Rattle.label_network.proofs.LinearSizes.{row-size, picked-within, least-added-size, greatest-added-size}
 use Rattle.label_network.proofs.Narrowing.{IsLeft, IsNarrowing, reached-left, reached-kept, measured}
+
+-- between which sums a key ends
+abbrev pub linear_low : List ℤ → List ℤ → List ℕ → ℕ → List ℕ → List ℤ → ℤ
+linear_low us scores columns g r p = so_far p +ℤ least_added (ordered_scores us) (ordered us r) (later_scores scores columns g)
+
+abbrev pub linear_high : List ℤ → List ℤ → List ℕ → ℕ → List ℕ → List ℤ → ℤ
+linear_high us scores columns g r p = so_far p +ℤ greatest_added (ordered_scores us) (ordered us r) (later_scores scores columns g)
 
 -- the partial is one number, no more than the products so far
 pub record IsPartial (us scores : List ℤ) (columns : List ℕ) (g : ℕ) (r : List ℕ) (p : List ℤ) : Type 0 where
@@ -132,7 +140,7 @@ module _ (us : List ℤ) (rows : List ℕ) (scores : List ℤ) (columns : List �
   first-partial = record { one = refl; small = omega arith }
 
   pub linear_measure : IsMeasure (linear_meaning us rows scores columns judge)
-  linear_measure = measured (linear_meaning us rows scores columns judge) h.level (IsPartial us scores columns) linear_narrowing first-partial (omega (arith, h.units)) (λ g r p k. k.one)
+  linear_measure = measured (linear_meaning us rows scores columns judge) h.level (IsPartial us scores columns) linear_narrowing first-partial (λ g r p k. k.one)
 
   pub reached_partial : (g : ℕ) (r : List ℕ) (p : List ℤ) → AreReached (linear_meaning us rows scores columns judge) g r p → IsPartial us scores columns g r p
   reached_partial g r p a = reached-kept (linear_meaning us rows scores columns judge) h.level (IsPartial us scores columns) linear_narrowing first-partial g r p a

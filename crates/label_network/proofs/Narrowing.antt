@@ -1,5 +1,5 @@
 -- What each choice keeps, and what narrows along each choice, makes a measure.
-use Rattle.std.proofs.Common.{◌≡◌, ℕ, zero, suc, ◌+◌, ◌-◌, ◌^◌, ◌<◌, ◌≤◌, List, [], ◌∷◌, length, get_or, drop, true, refl, sym, subst, arith, add-one, nat_le}
+use Rattle.std.proofs.Common.{◌≡◌, ℕ, zero, suc, ◌+◌, ◌-◌, ◌<◌, ◌≤◌, List, [], ◌∷◌, length, get_or, drop, true, refl, sym, subst, arith, add-one, nat_le}
 use Rattle.std.specs.Prelude.{ℤ, ◌≤ℤ◌, slice_index}
 use Rattle.std.specs.List.{sum, Contains}
 use Rattle.std.proofs.lemmas.Bool.{le-leb, leb-true}
@@ -66,10 +66,9 @@ module _ (m : Meaning) (level : sum m.columns ≡ sum m.rows) where
     reached-kept zero r p a = rw (a.0, a.1) starts
     reached-kept (suc g) r p (s, q, c, a, before, o, e, f) = rw (e, f, ← add-one) (i.keeps g s c q before (reached-left g s q a) (chosen (slice_index m.columns g) s c o) (reached-kept g s q a))
 
-    pub measured : sum m.rows < 2 ^ 64 → ((g : ℕ) (r : List ℕ) (p : List ℤ) → kept g r p → length p ≡ m.slots) → IsMeasure m
-    measured units wide = record {
+    pub measured : ((g : ℕ) (r : List ℕ) (p : List ℤ) → kept g r p → length p ≡ m.slots) → IsMeasure m
+    measured wide = record {
       level = level;
-      units = units;
       wide = λ g r p a. wide g r p (reached-kept g r p a);
       low_rises = λ g r p c a h o. i.rises g r c p h (reached-left g r p a) (chosen (slice_index m.columns g) r c o) (reached-kept g r p a);
       high_falls = λ g r p c a h o. i.falls g r c p h (reached-left g r p a) (chosen (slice_index m.columns g) r c o) (reached-kept g r p a);

@@ -1,15 +1,17 @@
 -- A measure of labels over their rooms: it narrows there too, and measures the same of a table.
-use Rattle.std.proofs.Common.{◌≡◌, ℕ, zero, suc, ◌+◌, ◌<◌, List, [], ◌∷◌, map, length, refl, sym, ◌∙◌, ap}
+use Rattle.std.proofs.Common.{◌≡◌, ℕ, zero, suc, ◌+◌, ◌<◌, List, [], ◌∷◌, map, length, refl, sym, ◌∙◌, ap, subst}
 use Rattle.std.specs.Prelude.{ℤ, pos, ◌≤ℤ◌}
 use Rattle.std.specs.List.{Contains}
 use Rattle.weights.specs.Grouped.{minus}
-use Rattle.room_network.specs.Meanings.{AreReached, IsEnd, IsMeasure, IsMove, IsRoom, IsShift, IsStep, partial_after, way_value}
+use Rattle.room_network.specs.Meanings.{Meaning as RoomMeaning}
+use Rattle.room_network.specs.Meanings.{AreReached, IsMeasure, IsMove, partial_after, way_value}
+use Rattle.room_network.specs.Numbers.{Fits, IsNumber, IsOutcome, Numbers, so_far}
 use Rattle.label_network.specs.Endings.{table_value}
 use Rattle.label_network.specs.Endings.{partial_after as label_after}
-use Rattle.label_network.specs.LabelNetwork.{over_rooms}
+use Rattle.label_network.specs.LabelNetwork.{over_rooms, over_sizes}
 use Rattle.label_network.specs.LabelRooms.{label_floor}
-use Rattle.label_network.specs.Meanings.{Meaning, IsPlace, sizes_in}
-use Rattle.label_network.specs.Meanings.{AreReached as LabelReached, IsEnd as IsLabelEnd, IsMeasure as IsLabelMeasure, IsMove as IsLabelMove, IsRoom as IsLabelRoom, IsShift as IsLabelShift, IsStep as IsLabelStep}
+use Rattle.label_network.specs.Meanings.{Meaning, IsPlace, numbered, sizes_in}
+use Rattle.label_network.specs.Meanings.{AreReached as LabelReached, IsMeasure as IsLabelMeasure}
 use Rattle.label_network.proofs.LabelPlans.{sizes-back}
 
 module _ (m : Meaning) where
@@ -24,24 +26,14 @@ module _ (m : Meaning) where
   pub over_place : (g : ℕ) (room p : List ℤ) → AreReached (over_rooms m) g room p → IsPlace m g room p
   over_place g room p r = record { whole = whole g room p r; reached = over_reached g room p r }
 
-  pub over_move : (g : ℕ) (room : List ℤ) (c : List ℕ) (p : List ℤ) → IsMove (over_rooms m) g room c p → IsLabelMove m g room c p
-  over_move g room c p v = record { before = v.before; place = over_place g room p v.reached; allowed = v.allowed }
+  -- and back
+  under_reached : (g : ℕ) (r : List ℕ) (p : List ℤ) → LabelReached m g r p → AreReached (over_rooms m) g (map pos r) p
+  under_reached zero r p a = (ap (map pos) a.0, a.1)
+  under_reached (suc g) r p (s, q, c, a, before, o, e, f) =
+      (map pos s, q, c, under_reached g s q a, before, rw (sizes-back s) o, rw (sizes-back s) (ap (map pos) e), rw (sizes-back s) f)
 
-  pub over_shift : IsLabelShift m → IsShift (over_rooms m)
-  over_shift h = record {
-    one = h.one;
-    step = h.step;
-    moves = λ g room p c v. h.moves g room p c (over_move g room c (p ∷ []) v);
-  }
-
-  pub over_step : (g : ℕ) (room : List ℤ) (c : List ℕ) → IsStep (over_rooms m) g room c → IsLabelStep m g room c
-  over_step g room c v = record { partial = v.partial; move = over_move g room c v.partial v.move }
-
-  pub over_room : (g : ℕ) (room : List ℤ) → IsRoom (over_rooms m) g room → IsLabelRoom m g room
-  over_room g room v = record { partial = v.partial; place = over_place g room v.partial v.reached }
-
-  pub over_end : (p : List ℤ) → IsEnd (over_rooms m) p → IsLabelEnd m p
-  over_end p v = record { sizes = sizes_in v.room; reached = over_reached (length m.columns) v.room p v.reached }
+  pub under_place : (g : ℕ) (room p : List ℤ) → IsPlace m g room p → AreReached (over_rooms m) g room p
+  under_place g room p a = subst (λ f. AreReached (over_rooms m) g f p) (sym a.whole) (under_reached g (sizes_in room) p a.reached)
 
   rises : IsLabelMeasure m → (g : ℕ) (room p : List ℤ) (c : List ℕ) → AreReached (over_rooms m) g room p → g < length m.columns → Contains ((label_floor m.columns m.rows).choices g room) c → m.low g (sizes_in room) p ≤ℤ m.low (g + 1) (sizes_in (map pos (minus (sizes_in room) c))) (m.advance g (sizes_in room) c p)
   rises s g room p c r before o = rw (sizes-back (minus (sizes_in room) c)) (s.low_rises g (sizes_in room) p c (over_reached g room p r) before o)
@@ -64,3 +56,20 @@ module _ (m : Meaning) where
 
   pub over_value : (w : List (List ℕ)) → way_value (over_rooms m) w ≡ table_value m w
   over_value w = ap m.value (over_after 0 m.rows m.first w)
+
+-- a measure of one number, over sizes
+module _ (columns rows : List ℕ) (n : Numbers (List ℕ)) where
+  abbrev over : RoomMeaning
+  over = over_rooms (numbered columns rows n)
+
+  pub over_number : IsLabelMeasure (numbered columns rows n)
+      → ((g : ℕ) (room : List ℤ) (c : List ℕ) (p : List ℤ) → IsMove over g room c p → Fits n.operation (so_far p) (n.step g (sizes_in room) c))
+      → ((g : ℕ) (room p : List ℤ) → AreReached over g room p → IsOutcome n.operation n.judge (so_far p) (n.least g (sizes_in room)))
+      → ((g : ℕ) (room p : List ℤ) → AreReached over g room p → IsOutcome n.operation n.judge (so_far p) (n.greatest g (sizes_in room)))
+      → IsNumber (label_floor columns rows) (over_sizes n)
+  over_number narrows steps lows highs = record {
+    narrows = over_measure (numbered columns rows n) narrows;
+    steps = steps;
+    lows = lows;
+    highs = highs;
+  }

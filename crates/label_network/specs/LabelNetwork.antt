@@ -1,12 +1,11 @@
 -- The network of a measure of labels: a key has the sizes that remain, its room, and then the
 -- measure's partial.
-use Rattle.std.specs.Prelude.{◌≡◌, ℕ, ◌+◌, ◌≤◌, List, length}
-use Rattle.weights.specs.declared.TheConstants.{MAX}
-use Rattle.weights.specs.Labellings.{number_of_labellings}
+use Rattle.std.specs.Prelude.{◌≡◌, ℕ, ℤ, ◌+◌, ◌≤◌, List, length}
 use Rattle.stage_network.specs.Network.{Network}
 use Rattle.room_network.specs.Meanings.{Meaning as RoomMeaning}
+use Rattle.room_network.specs.Numbers.{Numbers}
 use Rattle.room_network.specs.RoomNetworks.{room_network}
-use Rattle.label_network.specs.LabelRooms.{label_floor, label_weight}
+use Rattle.label_network.specs.LabelRooms.{IsLabelled, label_floor, label_weight}
 use Rattle.label_network.specs.Meanings.{Meaning, sizes_in}
 
 -- a measure of labels as one of rooms, whose numbers are the sizes that remain
@@ -29,11 +28,19 @@ over_rooms m = record {
 abbrev pub label_network : Meaning → Network
 label_network m = room_network (over_rooms m) label_weight
 
--- the measure's columns and rows, of which there are few enough
-pub record IsMargin (m : Meaning) (columns rows : List ℕ) : Type 0 where
-  pub columns_are : columns ≡ m.columns
-  pub rows_are : rows ≡ m.rows
+-- over rooms, what is one number of labels
+abbrev pub over_sizes : Numbers (List ℕ) → Numbers (List ℤ)
+over_sizes n = record {
+  operation = n.operation;
+  step = λ g room c. n.step g (sizes_in room) c;
+  least = λ g room. n.least g (sizes_in room);
+  greatest = λ g room. n.greatest g (sizes_in room);
+  judge = n.judge;
+}
+
+-- a measure of the rooms of columns and rows, of which there are few enough
+pub record IsMargin (m : RoomMeaning) (columns rows : List ℕ) : Type 0 where
+  pub floor_is : label_floor columns rows ≡ m.floor
+  pub labelled : IsLabelled columns rows
   pub some : 2 ≤ length rows
-  pub few : length rows ≤ 8
   pub wide : length rows + m.slots ≤ 16
-  pub total : number_of_labellings rows ≤ MAX

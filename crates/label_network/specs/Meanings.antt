@@ -1,12 +1,9 @@
--- What a measure measures: a statistic of labellings, counted by columns, and an interval of what
--- it can come to.
-use Rattle.std.specs.Prelude.{◌≡◌, ℕ, zero, suc, ◌+◌, ◌^◌, ◌<◌, ℤ, pos, ◌+ℤ◌, ◌≤ℤ◌, nat_abs, List, [], ◌∷◌, length, map, slice_index}
+-- What a measure of labels measures: a statistic of labellings, counted by columns, and an interval
+-- of what it can come to.
+use Rattle.std.specs.Prelude.{◌≡◌, ℕ, zero, suc, ◌+◌, ◌<◌, ℤ, pos, ◌≤ℤ◌, nat_abs, List, [], ◌∷◌, length, map, slice_index}
 use Rattle.std.specs.List.{sum, Contains}
-use Rattle.std.proofs.Common.{get_or}
-use Rattle.weights.specs.declared.tails.Tail.{Tail}
-use Rattle.stage_network.specs.declared.stages.Verdict.{Verdict}
 use Rattle.stage_network.specs.declared.verdicts.Judge.{Judge}
-use Rattle.stage_network.specs.Judged.{rule_in, verdict_of}
+use Rattle.room_network.specs.Numbers.{Numbers, put, so_far, start}
 use Rattle.weights.specs.Grouped.{choices, minus}
 
 pub record Meaning : Type 0 where
@@ -32,6 +29,24 @@ pub record Meaning : Type 0 where
   -- the rules that the verdicts go by
   pub judge : Judge
 
+-- what is one number, a sum or a product over the columns
+abbrev pub numbered : List ℕ → List ℕ → Numbers (List ℕ) → Meaning
+numbered columns rows n = record {
+  columns = columns;
+  rows = rows;
+  slots = 1;
+  step_width = 1;
+  outlook_width = 2;
+  first = start n.operation ∷ [];
+  step = λ g r c. n.step g r c ∷ [];
+  advance = λ g r c p. put n.operation (so_far p) (n.step g r c) ∷ [];
+  outlook = λ g r. n.least g r ∷ n.greatest g r ∷ [];
+  value = so_far;
+  low = λ g r p. put n.operation (so_far p) (n.least g r);
+  high = λ g r p. put n.operation (so_far p) (n.greatest g r);
+  judge = n.judge;
+}
+
 -- the counts that a column can be given where sizes remain
 abbrev pub allowed : Meaning → ℕ → List ℕ → List (List ℕ)
 allowed m g sizes = choices (slice_index m.columns g) sizes
@@ -45,9 +60,8 @@ AreReached m (suc g) r p =
 
 -- Intervals that narrow along every choice, to the value after the last column.
 pub record IsMeasure (m : Meaning) : Type 0 where
-  -- there are as many subjects as labels, and u64 holds their number
+  -- there are as many subjects as labels
   pub level : sum m.columns ≡ sum m.rows
-  pub units : sum m.rows < 2 ^ 64
   pub wide : (g : ℕ) (r : List ℕ) (p : List ℤ) → AreReached m g r p → length p ≡ m.slots
   pub low_rises : (g : ℕ) (r : List ℕ) (p : List ℤ) (c : List ℕ)
       → AreReached m g r p → g < length m.columns → Contains (allowed m g r) c
@@ -68,40 +82,3 @@ sizes_in remaining = map nat_abs remaining
 pub record IsPlace (m : Meaning) (g : ℕ) (remaining partial : List ℤ) : Type 0 where
   pub whole : remaining ≡ map pos (sizes_in remaining)
   pub reached : AreReached m g (sizes_in remaining) partial
-
--- the sizes of a place
-pub record IsRoom (m : Meaning) (g : ℕ) (remaining : List ℤ) : Type 0 where
-  pub partial : List ℤ
-  pub place : IsPlace m g remaining partial
-
--- a place before the last column, and a choice that is allowed there
-pub record IsMove (m : Meaning) (g : ℕ) (remaining : List ℤ) (choice : List ℕ) (partial : List ℤ)
-    : Type 0 where
-  pub before : g < length m.columns
-  pub place : IsPlace m g remaining partial
-  pub allowed : Contains (allowed m g (sizes_in remaining)) choice
-
--- a move from some partial
-pub record IsStep (m : Meaning) (g : ℕ) (remaining : List ℤ) (choice : List ℕ) : Type 0 where
-  pub partial : List ℤ
-  pub move : IsMove m g remaining choice partial
-
--- what is known of sizes and a partial
-abbrev pub verdict_at : Meaning → Tail → ℕ → List ℤ → List ℤ → Verdict
-verdict_at m t g remaining partial =
-    verdict_of (rule_in m.judge t)
-    (m.low g (sizes_in remaining) partial) (m.high g (sizes_in remaining) partial)
-
--- a partial is one number, which the one number of a step is added to
-pub record IsShift (m : Meaning) : Type 0 where
-  pub one : m.slots ≡ 1
-  pub step : m.step_width ≡ 1
-  pub moves : (g : ℕ) (remaining : List ℤ) (p : ℤ) (c : List ℕ)
-      → IsMove m g remaining c (p ∷ [])
-      → m.advance g (sizes_in remaining) c (p ∷ [])
-      ≡ (p +ℤ get_or (m.step g (sizes_in remaining) c) 0 (pos 0)) ∷ []
-
--- a partial that is reached after the last column
-pub record IsEnd (m : Meaning) (partial : List ℤ) : Type 0 where
-  pub sizes : List ℕ
-  pub reached : AreReached m (length m.columns) sizes partial

@@ -2,16 +2,14 @@
 ghost use Rattle.std.specs.Prelude.{◌≡◌, IfOk};
 ghost use Rattle.label_network.specs.LabelNetwork.{IsMargin};
 
-use crate::labelled::Labelled;
-use crate::measure::Measure;
 use crate::rooms::LabelRooms;
-use room_network::RoomNetwork;
+use room_network::{Measure, RoomNetwork};
 use std::alloc::Global;
 use weights::NoMemory;
 
 /// The network of a measure of labels: a key has the sizes that remain, its room, and then the
 /// measure's partial.
-pub type LabelStages<M> = RoomNetwork<LabelRooms, Labelled<M>>;
+pub type LabelStages<M> = RoomNetwork<LabelRooms, M>;
 
 /// The network of a measure with these columns (how many subjects each has) and rows (how many
 /// subjects get each label). There are 2 to 8 rows, at most 16 of rows and slots, and at most
@@ -25,7 +23,6 @@ pub fn label_stages<M: Measure + Drop>(
     requires { IsMargin (M.meaning measure) columns.now rows.now }
     ensures { IfOk result (λ stages. stages.1 ≡ measure) }
 {
-    let _slots = measure.slots();
     let rooms = LabelRooms::new(alloc, columns, rows)?;
-    Ok(RoomNetwork::new(rooms, Labelled::new(measure)))
+    Ok(RoomNetwork::new(rooms, measure))
 }

@@ -1,4 +1,5 @@
 pub mod Plans
 pub mod Meanings
+pub mod Numbers
 pub mod RoomNetworks
 pub mod RoomSteps

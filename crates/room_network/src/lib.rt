@@ -3,8 +3,10 @@
 
 mod measure;
 mod network;
+mod numbers;
 mod rooms;
 
 pub use measure::Measure;
 pub use network::RoomNetwork;
+pub use numbers::{NumberMeasure, Numbered, Operation};
 pub use rooms::Rooms;

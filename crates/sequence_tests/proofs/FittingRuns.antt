@@ -139,7 +139,7 @@ module _ (s : SequenceData) (first second : ℕ) (frame : Frame) (r : AreRuns s 
 
   pub follows : (tail : Tail) → Follows (runs_test s) tail (runs_network s tail)
   follows tail =
-      label_follows (runs_meaning (rows_with s 0) (rows_with s 1) (judge_of (runs_test s))) (runs_measure (rows_with s 0) (rows_with s 1) (judge_of (runs_test s)) rows-few) (runs_test s) tail (record {
+      label_follows (runs_meaning (rows_with s 0) (rows_with s 1) (judge_of (runs_test s))) (runs_measure (rows_with s 0) (rows_with s 1) (judge_of (runs_test s))) (runs_test s) tail (record {
         judge_is = refl;
         reference = refl;
         alike = λ xs. refl;

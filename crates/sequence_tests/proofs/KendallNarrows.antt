@@ -9,14 +9,17 @@ use Rattle.std.proofs.lemmas.List.Sums.{sum_by-drop_more}
 use Rattle.weights.specs.Grouped.{minus}
 use Rattle.weights.proofs.ChoiceLists.{IsChoice}
 use Rattle.weights.proofs.Sized.{sum-minus}
+use Rattle.weights.specs.declared.TheConstants.{MAX}
+use Rattle.stage_network.specs.Judged.{JudgeFits}
 use Rattle.stage_network.specs.Network.{IsReached}
 use Rattle.stage_network.specs.declared.verdicts.Judge.{Judge}
 use Rattle.room_network.specs.Meanings.{AreReached, IsMeasure}
 use Rattle.room_network.specs.Plans.{alone}
-use Rattle.label_network.specs.Linear.{so_far}
-use Rattle.sequence_tests.specs.KendallNetwork.{added, kendall_meaning, open_pairs, pairs_among, rises, turn}
+use Rattle.room_network.specs.Numbers.{IsNumber, IsOutcome, so_far}
+use Rattle.room_network.specs.declared.numbers.Operation.TheVariants.{Sum}
+use Rattle.sequence_tests.specs.KendallNetwork.{added, kendall_meaning, kendall_numbers, open_pairs, pairs_among, rises, turn}
 use Rattle.sequence_tests.specs.KendallRooms.{counts_left, kendall_floor, kendall_plan}
-use Rattle.sequence_tests.specs.KendallSteps.{AreTwins}
+use Rattle.sequence_tests.specs.KendallSteps.{AreTwins, IsKendall}
 use Rattle.sequence_tests.proofs.CodeLaws.{sum-first}
 use Rattle.sequence_tests.proofs.KendallPlans.{after-few, choice, choice-few, left-sum}
 
@@ -87,10 +90,10 @@ module _ (columns rows : List ℕ) (judge : Judge) where
     narrower : open_pairs columns g ≡ sum c * sum (minus left c) + open_pairs columns (g + 1)
     narrower = rw placed (open-next columns g before)
 
-    pub rising : (s : ℤ) → (s -ℤ pos (open_pairs columns g)) ≤ℤ ((s +ℤ added columns (length rows) g room c) -ℤ pos (open_pairs columns (g + 1)))
+    pub rising : (s : ℤ) → (s +ℤ (pos 0 -ℤ pos (open_pairs columns g))) ≤ℤ ((s +ℤ added columns (length rows) g room c) +ℤ (pos 0 -ℤ pos (open_pairs columns (g + 1))))
     rising s = low s (turn c (minus left c)) (sum c * sum (minus left c)) (open_pairs columns g) (open_pairs columns (g + 1)) narrower (turn-low c (minus left c))
       where
-        low : (s t : ℤ) (m e f : ℕ) → e ≡ m + f → (pos 0 -ℤ pos m) ≤ℤ t → (s -ℤ pos e) ≤ℤ ((s +ℤ t) -ℤ pos f)
+        low : (s t : ℤ) (m e f : ℕ) → e ≡ m + f → (pos 0 -ℤ pos m) ≤ℤ t → (s +ℤ (pos 0 -ℤ pos e)) ≤ℤ ((s +ℤ t) +ℤ (pos 0 -ℤ pos f))
         low s t m e f h l = omega (arith, ints, h, l)
 
     pub falling : (s : ℤ) → ((s +ℤ added columns (length rows) g room c) +ℤ pos (open_pairs columns (g + 1))) ≤ℤ (s +ℤ pos (open_pairs columns g))
@@ -99,10 +102,10 @@ module _ (columns rows : List ℕ) (judge : Judge) where
         high : (s t : ℤ) (m e f : ℕ) → e ≡ m + f → t ≤ℤ pos m → ((s +ℤ t) +ℤ pos f) ≤ℤ (s +ℤ pos e)
         high s t m e f h l = omega (arith, ints, h, l)
 
-  less-none : (s : ℤ) → s -ℤ pos (open_pairs columns (length columns)) ≡ s
+  less-none : (s : ℤ) → s +ℤ (pos 0 -ℤ pos (open_pairs columns (length columns))) ≡ s
   less-none s = rw (open-end columns (length columns) (omega arith)) (none s)
     where
-      none : (s : ℤ) → s -ℤ pos 0 ≡ s
+      none : (s : ℤ) → s +ℤ (pos 0 -ℤ pos 0) ≡ s
       none s = omega (arith, ints)
 
   more-none : (s : ℤ) → s +ℤ pos (open_pairs columns (length columns)) ≡ s
@@ -132,24 +135,29 @@ module _ (columns rows : List ℕ) (judge : Judge) where
         let at : IsReached (alone (kendall_plan columns rows)) g s = room-reached g s q r in
         rw (f, ← add-one) (within (so_far q) (added columns (length rows) g s c) (open_pairs columns g) (open_pairs columns (g + 1)) (open_pairs columns 0) past (rising a g s at before c o (so_far q)) (falling a g s at before c o (so_far q)))
       where
-        within : (s t : ℤ) (e f all : ℕ) → unsigned_abs s + e ≤ all → (s -ℤ pos e) ≤ℤ ((s +ℤ t) -ℤ pos f) → ((s +ℤ t) +ℤ pos f) ≤ℤ (s +ℤ pos e) → unsigned_abs (s +ℤ t) + f ≤ all
+        within : (s t : ℤ) (e f all : ℕ) → unsigned_abs s + e ≤ all → (s +ℤ (pos 0 -ℤ pos e)) ≤ℤ ((s +ℤ t) +ℤ (pos 0 -ℤ pos f)) → ((s +ℤ t) +ℤ pos f) ≤ℤ (s +ℤ pos e) → unsigned_abs (s +ℤ t) + f ≤ all
         within s t e f all h l u = omega (arith, ints, h, l, u)
 
     module _ (g : ℕ) (room p : List ℤ) (r : AreReached (kendall_meaning columns rows judge) g room p) where
-      pub partial-one : length p ≡ 1
-      partial-one = partial-long g room p r
-
-      pub partial-few : unsigned_abs (so_far p) + open_pairs columns g ≤ 14400
+      partial-few : unsigned_abs (so_far p) + open_pairs columns g ≤ 14400
       partial-few = omega (arith, partial-within g room p r, all-pairs columns columns-few)
 
-      pub low-few : unsigned_abs (so_far p -ℤ pos (open_pairs columns g)) ≤ 14400
-      low-few = less (so_far p) (open_pairs columns g) partial-few
+      low-outcome : ((v : ℤ) → unsigned_abs v ≤ 14400 → JudgeFits judge v) → IsOutcome Sum judge (so_far p) (pos 0 -ℤ pos (open_pairs columns g))
+      low-outcome fits = record { fits = (less (so_far p) (open_pairs columns g) partial-few).0; ruled = fits _ ((less (so_far p) (open_pairs columns g) partial-few).1) }
         where
-          less : (s : ℤ) (a : ℕ) → unsigned_abs s + a ≤ 14400 → unsigned_abs (s -ℤ pos a) ≤ 14400
-          less s a m = omega (arith, ints, m)
+          less : (s : ℤ) (a : ℕ) → unsigned_abs s + a ≤ 14400 → (unsigned_abs s + unsigned_abs (pos 0 -ℤ pos a) ≤ MAX) × (unsigned_abs (s +ℤ (pos 0 -ℤ pos a)) ≤ 14400)
+          less s a m = (omega (arith, ints, m), omega (arith, ints, m))
 
-      pub high-few : unsigned_abs (so_far p +ℤ pos (open_pairs columns g)) ≤ 14400
-      high-few = more (so_far p) (open_pairs columns g) partial-few
+      high-outcome : ((v : ℤ) → unsigned_abs v ≤ 14400 → JudgeFits judge v) → IsOutcome Sum judge (so_far p) (pos (open_pairs columns g))
+      high-outcome fits = record { fits = (more (so_far p) (open_pairs columns g) partial-few).0; ruled = fits _ ((more (so_far p) (open_pairs columns g) partial-few).1) }
         where
-          more : (s : ℤ) (a : ℕ) → unsigned_abs s + a ≤ 14400 → unsigned_abs (s +ℤ pos a) ≤ 14400
-          more s a m = omega (arith, ints, m)
+          more : (s : ℤ) (a : ℕ) → unsigned_abs s + a ≤ 14400 → (unsigned_abs s + unsigned_abs (pos a) ≤ MAX) × (unsigned_abs (s +ℤ pos a) ≤ 14400)
+          more s a m = (omega (arith, m), omega (arith, ints, m))
+
+  pub kendall_number : IsKendall columns rows judge → IsNumber (kendall_floor columns rows) (kendall_numbers columns rows judge)
+  kendall_number h = record {
+    narrows = kendall_measure h.twins;
+    steps = λ g room c p v. omega (arith, partial-few h.twins g room p v.reached, turn-few h.twins g room (room-reached g room p v.reached) v.before c v.allowed);
+    lows = λ g room p r. low-outcome h.twins g room p r h.rules_fit;
+    highs = λ g room p r. high-outcome h.twins g room p r h.rules_fit;
+  }

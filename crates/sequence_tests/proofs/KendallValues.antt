@@ -18,7 +18,7 @@ use Rattle.sample_reader.specs.declared.subjects.Subject.{Subject}
 use Rattle.stage_network.specs.declared.verdicts.Judge.{Judge}
 use Rattle.room_network.specs.Meanings.{partial_after, way_value}
 use Rattle.label_network.specs.LaterSums.{subjects}
-use Rattle.label_network.specs.Linear.{so_far}
+use Rattle.room_network.specs.Numbers.{so_far}
 use Rattle.label_network.proofs.Narrowing.{fits-self, minus-within}
 use Rattle.sequence_tests.specs.Kendall.{kendall_statistic, one_where_greater, one_where_less, over_pairs}
 use Rattle.sequence_tests.specs.KendallNetwork.{added, kendall_meaning, rises, turn}

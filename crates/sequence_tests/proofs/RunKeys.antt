@@ -7,8 +7,11 @@ use Rattle.std.proofs.lemmas.List.{length-replicate}
 use Rattle.std.proofs.lemmas.List.Sums.{sum_by-take-drop}
 use Rattle.stage_network.specs.declared.verdicts.Judge.{Judge}
 use Rattle.stage_network.specs.Judged.{JudgeFits}
-use Rattle.label_network.specs.Meanings.{IsMove, IsPlace, sizes_in}
+use Rattle.room_network.specs.Meanings.{AreReached, IsMove}
+use Rattle.label_network.specs.LabelNetwork.{over_rooms}
+use Rattle.label_network.specs.Meanings.{IsPlace, sizes_in}
 use Rattle.label_network.proofs.LinearKeys.{reached-stage}
+use Rattle.label_network.proofs.OverRooms.{over_place}
 use Rattle.label_network.proofs.Narrowing.{IsLeft, chosen}
 use Rattle.label_network.proofs.Rows.{length-abs}
 use Rattle.label_network.proofs.Sizes.{sizes-of_pos}
@@ -60,7 +63,10 @@ whole-sum : (s : ℤ) (n : ℕ) → s ≡ pos (nat_abs s) → s +ℤ pos n ≡ p
 whole-sum s n e = omega (arith, ints, e)
 
 module _ (a b : ℕ) (judge : Judge) (h : IsRunning a b judge) where
-  module _ (g : ℕ) (f p : List ℤ) (place : IsPlace (runs_meaning a b judge) g f p) where
+  module _ (g : ℕ) (f p : List ℤ) (reached : AreReached (over_rooms (runs_meaning a b judge)) g f p) where
+    place : IsPlace (runs_meaning a b judge) g f p
+    place = over_place (runs_meaning a b judge) g f p reached
+
     partial_is : IsPartial g (sizes_in f) p
     partial_is = reached_partial a b judge g (sizes_in f) p place.reached
 
@@ -101,7 +107,7 @@ module _ (a b : ℕ) (judge : Judge) (h : IsRunning a b judge) where
     pub high-rule : JudgeFits judge (runs_so_far p +ℤ pos (most_to_come (last_in p) (firsts_in (sizes_in f)) (seconds_in (sizes_in f))))
     high-rule = rw (whole-sum (runs_so_far p) (most_to_come (last_in p) (firsts_in (sizes_in f)) (seconds_in (sizes_in f))) partial_is.runs) (h.rules_fit _ high-fits)
 
-  pub choice-long : (g : ℕ) (f : List ℤ) (c : List ℕ) (p : List ℤ) → IsMove (runs_meaning a b judge) g f c p → length c ≡ 2
+  pub choice-long : (g : ℕ) (f : List ℤ) (c : List ℕ) (p : List ℤ) → IsMove (over_rooms (runs_meaning a b judge)) g f c p → length c ≡ 2
   choice-long g f c p v =
-      let k : IsPartial g (sizes_in f) p = partial_is g f p v.place in
+      let k : IsPartial g (sizes_in f) p = partial_is g f p v.reached in
       choice_long a b judge g (sizes_in f) c v.before (chosen _ (sizes_in f) c v.allowed) k.sizes

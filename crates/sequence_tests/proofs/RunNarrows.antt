@@ -197,8 +197,8 @@ module _ (a b : ℕ) (judge : Judge) where
   pub level : sum m.columns ≡ sum m.rows
   level = omega (arith, sum-ones (a + b), sum-two a b)
 
-  pub runs_measure : a + b ≤ 10000 → IsMeasure m
-  runs_measure few = measured m level IsPartial runs_narrowing first-partial (omega (arith, few, sum-two a b)) (λ g r p k. k.two)
+  pub runs_measure : IsMeasure m
+  runs_measure = measured m level IsPartial runs_narrowing first-partial (λ g r p k. k.two)
 
   pub reached_partial : (g : ℕ) (r : List ℕ) (p : List ℤ) → AreReached m g r p → IsPartial g r p
   reached_partial g r p c = reached-kept m level IsPartial runs_narrowing first-partial g r p c

@@ -1,5 +1,5 @@
 -- The network of Kendall's test: after the room comes K so far, of the pairs with a placed subject.
-use Rattle.std.specs.Prelude.{ℕ, ◌+◌, ◌*◌, ℤ, pos, ◌+ℤ◌, ◌-ℤ◌, List, [], ◌∷◌, length, drop}
+use Rattle.std.specs.Prelude.{ℕ, ◌+◌, ◌*◌, ℤ, pos, ◌-ℤ◌, List, [], ◌∷◌, length, drop}
 use Rattle.std.specs.List.{sum}
 use Rattle.weights.specs.declared.tails.Tail.{Tail}
 use Rattle.weights.specs.Grouped.{minus}
@@ -9,9 +9,10 @@ use Rattle.stage_network.specs.Judged.{judge_of}
 use Rattle.stage_network.specs.Network.{Network}
 use Rattle.stage_network.specs.declared.verdicts.Judge.{Judge}
 use Rattle.room_network.specs.Meanings.{Meaning}
+use Rattle.room_network.specs.Numbers.{Numbers, number_meaning}
 use Rattle.room_network.specs.RoomNetworks.{room_network}
+use Rattle.room_network.specs.declared.numbers.Operation.TheVariants.{Sum}
 use Rattle.label_network.specs.LabelRooms.{label_weight}
-use Rattle.label_network.specs.Linear.{so_far}
 use Rattle.pooled_columns.specs.PooledColumns.{column_sizes}
 use Rattle.sequence_tests.specs.Kendall.{twin_subjects, twin_test}
 use Rattle.sequence_tests.specs.KendallRooms.{counts_left, kendall_floor}
@@ -39,21 +40,18 @@ open_pairs columns g = pairs_among (drop g columns)
 abbrev pub added : List ℕ → ℕ → ℕ → List ℤ → List ℕ → ℤ
 added columns m g room c = turn c (minus (counts_left columns m g room) c)
 
-abbrev pub kendall_meaning : List ℕ → List ℕ → Judge → Meaning
-kendall_meaning columns rows judge = record {
-  floor = kendall_floor columns rows;
-  slots = 1;
-  step_width = 1;
-  outlook_width = 1;
-  first = pos 0 ∷ [];
-  step = λ g room c. added columns (length rows) g room c ∷ [];
-  advance = λ g room c p. (so_far p +ℤ added columns (length rows) g room c) ∷ [];
-  outlook = λ g room. pos (open_pairs columns g) ∷ [];
-  value = so_far;
-  low = λ g room p. so_far p -ℤ pos (open_pairs columns g);
-  high = λ g room p. so_far p +ℤ pos (open_pairs columns g);
+abbrev pub kendall_numbers : List ℕ → List ℕ → Judge → Numbers (List ℤ)
+kendall_numbers columns rows judge = record {
+  operation = Sum;
+  step = λ g room c. added columns (length rows) g room c;
+  least = λ g room. pos 0 -ℤ pos (open_pairs columns g);
+  greatest = λ g room. pos (open_pairs columns g);
   judge = judge;
 }
+
+abbrev pub kendall_meaning : List ℕ → List ℕ → Judge → Meaning
+kendall_meaning columns rows judge =
+    number_meaning (kendall_floor columns rows) (kendall_numbers columns rows judge)
 
 abbrev pub twin_meaning : TwinData → Meaning
 twin_meaning twins = kendall_meaning (column_sizes (values_of (twin_subjects twins)))

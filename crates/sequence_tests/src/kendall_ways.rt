@@ -4,7 +4,7 @@ use crate::kendall_measure::KendallMeasure;
 use crate::kendall_rooms::KendallRooms;
 use crate::kendall_sums::kendall_sum;
 use enumerate::{Plain, first_labelling, next_labelling};
-use room_network::RoomNetwork;
+use room_network::{Numbered, RoomNetwork};
 use stage_network::{Judge, Prepared};
 use std::alloc::Global;
 use weights::{Bytes, Frame, NoMemory, Tail};
@@ -42,7 +42,7 @@ impl Plain for Kendall {
 impl Prepared for Kendall {
     ghost use Rattle.sequence_tests.specs.KendallNetwork.{twin_network};
 
-    type Built = RoomNetwork<KendallRooms, KendallMeasure>;
+    type Built = RoomNetwork<KendallRooms, Numbered<KendallMeasure>>;
 
     ghost network = { twin_network };
 
@@ -63,6 +63,6 @@ impl Prepared for Kendall {
         let judge = Judge::of(&made.frame);
         let rooms = KendallRooms::new(alloc, columns, rows)?;
         let measure = KendallMeasure::new(alloc, columns, rows, judge)?;
-        Ok(RoomNetwork::new(rooms, measure))
+        Ok(RoomNetwork::new(rooms, Numbered::new(measure)))
     }
 }

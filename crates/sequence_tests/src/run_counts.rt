@@ -7,7 +7,8 @@ ghost use Rattle.sequence_tests.specs.RunCounts.{most_after, most_to_come, runs_
 ghost use Rattle.sequence_tests.specs.RunCounts.{runs_so_far, seconds_in};
 ghost use Rattle.sequence_tests.specs.RunSteps.{AreRunNumbers, AreTwoSizes, IsRunning};
 
-use label_network::{Measure, read_sizes};
+use label_network::read_sizes;
+use room_network::Measure;
 use stage_network::{Interval, Judge, Verdict};
 use weights::{Tail, plus};
 
@@ -146,7 +147,9 @@ fn with_label(partial: &[i128], label: u64) -> i128
 }
 
 impl Measure for RunCounts {
-    ghost meaning = { λ m. runs_meaning m.first m.second m.judge };
+    ghost use Rattle.label_network.specs.LabelNetwork.{over_rooms};
+
+    ghost meaning = { λ m. over_rooms (runs_meaning m.first m.second m.judge) };
 
     fn slots(&self) -> usize {
         2

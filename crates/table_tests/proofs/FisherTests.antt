@@ -29,10 +29,11 @@ use Rattle.completion_bounds.proofs.TableWeights.{table-all}
 use Rattle.stage_network.specs.declared.verdicts.Judge.{Judge}
 use Rattle.stage_network.specs.Judged.{JudgeFits, judge_of}
 use Rattle.stage_network.proofs.Following.{judge-fits}
-use Rattle.label_network.specs.LabelNetwork.{IsMargin, label_network}
+use Rattle.label_network.specs.LabelNetwork.{IsMargin, label_network, over_rooms}
 use Rattle.stage_network.specs.Follows.{Follows}
 use Rattle.label_network.specs.Endings.{labelling_value, partial_after}
-use Rattle.label_network.specs.Linear.{IsLinear, linear_meaning, row_sum, so_far}
+use Rattle.label_network.specs.Linear.{IsLinear, linear_meaning, row_sum}
+use Rattle.room_network.specs.Numbers.{so_far}
 use Rattle.label_network.proofs.LabelFollows.{label_follows}
 use Rattle.label_network.proofs.LinearNarrows.{linear_measure}
 use Rattle.table_reader.specs.TableLayout.{TableData}
@@ -40,7 +41,8 @@ use Rattle.table_tests.specs.FisherExact.{first_cell, fisher_test, has_fisher_ta
 use Rattle.table_tests.specs.TableNetworks.{first_cell_meaning, first_scores, fisher_network, rarity_meaning}
 use Rattle.table_tests.specs.Tables.{cell, column_of, column_sums, columns_in, is_two_by_two, observed_labels, row_sums}
 use Rattle.table_tests.specs.TableSteps.{IsTable, table_sum}
-use Rattle.table_tests.specs.Weighing.{past_of, weight_meaning}
+use Rattle.table_tests.specs.Weighing.{weight_meaning}
+use Rattle.table_tests.specs.WeightSteps.{past_of}
 use Rattle.table_tests.specs.WeightSteps.{IsWeighing}
 use Rattle.table_tests.proofs.ProductLimits.{is-linear}
 use Rattle.table_tests.proofs.Built.{is-margin}
@@ -240,16 +242,16 @@ module _ (t : TableData) (i : IsTable t) where
   pub linear-of : (judge : Judge) → is_two_by_two t ≡ true → judge ≡ judge_of (fisher_test t) → IsLinear first_scores (row_sums t) first_scores (column_sums t) judge
   linear-of judge two e = linear-by judge two (λ v. judge-fits (fisher_test t) judge e v (λ tail. rule-fits t tail v))
 
-  pub first-margin : (judge : Judge) → IsMargin (linear_meaning first_scores (row_sums t) first_scores (column_sums t) judge) (column_sums t) (row_sums t)
-  first-margin judge = is-margin t i (linear_meaning first_scores (row_sums t) first_scores (column_sums t) judge) refl refl refl
+  pub first-margin : (judge : Judge) → IsMargin (over_rooms (linear_meaning first_scores (row_sums t) first_scores (column_sums t) judge)) (column_sums t) (row_sums t)
+  first-margin judge = is-margin t i (over_rooms (linear_meaning first_scores (row_sums t) first_scores (column_sums t) judge)) refl refl
 
-  pub weight-margin : (judge : Judge) → IsMargin (weight_meaning (row_sums t) (column_sums t) judge) (column_sums t) (row_sums t)
-  weight-margin judge = is-margin t i (weight_meaning (row_sums t) (column_sums t) judge) refl refl refl
+  pub weight-margin : (judge : Judge) → IsMargin (over_rooms (weight_meaning (row_sums t) (column_sums t) judge)) (column_sums t) (row_sums t)
+  weight-margin judge = is-margin t i (over_rooms (weight_meaning (row_sums t) (column_sums t) judge)) refl refl
 
   follows-weight : Follows (fisher_test t) Two (fisher_network t Two)
   follows-weight =
       let judge : Judge = judge_of (fisher_test t) in
-      label_follows (rarity_meaning t) (weight_measure (row_sums t) (column_sums t) judge (even t) (omega (arith, some-labels t i)) (omega (arith, subjects-few t i))) (fisher_test t) Two (record {
+      label_follows (rarity_meaning t) (weight_measure (row_sums t) (column_sums t) judge (even t) (omega (arith, some-labels t i))) (fisher_test t) Two (record {
         judge_is = refl;
         reference = refl;
         alike = λ xs. refl;

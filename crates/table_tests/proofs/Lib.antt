@@ -8,6 +8,7 @@ mod WeightNarrows
 mod WeightKeys
 mod SharperFactors
 mod SortedNarrows
+mod SortedKeys
 mod SortedFollows
 mod SortedTests
 mod FilledColumns

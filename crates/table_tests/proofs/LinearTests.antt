@@ -20,7 +20,7 @@ use Rattle.stage_network.specs.declared.verdicts.Judge.{Judge}
 use Rattle.stage_network.specs.Judged.{judge_of}
 use Rattle.stage_network.specs.Follows.{Follows}
 use Rattle.stage_network.proofs.Following.{judge-fits}
-use Rattle.label_network.specs.LabelNetwork.{IsMargin}
+use Rattle.label_network.specs.LabelNetwork.{IsMargin, over_rooms}
 use Rattle.label_network.specs.LaterSums.{subjects}
 use Rattle.label_network.specs.Linear.{IsLinear, greatest_sizes, linear_meaning, row_sum}
 use Rattle.label_network.proofs.LabelFollows.{label_follows}
@@ -114,8 +114,8 @@ module _ (t : ScoredTable) (f : AreFitting t) where
       is-linear (row_sums t.table) (column_sums t.table) t.row_scores t.column_scores (even t.table) few f.row_sizes f.column_sizes as-wide as-long (few-labels t.table f.table) judge
       (λ v h. judge-fits (linear_test t) judge e v (λ tail. rule-fits (linear_test t) is-centred tail v (value-fits v h)))
 
-  pub margin : (judge : Judge) → IsMargin (linear_meaning t.row_scores (row_sums t.table) t.column_scores (column_sums t.table) judge) (column_sums t.table) (row_sums t.table)
-  margin judge = is-margin t.table f.table (linear_meaning t.row_scores (row_sums t.table) t.column_scores (column_sums t.table) judge) refl refl refl
+  pub margin : (judge : Judge) → IsMargin (over_rooms (linear_meaning t.row_scores (row_sums t.table) t.column_scores (column_sums t.table) judge)) (column_sums t.table) (row_sums t.table)
+  margin judge = is-margin t.table f.table (over_rooms (linear_meaning t.row_scores (row_sums t.table) t.column_scores (column_sums t.table) judge)) refl refl
 
   pub follows : (tail : Tail) → Follows (linear_test t) tail (linear_network t tail)
   follows tail =

@@ -15,7 +15,8 @@ use Rattle.completion_bounds.proofs.Products.{distribute}
 use Rattle.label_network.specs.Endings.{labelling_value, partial_after}
 use Rattle.label_network.specs.LaterSums.{subjects}
 use Rattle.weights.specs.Numbers.{absolute_sum}
-use Rattle.label_network.specs.Linear.{column_sum, linear_meaning, row_sum, score_of, so_far}
+use Rattle.label_network.specs.Linear.{column_sum, linear_meaning, row_sum, score_of}
+use Rattle.room_network.specs.Numbers.{so_far}
 use Rattle.label_network.proofs.Absolute.{size-plus, sizes-block}
 use Rattle.label_network.proofs.LinearSizes.{score-within}
 use Rattle.table_tests.specs.LinearByLinear.{product_sum}

@@ -13,8 +13,8 @@ use Rattle.weights.proofs.OneOrder.{length-in_order}
 use Rattle.completion_bounds.specs.Fillings.{falling, filled_in_turn, greatest_weight, is_at_least, product_by}
 use Rattle.completion_bounds.proofs.Factorials.{total, total-is}
 use Rattle.completion_bounds.proofs.FallingSizes.{falling-twice}
-use Rattle.room_network.specs.Meanings.{AreReached, IsEnd, IsMeasure, IsMove, IsRoom, IsStep, partial_after}
-use Rattle.label_network.specs.Linear.{so_far}
+use Rattle.room_network.specs.Meanings.{AreReached, IsMeasure, IsMove, IsRoom, IsStep, partial_after}
+use Rattle.room_network.specs.Numbers.{so_far}
 use Rattle.label_network.specs.Meanings.{sizes_in}
 use Rattle.label_network.proofs.LabelPlans.{sizes-back}
 use Rattle.label_network.proofs.Later.{fits-length}
@@ -25,9 +25,9 @@ use Rattle.label_network.proofs.ChoiceSwaps.{labellings-swap}
 use Rattle.sorted_tables.proofs.SortedPlans.{IsLeftRoom, among-all, left-onward, left-start, sizes-fallen}
 use Rattle.row_products.specs.RowProducts.{factorial, greatest_by_rows, greatest_product, least_by_rows, least_product}
 use Rattle.table_tests.specs.SortedWeighing.{sharper_high, sharper_low, sorted_meaning}
-use Rattle.table_tests.specs.Weighing.{past_of}
-use Rattle.table_tests.specs.WeightSteps.{IsFactor, IsProduct, IsWeightKey, IsWeightMove, IsWeightRoom, IsWeightStep}
-use Rattle.table_tests.proofs.SharperFactors.{columns_high, columns_low, high-ends, high-most, high-onward, high_over, low-ends, low-most, low-onward, low_over}
+use Rattle.table_tests.specs.WeightSteps.{past_of}
+use Rattle.table_tests.specs.WeightSteps.{IsProduct, IsWeightKey, IsWeightMove, IsWeightRoom, IsWeightStep}
+use Rattle.table_tests.proofs.SharperFactors.{columns_high, columns_low, high-ends, high-onward, high_over, low-ends, low-onward, low_over}
 use Rattle.table_tests.proofs.WeightNarrows.{first-product, keeping, none_left, risen, times-one}
 
 -- what the later columns and the rows say does not see the order of the sizes
@@ -129,9 +129,6 @@ module _ (rows columns : List ℕ) (judge : Judge) (level : sum columns ≡ sum 
   pub sorted_step : (g : ℕ) (room : List ℤ) (c : List ℕ) → IsStep (sorted_meaning rows columns judge) g room c → IsWeightStep rows columns g room c
   sorted_step g room c v = record { partial = v.partial; move = sorted_move g room c v.partial v.move }
 
-  pub sorted_end : (p : List ℤ) → IsEnd (sorted_meaning rows columns judge) p → length p ≡ 1
-  sorted_end p v = (sorted_key (length columns) v.room p v.reached).product.one
-
   -- a choice there
   module _ (g : ℕ) (room p : List ℤ) (c : List ℕ) (r : AreReached (sorted_meaning rows columns judge) g room p) (before : g < length columns) (o : Contains (choices (slice_index columns g) (sizes_in room)) c) where
     key : IsWeightKey rows columns g room p
@@ -178,11 +175,3 @@ module _ (rows columns : List ℕ) (judge : Judge) (level : sum columns ≡ sum 
         ∙ ap (λ n. pos (past_of p * n)) (high-ends (sizes_in room) (ended room p k))
         ∙ ap pos (times-one (past_of p)) ∙ sym k.product.whole;
   }
-
-  -- by what its sizes can multiply a product
-  module _ (g : ℕ) (room p : List ℤ) (k : IsWeightKey rows columns g room p) where
-    pub low_factor : IsFactor (sizes_in room) (pos (sharper_low columns g (sizes_in room)))
-    low_factor = record { whole = refl; most = low-most (drop g columns) (sizes_in room) (sym k.level) }
-
-    pub high_factor : IsFactor (sizes_in room) (pos (sharper_high columns g (sizes_in room)))
-    high_factor = record { whole = refl; most = high-most (drop g columns) (sizes_in room) }

@@ -1,42 +1,38 @@
 -- What the keys of a table's weight have, as the bodies need it.
-use Rattle.std.proofs.Common.{◌≡◌, ℕ, suc, ◌-◌, ◌*◌, ◌^◌, ◌<◌, ◌≤◌, min, List, [], ◌∷◌, length, drop, get_or, refl, sym, ◌∙◌, ap, subst, arith}
-use Rattle.std.specs.Prelude.{ℤ, pos, ◌*ℤ◌, nat_abs, unsigned_abs, slice_index}
+use Rattle.std.proofs.Common.{◌≡◌, ℕ, suc, ◌-◌, ◌*◌, ◌^◌, ◌<◌, ◌≤◌, min, List, [], ◌∷◌, length, drop, get_or, refl, sym, ◌∙◌, ap, arith}
+use Rattle.std.specs.Prelude.{ℤ, pos, slice_index}
 use Rattle.std.specs.List.{sum, Contains}
-use Rattle.std.proofs.Math.IntN.{pos-*ℤ-pos}
 use Rattle.std.proofs.Math.Nat.{mul-le-mul_left}
 use Rattle.std.proofs.lemmas.List.Sums.{sum_by-take-drop}
 use Rattle.stage_network.specs.declared.verdicts.Judge.{Judge}
 use Rattle.weights.specs.declared.TheConstants.{MAX}
 use Rattle.weights.specs.Grouped.{choices}
 use Rattle.weights.specs.Labellings.{number_of_labellings}
-use Rattle.stage_network.specs.Judged.{JudgeFits}
 use Rattle.weights.proofs.ChoiceLists.{IsChoice}
 use Rattle.completion_bounds.specs.Fillings.{falling, greatest_weight, product_by}
 use Rattle.label_network.specs.LabelSteps.{AreSizes, IsHeld}
-use Rattle.label_network.specs.Linear.{so_far}
-use Rattle.label_network.specs.Meanings.{IsEnd, IsMove, IsPlace, IsRoom, IsStep, sizes_in}
+use Rattle.room_network.specs.Numbers.{so_far}
+use Rattle.room_network.specs.Meanings.{AreReached, IsRoom, IsStep}
+use Rattle.room_network.specs.Numbers.{AreWeights, IsNumber, IsOutcome}
+use Rattle.room_network.specs.declared.numbers.Operation.TheVariants.{Product}
+use Rattle.room_network.proofs.NumberLaws.{weights-of}
+use Rattle.label_network.specs.LabelNetwork.{over_rooms, over_sizes}
+use Rattle.label_network.specs.LabelRooms.{label_floor}
+use Rattle.label_network.specs.Meanings.{IsPlace, sizes_in}
 use Rattle.label_network.proofs.Later.{fits-length}
 use Rattle.label_network.proofs.LinearKeys.{reached-stage}
 use Rattle.label_network.proofs.Narrowing.{IsLeft, chosen}
+use Rattle.label_network.proofs.OverRooms.{over_number, over_place}
 use Rattle.label_network.proofs.Sizes.{fewer-labellings, fits-chain, held-within, sizes-of_pos}
-use Rattle.table_tests.specs.Weighing.{greatest_factor, least_factor, past_of, weight_meaning}
-use Rattle.table_tests.specs.WeightSteps.{AreRoomy, IsFactor, IsProduct, IsWeightKey, IsWeightMeasure, IsWeightMove, IsWeightRoom, IsWeightStep}
+use Rattle.table_tests.specs.Weighing.{greatest_factor, least_factor, weight_meaning, weight_numbers}
+use Rattle.table_tests.specs.WeightSteps.{past_of}
+use Rattle.table_tests.specs.WeightSteps.{AreRoomy, IsProduct, IsWeightKey, IsWeightMeasure, IsWeightRoom, IsWeightStep}
 use Rattle.table_tests.proofs.FilledColumns.{high-at, roomy}
-use Rattle.table_tests.proofs.WeightNarrows.{greatest-most, least-most, reached_left, reached_product}
+use Rattle.table_tests.proofs.WeightNarrows.{greatest-most, least-most, reached_left, reached_product, weight_measure}
 
 sizes-long : (zs : List ℤ) → length (sizes_in zs) ≡ length zs
 sizes-long [] = refl
 sizes-long (z ∷ zs) = ap suc (sizes-long zs)
-
--- a product that a key holds, times a whole number
-sized : (z : ℤ) (n m : ℕ) → z ≡ pos n → n * m ≤ MAX → unsigned_abs z * unsigned_abs (pos m) ≤ MAX
-sized z n m e h = rw e h
-
-multiplied : (z : ℤ) (n m : ℕ) → z ≡ pos n → z *ℤ pos m ≡ pos (n * m)
-multiplied z n m e = rw e (product n m)
-  where
-    product : (n m : ℕ) → pos n *ℤ pos m ≡ pos (n * m)
-    product n m = pos-*ℤ-pos n m
 
 module _ (rows columns : List ℕ) (width falling_width : ℕ) (highs : List ℕ) (judge : Judge) (h : IsWeightMeasure rows columns width falling_width highs judge) where
   module _ (g : ℕ) (f p : List ℤ) (a : IsWeightKey rows columns g f p) where
@@ -77,24 +73,11 @@ module _ (rows columns : List ℕ) (width falling_width : ℕ) (highs : List ℕ
     product-fits m l = omega (arith, mul-le-mul_left (past_of p) l, product_is.small, h.weighing.total_fits)
 
     -- what such a product can be multiplied by
-    module _ (factor : ℤ) (e : IsFactor (sizes_in f) factor) where
-      factor-product : past_of p * nat_abs factor ≤ MAX
-      factor-product = product-fits (nat_abs factor) e.most
-
-      pub factor-rule : JudgeFits judge (pos (past_of p * nat_abs factor))
-      factor-rule = h.weighing.rules_fit (pos (past_of p * nat_abs factor)) factor-product
-
-      pub factor-fits : unsigned_abs (so_far p) * unsigned_abs factor ≤ MAX
-      factor-fits = subst (λ z. unsigned_abs (so_far p) * unsigned_abs z ≤ MAX) (sym e.whole) (sized (so_far p) (past_of p) (nat_abs factor) product_is.whole factor-product)
-
-      pub factor-is : so_far p *ℤ factor ≡ pos (past_of p * nat_abs factor)
-      factor-is = ap (λ z. so_far p *ℤ z) e.whole ∙ multiplied (so_far p) (past_of p) (nat_abs factor) product_is.whole
-
-    pub low_factor : IsFactor (sizes_in f) (pos (least_factor columns g (sizes_in f)))
-    low_factor = record { whole = refl; most = least-most rows columns judge h.weighing.level h.weighing.some g (sizes_in f) left }
-
-    pub high_factor : IsFactor (sizes_in f) (pos (greatest_factor columns g (sizes_in f)))
-    high_factor = record { whole = refl; most = greatest-most rows columns judge h.weighing.level h.weighing.some g (sizes_in f) left }
+    pub outcome : (m : ℕ) → m ≤ number_of_labellings (sizes_in f) → IsOutcome Product judge (so_far p) (pos m)
+    outcome m l = record {
+      fits = weights-of (so_far p) (past_of p) m product_is.whole (product-fits m l);
+      ruled = h.weighing.rules_fit (pos (past_of p * m)) (product-fits m l);
+    }
 
     pub factor-few : least_factor columns g (sizes_in f) ≤ MAX
     factor-few = omega (arith, least-most rows columns judge h.weighing.level h.weighing.some g (sizes_in f) left, few-ways)
@@ -124,15 +107,13 @@ module _ (rows columns : List ℕ) (width falling_width : ℕ) (highs : List ℕ
       step-most : number_of_labellings x ≤ number_of_labellings (sizes_in f)
       step-most = fewer-labellings x (sizes_in f) choice.fitting
 
-      pub step-fits : unsigned_abs (so_far p) * unsigned_abs (pos (number_of_labellings x)) ≤ MAX
-      step-fits = sized (so_far p) (past_of p) (number_of_labellings x) product_is.whole (product-fits (number_of_labellings x) step-most)
-
-      pub step-is : so_far p *ℤ pos (number_of_labellings x) ≡ pos (past_of p * number_of_labellings x)
-      step-is = multiplied (so_far p) (past_of p) (number_of_labellings x) product_is.whole
+      pub step-weights : AreWeights (so_far p) (pos (number_of_labellings x))
+      step-weights = weights-of (so_far p) (past_of p) (number_of_labellings x) product_is.whole (product-fits (number_of_labellings x) step-most)
 
   -- a place of the measure is such a key
-  pub key-of : (g : ℕ) (f p : List ℤ) → IsPlace (weight_meaning rows columns judge) g f p → IsWeightKey rows columns g f p
-  key-of g f p a =
+  key-of : (g : ℕ) (f p : List ℤ) → AreReached (over_rooms (weight_meaning rows columns judge)) g f p → IsWeightKey rows columns g f p
+  key-of g f p r =
+      let a : IsPlace (weight_meaning rows columns judge) g f p = over_place (weight_meaning rows columns judge) g f p r in
       let here : IsLeft (weight_meaning rows columns judge) g (sizes_in f) = reached_left rows columns judge h.weighing.level h.weighing.some g (sizes_in f) p a.reached in
       record {
         stage = reached-stage (weight_meaning rows columns judge) g (sizes_in f) p a.reached;
@@ -142,14 +123,22 @@ module _ (rows columns : List ℕ) (width falling_width : ℕ) (highs : List ℕ
         product = reached_product rows columns judge h.weighing.level h.weighing.some g (sizes_in f) p a.reached;
       }
 
-  pub room-of : (g : ℕ) (f : List ℤ) → IsRoom (weight_meaning rows columns judge) g f → IsWeightRoom rows columns g f
-  room-of g f a = record { partial = a.partial; place = key-of g f a.partial a.place }
+  pub weight_number : IsNumber (label_floor columns rows) (over_sizes (weight_numbers columns judge))
+  weight_number =
+      over_number columns rows (weight_numbers columns judge) (weight_measure rows columns judge h.weighing.level h.weighing.some)
+      (λ g f x p v. step-weights g f p (key-of g f p v.reached) v.before x v.allowed)
+      (λ g f p r. let k = key-of g f p r in outcome g f p k _ (least-most rows columns judge h.weighing.level h.weighing.some g (sizes_in f) (left g f p k)))
+      (λ g f p r. let k = key-of g f p r in outcome g f p k _ (greatest-most rows columns judge h.weighing.level h.weighing.some g (sizes_in f) (left g f p k)))
 
-  pub move-of : (g : ℕ) (f : List ℤ) (x : List ℕ) (p : List ℤ) → IsMove (weight_meaning rows columns judge) g f x p → IsWeightMove rows columns g f x p
-  move-of g f x p a = record { before = a.before; place = key-of g f p a.place; allowed = a.allowed }
+  pub room-of : (g : ℕ) (f : List ℤ) → IsRoom (over_rooms (weight_meaning rows columns judge)) g f → IsWeightRoom rows columns g f
+  room-of g f v = record { partial = v.partial; place = key-of g f v.partial v.reached }
 
-  pub step-of : (g : ℕ) (f : List ℤ) (x : List ℕ) → IsStep (weight_meaning rows columns judge) g f x → IsWeightStep rows columns g f x
-  step-of g f x a = record { partial = a.partial; move = move-of g f x a.partial a.move }
-
-  pub end-one : (p : List ℤ) → IsEnd (weight_meaning rows columns judge) p → length p ≡ 1
-  end-one p e = (reached_product rows columns judge h.weighing.level h.weighing.some (length columns) e.sizes p e.reached).one
+  pub step-of : (g : ℕ) (f : List ℤ) (x : List ℕ) → IsStep (over_rooms (weight_meaning rows columns judge)) g f x → IsWeightStep rows columns g f x
+  step-of g f x v = record {
+    partial = v.partial;
+    move = record {
+      before = v.move.before;
+      place = key-of g f v.partial v.move.reached;
+      allowed = v.move.allowed;
+    };
+  }

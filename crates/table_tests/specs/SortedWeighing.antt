@@ -2,22 +2,23 @@
 -- falling order and its columns in rising order, keys whose sizes are the same in another order are
 -- one, and so are choices that differ in the order of rows of equal size. Its interval is narrower
 -- than that over the columns alone: it goes by the rows, too.
-use Rattle.std.specs.Prelude.{ℕ, ◌*◌, pos, List, [], ◌∷◌, drop, max, min, nat_le, if◌then◌else◌}
+use Rattle.std.specs.Prelude.{ℕ, ℤ, pos, List, drop, max, min, nat_le, if◌then◌else◌}
 use Rattle.weights.specs.declared.TheConstants.{MAX}
 use Rattle.completion_bounds.specs.Fillings.{falling, product_by}
 use Rattle.stage_network.specs.Judged.{judge_of}
 use Rattle.stage_network.specs.Network.{Network}
 use Rattle.stage_network.specs.declared.verdicts.Judge.{Judge}
 use Rattle.room_network.specs.Meanings.{Meaning}
+use Rattle.room_network.specs.Numbers.{Numbers, number_meaning}
 use Rattle.room_network.specs.RoomNetworks.{room_network}
-use Rattle.label_network.specs.LabelNetwork.{over_rooms}
+use Rattle.label_network.specs.LabelNetwork.{over_sizes}
 use Rattle.label_network.specs.Meanings.{sizes_in}
 use Rattle.row_products.specs.RowProducts.{factorial, greatest_by_rows, least_by_rows}
 use Rattle.sorted_tables.specs.SortedRooms.{rising, sorted_floor, sorted_weight}
 use Rattle.table_reader.specs.TableLayout.{TableData}
 use Rattle.table_tests.specs.FisherExact.{fisher_test}
 use Rattle.table_tests.specs.Tables.{column_sums, row_sums}
-use Rattle.table_tests.specs.Weighing.{greatest_factor, least_factor, past_of, weight_meaning}
+use Rattle.table_tests.specs.Weighing.{greatest_factor, least_factor, weight_numbers}
 
 -- by what the later columns multiply a product, at least: each by itself, and where the product of
 -- their factorials is held each row by itself, whichever says more
@@ -35,14 +36,15 @@ sharper_high columns g r =
     else greatest_factor columns g r
 
 -- the weight of tables with these rows, the greatest first, and columns
-abbrev pub sorted_meaning : List ℕ → List ℕ → Judge → Meaning
-sorted_meaning rows columns judge = record (over_rooms (weight_meaning rows columns judge)) {
-  floor = sorted_floor columns rows;
-  outlook = λ g room. pos (sharper_low columns g (sizes_in room))
-      ∷ pos (sharper_high columns g (sizes_in room)) ∷ [];
-  low = λ g room p. pos (past_of p * sharper_low columns g (sizes_in room));
-  high = λ g room p. pos (past_of p * sharper_high columns g (sizes_in room));
+abbrev pub sorted_numbers : List ℕ → Judge → Numbers (List ℤ)
+sorted_numbers columns judge = record (over_sizes (weight_numbers columns judge)) {
+  least = λ g room. pos (sharper_low columns g (sizes_in room));
+  greatest = λ g room. pos (sharper_high columns g (sizes_in room));
 }
+
+abbrev pub sorted_meaning : List ℕ → List ℕ → Judge → Meaning
+sorted_meaning rows columns judge =
+    number_meaning (sorted_floor columns rows) (sorted_numbers columns judge)
 
 abbrev pub sorted_rarity_meaning : TableData → Meaning
 sorted_rarity_meaning table =

@@ -8,10 +8,13 @@ use Rattle.weights.specs.Labellings.{number_of_labellings}
 use Rattle.stage_network.specs.Judged.{JudgeFits}
 use Rattle.completion_bounds.specs.Fillings.{falling, greatest_weight, product_by}
 use Rattle.label_network.specs.LabelSteps.{IsHeld}
-use Rattle.label_network.specs.Linear.{so_far}
+use Rattle.room_network.specs.Numbers.{so_far}
 use Rattle.label_network.specs.Meanings.{sizes_in}
 use Rattle.row_products.specs.RowProducts.{IsRising}
-use Rattle.table_tests.specs.Weighing.{past_of}
+
+-- the product so far
+abbrev pub past_of : List ℤ → ℕ
+past_of p = nat_abs (so_far p)
 
 -- columns that fill the rows, of which there are few enough, and rules of weights
 pub record IsWeighing (rows columns : List ℕ) (judge : Judge) : Type 0 where
@@ -42,11 +45,6 @@ pub record IsWeightMeasure (rows columns : List ℕ) (width falling_width : ℕ)
 pub record AreOrdered (rows columns : List ℕ) : Type 0 where
   pub falls : falling rows ≡ rows
   pub rises : IsRising columns
-
--- by what a product can be multiplied: no more than all labellings of the sizes
-pub record IsFactor (sizes : List ℕ) (factor : ℤ) : Type 0 where
-  pub whole : factor ≡ pos (nat_abs factor)
-  pub most : nat_abs factor ≤ number_of_labellings sizes
 
 -- rows whose subjects can be labelled in few enough ways
 pub record AreRoomy (width : ℕ) (rows : List ℕ) : Type 0 where

@@ -12,13 +12,14 @@ ghost use Rattle.table_tests.specs.Weighing.{weight_meaning};
 
 use crate::by_turning::{quick_spread, quick_sum};
 use crate::fisher_table::{FisherTable, held};
-use crate::product_stages::product_stages;
+use crate::product_stages::{ProductStages, product_stages};
 use crate::sorted_weights::{SortedStages, sorted_stages};
 use crate::sums::{count_label, front, labelled_weight};
-use crate::weight_measure::WeightMeasure;
+use crate::weight_measure::{WeightMeasure, WeightStages};
 use completion_bounds::fall;
 use enumerate::{Plain, first_labelling, next_labelling};
-use label_network::{LabelStages, LinearMeasure, label_stages};
+use label_network::label_stages;
+use room_network::Numbered;
 use sorted_tables::rise;
 use stage_network::{Judge, OneOf, Prepared, Spread, TailSum};
 use std::alloc::Global;
@@ -45,7 +46,7 @@ impl FisherTable {
     }
 
     // The network of the first cell.
-    fn by_first_cell(&self, alloc: Global) -> Result<LabelStages<LinearMeasure>, NoMemory>
+    fn by_first_cell(&self, alloc: Global) -> Result<ProductStages, NoMemory>
         requires { is_two_by_two self.now ≡ true }
         ensures built { let meaning = first_cell_meaning self.now in
             IfOk result (λ s. meaning ≡ linear_meaning s.1.scores.items s.1.rows.items
@@ -58,7 +59,7 @@ impl FisherTable {
     }
 
     // The network of the table's weight.
-    fn by_weight(&self, alloc: Global) -> Result<LabelStages<WeightMeasure>, NoMemory>
+    fn by_weight(&self, alloc: Global) -> Result<WeightStages, NoMemory>
         ensures built { let meaning = rarity_meaning self.now in
             IfOk result (λ s. meaning ≡ weight_meaning s.1.rows.items s.1.columns.items
             s.1.judge) }
@@ -69,7 +70,7 @@ impl FisherTable {
         let columns = made.margins.columns.as_slice();
         let judge = Judge::of(&made.frame);
         let measure = WeightMeasure::new(alloc, rows, columns, judge)?;
-        label_stages(alloc, columns, rows, measure)
+        label_stages(alloc, columns, rows, Numbered::new(measure))
     }
 
     // The network of the table's weight with sizes in falling order.
@@ -130,7 +131,7 @@ impl Plain for FisherTable {
 impl Prepared for FisherTable {
     ghost use Rattle.table_tests.specs.TableNetworks.{fisher_network};
 
-    type Built = OneOf<LabelStages<LinearMeasure>, OneOf<LabelStages<WeightMeasure>, SortedStages>>;
+    type Built = OneOf<ProductStages, OneOf<WeightStages, SortedStages>>;
 
     ghost network = { fisher_network };
 

@@ -32,12 +32,13 @@ pub use fisher_table::{FisherTable, fisher_tails, is_two_by_two};
 pub use linear_table::LinearTable;
 pub use odds_rooms::OddsRooms;
 pub use odds_table::OddsTable;
+pub use product_stages::ProductStages;
 pub use sorted_weights::{SortedStages, SortedWeights};
 use stage_network::{Answer, Spread, Way};
 use std::alloc::Global;
 pub use table_test::{TableTest, prepare_fisher, prepare_linear, prepare_odds};
 pub use turned::turned_tests;
-pub use weight_measure::WeightMeasure;
+pub use weight_measure::{WeightMeasure, WeightStages};
 use weights::{NoMemory, Tails};
 
 /// The greatest absolute score of a row or a column.

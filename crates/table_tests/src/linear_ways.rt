@@ -1,9 +1,8 @@
 // Both ways to the answer of the linear-by-linear test.
 use crate::linear_table::LinearTable;
-use crate::product_stages::product_stages;
+use crate::product_stages::{ProductStages, product_stages};
 use crate::sums::labelled_sum;
 use enumerate::{Plain, first_labelling, next_labelling};
-use label_network::{LabelStages, LinearMeasure};
 use stage_network::{Judge, Prepared};
 use std::alloc::Global;
 use weights::{Bytes, Frame, NoMemory, Tail};
@@ -47,7 +46,7 @@ impl Plain for LinearTable {
 impl Prepared for LinearTable {
     ghost use Rattle.table_tests.specs.TableNetworks.{linear_network};
 
-    type Built = LabelStages<LinearMeasure>;
+    type Built = ProductStages;
 
     ghost network = { linear_network };
 

@@ -3,8 +3,8 @@ use crate::odds_rooms::OddsRooms;
 use crate::odds_table::OddsTable;
 use crate::odds_weights::odds_weight;
 use enumerate::Plain;
-use label_network::{Labelled, LinearMeasure};
-use room_network::RoomNetwork;
+use label_network::LinearMeasure;
+use room_network::{Numbered, RoomNetwork};
 use stage_network::{Judge, Prepared};
 use std::alloc::Global;
 use weights::{Bytes, Frame, NoMemory, Rule, Tail};
@@ -51,7 +51,7 @@ impl Plain for OddsTable {
 impl Prepared for OddsTable {
     ghost use Rattle.table_tests.specs.OddsNetworks.{odds_network};
 
-    type Built = RoomNetwork<OddsRooms, Labelled<LinearMeasure>>;
+    type Built = RoomNetwork<OddsRooms, Numbered<LinearMeasure>>;
 
     ghost network = { odds_network };
 
@@ -77,6 +77,6 @@ impl Prepared for OddsTable {
         let columns = made.margins.columns.as_slice();
         let cell = LinearMeasure::new(alloc, &[1, 0], rows, &[1, 0], columns, judge)?;
         let rooms = OddsRooms::new(alloc, self.odds(), columns, rows, total)?;
-        Ok(RoomNetwork::new(rooms, Labelled::new(cell)))
+        Ok(RoomNetwork::new(rooms, Numbered::new(cell)))
     }
 }

@@ -11,12 +11,12 @@ ghost use Rattle.table_tests.specs.WeightSteps.{AreOrdered, IsWeighing, IsWeight
 use crate::fisher_table::held;
 use crate::weight_measure::{WeightMeasure, later_columns};
 use label_network::read_sizes;
-use room_network::{Measure, RoomNetwork};
+use room_network::{NumberMeasure, Numbered, Operation, RoomNetwork};
 use row_products::{RowBounds, RowProducts};
 use sorted_tables::SortedRooms;
-use stage_network::{Interval, Judge, Verdict};
+use stage_network::{Interval, Judge};
 use std::alloc::Global;
-use weights::{NoMemory, Tail, only};
+use weights::NoMemory;
 
 /// The weight of the table that a labelling gives, as [`WeightMeasure`], over rooms whose sizes
 /// stand in falling order. Neither the weight nor its interval depends on the order of the sizes,
@@ -31,7 +31,7 @@ pub struct SortedWeights {
 
 /// The network of a table's weight with sizes in falling order: a key has the sizes that remain,
 /// the greatest first, and then the product of the columns' weights so far.
-pub type SortedStages = RoomNetwork<SortedRooms, SortedWeights>;
+pub type SortedStages = RoomNetwork<SortedRooms, Numbered<SortedWeights>>;
 
 /// The network of tables with these rows, the greatest first, and columns (how many subjects each
 /// has), the least first, with verdicts by the judge's rules.
@@ -51,7 +51,8 @@ pub(crate) fn sorted_stages(
     let measure = WeightMeasure::new(alloc, rows, columns, judge)?;
     let products = RowProducts::new(alloc)?;
     let rooms = SortedRooms::new(alloc, columns, rows)?;
-    Ok(RoomNetwork::new(rooms, SortedWeights { measure, products }))
+    let weights = SortedWeights { measure, products };
+    Ok(RoomNetwork::new(rooms, Numbered::new(weights)))
 }
 
 // The narrower interval: of the lower ends the greater, and of the upper ends the lesser.
@@ -89,70 +90,31 @@ impl SortedWeights {
     }
 }
 
-impl Measure for SortedWeights {
-    ghost meaning = { λ s. sorted_meaning s.measure.rows.items s.measure.columns.items
-        s.measure.judge };
+impl NumberMeasure for SortedWeights {
+    ghost use Rattle.sorted_tables.specs.SortedRooms.{sorted_floor};
+    ghost use Rattle.table_tests.specs.SortedWeighing.{sorted_numbers};
 
-    fn slots(&self) -> usize {
-        1
-    }
+    ghost floor = { λ s. sorted_floor s.measure.columns.items s.measure.rows.items };
 
-    fn step_width(&self) -> usize {
-        1
-    }
+    ghost numbers = { λ s. sorted_numbers s.measure.columns.items s.measure.judge };
 
-    fn outlook_width(&self) -> usize {
-        2
-    }
-
-    fn first(&self, partial: &mut [i128]) {
-        partial[0] = 1;
+    #[inline(always)]
+    fn judge(&self) -> &Judge {
+        self.measure.judge()
     }
 
     #[inline(always)]
-    fn step(&self, stage: usize, room: &[i128], choice: &[u64], step: &mut [i128]) {
-        step[0] = self.measure.weight(stage, room, choice);
+    fn operation(&self) -> Operation {
+        Operation::Product
     }
 
     #[inline(always)]
-    fn follow(
-        &self,
-        stage: usize,
-        room: &[i128],
-        choice: &[u64],
-        step: &[i128],
-        partial: &[i128],
-        next: &mut [i128],
-    ) {
-        next[0] = self.measure.product(stage, room, choice, step, partial);
+    fn number(&self, stage: usize, room: &[i128], choice: &[u64]) -> i128 {
+        self.measure.weight(stage, room, choice)
     }
 
     #[inline(always)]
-    fn outlook(&self, stage: usize, room: &[i128], outlook: &mut [i128]) {
-        let factors = self.factors(stage, room);
-        outlook[0] = factors.low;
-        outlook[1] = factors.high;
-    }
-
-    #[inline(always)]
-    fn verdict_by(
-        &self,
-        stage: usize,
-        room: &[i128],
-        outlook: &[i128],
-        partial: &[i128],
-        tail: Tail,
-    ) -> Verdict {
-        let factors = Interval {
-            low: outlook[0],
-            high: outlook[1],
-        };
-        self.measure
-            .judge_product(stage, room, factors, partial, tail)
-    }
-
-    #[inline(always)]
-    fn value(&self, partial: &[i128]) -> i128 {
-        only(partial)
+    fn later(&self, stage: usize, room: &[i128]) -> Interval {
+        self.factors(stage, room)
     }
 }

@@ -1,34 +1,30 @@
 // The weight of a table as a measure of its labellings.
-ghost use Rattle.std.specs.Prelude.{◌≡◌, ◌*◌, ◌^◌, ◌<◌, ◌≤◌, ◌*ℤ◌, [], ◌∷◌, length, drop, min};
-ghost use Rattle.std.specs.Prelude.{nat_abs, unsigned_abs, pos, IfOk};
+ghost use Rattle.std.specs.Prelude.{◌≡◌, ◌^◌, ◌<◌, ◌≤◌, length, drop, min, pos, IfOk};
 ghost use Rattle.std.specs.List.{sum};
 ghost use Rattle.weights.specs.declared.TheConstants.{MAX};
 ghost use Rattle.weights.specs.Labellings.{number_of_labellings};
-ghost use Rattle.stage_network.specs.Judged.{rule_in, verdict_of};
 ghost use Rattle.completion_bounds.specs.Fillings.{falling, least_weight, product_by};
 ghost use Rattle.label_network.specs.LabelSteps.{AreSizes, IsHeld};
-ghost use Rattle.label_network.specs.Linear.{so_far};
 ghost use Rattle.label_network.specs.Meanings.{sizes_in};
-ghost use Rattle.table_tests.specs.Weighing.{greatest_factor, least_factor, past_of, weight_meaning};
-ghost use Rattle.table_tests.specs.WeightSteps.{AreRoomy, IsFactor, IsWeighing, IsWeightKey};
-ghost use Rattle.table_tests.specs.WeightSteps.{IsWeightMeasure, IsWeightMove};
+ghost use Rattle.table_tests.specs.Weighing.{greatest_factor, least_factor, weight_meaning};
+ghost use Rattle.table_tests.specs.WeightSteps.{AreRoomy, IsWeighing, IsWeightMeasure};
 ghost use Rattle.table_tests.specs.WeightSteps.{IsWeightRoom, IsWeightStep};
 
 use crate::fillings::{later_highs, least_over};
 use crate::fisher_table::held;
 use completion_bounds::fall;
-use label_network::{Binomials, Measure, read_sizes};
-use stage_network::{Interval, Judge, Verdict};
+use label_network::{Binomials, LabelStages, read_sizes};
+use room_network::{NumberMeasure, Numbered, Operation};
+use stage_network::{Interval, Judge};
 use std::alloc::Global;
-use weights::{NoMemory, Tail, only, times, total_of};
+use weights::{NoMemory, total_of};
 
 /// The weight of the table that a labelling gives: the product over the columns of the numbers of
 /// labellings of their cells, which is how many labellings give the table (Freeman and Halton,
 /// Biometrika 38, 1951).
 ///
-/// A partial is one number, the product over the columns so far. Its interval multiplies it by the
-/// least and the greatest weights of the later columns, each as if it were the only one (Mehta and
-/// Patel, JASA 78, 1983). These are found once for the sizes that remain.
+/// The later columns multiply it by their least and greatest weights, each as if it were the only
+/// one (Mehta and Patel, JASA 78, 1983). These are found once for the sizes that remain.
 #[derive(Drop)]
 pub struct WeightMeasure {
     rows: Vec<u64>,
@@ -43,19 +39,9 @@ pub struct WeightMeasure {
         highs.items judge },
 }
 
-// A product with what it can be multiplied by, at least and at most.
-#[inline(always)]
-fn both_times(product: i128, factors: Interval) -> Interval
-    requires low { unsigned_abs product * unsigned_abs factors.low ≤ MAX }
-    requires high { unsigned_abs product * unsigned_abs factors.high ≤ MAX }
-    ensures low { result.low ≡ product *ℤ factors.low }
-    ensures high { result.high ≡ product *ℤ factors.high }
-{
-    Interval {
-        low: times(product, factors.low),
-        high: times(product, factors.high),
-    }
-}
+/// The network of a table's weight: a key has the sizes that remain, and then the product of the
+/// columns' weights so far.
+pub type WeightStages = LabelStages<Numbered<WeightMeasure>>;
 
 /// The columns from a stage on.
 pub(crate) fn later_columns(columns: &[u64], stage: usize) -> &[u64]
@@ -146,24 +132,6 @@ impl WeightMeasure {
         held(self.binomials.labellings(choice, self.columns[stage]))
     }
 
-    /// The product that a column's choice leads to, by its weight.
-    #[inline(always)]
-    pub(crate) fn product(
-        &self,
-        stage: usize,
-        remaining: &[i128],
-        choice: &[u64],
-        step: &[i128],
-        partial: &[i128],
-    ) -> i128
-        requires allowed { IsWeightMove self.now.rows.items self.now.columns.items stage
-            remaining.now choice.now partial.now }
-        requires step { step.now ≡ pos (number_of_labellings choice.now) ∷ [] }
-        ensures { result ≡ pos (past_of partial.now * number_of_labellings choice.now) }
-    {
-        times(only(partial), only(step))
-    }
-
     /// By what the sizes that remain can still multiply a product.
     pub(crate) fn factors(&self, stage: usize, remaining: &[i128]) -> Interval
         requires { IsWeightRoom self.now.rows.items self.now.columns.items stage remaining.now }
@@ -182,112 +150,34 @@ impl WeightMeasure {
             remaining,
         )
     }
-
-    // Between which weights a key ends, whose partial can be multiplied by these.
-    #[inline(always)]
-    fn interval(
-        &self,
-        stage: usize,
-        remaining: &[i128],
-        factors: Interval,
-        partial: &[i128],
-    ) -> Interval
-        requires place { IsWeightKey self.now.rows.items self.now.columns.items stage
-            remaining.now partial.now }
-        requires low { IsFactor (sizes_in remaining.now) factors.low }
-        requires high { IsFactor (sizes_in remaining.now) factors.high }
-        ensures low { result.low ≡ pos (past_of partial.now * nat_abs factors.low) }
-        ensures high { result.high ≡ pos (past_of partial.now * nat_abs factors.high) }
-    {
-        both_times(only(partial), factors)
-    }
-
-    /// The verdict of such a key.
-    #[inline(always)]
-    pub(crate) fn judge_product(
-        &self,
-        stage: usize,
-        remaining: &[i128],
-        factors: Interval,
-        partial: &[i128],
-        tail: Tail,
-    ) -> Verdict
-        requires place { IsWeightKey self.now.rows.items self.now.columns.items stage
-            remaining.now partial.now }
-        requires low { IsFactor (sizes_in remaining.now) factors.low }
-        requires high { IsFactor (sizes_in remaining.now) factors.high }
-        ensures { result ≡ verdict_of (rule_in self.now.judge tail)
-            (pos (past_of partial.now * nat_abs factors.low))
-            (pos (past_of partial.now * nat_abs factors.high)) }
-    {
-        self.judge
-            .verdict(tail, self.interval(stage, remaining, factors, partial))
-    }
 }
 
-impl Measure for WeightMeasure {
-    ghost meaning = { λ m.
-        weight_meaning m.rows.items m.columns.items m.judge };
+impl NumberMeasure for WeightMeasure {
+    ghost use Rattle.label_network.specs.LabelNetwork.{over_sizes};
+    ghost use Rattle.label_network.specs.LabelRooms.{label_floor};
+    ghost use Rattle.table_tests.specs.Weighing.{weight_numbers};
 
-    fn slots(&self) -> usize {
-        1
-    }
+    ghost floor = { λ m. label_floor m.columns.items m.rows.items };
 
-    fn step_width(&self) -> usize {
-        1
-    }
+    ghost numbers = { λ m. over_sizes (weight_numbers m.columns.items m.judge) };
 
-    fn outlook_width(&self) -> usize {
-        2
-    }
-
-    fn first(&self, partial: &mut [i128]) {
-        partial[0] = 1;
+    #[inline(always)]
+    fn judge(&self) -> &Judge {
+        &self.judge
     }
 
     #[inline(always)]
-    fn step(&self, stage: usize, remaining: &[i128], choice: &[u64], step: &mut [i128]) {
-        step[0] = self.weight(stage, remaining, choice);
+    fn operation(&self) -> Operation {
+        Operation::Product
     }
 
     #[inline(always)]
-    fn follow(
-        &self,
-        stage: usize,
-        remaining: &[i128],
-        choice: &[u64],
-        step: &[i128],
-        partial: &[i128],
-        next: &mut [i128],
-    ) {
-        next[0] = self.product(stage, remaining, choice, step, partial);
+    fn number(&self, stage: usize, room: &[i128], choice: &[u64]) -> i128 {
+        self.weight(stage, room, choice)
     }
 
     #[inline(always)]
-    fn outlook(&self, stage: usize, remaining: &[i128], outlook: &mut [i128]) {
-        let factors = self.factors(stage, remaining);
-        outlook[0] = factors.low;
-        outlook[1] = factors.high;
-    }
-
-    #[inline(always)]
-    fn verdict_by(
-        &self,
-        stage: usize,
-        remaining: &[i128],
-        outlook: &[i128],
-        partial: &[i128],
-        tail: Tail,
-    ) -> Verdict {
-        let factors = Interval {
-            low: outlook[0],
-            high: outlook[1],
-        };
-        self.judge_product(stage, remaining, factors, partial, tail)
-    }
-
-    #[inline(always)]
-    fn value(&self, partial: &[i128]) -> i128 {
-        only(partial)
+    fn later(&self, stage: usize, room: &[i128]) -> Interval {
+        self.factors(stage, room)
     }
 }

@@ -10,7 +10,8 @@ use Rattle.weights.specs.Labellings.{counts_of}
 use Rattle.weights.specs.Grouped.{columns_of, minus}
 use Rattle.label_network.specs.Endings.{partial_after, labelling_value}
 use Rattle.label_network.specs.LaterSums.{subjects}
-use Rattle.label_network.specs.Linear.{row_sum, score_of, so_far, column_sum, linear_meaning}
+use Rattle.label_network.specs.Linear.{row_sum, score_of, column_sum, linear_meaning}
+use Rattle.room_network.specs.Numbers.{so_far}
 use Rattle.two_sample_tests.specs.Columns.{row_scores}
 use Rattle.scores.specs.Scores.{labelled_sum}
 use Rattle.scores.proofs.LabelledSums.{labelled-none}

@@ -2,6 +2,7 @@
 use crate::two_sample::TwoSample;
 use enumerate::{Plain, first_labelling, next_labelling};
 use label_network::{LabelStages, LinearMeasure, label_stages};
+use room_network::Numbered;
 use scores::labelled_sum;
 use stage_network::{Judge, Prepared};
 use std::alloc::Global;
@@ -40,7 +41,7 @@ impl Plain for TwoSample {
 impl Prepared for TwoSample {
     ghost use Rattle.two_sample_tests.specs.Columns.{two_sample_network};
 
-    type Built = LabelStages<LinearMeasure>;
+    type Built = LabelStages<Numbered<LinearMeasure>>;
 
     ghost network = { two_sample_network };
 
@@ -61,6 +62,6 @@ impl Prepared for TwoSample {
         let scores = made.columns.scores.as_slice();
         let judge = Judge::of(&made.frame);
         let measure = LinearMeasure::new(alloc, &[0, 1], rows, scores, columns, judge)?;
-        label_stages(alloc, columns, rows, measure)
+        label_stages(alloc, columns, rows, Numbered::new(measure))
     }
 }

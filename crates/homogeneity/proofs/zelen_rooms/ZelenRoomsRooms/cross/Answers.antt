@@ -1,5 +1,6 @@
 use Rattle.std.proofs.Common.{◌∙◌, ap, set, arith}
-use Rattle.homogeneity.proofs.Bodies.{left-small, one-item, signed}
+use Rattle.room_network.proofs.Items.{one_item}
+use Rattle.homogeneity.proofs.Bodies.{left-small, signed}
 use Rattle.homogeneity.proofs.EvenMeasures.{choice, room-parts, weight-within}
 use Rattle.homogeneity.proofs.zelen_rooms.ZelenRoomsRooms.cross.Goals as goal
 
@@ -33,4 +34,4 @@ pub returns-clause-next : goal.returns-clause-next
 returns-clause-next c =
     let s = c.args.self.now.rests in
     let small = left-small s.strata s.sum s.right.summed c.args.stage c.args.room.now (room-parts s.strata s.sum s.right.summed.can c.args.stage c.args.room.now c.requires.reached) in
-    rw c.left_in.ensures (ap (λ z. set c.args.next.now 0 z) (signed _ (omega (arith, small))) ∙ one-item c.args.next.now _ c.requires.room)
+    rw c.left_in.ensures (ap (λ z. set c.args.next.now 0 z) (signed _ (omega (arith, small))) ∙ one_item c.args.next.now _ c.requires.room)

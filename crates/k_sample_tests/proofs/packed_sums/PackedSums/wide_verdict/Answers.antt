@@ -2,7 +2,7 @@ use Rattle.std.proofs.Common.{◌≡◌, ◌∙◌, refl, rules, sym, FitsSigned
 use mir.Syntax.{w128}
 use mir.Val.{to_z, of_z}
 use Rattle.std.proofs.lemmas.Int.{to_z-of_z}
-use Rattle.label_network.specs.Linear.{so_far}
+use Rattle.room_network.specs.Numbers.{so_far}
 use Rattle.k_sample_tests.proofs.PackedKeys.{as-few, as-many, one-long, place, sums-are}
 use Rattle.k_sample_tests.proofs.packed_sums.PackedSums.wide_verdict.Goals as goal
 
@@ -13,14 +13,14 @@ pub slice_bounds-sums-end : goal.slice_bounds-sums-end
 slice_bounds-sums-end c = sym (as-many c.args.self.now c.slots.result c.slots.ensures.slots ∙ sym c.slots.ensures.slots)
 
 pub only-requires : goal.only-requires
-only-requires c = one-long c.args.self.now c.args.stage c.args.remaining.now c.args.partial.now c.requires.place
+only-requires c = one-long c.args.self.now c.args.stage c.args.remaining.now c.args.partial.now c.requires.reached
 
-pub verdict_by-requires-clause-place : goal.verdict_by-requires-clause-place
-verdict_by-requires-clause-place c =
+pub verdict_by-requires-clause-reached : goal.verdict_by-requires-clause-reached
+verdict_by-requires-clause-reached c =
     let a : FitsSigned w128 c.only.result = search rules in
     let one : to_z w128 (of_z w128 c.only.result) ≡ so_far c.args.partial.now = to_z-of_z w128 c.only.result a ∙ c.only.ensures in
     let sums = c.unpack.ensures ∙ sums-are c.args.self.now c.args.partial.now _ _ (as-many c.args.self.now c.slots.result c.slots.ensures.slots) one in
-    rw sums (place c.args.self.now c.args.stage c.args.remaining.now c.args.partial.now c.requires.place)
+    rw sums (place c.args.self.now c.args.stage c.args.remaining.now c.args.partial.now c.requires.reached)
 
 pub returns : goal.returns
 returns c =

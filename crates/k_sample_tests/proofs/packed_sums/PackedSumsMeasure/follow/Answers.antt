@@ -2,13 +2,14 @@ use Rattle.std.proofs.Common.{rules, ◌≡◌, ◌∷◌, [], ℤ, ◌∙◌, a
 use mir.Syntax.{w128}
 use mir.Val.{to_z, of_z}
 use Rattle.std.proofs.lemmas.Int.{to_z-of_z}
-use Rattle.label_network.specs.Linear.{score_of, so_far}
-use Rattle.label_network.proofs.LinearKeys.{one_item}
+use Rattle.label_network.specs.Linear.{score_of}
+use Rattle.room_network.specs.Numbers.{so_far}
+use Rattle.room_network.proofs.Items.{one_item}
 use Rattle.k_sample_tests.proofs.PackedKeys.{one-long, step-fits, step-sum}
 use Rattle.k_sample_tests.proofs.packed_sums.PackedSumsMeasure.follow.Goals as goal
 
 pub only-requires : goal.only-requires
-only-requires c = one-long c.args.self.now c.args._stage c.args._remaining.now c.args.partial.now c.requires.allowed.place
+only-requires c = one-long c.args.self.now c.args._stage c.args._remaining.now c.args.partial.now c.requires.allowed.reached
 
 pub only-requires-2 : goal.only-requires-2
 only-requires-2 c = ap length c.requires.step

@@ -2,7 +2,7 @@ use Rattle.std.proofs.Common.{◌≡◌, ◌∙◌, refl, rules, sym, FitsSigned
 use mir.Syntax.{w128}
 use mir.Val.{to_z, of_z}
 use Rattle.std.proofs.lemmas.Int.{to_z-of_z}
-use Rattle.label_network.specs.Linear.{so_far}
+use Rattle.room_network.specs.Numbers.{so_far}
 use Rattle.k_sample_tests.proofs.PackedKeys.{as-few, as-many, end, one-end, sums-are}
 use Rattle.k_sample_tests.proofs.packed_sums.PackedSumsMeasure.value.Goals as goal
 

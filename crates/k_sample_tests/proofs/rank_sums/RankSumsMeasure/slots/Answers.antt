@@ -1,5 +1,9 @@
+use Rattle.label_network.proofs.OverRooms.{over_measure}
+use Rattle.k_sample_tests.specs.PackedSumSteps.{sums_meaning}
 use Rattle.k_sample_tests.proofs.RankNarrows.{squares_measure}
 use Rattle.k_sample_tests.proofs.rank_sums.RankSumsMeasure.slots.Goals as goal
 
 pub returns-clause-sound : goal.returns-clause-sound
-returns-clause-sound c = squares_measure c.args.self.now.factors.items c.args.self.now.bound c.args.self.now.later.scores.items c.args.self.now.later.columns.items c.args.self.now.rows.items c.args.self.now.judge c.args.self.now.right.squaring
+returns-clause-sound c =
+    let m = c.args.self.now in
+    over_measure (sums_meaning m) (squares_measure m.factors.items m.bound m.later.scores.items m.later.columns.items m.rows.items m.judge m.right.squaring)

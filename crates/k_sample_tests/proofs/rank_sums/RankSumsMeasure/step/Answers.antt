@@ -10,10 +10,10 @@ pub score_parts-requires-clause-fits : goal.score_parts-requires-clause-fits
 score_parts-requires-clause-fits c =
     let s : FitsSigned w128 c.score.result = search rules in
     let score : to_z w128 (of_z w128 c.score.result) ≡ score_of c.args.self.now.later.scores.items c.args.stage = to_z-of_z w128 c.score.result s ∙ c.score.ensures in
-    rw score (parts-fit c.args.self.now c.args.stage c.args._remaining.now c.requires.way.partial c.requires.way.move.place c.requires.way.move.before c.args.choice.now c.requires.way.move.allowed)
+    rw score (parts-fit c.args.self.now c.args.stage c.args._remaining.now c.requires.way.partial c.requires.way.move.reached c.requires.way.move.before c.args.choice.now c.requires.way.move.allowed)
 
 pub score_parts-requires-clause-room : goal.score_parts-requires-clause-room
-score_parts-requires-clause-room c = c.requires.room ∙ sym (choice-long c.args.self.now c.args.stage c.args._remaining.now c.requires.way.partial c.requires.way.move.place c.requires.way.move.before c.args.choice.now c.requires.way.move.allowed)
+score_parts-requires-clause-room c = c.requires.room ∙ sym (choice-long c.args.self.now c.args.stage c.args._remaining.now c.requires.way.partial c.requires.way.move.reached c.requires.way.move.before c.args.choice.now c.requires.way.move.allowed)
 
 pub returns : goal.returns
 returns c =

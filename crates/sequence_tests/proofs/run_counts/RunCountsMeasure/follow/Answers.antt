@@ -1,7 +1,7 @@
 use Rattle.std.proofs.Common.{rules, ◌∙◌, arith, refl, FitsSigned}
 use mir.Syntax.{w128}
 use Rattle.std.proofs.lemmas.Int.{to_z-of_z}
-use Rattle.label_network.proofs.LinearKeys.{two_items}
+use Rattle.room_network.proofs.Items.{two_items}
 use Rattle.sequence_tests.proofs.RunKeys.{choice-long, numbers}
 use Rattle.sequence_tests.proofs.run_counts.RunCountsMeasure.follow.Goals as goal
 
@@ -9,7 +9,7 @@ pub bounds-choice-1 : goal.bounds-choice-1
 bounds-choice-1 c = omega (arith, choice-long c.args.self.now.first c.args.self.now.second c.args.self.now.judge c.args.self.now.right c.args._stage c.args._remaining.now c.args.choice.now c.args.partial.now c.requires.allowed)
 
 pub with_label-requires : goal.with_label-requires
-with_label-requires c = numbers c.args.self.now.first c.args.self.now.second c.args.self.now.judge c.args.self.now.right c.args._stage c.args._remaining.now c.args.partial.now c.requires.allowed.place
+with_label-requires c = numbers c.args.self.now.first c.args.self.now.second c.args.self.now.judge c.args.self.now.right c.args._stage c.args._remaining.now c.args.partial.now c.requires.allowed.reached
 
 pub returns : goal.returns
 returns c =

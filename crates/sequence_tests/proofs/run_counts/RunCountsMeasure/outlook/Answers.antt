@@ -5,13 +5,13 @@ use Rattle.sequence_tests.proofs.RunKeys.{six_items, two_sizes}
 use Rattle.sequence_tests.proofs.run_counts.RunCountsMeasure.outlook.Goals as goal
 
 pub to_come-first-requires : goal.to_come-first-requires
-to_come-first-requires c = two_sizes c.args.self.now.first c.args.self.now.second c.args.self.now.judge c.args.self.now.right c.args._stage c.args.remaining.now c.requires.sizes.partial c.requires.sizes.place
+to_come-first-requires c = two_sizes c.args.self.now.first c.args.self.now.second c.args.self.now.judge c.args.self.now.right c.args._stage c.args.remaining.now c.requires.room.partial c.requires.room.reached
 
 pub to_come-second-requires : goal.to_come-second-requires
-to_come-second-requires c = two_sizes c.args.self.now.first c.args.self.now.second c.args.self.now.judge c.args.self.now.right c.args._stage c.args.remaining.now c.requires.sizes.partial c.requires.sizes.place
+to_come-second-requires c = two_sizes c.args.self.now.first c.args.self.now.second c.args.self.now.judge c.args.self.now.right c.args._stage c.args.remaining.now c.requires.room.partial c.requires.room.reached
 
 pub to_come-none-requires : goal.to_come-none-requires
-to_come-none-requires c = two_sizes c.args.self.now.first c.args.self.now.second c.args.self.now.judge c.args.self.now.right c.args._stage c.args.remaining.now c.requires.sizes.partial c.requires.sizes.place
+to_come-none-requires c = two_sizes c.args.self.now.first c.args.self.now.second c.args.self.now.judge c.args.self.now.right c.args._stage c.args.remaining.now c.requires.room.partial c.requires.room.reached
 
 pub returns : goal.returns
 returns c =
@@ -21,7 +21,7 @@ returns c =
     let e : FitsSigned w128 c.to_come-second.result.high = search rules in
     let f : FitsSigned w128 c.to_come-none.result.low = search rules in
     let g : FitsSigned w128 c.to_come-none.result.high = search rules in
-    six_items c.args.outlook.now _ _ _ _ _ _ c.requires.room
+    six_items c.args.outlook.now _ _ _ _ _ _ c.requires.wide
     ∙ rw (
       to_z-of_z w128 c.to_come-first.result.low a,
       to_z-of_z w128 c.to_come-first.result.high b,

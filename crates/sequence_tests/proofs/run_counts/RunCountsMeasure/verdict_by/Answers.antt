@@ -14,16 +14,16 @@ pub after_last-runs-requires-clause-outlook : goal.after_last-runs-requires-clau
 after_last-runs-requires-clause-outlook c = ap length c.requires.outlook
 
 pub after_last-runs-requires-clause-partial : goal.after_last-runs-requires-clause-partial
-after_last-runs-requires-clause-partial c = numbers c.args.self.now.first c.args.self.now.second c.args.self.now.judge c.args.self.now.right c.args._stage c.args._remaining.now c.args.partial.now c.requires.place
+after_last-runs-requires-clause-partial c = numbers c.args.self.now.first c.args.self.now.second c.args.self.now.judge c.args.self.now.right c.args._stage c.args._remaining.now c.args.partial.now c.requires.reached
 
 pub runs_so_far-so_far-requires : goal.runs_so_far-so_far-requires
-runs_so_far-so_far-requires c = numbers c.args.self.now.first c.args.self.now.second c.args.self.now.judge c.args.self.now.right c.args._stage c.args._remaining.now c.args.partial.now c.requires.place
+runs_so_far-so_far-requires c = numbers c.args.self.now.first c.args.self.now.second c.args.self.now.judge c.args.self.now.right c.args._stage c.args._remaining.now c.args.partial.now c.requires.reached
 
 pub plus-requires : goal.plus-requires
 plus-requires c =
     let a : FitsSigned w128 c.runs_so_far-so_far.result = search rules in
     let b : FitsSigned w128 c.after_last-runs.result.low = search rules in
-    let place = c.requires.place in
+    let place = c.requires.reached in
     let label = (numbers c.args.self.now.first c.args.self.now.second c.args.self.now.judge c.args.self.now.right c.args._stage c.args._remaining.now c.args.partial.now place).label in
     let so : to_z w128 (of_z w128 c.runs_so_far-so_far.result) ≡ runs_so_far c.args.partial.now = to_z-of_z w128 c.runs_so_far-so_far.result a ∙ c.runs_so_far-so_far.ensures in
     let low : to_z w128 (of_z w128 c.after_last-runs.result.low) ≡ pos (least_to_come (last_in c.args.partial.now) (firsts_in (sizes_in c.args._remaining.now)) (seconds_in (sizes_in c.args._remaining.now))) = to_z-of_z w128 c.after_last-runs.result.low b ∙ c.after_last-runs.ensures.low ∙ ap (λ (zs : List ℤ). get_or zs (2 * last_in c.args.partial.now) (pos 0)) c.requires.outlook ∙ least-at (last_in c.args.partial.now) (firsts_in (sizes_in c.args._remaining.now)) (seconds_in (sizes_in c.args._remaining.now)) label in
@@ -33,7 +33,7 @@ pub plus-requires-2 : goal.plus-requires-2
 plus-requires-2 c =
     let a : FitsSigned w128 c.runs_so_far-so_far.result = search rules in
     let b : FitsSigned w128 c.after_last-runs.result.high = search rules in
-    let place = c.requires.place in
+    let place = c.requires.reached in
     let label = (numbers c.args.self.now.first c.args.self.now.second c.args.self.now.judge c.args.self.now.right c.args._stage c.args._remaining.now c.args.partial.now place).label in
     let so : to_z w128 (of_z w128 c.runs_so_far-so_far.result) ≡ runs_so_far c.args.partial.now = to_z-of_z w128 c.runs_so_far-so_far.result a ∙ c.runs_so_far-so_far.ensures in
     let high : to_z w128 (of_z w128 c.after_last-runs.result.high) ≡ pos (most_to_come (last_in c.args.partial.now) (firsts_in (sizes_in c.args._remaining.now)) (seconds_in (sizes_in c.args._remaining.now))) = to_z-of_z w128 c.after_last-runs.result.high b ∙ c.after_last-runs.ensures.high ∙ ap (λ (zs : List ℤ). get_or zs (2 * last_in c.args.partial.now + 1) (pos 0)) c.requires.outlook ∙ most-at (last_in c.args.partial.now) (firsts_in (sizes_in c.args._remaining.now)) (seconds_in (sizes_in c.args._remaining.now)) label in
@@ -44,7 +44,7 @@ verdict-requires-clause-low c =
     let a : FitsSigned w128 c.runs_so_far-so_far.result = search rules in
     let b : FitsSigned w128 c.after_last-runs.result.low = search rules in
     let s : FitsSigned w128 c.plus.result = search rules in
-    let place = c.requires.place in
+    let place = c.requires.reached in
     let label = (numbers c.args.self.now.first c.args.self.now.second c.args.self.now.judge c.args.self.now.right c.args._stage c.args._remaining.now c.args.partial.now place).label in
     let so : to_z w128 (of_z w128 c.runs_so_far-so_far.result) ≡ runs_so_far c.args.partial.now = to_z-of_z w128 c.runs_so_far-so_far.result a ∙ c.runs_so_far-so_far.ensures in
     let low : to_z w128 (of_z w128 c.after_last-runs.result.low) ≡ pos (least_to_come (last_in c.args.partial.now) (firsts_in (sizes_in c.args._remaining.now)) (seconds_in (sizes_in c.args._remaining.now))) = to_z-of_z w128 c.after_last-runs.result.low b ∙ c.after_last-runs.ensures.low ∙ ap (λ (zs : List ℤ). get_or zs (2 * last_in c.args.partial.now) (pos 0)) c.requires.outlook ∙ least-at (last_in c.args.partial.now) (firsts_in (sizes_in c.args._remaining.now)) (seconds_in (sizes_in c.args._remaining.now)) label in
@@ -57,7 +57,7 @@ verdict-requires-clause-high c =
     let a : FitsSigned w128 c.runs_so_far-so_far.result = search rules in
     let b : FitsSigned w128 c.after_last-runs.result.high = search rules in
     let s : FitsSigned w128 c.plus-2.result = search rules in
-    let place = c.requires.place in
+    let place = c.requires.reached in
     let label = (numbers c.args.self.now.first c.args.self.now.second c.args.self.now.judge c.args.self.now.right c.args._stage c.args._remaining.now c.args.partial.now place).label in
     let so : to_z w128 (of_z w128 c.runs_so_far-so_far.result) ≡ runs_so_far c.args.partial.now = to_z-of_z w128 c.runs_so_far-so_far.result a ∙ c.runs_so_far-so_far.ensures in
     let high : to_z w128 (of_z w128 c.after_last-runs.result.high) ≡ pos (most_to_come (last_in c.args.partial.now) (firsts_in (sizes_in c.args._remaining.now)) (seconds_in (sizes_in c.args._remaining.now))) = to_z-of_z w128 c.after_last-runs.result.high b ∙ c.after_last-runs.ensures.high ∙ ap (λ (zs : List ℤ). get_or zs (2 * last_in c.args.partial.now + 1) (pos 0)) c.requires.outlook ∙ most-at (last_in c.args.partial.now) (firsts_in (sizes_in c.args._remaining.now)) (seconds_in (sizes_in c.args._remaining.now)) label in
@@ -72,7 +72,7 @@ returns c =
     let d : FitsSigned w128 c.after_last-runs.result.high = search rules in
     let s : FitsSigned w128 c.plus.result = search rules in
     let t : FitsSigned w128 c.plus-2.result = search rules in
-    let place = c.requires.place in
+    let place = c.requires.reached in
     let label = (numbers c.args.self.now.first c.args.self.now.second c.args.self.now.judge c.args.self.now.right c.args._stage c.args._remaining.now c.args.partial.now place).label in
     let so : to_z w128 (of_z w128 c.runs_so_far-so_far.result) ≡ runs_so_far c.args.partial.now = to_z-of_z w128 c.runs_so_far-so_far.result a ∙ c.runs_so_far-so_far.ensures in
     let low : to_z w128 (of_z w128 c.after_last-runs.result.low) ≡ pos (least_to_come (last_in c.args.partial.now) (firsts_in (sizes_in c.args._remaining.now)) (seconds_in (sizes_in c.args._remaining.now))) = to_z-of_z w128 c.after_last-runs.result.low b ∙ c.after_last-runs.ensures.low ∙ ap (λ (zs : List ℤ). get_or zs (2 * last_in c.args.partial.now) (pos 0)) c.requires.outlook ∙ least-at (last_in c.args.partial.now) (firsts_in (sizes_in c.args._remaining.now)) (seconds_in (sizes_in c.args._remaining.now)) label in

@@ -1,5 +1,0 @@
-use Rattle.std.proofs.Common.{refl}
-use Rattle.homogeneity.proofs.rank_measure.RankMeasureMeasure.is_shift.Goals as goal
-
-pub returns : goal.returns
-returns c = λ yes. record { one = refl; step = refl; moves = λ g room p x way. refl }
