@@ -76,6 +76,12 @@ all-at P [] x a c = absurd (omega (arith, c.1))
 all-at P (y ∷ xs) x a (zero, low, is) = subst P is a.0
 all-at P (y ∷ xs) x a (suc i, low, is) = all-at P xs x a.1 (i, omega (arith, low), is)
 
+small_sum : (q g s : ℕ) → s ≤ 512 * q * g → q ≤ 126 → g ≤ q → s ≤ 9000000
+small_sum q g s h a b =
+    let one : g * q ≤ g * 126 = mul-le-mul_left g a in
+    let two : 512 * q * g ≡ 512 * (g * q) = omega arith in
+    omega (arith, one, two, h, a, b)
+
 module _ (m n : ℕ) (t : ℤ) where
   choices-before : (g : ℕ) (k : List ℤ) → g < m + n → (rank_network m n t).choices g k ≡ both_choices k
   choices-before g k h = rw (lt-ltb g (m + n) h) refl
@@ -109,6 +115,33 @@ module _ (m n : ℕ) (t : ℤ) where
       let o : IsOpen past.0 past.1 c = all-at (IsOpen past.0 past.1) _ c (both-open past.0 past.1 past.2) there in
       let next : Ranked (g + 1) ((rank_network m n t).next g (pos past.0 ∷ pos past.1 ∷ pos past.2 ∷ []) c) = step-ranked g past.0 past.1 past.2 c (slice_index c 0) refl before o past.4 past.5 in
       rw (← add-one) (subst (Ranked (g + 1)) (sym (e ∙ ap (λ j. (rank_network m n t).next g j c) past.3)) next)
+
+  -- what a reached key has, number by number
+  pub record RankedKey (g : ℕ) (k : List ℤ) : Type 0 where
+    pub first : ℕ
+    pub second : ℕ
+    pub sum : ℕ
+    pub is : k ≡ pos first ∷ pos second ∷ pos sum ∷ []
+    pub first_is : at k 0 ≡ pos first
+    pub second_is : at k 1 ≡ pos second
+    pub sum_is : at k 2 ≡ pos sum
+    pub left : first + second + g ≡ m + n
+    pub small : sum ≤ 9000000
+
+  pub ranked_key : m + n ≤ 126 → (g : ℕ) (k : List ℤ) → IsReached (rank_network m n t) g k → RankedKey g k
+  ranked_key few g k r =
+      let here : Ranked g k = ranked g k r in
+      record {
+        first = here.0;
+        second = here.1;
+        sum = here.2;
+        is = here.3;
+        first_is = ap (λ k. at k 0) here.3;
+        second_is = ap (λ k. at k 1) here.3;
+        sum_is = ap (λ k. at k 2) here.3;
+        left = here.4;
+        small = small_sum (m + n) g here.2 here.5 few (omega (arith, here.4));
+      }
 
   next-first : (g a b s : ℕ) → (rank_network m n t).next g (pos (suc a) ∷ pos b ∷ pos s ∷ []) (0 ∷ []) ≡ pos a ∷ pos b ∷ pos s ∷ []
   next-first g a b s = ap (λ z. z ∷ pos b ∷ pos s ∷ []) (omega (arith, ints))
@@ -262,12 +295,6 @@ module _ (m n : ℕ) (t : ℤ) where
     outside = λ tail g k r h v. outside_from_arcs (rank_network m n t) Less outside-kept g k r h v;
     decided = λ tail k r v. absurd (settled k r v);
   }
-
-pub small_sum : (q g s : ℕ) → s ≤ 512 * q * g → q ≤ 126 → g ≤ q → s ≤ 9000000
-small_sum q g s h a b =
-    let one : g * q ≤ g * 126 = mul-le-mul_left g a in
-    let two : 512 * q * g ≡ 512 * (g * q) = omega arith in
-    omega (arith, one, two, h, a, b)
 
 pub three_same : {X : Type 0} (a a' b b' c c' : X) → a ≡ a' → b ≡ b' → c ≡ c' → a ∷ b ∷ c ∷ [] ≡ a' ∷ b' ∷ c' ∷ []
 three_same a a' b b' c c' e f g = rw (e, f, g) refl
