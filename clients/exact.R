@@ -18,18 +18,20 @@
 # that missing = "drop" left out. That of exact_shift has `estimate` and `conf.int` as wilcox.test has them (but of the
 # second sample less the first); the level of `conf.int` is the one that is attained, and limits that there are not are
 # infinite. `miss` has numerator and denominator as texts.
-# A refusal is an error of class exact_refused, whose message is the program's line; `status` is its status.
+# A refusal is an error of class exact_refused, whose message is the program's line and what helps; `line` is the line
+# alone, and `status` the program's status. `program` is its path; else that in the environment variable EXACT, else the
+# one of the installed package exact, else the one on the path.
 #
 # Numbers are written with 15 digits, as R shows them, and rounded to 18 decimals where they have more, with a warning.
 
 exact_test <- function(test, x, y = NULL, data = NULL, paired = FALSE, ...,
-                       program = Sys.getenv("EXACT", "exact")) {
+                       program = exact_program()) {
   name <- paste(c(deparse1(substitute(x)), if (!is.null(y)) deparse1(substitute(y))), collapse = " and ")
   call <- sys.call()
   exact_report(exact_lines(test, exact_rows(x, y, data, paired), list(...), program, call), name)
 }
 
-exact_shift <- function(x, y = NULL, data = NULL, ..., program = Sys.getenv("EXACT", "exact")) {
+exact_shift <- function(x, y = NULL, data = NULL, ..., program = exact_program()) {
   name <- paste(c(deparse1(substitute(x)), if (!is.null(y)) deparse1(substitute(y))), collapse = " and ")
   call <- sys.call()
   exact_limits(exact_lines("shift", exact_rows(x, y, data, FALSE), list(...), program, call), name)
@@ -46,10 +48,42 @@ exact_lines <- function(command, rows, options, program, call) {
   status <- attr(report, "status")
   if (!is.null(status) && status != 0) {
     line <- paste(readLines(said, warn = FALSE), collapse = "\n")
-    stop(structure(list(message = line, call = call, status = status),
+    stop(structure(list(message = paste0(line, "\n", exact_help(line)), call = call, line = line, status = status),
                    class = c("exact_refused", "error", "condition")))
   }
   report
+}
+
+# the program that is run
+exact_program <- function() {
+  own <- system.file("bin", "exact", package = "exact")
+  Sys.getenv("EXACT", if (nzchar(own)) own else "exact")
+}
+
+# what helps, by the end of the program's line
+exact_helps <- c(
+  "missing" = "fill it, or leave such rows out with missing=drop",
+  "not a number" = "numbers have a point, and no unit, no separator of thousands and no decimal comma",
+  "out of range" = "round it to 18 decimals, or rescale the values below 10^18",
+  "not a count" = "cells are whole numbers of at most 1000000",
+  "not 0 or 1" = "write yes and no as 1 and 0",
+  "a group too many" = "look for two spellings of one label",
+  "field count" = "pick the fields that the test reads with columns",
+  "too many columns" = "pick the fields that the test reads with columns",
+  "ends too early" = "there are too few groups, pairs, blocks or rows",
+  "total" = "so many data are enough for an approximation, which this program does not give",
+  "statistic" = "round or rescale the values",
+  "value of TEST" = "the names are in docs/TESTS.md, in small letters",
+  "read fault" = "look at the path, and at who may read it",
+  "no memory" = "fewer different values make fewer keys: round them, where that does no harm"
+)
+
+# what helps after a refusal, and where docs/REFUSALS.md speaks of it
+exact_help <- function(line) {
+  cause <- sub("^--[^ ]+ with .*", "option with test", sub(".*: ", "", line))
+  link <- gsub("^-|-$", "", gsub("[^a-z]+", "-", tolower(cause)))
+  said <- if (cause %in% names(exact_helps)) exact_helps[[cause]] else "see"
+  paste0(said, " (docs/REFUSALS.md#", link, ")")
 }
 
 # what the file holds, a column a field

@@ -16,6 +16,7 @@
     Traceback (most recent call last):
     ...
     exact.BadData: refused: row 4 field 2: missing
+    fill it, or leave such rows out with missing=drop (docs/REFUSALS.md#missing)
     >>> exact.run("ranksum", {"x": [1, 2, None], "y": [4, 5, 6]}, missing="drop").dropped
     1
     >>> found = exact.shift({"x": [1, 2, 3], "y": [4, 5, 6]}, miss="1/5")
@@ -32,16 +33,22 @@ import csv
 import dataclasses
 import math
 import os
+import re
 import subprocess
+import sys
 import tempfile
 from collections.abc import Iterable, Mapping
 from fractions import Fraction
 
 
 class Refused(Exception):
-    """There is no report; the text is the program's line, `status` its status."""
+    """There is no report. `line` is the program's line and `status` its status; the text has what helps too."""
 
     status = 0
+
+    def __init__(self, line: str = "") -> None:
+        self.line = line
+        super().__init__(f"{line}\n{_help(line)}")
 
 
 class Usage(Refused):
@@ -81,6 +88,31 @@ class NoMemory(Refused):
 
 
 REFUSALS = {kind.status: kind for kind in Refused.__subclasses__()}
+
+# what helps, by the end of the program's line
+HELPS = {
+    "missing": "fill it, or leave such rows out with missing=drop",
+    "not a number": "numbers have a point, and no unit, no separator of thousands and no decimal comma",
+    "out of range": "round it to 18 decimals, or rescale the values below 10^18",
+    "not a count": "cells are whole numbers of at most 1000000",
+    "not 0 or 1": "write yes and no as 1 and 0",
+    "a group too many": "look for two spellings of one label",
+    "field count": "pick the fields that the test reads with columns",
+    "too many columns": "pick the fields that the test reads with columns",
+    "ends too early": "there are too few groups, pairs, blocks or rows",
+    "total": "so many data are enough for an approximation, which this program does not give",
+    "statistic": "round or rescale the values",
+    "value of TEST": "the names are in docs/TESTS.md, in small letters",
+    "read fault": "look at the path, and at who may read it",
+    "no memory": "fewer different values make fewer keys: round them, where that does no harm",
+}
+
+
+def _help(line: str) -> str:
+    """What helps after a refusal, and where docs/REFUSALS.md speaks of it."""
+    cause = re.sub("^--[^ ]+ with .*", "option with test", line.split(": ")[-1])
+    link = re.sub("[^a-z]+", "-", cause.lower()).strip("-")
+    return f"{HELPS.get(cause, 'see')} (docs/REFUSALS.md#{link})"
 
 
 @dataclasses.dataclass(frozen=True)
@@ -133,7 +165,8 @@ def run(test: str, data: object = None, *, program: str | None = None, **options
     field a row. A text or a path names a file that stands. Without data no file is named, as `drill` wants it.
     options: as the program has them, with `_` for the dash: tail="less", order=["x", "y"], columns=[2, 3], nodes=True,
     odds=Fraction(3, 2) or "3/2".
-    program: its path; else that in the environment variable EXACT, else the one on the PATH.
+    program: its path; else that in the environment variable EXACT, else the one that was installed with this module,
+    else the one on the PATH.
     """
     return read(_text(test, data, program, options))
 
@@ -150,7 +183,7 @@ def shift(data: object, *, program: str | None = None, **options: object) -> Shi
 
 def _text(command: str, data: object, program: str | None, options: Mapping[str, object]) -> str:
     """What the program prints; a refusal is raised."""
-    words = [program or os.environ.get("EXACT") or "exact", command]
+    words = [program or os.environ.get("EXACT") or _own_program() or "exact", command]
     with tempfile.TemporaryDirectory() as folder:
         if isinstance(data, (str, os.PathLike)):
             words.append(os.fspath(data))
@@ -163,6 +196,17 @@ def _text(command: str, data: object, program: str | None, options: Mapping[str,
         raise REFUSALS[done.returncode](done.stderr.decode(errors="replace").rstrip("\n"))
     done.check_returncode()
     return done.stdout.decode(errors="replace")
+
+
+def _own_program() -> str | None:
+    """The program that was installed with this module, where it was."""
+    path = os.path.join(os.path.dirname(os.path.abspath(__file__)), "exact_program", "exact")
+    return path if os.path.exists(path) else None
+
+
+def command() -> None:
+    """Runs the program with the words of the command line: the command `exact` of an installed package."""
+    os.execvp(_own_program() or "exact", ["exact", *sys.argv[1:]])
 
 
 def read(text: str) -> Report:

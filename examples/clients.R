@@ -9,7 +9,8 @@ is_example <- function(name, answer) {
   tell(identical(answer$report, wanted[seq_len(match("-- standard error", wanted) - 1)]), paste("R:", name))
 }
 refused <- function(status, ..., by = exact_test) {
-  tryCatch({ by(...); FALSE }, exact_refused = function(e) e$status == status && startsWith(conditionMessage(e), "refused: "))
+  tryCatch({ by(...); FALSE }, exact_refused = function(e) e$status == status && startsWith(e$line, "refused: ") &&
+    startsWith(conditionMessage(e), paste0(e$line, "\n")) && grepl("[(]docs/REFUSALS[.]md#[a-z-]+[)]$", conditionMessage(e)))
 }
 in_file_order <- function(labels) factor(labels, levels = unique(labels))
 

@@ -33,8 +33,17 @@ def refused(kind, *given, **options):
     try:
         exact.run(*given, **options)
     except kind as fault:
-        return str(fault).startswith("refused: ") and fault.status == kind.status
+        return fault.line.startswith("refused: ") and fault.status == kind.status and has_place(str(fault))
     return False
+
+
+PLACES = (EXAMPLES.parent / "docs" / "REFUSALS.md").read_text(encoding="utf-8")
+
+
+def has_place(text):
+    """Whether the text of a refusal has the program's line, and then names a place of docs/REFUSALS.md."""
+    place = text.rpartition("#")[2].rstrip(")")
+    return f'<a id="{place}"></a>' in PLACES or "as status" in text
 
 
 def numbers(rows):
@@ -89,7 +98,7 @@ try:
     exact.shift(six, miss=0.05)
     tell(False, "Python: a decimal miss")
 except exact.Usage as fault:
-    tell(str(fault) == "refused: value of --miss", "Python: a decimal miss")
+    tell(fault.line == "refused: value of --miss" and has_place(str(fault)), "Python: a decimal miss")
 for status, kind in exact.REFUSALS.items():
     told = refused(kind, "ranksum", [status], program=os.environ["FAKE"])
     tell(told and 2 <= status <= 7, f"Python: status {status}")
@@ -105,3 +114,13 @@ tell(exact.run("ranksum", {odd: [1], "y": [2]}).sizes[0] == 'group 1 a, "b"?c\u0
 fine = exact.run("raw", {"x": [decimal.Decimal("0.123456789012345678")], "y": [1]})
 tell(str(fine.statistic) == "1", "Python: eighteen decimals")
 tell(exact.run("ranksum", six, order=["y", "x"]).less == exact.run("ranksum", six).greater, "Python: another order")
+# every line that the rows have has a place, and every word of help
+lines = set()
+for row in (EXAMPLES / "rows.txt").read_text(encoding="utf-8").splitlines():
+    if row[:1] in "234567" and row[1:11] == " refused: ":
+        lines.add(row[2:].removesuffix("\\n"))
+for line in sorted(lines) + [f"refused: {cause}" for cause in exact.HELPS]:
+    tell(has_place(str(exact.Refused(line))), f"Python: a place for {line}")
+tell(len(lines) > 100, "Python: more than a hundred lines")
+r_text = (EXAMPLES.parent / "clients" / "exact.R").read_text(encoding="utf-8")
+tell(all(f'"{cause}" = "{what}"' in r_text for cause, what in exact.HELPS.items()), "R: the same helps")
