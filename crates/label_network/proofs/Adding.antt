@@ -26,9 +26,6 @@ pub record AreAdding (us : List ℤ) (ms : List ℕ) (later : List ℤ) (i left 
   pub least : IsAdding least_sum us ms later i left low
   pub most : IsAdding greatest_sum us ms later i left high
 
-same-le : (n : ℕ) → n ≤ n
-same-le n = omega arith
-
 spread : (a b c : ℕ) → (a + b) * c ≡ a * c + b * c
 spread a b c = omega arith
 

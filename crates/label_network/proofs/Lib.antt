@@ -29,6 +29,7 @@ pub mod LinearPairings
 pub mod Rows
 pub mod Sizes
 pub mod LabelPlans
+pub mod LabelEnds
 pub mod OverRooms
 pub mod LinearKeys
 pub mod LabelFollows

@@ -24,7 +24,7 @@ use Rattle.label_network.specs.LinearSteps.{whole_reach, HasTails, ArePlaces, Is
 use Rattle.label_network.proofs.Sizes.{sizes-of_pos}
 use Rattle.label_network.proofs.Narrowing.{IsLeft, chosen}
 use Rattle.label_network.proofs.Ascending.{ascending, order-inside}
-use Rattle.label_network.proofs.Rearranging.{picked-fits, picked_scores-length}
+use Rattle.label_network.proofs.Rearranging.{picked-fits}
 use Rattle.label_network.proofs.Enough.{tails-enough}
 use Rattle.label_network.proofs.LinearSizes.{picked-within, reach-within, row-size}
 use Rattle.label_network.proofs.Absolute.{sizes-block}
@@ -72,9 +72,6 @@ module _ (m : LinearMeasure) where
   h : IsLinearMeasure us rows scores columns width order ordered_us judge
   h = m.right
 
-  pub ordered-level_is : length ordered_us ≡ length order
-  ordered-level_is = ap length h.ordered_is ∙ picked_scores-length (order_of us) us ∙ ap length (sym h.order_is)
-
   reach-small : whole_reach ordered_us ≤ 3 * greatest_score us
   reach-small = subst (λ vs. whole_reach vs ≤ 3 * greatest_score us) (sym h.ordered_is) (reach-within (ordered_scores us) (greatest_score us) (ascending us) (picked-within (order_of us) us))
 
@@ -90,12 +87,6 @@ module _ (m : LinearMeasure) where
 
     pub partial_is : IsPartial us scores columns g (sizes_in f) p
     partial_is = reached_partial us rows scores columns judge h.linear g (sizes_in f) p a.reached
-
-    pub one-number : length p ≡ 1
-    one-number = partial_is.one
-
-    within-stages : g ≤ length columns
-    within-stages = reached-stage meaning g (sizes_in f) p a.reached
 
     sizes-few : sum (sizes_in f) < 2 ^ 64
     sizes-few = omega (arith, left.whole, h.linear.level, h.linear.units, sum_by-take-drop (λ v. v) columns g)

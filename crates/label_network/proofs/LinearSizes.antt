@@ -30,9 +30,6 @@ pub picked-within : (order : List ℕ) (us : List ℤ) → greatest_score (picke
 picked-within [] us = omega arith
 picked-within (i ∷ order) us = omega (arith, score-within us i, picked-within order us)
 
-more : (x m y : ℕ) → (x + y) * m ≡ x * m + y * m
-more x m y = omega arith
-
 -- what a choice adds
 pub row-size : (us : List ℤ) (xs : List ℕ) (m : ℕ) → greatest_score us ≤ m → unsigned_abs (row_sum us xs) ≤ m * sum xs
 row-size [] xs m h = omega arith

@@ -9,22 +9,8 @@ use mir.Syntax.{w128}
 use Rattle.label_network.specs.LaterSums.{part_sum}
 use Rattle.weights.specs.Numbers.{absolute_sum}
 use Rattle.label_network.proofs.Absolute.{part-size, size-plus}
-use Rattle.label_network.specs.LaterSteps.{IsRow, IsHalf, better_of}
+use Rattle.label_network.specs.LaterSteps.{IsHalf, better_of}
 use Rattle.label_network.specs.declared.ends.End.{End}
-
-pub row-start : (better : ℤ → ℤ → ℤ) (x : ℤ) (xs row : List ℤ) → IsRow better xs row → IsHalf better x xs row (length row)
-row-start better x xs row r = record { long = omega arith; before = r.each; after = λ i h l. absurd (omega (arith, h, l)) }
-
-pub row-done : (better : ℤ → ℤ → ℤ) (x : ℤ) (xs row : List ℤ) (j : ℕ) → j ≤ 1 → IsHalf better x xs row j → IsRow better (x ∷ xs) row
-row-done better x xs row j h r = record { each = place }
-  where
-    place : (i : ℕ) → i < length row → get_or row i (pos 0) ≡ part_sum better i (x ∷ xs)
-    place zero l = by j refl
-      where
-        by : (k : ℕ) → j ≡ k → get_or row 0 (pos 0) ≡ pos 0
-        by zero e = r.after 0 (omega (arith, e)) l
-        by (suc k) e = r.before 0 (omega (arith, e))
-    place (suc i) l = r.after (suc i) (omega (arith, h)) l
 
 part-value : (better : ℤ → ℤ → ℤ) (k : ℕ) (x : ℤ) (xs : List ℤ) → 1 ≤ k → cond (nat_le k (length xs)) (better (part_sum better (k - 1) xs +ℤ x) (part_sum better k xs)) (part_sum better (k - 1) xs +ℤ x) ≡ part_sum better k (x ∷ xs)
 part-value better zero x xs h = absurd (omega (arith, h))

@@ -1,8 +1,11 @@
 -- The network of a measure of labels: a key has the sizes that remain, its room, and then the
 -- measure's partial.
-use Rattle.std.specs.Prelude.{◌≡◌, ℕ, ℤ, ◌+◌, ◌≤◌, List, length}
+use Rattle.std.specs.Prelude.{◌≡◌, ℕ, ℤ, ◌+◌, ◌≤◌, Bool, List, length, filter}
+use Rattle.weights.specs.Grouped.{columns_of}
+use Rattle.weights.specs.Labellings.{labellings}
 use Rattle.stage_network.specs.Network.{Network}
 use Rattle.room_network.specs.Meanings.{Meaning as RoomMeaning}
+use Rattle.room_network.specs.Meanings.{way_value}
 use Rattle.room_network.specs.Numbers.{Numbers}
 use Rattle.room_network.specs.RoomNetworks.{room_network}
 use Rattle.label_network.specs.LabelRooms.{IsLabelled, label_floor, label_weight}
@@ -44,3 +47,9 @@ pub record IsMargin (m : RoomMeaning) (columns rows : List ℕ) : Type 0 where
   pub labelled : IsLabelled columns rows
   pub some : 2 ≤ length rows
   pub wide : length rows + m.slots ≤ 16
+
+-- how many labellings of the rows have a value that passes, each seen by the columns, whose subjects
+-- are consecutive
+abbrev pub labellings_passing : RoomMeaning → List ℕ → List ℕ → (ℤ → Bool) → ℕ
+labellings_passing m columns rows p =
+    length (filter (λ xs. p (way_value m (columns_of (length rows) columns xs))) (labellings rows))

@@ -1,5 +1,6 @@
 pub mod RoomKeys
 pub mod RoomLaws
+pub mod RoomEnds
 pub mod RoomFollows
 pub mod NetworkParts
 pub mod Raising

@@ -1,6 +1,6 @@
 // The network of a measure over rooms.
 ghost use Rattle.std.specs.Prelude.{◌≡◌};
-ghost use Rattle.room_network.specs.RoomNetworks.{IsHoused, room_network};
+ghost use Rattle.room_network.specs.RoomNetworks.{EndsAtMembers, IsHoused, room_network};
 
 use crate::measure::Measure;
 use crate::rooms::Rooms;
@@ -28,9 +28,12 @@ impl<R: Rooms, M: Measure> Model for RoomNetwork<R, M> {
 
 impl<R: Rooms, M: Measure> RoomNetwork<R, M> {
     /// The network of a measure over its rooms. A room and a partial have 1 to 16 numbers together.
+    /// Whatever list the rooms give, the network ends at the values of its members, with their
+    /// weights.
     pub fn new(rooms: R, measure: M) -> RoomNetwork<R, M>
         requires { IsHoused (R.plan rooms) (M.meaning measure) }
-        ensures { result ≡ (rooms, measure) }
+        ensures parts { result ≡ (rooms, measure) }
+        ensures ends { EndsAtMembers (R.plan rooms) (M.meaning measure) }
     {
         let _count = rooms.stages();
         let _slots = measure.slots();

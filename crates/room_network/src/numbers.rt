@@ -53,7 +53,8 @@ pub trait NumberMeasure {
     /// What choices come to.
     ghost numbers: { Self → Numbers (List ℤ) };
 
-    /// The rules that verdicts go by. The intervals narrow along every choice.
+    /// The rules that verdicts go by. The intervals narrow along every choice, and no number on the
+    /// way passes a limit, nor one that the rules compute of what it comes to.
     fn judge(&self) -> &Judge
         ensures judge { result.now ≡ (numbers self.now).judge }
         ensures sound { IsNumber (floor self.now) (numbers self.now) };

@@ -109,10 +109,6 @@ kept-few q a c (r ∷ rs) h =
 
 -- the first choice behind a row
 
-length-raised : (q a c : ℕ) (rs : List ℕ) → length (raised q a c rs) ≡ length rs
-length-raised q a c [] = refl
-length-raised q a c (r ∷ rs) = ap suc (length-raised r (max (cond (nat_eq r q) a 0) (c - sum rs)) (c - max (cond (nat_eq r q) a 0) (c - sum rs)) rs)
-
 run-sum : (q : ℕ) (rs : List ℕ) → q * run q rs ≤ sum rs
 run-sum q [] = omega arith
 run-sum q (r ∷ rs) = by (nat_eq r q) refl (run-sum q rs)

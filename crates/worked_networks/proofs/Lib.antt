@@ -2,3 +2,4 @@ pub mod RankLaws
 pub mod RankRooms
 pub mod SignLaws
 pub mod BlockLaws
+pub mod LabelRankLaws

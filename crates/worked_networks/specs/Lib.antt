@@ -1,3 +1,4 @@
 pub mod SampleRanks
 pub mod SignedRanks
 pub mod Blocks
+pub mod LabelRanks

@@ -4,6 +4,7 @@
 
 mod blocks;
 mod from_lines;
+mod label_ranks;
 mod ranks;
 mod signed_ranks;
 #[cfg(test)]
@@ -11,5 +12,6 @@ mod tests;
 
 pub use blocks::Blocks;
 pub use from_lines::{OneSided, one_sided};
+pub use label_ranks::{LabelRanks, tail_by_labels};
 pub use ranks::Ranks;
 pub use signed_ranks::{RankStages, SignedRanks};

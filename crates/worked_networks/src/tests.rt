@@ -1,5 +1,5 @@
 // What the networks and the tests come to, by hand.
-use crate::{Blocks, OneSided, RankStages, Ranks, SignedRanks, one_sided};
+use crate::{Blocks, OneSided, RankStages, Ranks, SignedRanks, one_sided, tail_by_labels};
 use distribution::{above, below, far};
 use stage_network::{
     AdditiveStages, Held, Line, OneOf, Prepared, Roomed, Spread, Stages, TailSum, TailSums, Way,
@@ -33,6 +33,17 @@ fn two_and_two_subjects(rt: HostRuntime) -> Result<(), Fail> {
         line(14, 1),
     ];
     assert_eq!(rt; spread(rt.alloc(), &ranks)?.as_slice(), lines.as_slice());
+    Ok(())
+}
+
+// Of the 20 labellings one has the greatest sum, 30, and one the least. A key stays open as long as
+// the first sample may still get all that come first; on both sides also while the second may.
+#[test]
+fn three_and_three_labels(rt: HostRuntime) -> Result<(), Fail> {
+    let greater = tail_by_labels(rt.alloc(), Tail::Greater)?;
+    assert_eq!(rt; greater, TailSum { sum: 1, opened: 3 });
+    let two = tail_by_labels(rt.alloc(), Tail::Two)?;
+    assert_eq!(rt; two, TailSum { sum: 2, opened: 5 });
     Ok(())
 }
 

@@ -22,4 +22,4 @@ pub returns-clause-follows : goal.returns-clause-follows
 returns-clause-follows c t = follows c.args.problem.now c.made-made.ensures.fitting t
 
 pub returns-clause-sums : goal.returns-clause-sums
-returns-clause-sums c = subst (AreSums c.args.problem.now) (sym c.in_ok-stages.ensures) c.in_ok-sums.ensures
+returns-clause-sums c = subst (AreSums c.args.problem.now) (sym c.in_ok-stages.ensures.measure) c.in_ok-sums.ensures

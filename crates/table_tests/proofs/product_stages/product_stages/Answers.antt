@@ -21,4 +21,4 @@ label_stages-requires c =
 pub returns : goal.returns
 returns c =
     let given = rw (c.as_slice-rows.ensures, c.as_slice-columns.ensures) at c.in_ok-measure.ensures in
-    IfOk-weaker c.label_stages.result (λ s. s.1 ≡ c.new-2.result) _ (λ s e. ap meaning_of (e ∙ c.new-2.ensures) ∙ given) c.label_stages.ensures
+    IfOk-weaker c.label_stages.result (λ s. s.1 ≡ c.new-2.result) _ (λ s e. ap meaning_of (e ∙ c.new-2.ensures) ∙ given) c.label_stages.ensures.measure

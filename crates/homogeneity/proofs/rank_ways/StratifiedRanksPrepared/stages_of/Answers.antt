@@ -38,7 +38,7 @@ returns-clause-built c =
     let made = c.made-made.ensures in
     let judge : c.of.result ≡ judge_of (ranked_strata_test strata) = c.of.ensures (ranked_strata_test strata) made.frame in
     let numbers : RankMeasure → Network = λ m. room_network (rank_meaning m.columns m.second m.judge) (rank_weight c.in_ok-rooms.rooms.columns) in
-    ap (λ (b : RankRooms × RankMeasure). room_network (rank_meaning b.1.columns b.1.second b.1.judge) (rank_weight b.0.columns)) c.new-3.ensures
+    ap (λ (b : RankRooms × RankMeasure). room_network (rank_meaning b.1.columns b.1.second b.1.judge) (rank_weight b.0.columns)) c.new-3.ensures.parts
     ∙ ap numbers c.new-2.ensures
     ∙ network-same strata c.in_ok-rooms.rooms.columns c.in_ok-copy-2.field-0 c.made-made.result.now.second c.of.result
     (c.in_ok-rooms.ensures.columns ∙ c.in_ok-copy.ensures ∙ made.columns) (c.in_ok-copy-2.ensures ∙ made.columns) made.second judge

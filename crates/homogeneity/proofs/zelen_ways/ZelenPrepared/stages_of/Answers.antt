@@ -39,7 +39,7 @@ returns-clause-built c =
     let made = c.made-made.ensures in
     let judge : c.of.result ≡ judge_of (even_test strata) = c.of.ensures (even_test strata) made.frame_is in
     let measure = c.in_ok-measure.ensures in
-    let whole : c.new-3.result ≡ (c.new-rooms.result, c.in_ok-measure.measure) = c.new-3.ensures ∙ ap (λ (m : ZelenMeasure). (c.new-rooms.result, m)) c.new-2.ensures in
+    let whole : c.new-3.result ≡ (c.new-rooms.result, c.in_ok-measure.measure) = c.new-3.ensures.parts ∙ ap (λ (m : ZelenMeasure). (c.new-rooms.result, m)) c.new-2.ensures in
     ap (λ (b : ZelenRooms × ZelenMeasure). room_network (even_meaning b.1.rests.strata b.1.rests.sum b.1.judge) (even_weights b.0.rests.strata)) whole
     ∙ network-same strata c.new-rooms.result.rests.strata c.in_ok-measure.measure.rests.strata c.in_ok-measure.measure.rests.sum c.in_ok-measure.measure.judge
     (ap (λ (r : Rests). r.strata) c.new-rooms.ensures ∙ c.in_ok-rests_of.ensures.strata ∙ made.tables)

@@ -37,4 +37,4 @@ returns-clause-built c =
     ∙ ap (λ x. pairs_meaning pairs sizes x c.of-judge.result) (c.as_slice-columns.ensures ∙ made.columns)
     ∙ ap (pairs_meaning pairs sizes (column_sizes (pooled_values samples.groups))) judge in
     let same : (m : PairCounts) → m ≡ c.in_ok-measure.measure → label_network (pairs_meaning m.pairs.items m.rows.items m.columns.items m.judge) ≡ label_network (umbrella_meaning samples) = λ m e. ap (λ (m : PairCounts). label_network (pairs_meaning m.pairs.items m.rows.items m.columns.items m.judge)) e ∙ ap label_network given in
-    IfOk-weaker c.label_stages.result (λ s. s.1 ≡ c.new-2.result) _ (λ s e. same s.1 (e ∙ c.new-2.ensures)) c.label_stages.ensures
+    IfOk-weaker c.label_stages.result (λ s. s.1 ≡ c.new-2.result) _ (λ s e. same s.1 (e ∙ c.new-2.ensures)) c.label_stages.ensures.measure

@@ -34,5 +34,5 @@ returns-clause-built c =
     let made = c.made-made.ensures in
     let judge : c.of-judge.result ≡ judge_of (twin_test c.args.self.now) = c.of-judge.ensures (twin_test c.args.self.now) made.frame in
     let given = rw (c.as_slice-columns.ensures ∙ made.columns, c.as_slice-rows.ensures ∙ made.rows, judge) at c.in_ok-measure.ensures in
-    let whole : c.new-4.result ≡ (c.in_ok-rooms.rooms, c.in_ok-measure.measure) = c.new-4.ensures ∙ ap (λ (m : KendallMeasure). (c.in_ok-rooms.rooms, m)) c.new-3.ensures in
+    let whole : c.new-4.result ≡ (c.in_ok-rooms.rooms, c.in_ok-measure.measure) = c.new-4.ensures.parts ∙ ap (λ (m : KendallMeasure). (c.in_ok-rooms.rooms, m)) c.new-3.ensures in
     ap (λ (s : KendallRooms × KendallMeasure). room_network (kendall_meaning s.1.counts.columns.items s.1.counts.rows.items s.1.judge) label_weight) whole ∙ ap (λ m. room_network m label_weight) given

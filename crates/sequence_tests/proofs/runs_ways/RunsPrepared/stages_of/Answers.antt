@@ -24,4 +24,4 @@ returns-clause-built c =
     let made = c.made-made.ensures in
     let judge : c.of.result ≡ judge_of (runs_test c.args.self.now) = c.of.ensures (runs_test c.args.self.now) made.frame_is in
     let given = rw (made.first_is, made.second_is, judge) at c.new-measure.ensures in
-    IfOk-weaker c.label_stages.result (λ s. s.1 ≡ c.new-measure.result) _ (λ s e. ap (λ (m : RunCounts). label_network (runs_meaning m.first m.second m.judge)) e ∙ ap label_network given) c.label_stages.ensures
+    IfOk-weaker c.label_stages.result (λ s. s.1 ≡ c.new-measure.result) _ (λ s e. ap (λ (m : RunCounts). label_network (runs_meaning m.first m.second m.judge)) e ∙ ap label_network given) c.label_stages.ensures.measure

@@ -34,7 +34,7 @@ returns-clause-built c =
     let made = c.made-made.ensures in
     let judge : c.of-judge.result ≡ judge_of (fisher_test c.args.self.now) = c.of-judge.ensures (fisher_test c.args.self.now) made.frame in
     let given = rw (c.as_slice-rows.ensures ∙ made.margins.rows, c.as_slice-columns.ensures ∙ made.margins.columns, judge) at c.in_ok-measure.ensures in
-    IfOk-weaker c.label_stages.result (λ s. s.1 ≡ c.new-2.result) _ (λ s e. sym (ap meaning_of (e ∙ c.new-2.ensures) ∙ given)) c.label_stages.ensures
+    IfOk-weaker c.label_stages.result (λ s. s.1 ≡ c.new-2.result) _ (λ s e. sym (ap meaning_of (e ∙ c.new-2.ensures) ∙ given)) c.label_stages.ensures.measure
 
 pub returns-in_err-measure-clause-follows : goal.returns-in_err-measure-clause-follows
 returns-in_err-measure-clause-follows c t has = follows c.args.self.now c.made-made.ensures.fitting t has

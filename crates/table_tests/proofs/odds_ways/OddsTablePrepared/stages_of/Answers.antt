@@ -47,7 +47,7 @@ returns-clause-built c =
     let made = c.made-made.ensures in
     let judge : c.of-judge.result ≡ judge_of (odds_test c.args.self.now) = c.of-judge.ensures (odds_test c.args.self.now) c.frame.ensures.frame in
     let given = rw (c.as_slice-rows.ensures ∙ made.margins.rows, c.as_slice-columns.ensures ∙ made.margins.columns, c.fisher.ensures, judge) at c.in_ok-cell.ensures in
-    let whole : c.new-4.result ≡ (c.in_ok-rooms.rooms, c.in_ok-cell.cell) = c.new-4.ensures ∙ ap (λ (m : LinearMeasure). (c.in_ok-rooms.rooms, m)) c.new-3.ensures in
+    let whole : c.new-4.result ≡ (c.in_ok-rooms.rooms, c.in_ok-cell.cell) = c.new-4.ensures.parts ∙ ap (λ (m : LinearMeasure). (c.in_ok-rooms.rooms, m)) c.new-3.ensures in
     ap (λ (x : OddsRooms × LinearMeasure). room_network (over_rooms (meaning_of x.1)) (odds_weights x.0.odds)) whole
     ∙ ap (λ (o : Odds). room_network (over_rooms (meaning_of c.in_ok-cell.cell)) (odds_weights o)) (c.in_ok-rooms.ensures.odds ∙ c.odds.ensures)
     ∙ ap (λ m. room_network (over_rooms m) (odds_weights c.args.self.now.odds)) given

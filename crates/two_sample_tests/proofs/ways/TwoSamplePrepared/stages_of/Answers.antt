@@ -26,4 +26,4 @@ returns-clause-built c =
     let made = c.made-made.ensures in
     let judge : c.of-judge.result ≡ judge_of (two_sample_test c.args.self.now) = c.of-judge.ensures (two_sample_test c.args.self.now) made.frame in
     let given = rw (c.as_slice-rows.ensures ∙ made.sizes, c.as_slice-scores.ensures ∙ made.column_scores, c.as_slice-columns.ensures ∙ made.column_sizes, judge) at c.in_ok-measure.ensures in
-    IfOk-weaker c.label_stages.result (λ s. s.1 ≡ c.new-2.result) _ (λ s e. ap (λ (m : LinearMeasure). label_network (linear_meaning m.scores.items m.rows.items m.later.scores.items m.later.columns.items m.judge)) (e ∙ c.new-2.ensures) ∙ ap label_network given) c.label_stages.ensures
+    IfOk-weaker c.label_stages.result (λ s. s.1 ≡ c.new-2.result) _ (λ s e. ap (λ (m : LinearMeasure). label_network (linear_meaning m.scores.items m.rows.items m.later.scores.items m.later.columns.items m.judge)) (e ∙ c.new-2.ensures) ∙ ap label_network given) c.label_stages.ensures.measure
