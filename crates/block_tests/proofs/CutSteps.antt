@@ -91,9 +91,3 @@ module _ (kind : BlockKind) (k n i : ℕ) (rest front later : List ℤ) (h : i <
       ap (λ xs. xs ++ concat (map (cells_in kind) (cut k (n - (i + 1)) later))) e
       ∙ append_assoc cells (cells_in kind front) (concat (map (cells_in kind) (cut k (n - (i + 1)) later)))
       ∙ ap (λ rows. cells ++ concat (map (cells_in kind) rows)) (sym rows-next) ∙ so_far
-
-pub blocks-end : (kind : BlockKind) (k n i : ℕ) (rest : List ℤ) (made all : List (List ℕ)) → n ≤ i → made ++ map (counts_in kind k) (cut k (n - i) rest) ≡ all → made ≡ all
-blocks-end kind k n i rest made all h e = sym (ap (λ rows. made ++ map (counts_in kind k) rows) (cut-none k n i rest h) ∙ append-nil made) ∙ e
-
-pub cells-end : (kind : BlockKind) (k n i : ℕ) (rest : List ℤ) (cells all : List ℕ) → n ≤ i → cells ++ concat (map (cells_in kind) (cut k (n - i) rest)) ≡ all → cells ≡ all
-cells-end kind k n i rest cells all h e = sym (ap (λ rows. cells ++ concat (map (cells_in kind) rows)) (cut-none k n i rest h) ∙ append-nil cells) ∙ e

@@ -137,7 +137,7 @@ running_addends Friedman bound k = square_addends bound k
 running_addends Page bound k = line_addends
 running_addends Cochran bound k = square_addends bound k
 
--- the network that runs, which opens as many keys
+-- the network that runs: its keys are those that are written
 abbrev pub running_network : BlockTests → Tail → Network
 running_network tests tail =
     let test = block_test tests in

@@ -12,11 +12,11 @@ use Rattle.completion_bounds.specs.Boxes.{factored_squares, greatest_squares, le
 use Rattle.stage_network.specs.declared.verdicts.Judge.{Judge}
 use Rattle.stage_network.specs.Network.{Network, IsReached}
 use Rattle.stage_network.specs.Judged.{HasIntervals, judge_of}
-use Rattle.stage_network.specs.Completions.{total_weight}
+use Rattle.stage_network.specs.Completions.{over_arcs, total_weight}
 use Rattle.stage_network.specs.Follows.{Follows}
 use Rattle.stage_network.specs.Laws.{IsLawful}
 use Rattle.stage_network.specs.Rooms.{IsRoomed}
-use Rattle.stage_network.proofs.Folding.{IsTurned, folded-follows, folded-intervals, folded-lawful, folded-roomed, folded_total, over_allowed, over_arcs, reached-folded}
+use Rattle.stage_network.proofs.Folding.{IsTurned, folded-follows, folded-intervals, folded-lawful, folded-roomed, folded_total, over_allowed, reached-folded}
 use Rattle.stage_network.proofs.Steps.{reached-next}
 use Rattle.stage_network.proofs.Swaps.{length-swap, map-swap, swap_at}
 use Rattle.room_network.proofs.RoomLaws.{key_long}

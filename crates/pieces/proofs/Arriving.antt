@@ -22,7 +22,7 @@ use Rattle.stage_network.proofs.Carried.{carried}
 use Rattle.stage_network.proofs.Courses.{arriving-heavy, keys-first, swept-kept}
 use Rattle.stage_network.proofs.Steps.{sum_by-same}
 use Rattle.stage_network.proofs.Sweeps.{weighted-filter, stay-members, one}
-use Rattle.pieces.specs.Cuts.{closed_sum, met_sum, open_keys}
+use Rattle.pieces.specs.Cuts.{closed_sum, met_sum, keys_open_at}
 use Rattle.pieces.proofs.ByPaths.{met-openly, closed-and_open}
 use Rattle.pieces.proofs.Conserving.{openly}
 
@@ -111,7 +111,7 @@ module _ (n : Network) (tails : Tails) (t : Tail) (own : asks tails t ≡ true) 
         ap (λ g. weighted (v g) nodes) e ∙ sum_by-same _ _ (λ (a : Node). ap (λ x. a.weight * x) (asked-extreme_at tails n t own at a.key)) nodes ∙ cut-told (extreme_weight n t at) in
         omega (arith, kept, left, closed-and_open n t l at h, asked-extreme_at tails n t own 0 n.first)
 
-    pub cut-members : (q : List ℤ) → is_held nodes q ≡ is_member key_eq (open_keys n t at) q
+    pub cut-members : (q : List ℤ) → is_held nodes q ≡ is_member key_eq (keys_open_at n t at) q
     cut-members q =
         let e : 0 + at ≡ at = omega arith in
         let all : List Node = arriving n course at in

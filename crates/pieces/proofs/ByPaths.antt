@@ -139,14 +139,32 @@ module _ (n : Network) (t : Tail) where
   pub open-met : (p : List ℤ → Bool) (m : ℕ) → m ≤ n.count → open_sum n t m p ≡ met_sum n t m (passing_extreme p m)
   open-met p m h = open-openly p m h ∙ sym (met-openly m (passing_extreme p m))
 
-  -- the extreme completions that meet an inside key
-  abbrev inside_part : ℕ → ℕ → ℕ → List ℤ → ℕ
+  -- the extreme completions that meet an inside key at one of m + 1 stages
+  abbrev pub inside_part : ℕ → ℕ → ℕ → List ℤ → ℕ
   inside_part m e g k = sum_by (path_weight n g k) (filter (λ cs. is_extreme n t g k cs && meets_inside n t m g k cs) (paths n e g k))
 
   meets : (m g : ℕ) (k : List ℤ) (cs : List (List ℕ)) → n.verdict t g k ≡ Inside → meets_inside n t m g k cs ≡ true
   meets zero g k cs v = rw v refl
   meets (suc m) g k [] v = rw v refl
   meets (suc m) g k (c ∷ cs) v = rw v refl
+
+  -- all that are extreme, from an inside key on
+  pub inside-here : (m e g : ℕ) (k : List ℤ) → g + e ≡ n.count → n.verdict t g k ≡ Inside → inside_part m e g k ≡ extreme_weight n t g k
+  inside-here m e g k is v =
+      ap (sum_by (path_weight n g k)) (filter-same (λ cs. is_extreme n t g k cs && meets_inside n t m g k cs) (is_extreme n t g k) (λ cs. ap (λ b. is_extreme n t g k cs && b) (meets m g k cs v) ∙ and_true (is_extreme n t g k cs)) (paths n e g k))
+      ∙ extreme-is e g k is
+
+  -- and from another those that meet one later
+  pub none-inside : (e g : ℕ) (k : List ℤ) → is_inside (n.verdict t g k) ≡ false → inside_part zero e g k ≡ 0
+  none-inside e g k v =
+      with-last (path_weight n g k) (is_extreme n t g k) (paths n e g k) (is_inside (n.verdict t g k))
+      ∙ rw v refl
+
+  pub inside-later : (m e g : ℕ) (k : List ℤ) → is_inside (n.verdict t g k) ≡ false → inside_part (suc m) (suc e) g k ≡ sum_by (λ c. n.weight g k c * inside_part m e (g + 1) (n.next g k c)) (n.choices g k)
+  inside-later m e g k v =
+      paths-step n e g k (path_weight n g k) (λ cs. is_extreme n t g k cs && meets_inside n t (suc m) g k cs) (n.weight g k) (λ c cs. path_weight n (g + 1) (n.next g k c) cs) (λ c cs. refl)
+      ∙ sum_by-same _ _ (λ c. ap (λ j. n.weight g k c * j)
+      (with-or (path_weight n (g + 1) (n.next g k c)) (is_extreme n t (g + 1) (n.next g k c)) (paths n e (g + 1) (n.next g k c)) (is_inside (n.verdict t g k)) v (meets_inside n t m (g + 1) (n.next g k c)))) (n.choices g k)
 
   closing_inside : (m g : ℕ) (k : List ℤ) → n.verdict t g k ≡ Inside → closing n t m g k ≡ total_weight n g k
   closing_inside zero g k v = rw v refl
@@ -183,8 +201,7 @@ module _ (n : Network) (t : Tail) where
     -- by the verdict at the key
     settled_inside : (m e g : ℕ) (k : List ℤ) → IsReached n g k → g + e ≡ n.count → n.verdict t g k ≡ Inside → inside_part m e g k ≡ closing n t m g k
     settled_inside m e g k r is v =
-        ap (sum_by (path_weight n g k)) (filter-same (λ cs. is_extreme n t g k cs && meets_inside n t m g k cs) (is_extreme n t g k) (λ cs. ap (λ b. is_extreme n t g k cs && b) (meets m g k cs v) ∙ and_true (is_extreme n t g k cs)) (paths n e g k))
-        ∙ extreme-is e g k is ∙ inside-sum n l t g k r (omega (arith, is)) v ∙ sym (closing_inside m g k v)
+        inside-here m e g k is v ∙ inside-sum n l t g k r (omega (arith, is)) v ∙ sym (closing_inside m g k v)
 
     settled_outside : (m e g : ℕ) (k : List ℤ) → IsReached n g k → g + e ≡ n.count → n.verdict t g k ≡ Outside → inside_part m e g k ≡ closing n t m g k
     settled_outside m e g k r is v =
@@ -193,17 +210,14 @@ module _ (n : Network) (t : Tail) where
 
     undecided_first : (e g : ℕ) (k : List ℤ) → n.verdict t g k ≡ Undecided → inside_part zero e g k ≡ closing n t zero g k
     undecided_first e g k v =
-        with-last (path_weight n g k) (is_extreme n t g k) (paths n e g k) (is_inside (n.verdict t g k))
-        ∙ rw v refl
+        none-inside e g k (ap is_inside v) ∙ rw v refl
 
     undecided_on : (m e g : ℕ) (k : List ℤ) → ((c : List ℕ) → Contains (n.choices g k) c → inside_part m e (g + 1) (n.next g k c) ≡ closing n t m (g + 1) (n.next g k c)) → n.verdict t g k ≡ Undecided → inside_part (suc m) (suc e) g k ≡ closing n t (suc m) g k
     undecided_on m e g k later v =
         let outer : is_inside (n.verdict t g k) ≡ false = ap is_inside v in
         let rest : closing n t (suc m) g k ≡ sum_by (λ c. n.weight g k c * closing n t m (g + 1) (n.next g k c)) (n.choices g k) = rw v (omega arith) in
-        paths-step n e g k (path_weight n g k) (λ cs. is_extreme n t g k cs && meets_inside n t (suc m) g k cs) (n.weight g k) (λ c cs. path_weight n (g + 1) (n.next g k c) cs) (λ c cs. refl)
-        ∙ over-choices n g k _ (λ c. n.weight g k c * closing n t m (g + 1) (n.next g k c)) (λ c allowed. ap (λ j. n.weight g k c * j)
-        (with-or (path_weight n (g + 1) (n.next g k c)) (is_extreme n t (g + 1) (n.next g k c)) (paths n e (g + 1) (n.next g k c)) (is_inside (n.verdict t g k)) outer (meets_inside n t m (g + 1) (n.next g k c))
-        ∙ later c allowed))
+        inside-later m e g k outer
+        ∙ over-choices n g k _ (λ c. n.weight g k c * closing n t m (g + 1) (n.next g k c)) (λ c allowed. ap (λ j. n.weight g k c * j) (later c allowed))
         ∙ sym rest
 
     inside_parts : (m e g : ℕ) (k : List ℤ) → IsReached n g k → m ≤ e → g + e ≡ n.count → inside_part m e g k ≡ closing n t m g k

@@ -13,7 +13,7 @@ use Rattle.stage_network.proofs.Steps.{extreme-le-total, sum_by-same}
 use Rattle.piece_texts.specs.Merges.{over_parts}
 use Rattle.piece_texts.specs.PieceTexts.{SumFits}
 use Rattle.pieces.specs.declared.cuts.Cut.{Cut}
-use Rattle.pieces.specs.Cuts.{IsCut, PartsAddUp, PiecesAddUp, piece_sum, belongs, cut_nodes, cut_stage, is_owned, met, met_sum, open_keys, open_sum, owned_nodes, owned_sum, place_of, stays_open}
+use Rattle.pieces.specs.Cuts.{IsCut, PartsAddUp, PiecesAddUp, piece_sum, belongs, cut_nodes, cut_stage, is_owned, met, met_sum, keys_open_at, open_sum, owned_nodes, owned_sum, place_of, stays_open}
 use Rattle.pieces.specs.Parting.{dealt}
 use Rattle.pieces.proofs.ByPaths.{open-met, passing_extreme, closed-and_open, closed-le, open-le}
 use Rattle.pieces.proofs.Owned.{owned-weighted, parts-all, over-same, pick_one}
@@ -44,7 +44,7 @@ dealt-part n t cut parts part is =
     let g : ℕ = cut.at in
     let nodes : List Node = cut_nodes n cut in
     sym (owned-part n t g nodes (dealt parts 0 (length nodes)) part is.within is.told is.starts.distinct)
-    ∙ dealt-weighted (extreme_weight n t g) (place_of n t g) parts part 0 nodes (placed nodes (open_keys n t g) is.ascending is.members)
+    ∙ dealt-weighted (extreme_weight n t g) (place_of n t g) parts part 0 nodes (placed nodes (keys_open_at n t g) is.ascending is.members)
     ∙ is.told (passing_extreme n t (belongs n t g parts part) g)
     ∙ sym (open-met n t (belongs n t g parts part) g is.within)
 

@@ -16,7 +16,7 @@ use Rattle.stage_network.specs.NodeSteps.{AllHeavy, AllReached}
 use Rattle.stage_network.proofs.Conserved.{all_weaker}
 use Rattle.pieces.specs.declared.cuts.Cut.{Cut}
 use Rattle.pieces.specs.declared.ordering.Entry.{Entry}
-use Rattle.pieces.specs.Cuts.{IsCut, closed_sum, cut_nodes, met_sum, open_keys}
+use Rattle.pieces.specs.Cuts.{IsCut, closed_sum, cut_nodes, met_sum, keys_open_at}
 use Rattle.pieces.specs.Ordering.{entry_cmp, entry_node}
 use Rattle.pieces.proofs.Ascending.{AllInRooms, same-sums, still_all, still_distinct, still_members, ascending}
 
@@ -28,7 +28,7 @@ pub record AreFound (n : Network) (t : Tail) (at : ℕ) (nodes : List Node) : Ty
   pub distinct : IsDistinct key_eq (keys nodes)
   pub fits : weighted (total_weight n at) nodes ≤ MAX
   pub told : (f : List ℤ → ℕ) → weighted f nodes ≡ met_sum n t at f
-  pub members : (q : List ℤ) → is_held nodes q ≡ is_member key_eq (open_keys n t at) q
+  pub members : (q : List ℤ) → is_held nodes q ≡ is_member key_eq (keys_open_at n t at) q
 
 module _ (n : Network) (l : IsLawful n) (t : Tail) (at width : ℕ) (nodes : List Node) (found : AreFound n t at nodes) (entries sorted : List Entry) (is : map entry_node entries ≡ nodes) (moved : IsPermutation entries sorted) where
   here : (P : Node → Type 0) → AllByRecursion P nodes → AllByRecursion P (map entry_node entries)
@@ -36,9 +36,6 @@ module _ (n : Network) (l : IsLawful n) (t : Tail) (at width : ℕ) (nodes : Lis
 
   still-reached : AllReached n at (map entry_node sorted)
   still-reached = still_all entries sorted moved (λ (a : Node). IsReached n at a.key) (here (λ (a : Node). IsReached n at a.key) found.reached)
-
-  pub found-wide : AllByRecursion (λ (a : Node). length a.key ≡ n.width) (map entry_node sorted)
-  found-wide = all_weaker (λ (a : Node). IsReached n at a.key) (λ (a : Node). length a.key ≡ n.width) (λ a r. l.long at a.key r) (map entry_node sorted) still-reached
 
   solid : AllHeavy (map entry_node entries)
   solid = here (λ (a : Node). 1 ≤ a.weight) found.heavy
@@ -63,5 +60,5 @@ module _ (n : Network) (l : IsLawful n) (t : Tail) (at width : ℕ) (nodes : Lis
     };
     told = λ f. ap (weighted f) laid ∙ sums f ∙ found.told f ∙ ap (λ g. met_sum n t g f) (sym e);
     ascending = rw laid (ascending entries sorted moved width rooms solid apart rising);
-    members = λ q. ap (λ ns. is_held ns q) laid ∙ still_members entries sorted moved solid q ∙ ap (λ ns. is_held ns q) is ∙ found.members q ∙ ap (λ g. is_member key_eq (open_keys n t g) q) (sym e);
+    members = λ q. ap (λ ns. is_held ns q) laid ∙ still_members entries sorted moved solid q ∙ ap (λ ns. is_held ns q) is ∙ found.members q ∙ ap (λ g. is_member key_eq (keys_open_at n t g) q) (sym e);
   }

@@ -4,6 +4,7 @@ mod Arriving
 mod Owned
 mod Placed
 pub mod CutSums
+pub mod WrittenPieces
 mod Ascending
 mod Laying
 mod Found

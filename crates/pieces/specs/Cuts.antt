@@ -53,12 +53,12 @@ abbrev pub cut_stage : Network → ℕ → ℕ
 cut_stage n at = min at n.count
 
 -- the open keys of a stage that are reached through open keys alone, once for each way
-abbrev pub open_keys : Network → Tail → ℕ → List (List ℤ)
-open_keys n t g = filter (is_open n t g) (reached_openly n t g)
+abbrev pub keys_open_at : Network → Tail → ℕ → List (List ℤ)
+keys_open_at n t g = filter (is_open n t g) (reached_openly n t g)
 
 -- the place of a key among them, ascending: how many different ones come before it
 abbrev pub place_of : Network → Tail → ℕ → List ℤ → ℕ
-place_of n t g k = distinct_count key_eq (filter (λ j. is_lt (key_cmp j k)) (open_keys n t g))
+place_of n t g k = distinct_count key_eq (filter (λ j. is_lt (key_cmp j k)) (keys_open_at n t g))
 
 -- the key at place i belongs to part i mod P
 abbrev pub belongs : Network → Tail → ℕ → ℕ → ℕ → List ℤ → Bool
@@ -115,7 +115,7 @@ pub record IsCut (n : Network) (t : Tail) (cut : Cut) : Type 0 where
   pub told : (f : List ℤ → ℕ) → weighted f (cut_nodes n cut) ≡ met_sum n t cut.at f
   pub ascending : IsStrictlySortedBy key_cmp (keys (cut_nodes n cut))
   pub members : (k : List ℤ)
-      → is_held (cut_nodes n cut) k ≡ is_member key_eq (open_keys n t cut.at) k
+      → is_held (cut_nodes n cut) k ≡ is_member key_eq (keys_open_at n t cut.at) k
 
 -- the nodes that a part owns
 abbrev pub owned_nodes : List Node → List ℕ → ℕ → List Node

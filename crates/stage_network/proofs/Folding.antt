@@ -1,5 +1,5 @@
 -- A folded network ends at the same values, with the same weights, where a key is folded by turns that its completions do not tell apart.
-use Rattle.std.proofs.Common.{◌≡◌, ℕ, zero, suc, ◌+◌, ◌-◌, ◌*◌, ◌<◌, ◌≤◌, List, [], ◌∷◌, take, length, Bool, true, false, cond, inl, inr, refl, sym, ◌∙◌, ap, subst, arith, add-one}
+use Rattle.std.proofs.Common.{◌≡◌, ℕ, zero, suc, ◌+◌, ◌-◌, ◌*◌, ◌<◌, ◌≤◌, List, [], ◌∷◌, take, length, Bool, true, false, cond, inl, inr, refl, sym, ◌∙◌, ap, subst, arith}
 use Rattle.std.specs.Prelude.{ℤ, ◌≤ℤ◌}
 use Rattle.std.specs.List.{sum_by, filter, Contains}
 use Rattle.std.proofs.lemmas.Bool.{cases_lt}
@@ -10,7 +10,7 @@ use Rattle.weights.specs.Conditional.{ConditionalTest}
 use Rattle.weights.proofs.Sums.{sum_by-same_where}
 use Rattle.stage_network.specs.declared.verdicts.Judge.{Judge}
 use Rattle.stage_network.specs.Network.{Network, IsReached}
-use Rattle.stage_network.specs.Completions.{paths, path_weight, path_end, total_weight, ending_weight, value_weights}
+use Rattle.stage_network.specs.Completions.{over_arcs, paths, path_weight, total_weight, ending_weight, value_weights}
 use Rattle.stage_network.specs.Laws.{IsLawful}
 use Rattle.stage_network.specs.Rooms.{AreRoommates, IsRoomed}
 use Rattle.stage_network.specs.Judged.{HasIntervals, judge_of}
@@ -18,10 +18,6 @@ use Rattle.stage_network.specs.Follows.{Follows}
 use Rattle.stage_network.specs.Folded.{folded}
 use Rattle.stage_network.proofs.Judging.{intervals-inside, intervals-outside, intervals-decided}
 use Rattle.stage_network.proofs.Steps.{passing, passing-step, all_paths, reached-next}
-
--- over the arcs of a key, each arc's weight times what is said of the key that it leads to
-abbrev pub over_arcs : Network → (List ℤ → ℕ) → ℕ → List ℤ → ℕ
-over_arcs n f g k = sum_by (λ c. n.weight g k c * f (n.next g k c)) (n.choices g k)
 
 -- A reached key and what it is turned to are alike: this is reached too, ends at the same value, and the sums over their arcs are the same of all that does not tell apart what a turn leads to.
 pub record IsTurned (n : Network) (turned : List ℤ → List ℤ → Type 0) : Type 0 where

@@ -136,7 +136,7 @@ images_counted f js ks one to from =
 
 module _ (n q : Network) (t : Tail) (i : OpensImages n q t) where
   -- keys that are reached openly are reached
-  openly_reached : (g : ℕ) (k : List ℤ) → g ≤ q.count → Contains (reached_openly q t g) k → IsReached q g k
+  pub openly_reached : (g : ℕ) (k : List ℤ) → g ≤ q.count → Contains (reached_openly q t g) k → IsReached q g k
   openly_reached zero k h c = elim (Contains-cons q.first k [] c) [ inl e ↦ sym e | inr none ↦ absurd (omega (arith, none.1)) ]
   openly_reached (suc g) k h c =
       let from = flat_mapped_from (λ j. map (q.next g j) (q.choices g j)) k (filter (is_open q t g) (reached_openly q t g)) c in
@@ -166,7 +166,7 @@ module _ (n q : Network) (t : Tail) (i : OpensImages n q t) where
   led_from : (g : ℕ) (j k next : List ℤ) (d c : List ℕ) → n.next g j d ≡ next → j ≡ i.image g k → n.next g (i.image g k) d ≡ i.image (g + 1) (q.next g k c) → next ≡ i.image (suc g) (q.next g k c)
   led_from g j k next d c is from led = rw add-one at (sym is ∙ ap (λ x. n.next g x d) from ∙ led)
 
-  to_images : (g : ℕ) → g ≤ q.count → (k : List ℤ) → Contains (reached_openly q t g) k → Contains (reached_openly n t g) (i.image g k)
+  pub to_images : (g : ℕ) → g ≤ q.count → (k : List ℤ) → Contains (reached_openly q t g) k → Contains (reached_openly n t g) (i.image g k)
   to_images zero h k c = elim (Contains-cons q.first k [] c) [
     | inl e ↦ Contains-here n.first (i.image 0 k) [] (i.first ∙ ap (i.image 0) e)
     | inr none ↦ absurd (omega (arith, none.1))
@@ -181,7 +181,7 @@ module _ (n q : Network) (t : Tail) (i : OpensImages n q t) where
       let all : Contains (reached_openly n t (suc g)) (n.next g (i.image g from.0) moved.0) = Contains-flat_map (λ j. map (n.next g j) (n.choices g j)) (i.image g from.0) _ (filter (is_open n t g) (reached_openly n t g)) (open_there g before (to_images g (omega arith)) from.0 from.1) led in
       subst (Contains (reached_openly n t (suc g))) (led_to g from.0 k arc.0 moved.0 arc.2 moved.2) all
 
-  of_images : (g : ℕ) → g ≤ q.count → (j : List ℤ) → Contains (reached_openly n t g) j → (k : List ℤ) × Contains (reached_openly q t g) k × (j ≡ i.image g k)
+  pub of_images : (g : ℕ) → g ≤ q.count → (j : List ℤ) → Contains (reached_openly n t g) j → (k : List ℤ) × Contains (reached_openly q t g) k × (j ≡ i.image g k)
   of_images zero h j c = elim (Contains-cons n.first j [] c) [
     | inl e ↦ (q.first, Contains-here q.first q.first [] refl, sym e ∙ i.first)
     | inr none ↦ absurd (omega (arith, none.1))

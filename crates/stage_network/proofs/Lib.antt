@@ -43,6 +43,7 @@ pub mod Adding
 pub mod EndsFitting
 pub mod Steady
 pub mod Images
+pub mod Writing
 pub mod RowLists
 pub mod Shifted
 pub mod Stretches

@@ -1,13 +1,12 @@
 -- Room by room: what one more node, arc or room changes.
-use Rattle.std.proofs.Common.{◌≡◌, ℕ, zero, suc, ◌+◌, ◌-◌, ◌*◌, ◌<◌, ◌≤◌, List, [], ◌∷◌, ◌++◌, length, map, take, drop, get_or, Bool, true, false, cond, ◌||◌, refl, sym, ◌∙◌, ap, arith, subst, add-one, append_assoc, append-nil, nat_eq}
+use Rattle.std.proofs.Common.{◌≡◌, ℕ, zero, suc, ◌+◌, ◌-◌, ◌*◌, ◌<◌, ◌≤◌, List, [], ◌∷◌, ◌++◌, length, map, take, drop, get_or, Bool, true, false, cond, refl, sym, ◌∙◌, ap, arith, subst, add-one, append_assoc, append-nil, nat_eq}
 use Rattle.std.specs.Prelude.{ℤ}
 use Rattle.std.specs.List.{sum_by, flat_map, filter, Contains, AllByRecursion}
-use Rattle.node_pool.specs.Pool.{IsMerge, IsPlaced}
-use Rattle.node_pool.proofs.Puts.{alike, unlike, same_key}
-use Rattle.stage_network.proofs.OpenKeys.{member-holds}
+use Rattle.node_pool.specs.Pool.{IsPlaced}
+use Rattle.node_pool.proofs.Puts.{alike, unlike}
 use Rattle.std.proofs.lemmas.List.{take-append-drop, take-append-le}
 use Rattle.std.specs.List.{IsDistinct}
-use Rattle.node_pool.specs.Nodes.{Node, node, key_eq, keys, is_held, weighted, weight_in}
+use Rattle.node_pool.specs.Nodes.{Node, node, key_eq, keys, weighted}
 use Rattle.stage_network.specs.Network.{Network, IsReached}
 use Rattle.stage_network.specs.NodeSteps.{AllReached, AllHeavy, successor, successors}
 use Rattle.stage_network.specs.Rooms.{AreRoommates, IsRoomed}

@@ -41,10 +41,6 @@ behind (c ∷ cells) more = behind cells more
 before : (s l : ℕ) (cells more : List ℕ) → s + l ≤ length cells → take l (drop s (cells ++ more)) ≡ take l (drop s cells)
 before s l cells more h = ap (take l) (drop-append-le s cells more (omega (arith, h))) ∙ take-append-le l (drop s cells) more (omega (arith, h, length-drop s cells))
 
-pub rows-longer : (width : ℕ) (rooms : List ℤ) (cells more : List ℕ) (heads : List Head) → AllByRecursion (λ (h : Head). h.start + h.len ≤ length cells) heads → rows_of width rooms (cells ++ more) heads ≡ rows_of width rooms cells heads
-rows-longer width rooms cells more [] a = refl
-rows-longer width rooms cells more (h ∷ heads) a = rw (before h.start h.len cells more a.0, rows-longer width (drop width rooms) cells more heads a.1) refl
-
 pub rows-push : (width : ℕ) (rooms room : List ℤ) (cells more : List ℕ) (heads : List Head) (h : Head) → length rooms ≡ length heads * width → length room ≡ width → AllByRecursion (λ (h : Head). h.start + h.len ≤ length cells) heads → h.start ≡ length cells → h.len ≡ length more → rows_of width (rooms ++ room) (cells ++ more) (heads ++ h ∷ []) ≡ rows_of width rooms cells heads ++ record { room = room; lowest = h.lowest; stride = pos h.stride; cells = more } ∷ []
 rows-push width [] room cells more [] h long wide within start len =
     rw (start, len, behind cells more, take_all width room (omega (arith, wide))) refl

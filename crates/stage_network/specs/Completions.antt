@@ -6,6 +6,10 @@ use Rattle.stage_network.specs.declared.stages.Verdict.{Verdict}
 use Rattle.stage_network.specs.declared.stages.Verdict.TheVariants.{Inside, Outside, Undecided}
 use Rattle.stage_network.specs.Network.{Network}
 
+-- over the arcs of a key, each arc's weight times what f says of the key that it leads to
+abbrev pub over_arcs : Network → (List ℤ → ℕ) → ℕ → List ℤ → ℕ
+over_arcs n f g k = sum_by (λ c. n.weight g k c * f (n.next g k c)) (n.choices g k)
+
 -- the lists of choices, one for each of the next m stages, each allowed at the key that the earlier
 -- ones reach
 abbrev pub paths : Network → ℕ → ℕ → List ℤ → List (List (List ℕ))

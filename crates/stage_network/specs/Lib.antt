@@ -10,6 +10,7 @@ pub mod Lines
 pub mod Judged
 pub mod Follows
 pub mod Folded
+pub mod Written
 pub mod OneOf
 pub mod PartialSums
 pub mod Addends

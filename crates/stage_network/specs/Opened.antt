@@ -9,6 +9,7 @@ use Rattle.stage_network.specs.declared.stages.Verdict.TheVariants.{Inside, Outs
 use Rattle.stage_network.specs.Network.{Network}
 use Rattle.node_pool.specs.Nodes.{key_eq}
 
+-- whether completions of both kinds may follow
 abbrev pub is_undecided : Verdict → Bool
 is_undecided Inside = false
 is_undecided Outside = false

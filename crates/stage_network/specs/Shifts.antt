@@ -1,7 +1,6 @@
 -- Steps that shift: a partial is one number, and each step adds its one number to it.
-use Rattle.std.specs.Prelude.{◌≡◌, ℕ, ◌+◌, ◌<◌, ℤ, pos, ◌+ℤ◌, List, [], ◌∷◌, ◌++◌, length, drop}
+use Rattle.std.specs.Prelude.{◌≡◌, ℕ, ◌+◌, ◌<◌, ℤ, pos, ◌+ℤ◌, List, [], ◌∷◌, ◌++◌, length, drop, get_or}
 use Rattle.std.specs.List.{Contains}
-use Rattle.std.proofs.Common.{get_or}
 use Rattle.stage_network.specs.Network.{Network, IsReached}
 
 -- rooms of this width leave a partial of one number, which the one number of a step is added to

@@ -4,10 +4,11 @@ ghost use Rattle.weights.specs.Conditional.{distribution, numerator, total};
 ghost use Rattle.weights.specs.Frames.{IsShown};
 ghost use Rattle.weights.specs.declared.tails.Tail.{Tail};
 ghost use Rattle.stage_network.specs.Network.{Network};
-ghost use Rattle.stage_network.specs.Completions.{total_weight};
+ghost use Rattle.stage_network.specs.Completions.{extreme_weight, total_weight};
 ghost use Rattle.stage_network.specs.Follows.{AllFollow, AreNumerators, AreShared};
 ghost use Rattle.stage_network.specs.Follows.{FollowsAlong, HasTails, OpenAlike};
 ghost use Rattle.stage_network.specs.Lines.{TailsFit, WeightsFit};
+ghost use Rattle.stage_network.specs.Written.{AreWritten};
 
 use crate::first_tails::{first_among, first_asked};
 use crate::lines::Spread;
@@ -27,7 +28,7 @@ pub trait Prepared: Plain {
     /// The network of each tail, as it is written down: the open keys that are counted are its.
     ghost network: { Self → Tail → Network };
 
-    /// The network of each tail that runs: it may write the same keys in fewer numbers.
+    /// The network of each tail that runs: its keys stand for those that are written down.
     ghost runs: { Self → Tail → Network };
 
     /// Whether the test has a tail.
@@ -43,14 +44,15 @@ pub trait Prepared: Plain {
     }
 
     /// The network that runs for a tail that the test has. The completions of each tail's network
-    /// end at what the tail's rule measures of the rearrangements, and it has as many open keys as
-    /// the network that is written down.
+    /// end at what the tail's rule measures of the rearrangements. It is the one that is written
+    /// down, or each of its keys stands for one of that network: open where that one is, and with
+    /// as much weight.
     fn stages_of(&self, alloc: Global, tail: Tail) -> Result<Self::Built, NoMemory>
         requires { (Self.test self.now).has_tail tail ≡ true }
         ensures built { let n = runs self.now tail in
             IfOk result (λ built. Self.Built.Stages.network built ≡ n) }
         ensures follows { AllFollow (Self.test self.now) (runs self.now) }
-        ensures counted { OpenAlike (Self.test self.now) (runs self.now) (network self.now) };
+        ensures written { AreWritten (Self.test self.now) (runs self.now) (network self.now) };
 
     /// A network for a tail that the test has, where no key is to be counted: it may have fewer
     /// keys than the one that is written down. Its completions too end at what is measured of the
@@ -116,8 +118,9 @@ pub trait Prepared: Plain {
 }
 
 /// The network that runs for a tail that a test has. Its completions end at what the tail's rule
-/// measures of the rearrangements, and all together weigh as much as these; and each tail's network
-/// has as many open keys as the one that is written down.
+/// measures of the rearrangements: all together weigh as much as these, and those that are extreme
+/// as much as the tail's numerator. Each tail's network runs for the one that is written down, and
+/// has as many open keys.
 pub fn network_of<P: Prepared>(alloc: Global, problem: &P, tail: Tail) -> Result<P::Built, NoMemory>
     requires { (P.test problem.now).has_tail tail ≡ true }
     ensures built { let n = P.runs problem.now tail in
@@ -125,6 +128,9 @@ pub fn network_of<P: Prepared>(alloc: Global, problem: &P, tail: Tail) -> Result
     ensures follows { AllFollow (P.test problem.now) (P.runs problem.now) }
     ensures whole { let n = P.runs problem.now tail in
         total_weight n 0 n.first ≡ total (P.test problem.now) }
+    ensures numerator { let n = P.runs problem.now tail in
+        extreme_weight n tail 0 n.first ≡ numerator (P.test problem.now) tail }
+    ensures written { AreWritten (P.test problem.now) (P.runs problem.now) (P.network problem.now) }
     ensures counted { OpenAlike (P.test problem.now) (P.runs problem.now) (P.network problem.now) }
 {
     problem.stages_of(alloc, tail)

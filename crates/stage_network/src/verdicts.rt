@@ -101,9 +101,10 @@ impl Judge {
         }
     }
 
-    /// The verdict for a tail over an interval: Inside where every value in it passes the tail's
-    /// rule, Outside where none does, else Undecided. It needs that the numbers which the rule
-    /// computes of the two ends pass no limit.
+    /// The verdict for a tail over an interval, decided by its ends: Inside where every value in it
+    /// passes the tail's rule, with both ends on one side of the rule's bounds; Outside where none
+    /// does; else Undecided. It needs that the numbers which the rule computes of the two ends pass
+    /// no limit.
     pub fn verdict(&self, tail: Tail, interval: Interval) -> Verdict
         requires low { RuleFits (rule_in self.now tail) interval.low }
         requires high { RuleFits (rule_in self.now tail) interval.high }

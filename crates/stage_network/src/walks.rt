@@ -8,9 +8,9 @@ use enumerate::Plain;
 use std::alloc::Global;
 use weights::NoMemory;
 
-/// The statistics of all members of a test's reference set by strictly ascending value, each with
-/// its summed weight, found by a walk through the members. All weights sum to at most
-/// [`weights::MAX`].
+/// The statistics of the members of a test's reference set by strictly ascending value, each with
+/// its summed weight, found by a walk through the members: a value that only members of weight 0
+/// have is not among them. All weights sum to at most [`weights::MAX`].
 pub fn plain_spread<P: Plain>(alloc: Global, problem: &P) -> Result<Spread, NoMemory>
     ensures sums { IfOk result (IsSpreadOf (statistic_sums (P.test problem.now))) }
     ensures weights { IfOk result WeightsFit }

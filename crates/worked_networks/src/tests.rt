@@ -2,7 +2,7 @@
 use crate::{Blocks, OneSided, RankStages, Ranks, SignedRanks, one_sided, tail_by_labels};
 use distribution::{above, below, far};
 use stage_network::{
-    AdditiveStages, Held, Line, OneOf, Prepared, Roomed, Spread, Stages, TailSum, TailSums, Way,
+    AdditiveStages, Line, OneOf, Prepared, Roomed, Spread, Stages, TailSum, TailSums, Way,
     answer, distribution, plain_spread, row_sums, spread, spread_by_rooms, tail_sum,
     tail_sum_by_rooms,
 };
@@ -51,9 +51,9 @@ fn three_and_three_labels(rt: HostRuntime) -> Result<(), Fail> {
 #[test]
 fn sums_in_order(rt: HostRuntime) -> Result<(), Fail> {
     let alloc = rt.alloc();
-    type Both = OneOf<AdditiveStages<Blocks>, Held<AdditiveStages<Blocks>>>;
+    type Both = OneOf<AdditiveStages<Blocks>, AdditiveStages<Blocks>>;
     let one: Both = OneOf::First(AdditiveStages::new(alloc, Blocks)?);
-    let other: Both = OneOf::Second(Held::new(AdditiveStages::new(alloc, Blocks)?));
+    let other: Both = OneOf::Second(AdditiveStages::new(alloc, Blocks)?);
     for stages in [&one, &other] {
         let found = tail_sum_by_rooms(alloc, stages, Tail::Greater)?;
         assert_eq!(rt; found, TailSum { sum: 2, opened: 2 });

@@ -1,4 +1,4 @@
-use Rattle.std.proofs.Common.{◌≡◌, ◌≢◌, ◌<◌, ◌≤◌, ◌-◌, ℕ, zero, suc, length, get_or, arith, refl}
+use Rattle.std.proofs.Common.{◌≢◌, ◌<◌, ◌≤◌, ◌-◌, ℕ, zero, suc, length, get_or, arith, refl}
 use Rattle.stage_network.specs.ArcSteps.{IsPlace}
 use Rattle.stage_network.proofs.OneArc.{no_arc}
 use Rattle.stage_network.proofs.rooms.has_few.Goals as goal

@@ -1,6 +1,6 @@
 use Rattle.std.proofs.Common.{◌∙◌, sym, inl, inr}
 use Rattle.block_tests.proofs.Fitting.{are-stages, bound-fits, bounded, follows}
-use Rattle.block_tests.proofs.PageImages.{counted}
+use Rattle.block_tests.proofs.PageImages.{written}
 use Rattle.block_tests.proofs.ways.BlockTestPrepared.stages_of.Goals as goal
 
 pub page_stages-requires : goal.page_stages-requires
@@ -30,14 +30,14 @@ returns-in_err-stages-in-Friedman-clause-follows c t has = follows c.args.self.n
 pub returns-in_ok-stages-in-Friedman-clause-follows : goal.returns-in_ok-stages-in-Friedman-clause-follows
 returns-in_ok-stages-in-Friedman-clause-follows c t has = follows c.args.self.now c.judge-judge.ensures.fitting t
 
-pub returns-in_err-stages-in-Page-clause-counted : goal.returns-in_err-stages-in-Page-clause-counted
-returns-in_err-stages-in-Page-clause-counted c t has = counted c.args.self.now t
+pub returns-in_err-stages-in-Page-clause-written : goal.returns-in_err-stages-in-Page-clause-written
+returns-in_err-stages-in-Page-clause-written c = written c.args.self.now
 
-pub returns-in_ok-stages-in-Page-clause-counted : goal.returns-in_ok-stages-in-Page-clause-counted
-returns-in_ok-stages-in-Page-clause-counted c t has = counted c.args.self.now t
+pub returns-in_ok-stages-in-Page-clause-written : goal.returns-in_ok-stages-in-Page-clause-written
+returns-in_ok-stages-in-Page-clause-written c = written c.args.self.now
 
-pub returns-in_err-stages-in-Friedman-clause-counted : goal.returns-in_err-stages-in-Friedman-clause-counted
-returns-in_err-stages-in-Friedman-clause-counted c t has = counted c.args.self.now t
+pub returns-in_err-stages-in-Friedman-clause-written : goal.returns-in_err-stages-in-Friedman-clause-written
+returns-in_err-stages-in-Friedman-clause-written c = written c.args.self.now
 
-pub returns-in_ok-stages-in-Friedman-clause-counted : goal.returns-in_ok-stages-in-Friedman-clause-counted
-returns-in_ok-stages-in-Friedman-clause-counted c t has = counted c.args.self.now t
+pub returns-in_ok-stages-in-Friedman-clause-written : goal.returns-in_ok-stages-in-Friedman-clause-written
+returns-in_ok-stages-in-Friedman-clause-written c = written c.args.self.now

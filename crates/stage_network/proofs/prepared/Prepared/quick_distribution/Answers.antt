@@ -1,5 +1,4 @@
-use Rattle.std.proofs.Common.{◌≡◌, ◌∙◌, refl, subst, sym}
-use Rattle.weights.specs.declared.tails.Tail.{Tail}
+use Rattle.std.proofs.Common.{◌≡◌, refl, subst, sym}
 use Rattle.weights.specs.Conditional.{ConditionalTest, distribution}
 use Rattle.weights.specs.Frames.{first_tail}
 use Rattle.stage_network.specs.Network.{Network}

@@ -1,4 +1,4 @@
-use Rattle.std.proofs.Common.{◌∙◌, ap, subst, sym}
+use Rattle.std.proofs.Common.{◌∙◌, subst, sym}
 use Rattle.std.proofs.lemmas.Result.{IfOk-weaker}
 use Rattle.stage_network.specs.Follows.{Follows, FollowsAlong}
 use Rattle.stage_network.proofs.prepared.Prepared.quick_stages_of.Goals as goal
