@@ -98,7 +98,7 @@ command-whole test.Shift own settings is = absurd cc
 command-whole test.Merge own settings is = absurd cc
 command-whole _ own settings is = let same : own ≡ settings = cc in ap (λ s. command.Test (whole s)) same
 
-from-change : {S T F : Type 0} (change : S → T) (first : Result S F) (last : T) → with_value change first ≡ Ok last → (own : S) × (first ≡ Ok own) × (change own ≡ last)
+pub from-change : {S T F : Type 0} (change : S → T) (first : Result S F) (last : T) → with_value change first ≡ Ok last → (own : S) × (first ≡ Ok own) × (change own ≡ last)
 from-change change (Ok own) last found = (own, refl, cc)
 from-change change (Err fault) last found = absurd cc
 

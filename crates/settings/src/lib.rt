@@ -19,4 +19,4 @@ pub use pieces::PieceOf;
 pub use settings::{FileName, Nums64, Settings};
 pub use tails::TailChoice;
 pub use values::score_word;
-pub use whole_runs::ask_whole;
+pub use whole_runs::words_of_parts;
