@@ -26,7 +26,7 @@ use Rattle.weights.specs.declared.odds.Odds.{Odds}
 use Rattle.settings.specs.Faults.{Meets}
 use Rattle.settings.specs.Meaning.{command_for, command_of, is_complete, is_two_sided_by_odds, paired, meaning_for, meaning_of_given, meaning_of_test, settings_of}
 use Rattle.settings.specs.Options.{form_of, listed_names, setting, settings_without_options, suited, with_option, with_options, with_piece}
-use Rattle.settings.specs.Pieces.{part_form, parts_form, piece_with, stage_form, with_part}
+use Rattle.settings.specs.Pieces.{part_form, parts_form, piece_with, stage_form, within_parts}
 use Rattle.settings.specs.RunWords.{piece_begun, run_words}
 use Rattle.settings.specs.Tests.{shape_of, test_named}
 use Rattle.settings.specs.Usable.{AreLabels, AreUsable, AreWithin, IsPieceOf, IsUsable}
@@ -323,7 +323,7 @@ piece_keeps option.Part text piece more fits found = by_part (number_of part_for
         subst IsPieceOf same (record { at = fits.at; some = fits.some; few = fits.few; part = grind (arith, nat_tests) })
     by_test part false test found = absurd cc
 
-    by_part : (part : Option ℕ) → option_and_then (with_part piece) part ≡ Some more → IsPieceOf more
+    by_part : (part : Option ℕ) → option_and_then (within_parts piece) part ≡ Some more → IsPieceOf more
     by_part None found = absurd cc
     by_part (Some part) found = by_test part (nat_lt part piece.parts) refl found
 piece_keeps _ text piece more fits found = absurd cc

@@ -179,12 +179,12 @@ have_tail tails Greater = tails.greater
 have_tail tails Two = tails.two
 
 -- the test may be asked for these tails
-abbrev pub has_tail : TestName → TailChoice → Bool
-has_tail test = have_tail (form test).tails
+abbrev pub allows_tail : TestName → TailChoice → Bool
+allows_tail test = have_tail (form test).tails
 
 -- a test has a tail
 abbrev pub is_test : TestName → Bool
-is_test test = has_tail test All
+is_test test = allows_tail test All
 
 -- ---- rows of the help text
 

@@ -10,6 +10,7 @@ mod settings;
 mod tails;
 mod tests;
 mod values;
+mod whole_runs;
 mod words;
 
 pub use command_line::{CommandLine, help_text, read};
@@ -18,3 +19,4 @@ pub use pieces::PieceOf;
 pub use settings::{FileName, Nums64, Settings};
 pub use tails::TailChoice;
 pub use values::score_word;
+pub use whole_runs::words_of_parts;

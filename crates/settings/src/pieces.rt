@@ -3,7 +3,7 @@ ghost use Rattle.std.specs.Prelude.{◌≡◌, ◌++◌, IfOk, OnOk};
 ghost use Rattle.std.specs.List.{flat_map};
 ghost use Rattle.std.specs.Option.{ok_or};
 ghost use Rattle.settings.specs.Faults.{Meets};
-ghost use Rattle.settings.specs.Pieces.{part_form, parts_form, piece_with, stage_form, with_part};
+ghost use Rattle.settings.specs.Pieces.{part_form, parts_form, piece_with, stage_form, within_parts};
 ghost use Rattle.settings.specs.RunWords.{piece_begun, run_words, told, told_value};
 ghost use Rattle.settings.specs.WordSteps.{given_in, text_of};
 ghost use Rattle.settings.specs.declared.names.OptionName.TheVariants as option;
@@ -70,14 +70,14 @@ impl PieceOf {
                 part: 0,
                 ..self
             }),
-            OptionName::Part => self.with_part(number_of(name, PART, text)?),
+            OptionName::Part => self.within_parts(number_of(name, PART, text)?),
             _ => Err(UsageFault::Value(name)),
         }
     }
 
     // With this part, where there are so many.
-    fn with_part(self, part: u64) -> Result<PieceOf, UsageFault>
-        ensures { result ≡ ok_or (with_part self part) (fault.Value option.Part) }
+    fn within_parts(self, part: u64) -> Result<PieceOf, UsageFault>
+        ensures { result ≡ ok_or (within_parts self part) (fault.Value option.Part) }
     {
         if part < self.parts {
             Ok(PieceOf { part, ..self })

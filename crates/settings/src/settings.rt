@@ -186,7 +186,7 @@ impl Settings {
         ensures { result ≡ suited name self }
     {
         let suits = match name {
-            OptionName::Tail => self.test.has_tail(self.tail),
+            OptionName::Tail => self.test.allows_tail(self.tail),
             _ => true,
         };
         if suits {

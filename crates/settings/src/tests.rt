@@ -3,7 +3,7 @@ ghost use Rattle.std.specs.Prelude.{◌≡◌, true, Some};
 ghost use Rattle.std.specs.List.{list_any};
 ghost use Rattle.settings.specs.Names.{is_same, test_word};
 ghost use Rattle.settings.specs.Options.{form_of, has_own, needs};
-ghost use Rattle.settings.specs.Tests.{are_fields, are_read, are_samples, form, has_tail, plain_test, reads_file, shape_in, shape_of, test_named};
+ghost use Rattle.settings.specs.Tests.{allows_tail, are_fields, are_read, are_samples, form, plain_test, reads_file, shape_in, shape_of, test_named};
 ghost use Rattle.settings.specs.TestSteps.{form_in};
 ghost use Rattle.settings.specs.Values.{fields_form};
 
@@ -327,7 +327,7 @@ impl TestName {
             | OptionName::Nodes
             | OptionName::Stage
             | OptionName::Parts
-            | OptionName::Part => self.has_tail(TailChoice::All),
+            | OptionName::Part => self.allows_tail(TailChoice::All),
         }
     }
 
@@ -356,8 +356,8 @@ impl TestName {
     }
 
     // Whether it may be asked for these tails.
-    pub(crate) fn has_tail(self, tail: TailChoice) -> bool
-        ensures { result ≡ has_tail self tail }
+    pub(crate) fn allows_tail(self, tail: TailChoice) -> bool
+        ensures { result ≡ allows_tail self tail }
     {
         let tails = self.form().tails;
         match tail {

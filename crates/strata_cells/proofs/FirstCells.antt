@@ -1,10 +1,10 @@
 -- First cells: the law of one stratum, and what the labels of several give.
 use Rattle.std.proofs.Common.{◌≡◌, ℕ, zero, suc, ◌+◌, ◌-◌, ◌*◌, ◌<◌, ◌≤◌, cond, nat_eq, List, [], ◌∷◌, ◌++◌, length, length-append, length-take, drop, take, map, replicate, refl, sym, ◌∙◌, ap, arith}
-use Rattle.std.specs.Prelude.{Contains, min, slice_index}
+use Rattle.std.specs.Prelude.{Contains, slice_index}
 use Rattle.std.specs.List.{AllByRecursion, concat, range_with_len, sum, sum_by}
 use Rattle.std.proofs.Math.Nat.{mul-le-mul, mul-le-mul_left, mul-le-mul_right}
 use Rattle.std.proofs.Math.Seq.{drop-append_seam, take-append_seam}
-use Rattle.std.proofs.lemmas.List.{drop_min, length-replicate, take-append-le}
+use Rattle.std.proofs.lemmas.List.{length-replicate, take-append-le}
 use Rattle.std.proofs.lemmas.List.Sums.{count_by-le-length, sum_by-append, sum_by-cons, sum_by-take-drop, sum_by-take-le}
 use Rattle.weights.specs.Numbers.{binomial}
 use Rattle.weights.proofs.Binomials.{binomial-positive}
@@ -16,7 +16,7 @@ use Rattle.enumerate.proofs.JoinedMembers.{none-joined, own, parts-of}
 use Rattle.strata_cells.specs.declared.stratum.Stratum.{Stratum}
 use Rattle.strata_cells.specs.Strata.{cell_weight, cells_in, cells_of, first_cell, first_cells, first_column, first_row, greatest_cell, least_cell, own_labels, row_counts, row_labellings, second_row, size, strata_labellings, stratum_at}
 use Rattle.strata_cells.specs.StrataLimits.{labelled}
-use Rattle.strata_cells.proofs.StrataSums.{next-drop, past-drop}
+use Rattle.strata_cells.proofs.StrataSums.{next-drop}
 
 -- ---- one stratum
 
@@ -72,10 +72,6 @@ term-within f low high x l h =
     let here : sum_by f (range_with_len x (1 + after)) ≡ sum_by f (range_with_len x 1) + sum_by f (range_with_len (x + 1) after) = divided f x 1 after in
     let one : sum_by f (range_with_len x 1) ≡ f x = sum_by-cons f x [] ∙ omega arith in
     rw long (omega (arith, rw at at cut, here, one))
-
--- one of the weights is within them all
-pub weight-within : (s : Stratum) (x : ℕ) → least_cell s ≤ x → x ≤ greatest_cell s → cell_weight s x ≤ labelled s
-weight-within s x l h = omega (arith, term-within (cell_weight s) (least_cell s) (greatest_cell s) x l h, cells-total s)
 
 -- ---- labels of a stratum
 
@@ -190,23 +186,9 @@ pub record IsCounted (strata : List Stratum) (labels : List ℕ) (i sum : ℕ) (
   pub counting : sum + first_cells (drop i strata) later ≡ first_cells strata labels
 
 module _ (strata : List Stratum) (labels : List ℕ) where
-  pub count-first : IsCounted strata labels 0 0 labels
-  count-first = record { counting = omega arith }
-
   module _ (i sum : ℕ) (later : List ℕ) (h : i < length strata) (s : IsCounted strata labels i sum later) where
     step : first_cells (drop i strata) later ≡ first_cell (stratum_at strata i) later + first_cells (drop (i + 1) strata) (drop (size (stratum_at strata i)) later)
     step = rw (next-drop strata i h) refl
 
     pub count-room : sum + first_cell (stratum_at strata i) later ≤ sum_by size strata
     count-room = omega (arith, s.counting, step, cells-within strata labels)
-
-    pub count-next : IsCounted strata labels (i + 1) (sum + first_cell (stratum_at strata i) later) (drop (min (length later) (size (stratum_at strata i))) later)
-    count-next =
-        let least : min (length later) (size (stratum_at strata i)) ≡ min (size (stratum_at strata i)) (length later) = omega arith in
-        let rest : drop (min (length later) (size (stratum_at strata i))) later ≡ drop (size (stratum_at strata i)) later = ap (λ n. drop n later) least ∙ drop_min (size (stratum_at strata i)) later in
-        record { counting = rw rest (omega (arith, s.counting, step)) }
-
-  pub count-whole : (i sum : ℕ) (later : List ℕ) → length strata ≤ i → IsCounted strata labels i sum later → sum ≡ first_cells strata labels
-  count-whole i sum later h s =
-      let over : first_cells (drop i strata) later ≡ 0 = rw (past-drop strata i h) refl in
-      omega (arith, s.counting, over)

@@ -1,5 +1,5 @@
 -- Strata that are read from their cells, and within the limits of a file.
-use Rattle.std.proofs.Common.{◌≡◌, ℕ, zero, suc, ◌+◌, ◌-◌, ◌*◌, ◌/◌, ◌<◌, ◌≤◌, List, [], ◌∷◌, ◌++◌, append_assoc, append-nil, length, take, drop, get_or, refl, sym, ◌∙◌, ap, arith}
+use Rattle.std.proofs.Common.{◌≡◌, ℕ, zero, suc, ◌+◌, ◌-◌, ◌*◌, ◌/◌, ◌<◌, ◌≤◌, List, [], ◌∷◌, ◌++◌, append_assoc, length, take, drop, get_or, refl, sym, ◌∙◌, ap, arith}
 use Rattle.std.specs.Prelude.{All}
 use Rattle.std.specs.List.{AllByRecursion}
 use Rattle.std.proofs.lemmas.List.{get_or-drop, get_or-take}
@@ -19,9 +19,6 @@ pub record IsRead (cells : List ℕ) (n : ℕ) (strata : List Stratum) : Type 0 
   pub reading : strata ++ strata_in (length cells / 4 - n) (drop (4 * n) cells) ≡ strata_of cells
 
 module _ (cells : List ℕ) where
-  pub read-first : IsRead cells 0 []
-  read-first = record { reading = ap (λ n. strata_in n cells) (let e : length cells / 4 - 0 ≡ length cells / 4 = omega arith in e) }
-
   pub stratum-is : (n : ℕ) → stratum_of (take 4 (drop (4 * n) cells)) ≡ record { a = get_or cells (4 * n) 0; b = get_or cells (4 * n + 1) 0; c = get_or cells (4 * n + 2) 0; d = get_or cells (4 * n + 3) 0 }
   stratum-is n = rw (at 0 (omega arith), at 1 (omega arith), at 2 (omega arith), at 3 (omega arith)) (ap (λ i. record { a = get_or cells i 0; b = get_or cells (4 * n + 1) 0; c = get_or cells (4 * n + 2) 0; d = get_or cells (4 * n + 3) 0 }) (let e : 4 * n + 0 ≡ 4 * n = omega arith in e))
     where
@@ -37,9 +34,6 @@ module _ (cells : List ℕ) where
             ∙ ap (λ rest. strata ++ stratum_of (take 4 (drop (4 * n) cells)) ∷ strata_in (length cells / 4 - (n + 1)) rest) (sym on)
             ∙ ap (λ m. strata ++ strata_in m (drop (4 * n) cells)) (sym left) ∙ s.reading;
       }
-
-  pub read-whole : (n : ℕ) (strata : List Stratum) → length cells / 4 ≤ n → IsRead cells n strata → strata ≡ strata_of cells
-  read-whole n strata h s = sym (append-nil strata) ∙ ap (λ m. strata ++ strata_in m (drop (4 * n) cells)) (let e : 0 ≡ length cells / 4 - n = omega (arith, h) in e) ∙ s.reading
 
 strata-many : (n : ℕ) (cells : List ℕ) → length (strata_in n cells) ≡ n
 strata-many zero cells = refl
