@@ -1,0 +1,72 @@
+// The first half of a network: from the first key to where the halves meet.
+ghost use Rattle.std.specs.Prelude.{◌≡◌, ◌+◌, ◌≤◌, IfOk};
+ghost use Rattle.weights.specs.declared.tails.Tail.{Tail};
+ghost use Rattle.node_pool.specs.Nodes.{weighted};
+ghost use Rattle.stage_network.specs.Completions.{extreme_weight, total_weight};
+ghost use Rattle.stage_network.specs.SweepSteps.{Course, IsSweeping, first_course};
+ghost use Rattle.stage_network.specs.declared.tail_sums.Kept.TheVariants.{All};
+ghost use Rattle.halves.specs.MeetingSteps.{AreMeeting};
+
+use stage_network::{Kept, Roomed, StageNodes, Stages, Sweep};
+use std::alloc::Global;
+use weights::{Count, NoMemory};
+
+// The first half goes on until its keys number the root of so many times all completions. The other
+// half lists its last keys, and about as many once more on the way to them, once for each room: at 8
+// both take the same time and memory.
+const SHARE: u128 = 8;
+
+/// The nodes of the stage where the halves meet: the keys that are reached there, each with the
+/// summed weight of the ways to it.
+#[derive(Drop)]
+pub struct FirstHalf<C: Count> {
+    pub stage: usize,
+    pub nodes: StageNodes<C>,
+}
+
+// Whether so many nodes are as many as the root of a number's share.
+fn is_root(nodes: usize, number: u128) -> bool {
+    nodes as u128 * nodes as u128 / SHARE >= number
+}
+
+// The sweep, which keeps all keys, at the first stage where so many are reached as half the work
+// needs, or at the last stage.
+fn half_way<C: Count, S: Roomed>(
+    alloc: Global,
+    stages: &S,
+    total: u128,
+) -> Result<Sweep<C>, NoMemory>
+    requires limit { let n = S.Stages.network stages.now in total_weight n 0 n.first ≤ C.LIMIT }
+    ensures { let n = S.Stages.network stages.now in
+        IfOk result (IsSweeping n (S.room_width stages.now) (S.step_width stages.now) C.LIMIT
+        (first_course n All)) }
+{
+    let count = stages.stages();
+    let mut sweep = Sweep::<C>::new(alloc, stages, Kept::All)?;
+    while sweep.stage < count && !is_root(sweep.nodes.len(), total) {
+        sweep.advance(stages)?;
+    }
+    Ok(sweep)
+}
+
+/// The first half of a network with so many completions: of each tail, the extreme completions of
+/// its nodes weigh, each times the node's weight, what those of the first key do. The number of
+/// completions decides where the halves meet and nothing else.
+pub fn first_half<C: Count, S: Roomed>(
+    alloc: Global,
+    stages: &S,
+    total: u128,
+) -> Result<FirstHalf<C>, NoMemory>
+    requires limit { let n = S.Stages.network stages.now in total_weight n 0 n.first ≤ C.LIMIT }
+    ensures meeting { let n = S.Stages.network stages.now in
+        IfOk result (λ half.
+        AreMeeting n (S.room_width stages.now) C.LIMIT half.stage half.nodes) }
+    ensures whole { let n = S.Stages.network stages.now in
+        IfOk result (λ half. (t : Tail)
+        → weighted (extreme_weight n t half.stage) half.nodes.nodes
+        ≡ extreme_weight n t 0 n.first) }
+{
+    let sweep = half_way::<C, S>(alloc, stages, total)?;
+    let Sweep { stage, nodes, .. } = sweep;
+    Ok(FirstHalf { stage, nodes })
+}
