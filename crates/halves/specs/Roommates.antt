@@ -10,9 +10,9 @@ use Rattle.stage_network.specs.Judged.{HasIntervals, rule_in}
 use Rattle.halves.specs.Pairs.{once, valued}
 use Rattle.halves.specs.Summed.{AreApart, value_sum}
 
--- The lines tell what the completions of a key of stage g come to. A key of its room that has d more
--- has these completions too, the values moved by d: so its extreme ones weigh what those lines do
--- whose values, moved by d, pass the tail's rule.
+-- The lines tell what the completions of a key of stage g come to. A key of its room that has d
+-- more has these completions too, the values moved by d: so its extreme ones weigh what those lines
+-- do whose values, moved by d, pass the tail's rule.
 pub record TellRoommates (n : Network) (width g : ℕ) (key : List ℤ)
     (lines : List Line) : Type 0 where
   pub values : (f : ℤ → ℕ) (d : ℤ) (j : List ℤ) → AreApart n width d g j key

@@ -11,11 +11,6 @@ use stage_network::{Kept, Roomed, StageNodes, Stages, Sweep};
 use std::alloc::Global;
 use weights::{Count, NoMemory};
 
-// The first half goes on until its keys number the root of so many times all completions. The other
-// half lists its last keys, and about as many once more on the way to them, once for each room: at 8
-// both take the same time and memory.
-const SHARE: u128 = 8;
-
 /// The nodes of the stage where the halves meet: the keys that are reached there, each with the
 /// summed weight of the ways to it.
 #[derive(Drop)]
@@ -24,13 +19,24 @@ pub struct FirstHalf<C: Count> {
     pub nodes: StageNodes<C>,
 }
 
-// Whether so many nodes are as many as the root of a number's share.
-fn is_root(nodes: usize, number: u128) -> bool {
-    nodes as u128 * nodes as u128 / SHARE >= number
+// The square of how many keys the first half is to have. Where rooms are few, as where there is one
+// alone, both halves have as many keys as the root of all completions. Where there are more, the
+// other half is swept once for each, and twice as many keys in the first half make them equal.
+fn wanted(room_width: usize, total: u128) -> u128 {
+    if room_width == 0 {
+        total
+    } else {
+        total.saturating_mul(4)
+    }
 }
 
-// The sweep, which keeps all keys, at the first stage where so many are reached as half the work
-// needs, or at the last stage.
+// Whether so many nodes are as many as the root of a number.
+fn is_root(nodes: usize, number: u128) -> bool {
+    nodes as u128 * nodes as u128 >= number
+}
+
+// The sweep, which keeps all keys, at the first stage where as many are reached as the first half is
+// to have, or at the last stage.
 fn half_way<C: Count, S: Roomed>(
     alloc: Global,
     stages: &S,
@@ -42,8 +48,9 @@ fn half_way<C: Count, S: Roomed>(
         (first_course n All)) }
 {
     let count = stages.stages();
+    let square = wanted(stages.room_width(), total);
     let mut sweep = Sweep::<C>::new(alloc, stages, Kept::All)?;
-    while sweep.stage < count && !is_root(sweep.nodes.len(), total) {
+    while sweep.stage < count && !is_root(sweep.nodes.len(), square) {
         sweep.advance(stages)?;
     }
     Ok(sweep)

@@ -1,6 +1,7 @@
 // Where the halves meet: room by room the numbers of the nodes are read against the values of the
 // completions of the first one's key.
-ghost use Rattle.std.specs.Prelude.{◌≡◌, ℤ, ◌+◌, ◌<◌, ◌≤◌, [], ◌∷◌, true, length, cond, IfOk, IfSome};
+ghost use Rattle.std.specs.Prelude.{◌≡◌, ℤ, ◌+◌, ◌<◌, ◌≤◌, [], ◌∷◌, true, length, cond};
+ghost use Rattle.std.specs.Prelude.{IfOk, IfSome};
 ghost use Rattle.weights.specs.declared.tails.Tail.{Tail};
 ghost use Rattle.weights.specs.declared.TheConstants.{MAX};
 ghost use Rattle.node_pool.specs.Nodes.{weighted};
@@ -107,8 +108,9 @@ fn room_lines<C: Count, S: Roomed>(
     requires last { end ≤ length nodes.now.nodes }
     requires run { IsRun (S.room_width stages.now) nodes.now.nodes start end }
     ensures { let n = S.Stages.network stages.now in
+        let here = segment start end nodes.now.nodes in
         IfOk result (λ some. IfSome some
-        (λ lines. AreRoomLines n stage (segment start end nodes.now.nodes) lines.ones lines.others)) }
+        (λ lines. AreRoomLines n stage here lines.ones lines.others)) }
 {
     let _lawful = stages.stages();
     let _roomed = stages.room_width();
