@@ -3,21 +3,28 @@ use Rattle.std.proofs.Common.{◌≡◌, ℕ, zero, suc, ◌+◌, ◌*◌, ◌<�
 use Rattle.std.specs.Prelude.{ℤ}
 use Rattle.std.specs.List.{sum_by}
 use Rattle.weights.specs.declared.tails.Tail.{Tail}
+use Rattle.weights.specs.declared.tails.Tail.TheVariants.{Less}
+use Rattle.weights.specs.declared.tails.Tails.{Tails}
+use Rattle.weights.specs.declared.TheConstants.{MAX}
 use Rattle.weights.specs.Rules.{passes}
 use Rattle.weights.proofs.Sums.{sum_by-same_where}
 use Rattle.node_pool.specs.Nodes.{Node, node, weighted}
-use Rattle.stage_network.specs.declared.tail_sums.Kept.TheVariants.{All}
+use Rattle.stage_network.specs.declared.tail_sums.Kept.TheVariants.{All, Open}
 use Rattle.stage_network.specs.declared.tail_sums.TailSums.{TailSums}
 use Rattle.stage_network.specs.declared.verdicts.Judge.{Judge}
 use Rattle.stage_network.specs.Network.{Network, IsReached}
 use Rattle.stage_network.specs.Completions.{completions, path_weight, path_end, total_weight, extreme_weight, is_extreme, is_inside}
 use Rattle.stage_network.specs.Judged.{HasIntervals, rule_in, verdict_of}
 use Rattle.stage_network.specs.NodeSteps.{all_successors}
-use Rattle.stage_network.specs.SweepSteps.{Course, HasSwept, arriving, staying}
+use Rattle.stage_network.specs.Asked.{asked, asks}
+use Rattle.stage_network.specs.Laws.{IsLawful}
+use Rattle.stage_network.specs.SweepSteps.{Course, HasSwept, IsCourse, IsWithin, arriving, first_course, staying, sum_for}
+use Rattle.stage_network.proofs.Asked.{asked-extreme, asked-extreme_at}
 use Rattle.stage_network.proofs.Carried.{carried}
 use Rattle.stage_network.proofs.Conserved.{sum_by-filter}
+use Rattle.stage_network.proofs.Courses.{swept-kept, swept-light}
 use Rattle.stage_network.proofs.Judging.{EndsBetween, values_between, verdict-point}
-use Rattle.stage_network.proofs.Steps.{extreme_weight-step, sum_by-same}
+use Rattle.stage_network.proofs.Steps.{sum_by-same}
 use Rattle.stage_network.proofs.Sweeps.{one, staying-none}
 use Rattle.halves.specs.Summed.{value_sum}
 use Rattle.halves.specs.Pairs.{once}
@@ -51,12 +58,21 @@ swept-whole n F step g from m h sums nodes swept =
     ∙ ap (weighted (F (g + m))) (staying-none n (g + m) (arriving n (whole_course g from) m))
     ∙ handed n F step g from m h
 
--- The numerator is the sum over the nodes at a stage.
-pub first-extreme : (n : Network) (t : Tail) (m g : ℕ) → 0 + m ≤ n.count → g ≡ 0 + m → (sums : TailSums) (nodes : List Node) → HasSwept n (whole_course 0 (node n.first 1 ∷ [])) m sums nodes → weighted (extreme_weight n t g) nodes ≡ extreme_weight n t 0 n.first
-first-extreme n t m g h e sums nodes swept =
-    ap (λ i. weighted (extreme_weight n t i) nodes) e
-    ∙ swept-whole n (extreme_weight n t) (λ i k before. extreme_weight-step n t i k before) 0 (node n.first 1 ∷ []) m h sums nodes swept
-    ∙ one (extreme_weight n t 0) n.first
+module _ (n : Network) (lawful : IsLawful n) (limit : ℕ) (tails : Tails) (starts : IsCourse n limit (first_course n (Open tails))) (m g : ℕ) (h : 0 + m ≤ n.count) (e : g ≡ 0 + m) (sums : TailSums) (nodes : List Node) (swept : HasSwept n (first_course n (Open tails)) m sums nodes) where
+  -- The numerator is what was closed and the sum over the nodes at a stage.
+  pub first-extreme : (t : Tail) → asks tails t ≡ true → (sum_for sums t).sum + weighted (extreme_weight n t g) nodes ≡ extreme_weight n t 0 n.first
+  first-extreme t a =
+      let own : weighted (extreme_weight n t g) nodes ≡ weighted (extreme_weight (asked tails n) t (0 + m)) nodes =
+      ap (λ i. weighted (extreme_weight n t i) nodes) e
+      ∙ sym (sum_by-same _ _ (λ (b : Node). ap (λ w. b.weight * w) (asked-extreme_at tails n t a (0 + m) b.key)) nodes) in
+      omega (arith, own, swept-kept n lawful limit tails starts m h sums nodes swept t, asked-extreme tails n t a)
+
+  -- all of which is no more than the completions of the first key weigh
+  pub first-light : IsWithin limit (weighted (total_weight n g) nodes) × ((t : Tail) → (sum_for sums t).sum + weighted (total_weight n g) nodes ≤ MAX)
+  first-light =
+      let light : (t : Tail) → (sum_for sums t).sum + weighted (total_weight n g) nodes ≤ weighted (total_weight n 0) (node n.first 1 ∷ []) = λ t.
+      omega (arith, ap (λ i. weighted (total_weight n i) nodes) e, swept-light n lawful limit (first_course n (Open tails)) starts m sums nodes h swept t) in
+      (record { limit = omega (arith, light Less, starts.light.limit); fits = omega (arith, light Less, starts.light.fits) }, λ t. omega (arith, light t, starts.light.fits))
 
 -- at the last stage the nodes have their own values
 last-values : (n : Network) (nodes : List Node) (f : ℤ → ℕ) → weighted (value_sum n f n.count) nodes ≡ weighted (λ k. f (n.value k)) nodes

@@ -31,7 +31,7 @@ use Rattle.stage_network.proofs.Roomwise.{all_segment, heavy_at}
 use Rattle.stage_network.proofs.Steps.{sum_by-same}
 use Rattle.stage_network.proofs.Stepping.{reached_at}
 use Rattle.stage_network.proofs.Sweeps.{one}
-use Rattle.halves.specs.MeetingSteps.{AreLast, AreRoomLines, AreSums, IsHalved, number_behind}
+use Rattle.halves.specs.MeetingSteps.{AreLast, AreRoomLines, AreSums, AreSumsOn, IsHalved, number_behind}
 use Rattle.halves.specs.Pairs.{ArePairs, IsMergeOf, once, paired, valued, weight_of}
 use Rattle.halves.specs.Roommates.{TellRoommates}
 use Rattle.halves.specs.Sides.{is_in, sides_for}
@@ -185,27 +185,37 @@ at-most : (b : Bool) (x m : ℕ) → x ≤ m → cond b x 0 ≤ m
 at-most true x m h = h
 at-most false x m h = omega arith
 
-pub sums-fit : (n : Network) (g : ℕ) (tails : Tails) (sides : TailSides) (nodes : List Node) (start end : ℕ) (sums more : TailSums) → start ≤ end → weighted (total_weight n g) nodes ≤ MAX → AreSums n g tails sides (take start nodes) sums → AreSums n g tails sides (segment start end nodes) more → (t : Tail) → (sum_for sums t).sum + (sum_for more t).sum ≤ MAX
-sums-fit n g tails sides nodes start end sums more order light was is t =
-    let f : List ℤ → ℕ = value_sum n (once (is_in (sides_for sides t))) g in
-    omega (
-      arith,
-      was t,
-      is t,
-      when (asks tails t) (weighted f (take end nodes)) (weighted f (take start nodes)) (weighted f (segment start end nodes)) (run-more f start end nodes order),
-      at-most (asks tails t) (weighted f (take end nodes)) MAX (omega (arith, take-le f end nodes, weighted-le f (total_weight n g) (once-le n (is_in (sides_for sides t)) g) nodes, light)),
-    )
+module _ (n : Network) (g : ℕ) (tails : Tails) (sides : TailSides) (closed : TailSums) (nodes : List Node) (start end : ℕ) (sums more : TailSums) (order : start ≤ end) (was : AreSumsOn n g tails sides closed (take start nodes) sums) (is : AreSums n g tails sides (segment start end nodes) more) where
+  pub sums-fit : (t : Tail) → (sum_for closed t).sum + weighted (total_weight n g) nodes ≤ MAX → (sum_for sums t).sum + (sum_for more t).sum ≤ MAX
+  sums-fit t light =
+      let f : List ℤ → ℕ = value_sum n (once (is_in (sides_for sides t))) g in
+      omega (
+        arith,
+        was t,
+        is t,
+        light,
+        when (asks tails t) (weighted f (take end nodes)) (weighted f (take start nodes)) (weighted f (segment start end nodes)) (run-more f start end nodes order),
+        at-most (asks tails t) (weighted f (take end nodes)) (weighted (total_weight n g) nodes) (omega (arith, take-le f end nodes, weighted-le f (total_weight n g) (once-le n (is_in (sides_for sides t)) g) nodes)),
+      )
 
-pub sums-next : (n : Network) (g : ℕ) (tails : Tails) (sides : TailSides) (nodes : List Node) (start end : ℕ) (sums more all : TailSums) → start ≤ end → AreSums n g tails sides (take start nodes) sums → AreSums n g tails sides (segment start end nodes) more → ((t : Tail) → (sum_for all t).sum ≡ (sum_for sums t).sum + (sum_for more t).sum) → AreSums n g tails sides (take end nodes) all
-sums-next n g tails sides nodes start end sums more all order was is added t =
-    let f : List ℤ → ℕ = value_sum n (once (is_in (sides_for sides t))) g in
-    omega (
-      arith,
-      added t,
-      was t,
-      is t,
-      when (asks tails t) (weighted f (take end nodes)) (weighted f (take start nodes)) (weighted f (segment start end nodes)) (run-more f start end nodes order),
-    )
+  pub sums-next : (all : TailSums) → ((t : Tail) → (sum_for all t).sum ≡ (sum_for sums t).sum + (sum_for more t).sum) → AreSumsOn n g tails sides closed (take end nodes) all
+  sums-next all added t =
+      let f : List ℤ → ℕ = value_sum n (once (is_in (sides_for sides t))) g in
+      omega (
+        arith,
+        added t,
+        was t,
+        is t,
+        when (asks tails t) (weighted f (take end nodes)) (weighted f (take start nodes)) (weighted f (segment start end nodes)) (run-more f start end nodes order),
+      )
+
+-- none yet
+pub sums-none : (n : Network) (g : ℕ) (tails : Tails) (sides : TailSides) (closed : TailSums) → AreSumsOn n g tails sides closed [] closed
+sums-none n g tails sides closed t = omega (arith, none (asks tails t))
+  where
+    none : (b : Bool) → ◌≡◌ {A = ℕ} (cond b 0 0) 0
+    none true = refl
+    none false = refl
 
 -- one key alone, laid flat
 pub laid-one : (n : Network) (key : List ℤ) → length key ≡ n.width → nodes_of n.width key (1 ∷ []) ≡ node key 1 ∷ []

@@ -1,6 +1,5 @@
 -- What the nodes half way come to, by the sums of their rooms.
-use Rattle.std.proofs.Common.{◌≡◌, ℕ, ◌*◌, ◌≤◌, List, true, cond, sym, ◌∙◌, ap}
-use Rattle.std.specs.Prelude.{Option, Some, None, IfSome}
+use Rattle.std.proofs.Common.{◌≡◌, ℕ, ◌+◌, ◌*◌, ◌≤◌, List, true, cond, sym, ◌∙◌, ap}
 use Rattle.weights.specs.declared.tails.Tail.{Tail}
 use Rattle.weights.specs.declared.tails.Tails.{Tails}
 use Rattle.weights.specs.Rules.{passes}
@@ -15,7 +14,7 @@ use Rattle.stage_network.specs.Judged.{HasIntervals, rule_in}
 use Rattle.stage_network.specs.NodeSteps.{AllReached}
 use Rattle.stage_network.specs.SweepSteps.{sum_for}
 use Rattle.stage_network.proofs.Asked.{asked-extreme}
-use Rattle.halves.specs.MeetingSteps.{AreSums}
+use Rattle.halves.specs.MeetingSteps.{AreSumsOn}
 use Rattle.halves.specs.Pairs.{once}
 use Rattle.halves.specs.Sides.{AreSidesOf, is_in, sides_for}
 use Rattle.halves.specs.Summed.{value_sum}
@@ -34,15 +33,12 @@ module _ (n : Network) (judge : Judge) (h : HasIntervals n judge) (g : ℕ) (wit
       ))
       nodes reached
 
-  pub some-extreme : (found : Option TailSums) → IfSome found (AreSums n g tails sides nodes) → IfSome found (λ all. (t : Tail) → asks tails t ≡ true → (sum_for all t).sum ≡ weighted (extreme_weight n t g) nodes)
-  some-extreme None is = tt
-  some-extreme (Some all) is = λ t a. is t ∙ ap (λ b. cond b (weighted (value_sum n (once (is_in (sides_for sides t))) g) nodes) 0) a ∙ sides-extreme t
+  pub all-extreme : (closed all : TailSums) → AreSumsOn n g tails sides closed nodes all → (t : Tail) → asks tails t ≡ true → (sum_for all t).sum ≡ (sum_for closed t).sum + weighted (extreme_weight n t g) nodes
+  all-extreme closed all is t a =
+      is t
+      ∙ ap (λ b. (sum_for closed t).sum + cond b (weighted (value_sum n (once (is_in (sides_for sides t))) g) nodes) 0) a
+      ∙ ap (λ w. (sum_for closed t).sum + w) (sides-extreme t)
 
--- so they are those of the first key
-pub some-whole : (n : Network) (g : ℕ) (tails : Tails) (nodes : List Node) → ((t : Tail) → weighted (extreme_weight n t g) nodes ≡ extreme_weight n t 0 n.first) → (found : Option TailSums) → IfSome found (λ all. (t : Tail) → asks tails t ≡ true → (sum_for all t).sum ≡ weighted (extreme_weight n t g) nodes) → IfSome found (λ all. (t : Tail) → asks tails t ≡ true → (sum_for all t).sum ≡ extreme_weight n t 0 n.first)
-some-whole n g tails nodes whole None is = tt
-some-whole n g tails nodes whole (Some all) is = λ t a. is t a ∙ whole t
-
--- and so are those of rows
+-- the sums by rows of cells, of the asked tails alone
 pub rows-extreme : (n : Network) (tails : Tails) (all : TailSums) → ((t : Tail) → (sum_for all t).sum ≡ extreme_weight (asked tails n) t 0 n.first) → (t : Tail) → asks tails t ≡ true → (sum_for all t).sum ≡ extreme_weight n t 0 n.first
 rows-extreme n tails all is t a = is t ∙ asked-extreme tails n t a

@@ -1,5 +1,5 @@
 -- Where two halves of a network meet.
-use Rattle.std.specs.Prelude.{◌≡◌, ℕ, ℤ, pos, ◌≤◌, List, drop, get_or, Bool, cond}
+use Rattle.std.specs.Prelude.{◌≡◌, ℕ, ℤ, pos, ◌+◌, ◌≤◌, List, drop, get_or, Bool, cond}
 use Rattle.weights.specs.declared.lines.Line.{Line}
 use Rattle.weights.specs.declared.TheConstants.{MAX}
 use Rattle.weights.specs.declared.tails.Tail.{Tail}
@@ -36,11 +36,24 @@ pub record AreMeeting (n : Network) (width limit g : ℕ) (nodes : Housed) : Typ
   pub heavy : AllHeavy nodes.nodes
   pub light : IsWithin limit (weighted (total_weight n g) nodes.nodes)
 
+-- nodes of stage g where the halves meet, and what was closed on the way there
+pub record IsFirstHalf (n : Network) (width limit g : ℕ) (nodes : Housed)
+    (closed : TailSums) : Type 0 where
+  pub meeting : AreMeeting n width limit g nodes
+  pub fits : (t : Tail) → (sum_for closed t).sum + weighted (total_weight n g) nodes.nodes ≤ MAX
+
 -- of each asked tail the weight of the completions of nodes whose values pass, and of no other
 abbrev pub AreSums : Network → ℕ → Tails → TailSides → List Node → TailSums → Type 0
 AreSums n g tails sides nodes sums = (t : Tail)
     → (sum_for sums t).sum
     ≡ cond (asks tails t) (weighted (value_sum n (once (is_in (sides_for sides t))) g) nodes) 0
+
+-- the same, with what was closed before
+abbrev pub AreSumsOn : Network → ℕ → Tails → TailSides → TailSums → List Node → TailSums → Type 0
+AreSumsOn n g tails sides closed nodes sums = (t : Tail)
+    → (sum_for sums t).sum
+    ≡ (sum_for closed t).sum
+    + cond (asks tails t) (weighted (value_sum n (once (is_in (sides_for sides t))) g) nodes) 0
 
 -- lines of some nodes of a room, and lines that they are read against: the pairs can be counted, and
 -- those whose values sum to one that passes weigh what the completions of these nodes do whose

@@ -10,7 +10,7 @@ ghost use Rattle.stage_network.specs.Asked.{asks};
 ghost use Rattle.stage_network.specs.Completions.{extreme_weight};
 ghost use Rattle.stage_network.specs.Judged.{HasIntervals};
 ghost use Rattle.stage_network.specs.SweepSteps.{sum_for};
-ghost use Rattle.halves.specs.MeetingSteps.{AreMeeting, AreRoomLines, AreSums, IsHalved};
+ghost use Rattle.halves.specs.MeetingSteps.{AreMeeting, AreRoomLines, AreSums, AreSumsOn, IsFirstHalf, IsHalved};
 ghost use Rattle.halves.specs.Pairs.{ArePairs, paired, weight_of};
 ghost use Rattle.halves.specs.Sides.{AreOrdered, is_in, sides_for};
 
@@ -163,28 +163,30 @@ fn room_sums<C: Count, S: Roomed>(
     }
 }
 
-// The sums of all nodes, room by room; None where a number is too great.
+// The sums of all nodes, room by room, with what was closed; None where a number is too great.
 fn sums_by_rooms<C: Count, S: Roomed>(
     alloc: Global,
     stages: &S,
-    stage: usize,
-    nodes: &StageNodes<C>,
+    half: &FirstHalf<C>,
     tails: Tails,
     sides: &TailSides,
 ) -> Result<Option<TailSums>, NoMemory>
     requires halved { let n = S.Stages.network stages.now in
         IsHalved n (S.room_width stages.now) (S.step_width stages.now) (S.step_of stages.now) }
-    requires meeting { let n = S.Stages.network stages.now in
-        AreMeeting n (S.room_width stages.now) C.LIMIT stage nodes.now }
+    requires first { let n = S.Stages.network stages.now in
+        IsFirstHalf n (S.room_width stages.now) C.LIMIT half.now.stage half.now.nodes
+        half.now.closed }
     requires ordered { (t : Tail) → AreOrdered (sides_for sides.now t) }
     ensures { let n = S.Stages.network stages.now in
-        IfOk result (λ some. IfSome some (AreSums n stage tails sides.now nodes.now.nodes)) }
+        IfOk result (λ some. IfSome some
+        (AreSumsOn n half.now.stage tails sides.now half.now.closed half.now.nodes.nodes)) }
 {
-    let mut sums = TailSums::none();
+    let nodes = &half.nodes;
+    let mut sums = half.closed;
     let mut start = 0;
     while start < nodes.len() {
         let end = nodes.run_end(start);
-        match room_sums::<C, S>(alloc, stages, stage, nodes, start, end, tails, sides)? {
+        match room_sums::<C, S>(alloc, stages, half.stage, nodes, start, end, tails, sides)? {
             Some(more) => sums = both(sums, more),
             None => return Ok(None),
         }
@@ -193,8 +195,9 @@ fn sums_by_rooms<C: Count, S: Roomed>(
     Ok(Some(sums))
 }
 
-/// Of each asked tail the summed weight of the extreme completions of the nodes where the halves
-/// meet, each times the node's weight; None where a number passes a limit.
+/// Of each asked tail what was closed in the first half, and the summed weight of the extreme
+/// completions of the nodes where the halves meet, each times the node's weight; None where a
+/// number passes a limit.
 pub fn meeting_sums<C: Count, S: Roomed>(
     alloc: Global,
     stages: &S,
@@ -205,23 +208,17 @@ pub fn meeting_sums<C: Count, S: Roomed>(
     requires halved { let n = S.Stages.network stages.now in
         IsHalved n (S.room_width stages.now) (S.step_width stages.now) (S.step_of stages.now) }
     requires intervals { HasIntervals (S.Stages.network stages.now) judge.now }
-    requires meeting { let n = S.Stages.network stages.now in
-        AreMeeting n (S.room_width stages.now) C.LIMIT half.now.stage half.now.nodes }
+    requires first { let n = S.Stages.network stages.now in
+        IsFirstHalf n (S.room_width stages.now) C.LIMIT half.now.stage half.now.nodes
+        half.now.closed }
     ensures { let n = S.Stages.network stages.now in
         IfOk result (λ some. IfSome some (λ all. (t : Tail) → asks tails t ≡ true
-        → (sum_for all t).sum
-        ≡ weighted (extreme_weight n t half.now.stage) half.now.nodes.nodes)) }
+        → (sum_for all t).sum ≡ (sum_for half.now.closed t).sum
+        + weighted (extreme_weight n t half.now.stage) half.now.nodes.nodes)) }
 {
     match TailSides::of(judge) {
         Some(sides) => {
-            let found = sums_by_rooms::<C, S>(
-                alloc,
-                stages,
-                half.stage,
-                &half.nodes,
-                tails,
-                &sides,
-            )?;
+            let found = sums_by_rooms::<C, S>(alloc, stages, half, tails, &sides)?;
             Ok(found)
         }
         None => Ok(None),

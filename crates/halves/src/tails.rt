@@ -16,12 +16,8 @@ use stage_network::{
 use std::alloc::Global;
 use weights::{Count, Narrow, NoMemory, Tails, Wide};
 
-// Networks of more completions are left to the sweep that closes keys: the halves would list more
-// keys than a machine holds.
-const MOST: u128 = 1 << 50;
-
 // The sums in counts of one width, by rows of cells where these serve, or by two halves; None where
-// there are too many completions, or a number is too great.
+// a number is too great.
 fn quick_in<C: Count, S: Roomed>(
     alloc: Global,
     stages: &S,
@@ -40,17 +36,13 @@ fn quick_in<C: Count, S: Roomed>(
     if let Some(sums) = row_sums::<C, S>(alloc, stages, tails)? {
         return Ok(Some(sums));
     }
-    if total > MOST {
-        return Ok(None);
-    }
-    let half = first_half::<C, S>(alloc, stages, total)?;
+    let half = first_half::<C, S>(alloc, stages, tails, total)?;
     let found = meeting_sums::<C, S>(alloc, stages, &half, judge, tails)?;
     Ok(found)
 }
 
-/// The tail sums of the asked tails: by rows of cells where steps shift and sums often meet, by two
-/// halves where they seldom do, and else by the sweep through the stages that closes keys. How many
-/// keys were open is not told.
+/// The tail sums of the asked tails where steps shift, by rows of cells or by two halves; and else
+/// by the sweep from the first stage to the last. How many keys were open is not told.
 pub fn tail_sums<S: Roomed>(
     alloc: Global,
     stages: &S,

@@ -1,5 +1,7 @@
+use Rattle.std.proofs.Common.{◌∙◌}
 use Rattle.stage_network.specs.Network.{Network}
-use Rattle.halves.proofs.Whole.{rows-extreme, some-whole}
+use Rattle.halves.proofs.RoomPairs.{if_some}
+use Rattle.halves.proofs.Whole.{rows-extreme}
 use Rattle.halves.proofs.tails.quick_in.Goals as goal
 
 pub returns-in-Some : goal.returns-in-Some
@@ -8,7 +10,4 @@ returns-in-Some g c =
     rows-extreme n c.args.tails c.in-Some.sums (rw c.in-Some.is at c.in_ok-sums.ensures.sum)
 
 pub returns : goal.returns
-returns g c =
-    let n : Network = g.S.Stages.network c.args.stages.now in
-    let half = c.in_ok-half.half in
-    some-whole n half.stage c.args.tails half.nodes.nodes c.in_ok-half.ensures.whole c.in_ok-found.found c.in_ok-found.ensures
+returns g c = if_some c.in_ok-found.found _ _ (λ all is t a. is t a ∙ c.in_ok-half.ensures.whole t a) c.in_ok-found.ensures
