@@ -4,9 +4,9 @@ use crate::marks::first_marks;
 use crate::one_sample::OneSample;
 use enumerate::{Plain, next_signs};
 use scores::labelled_sum;
-use stage_network::{AdditiveStages, Prepared};
+use stage_network::{AdditiveStages, Prepared, TailSums};
 use std::alloc::Global;
-use weights::{Bytes, Frame, NoMemory, Tail};
+use weights::{Bytes, Frame, NoMemory, Tail, Tails};
 
 impl Plain for OneSample {
     ghost use Rattle.one_sample_tests.specs.SignedSamples.{one_sample_test};
@@ -59,5 +59,13 @@ impl Prepared for OneSample {
         let judge = self.judge();
         let groups = self.made().groups.copy()?;
         AdditiveStages::new(alloc, MarkStages { groups, judge })
+    }
+
+    // Where sums seldom meet, by two halves.
+    fn numerators(&self, alloc: Global, tails: Tails) -> Result<TailSums, NoMemory> {
+        let judge = self.judge();
+        let stages = self.stages_of(alloc, Tail::Less)?;
+        let sums = halves::tail_sums(alloc, &stages, &judge, tails)?;
+        Ok(sums)
     }
 }

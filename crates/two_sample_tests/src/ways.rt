@@ -4,9 +4,9 @@ use enumerate::{Plain, first_labelling, next_labelling};
 use label_network::{LabelStages, LinearMeasure, label_stages};
 use room_network::Numbered;
 use scores::labelled_sum;
-use stage_network::{Judge, Prepared};
+use stage_network::{Judge, Prepared, TailSums};
 use std::alloc::Global;
-use weights::{Bytes, Frame, NoMemory, Tail};
+use weights::{Bytes, Frame, NoMemory, Tail, Tails};
 
 impl Plain for TwoSample {
     ghost use Rattle.two_sample_tests.specs.TwoSamples.{two_sample_test};
@@ -63,5 +63,13 @@ impl Prepared for TwoSample {
         let judge = Judge::of(&made.frame);
         let measure = LinearMeasure::new(alloc, &[0, 1], rows, scores, columns, judge)?;
         label_stages(alloc, columns, rows, Numbered::new(measure))
+    }
+
+    // Where sums seldom meet, by two halves.
+    fn numerators(&self, alloc: Global, tails: Tails) -> Result<TailSums, NoMemory> {
+        let judge = Judge::of(&self.made().frame);
+        let stages = self.stages_of(alloc, Tail::Less)?;
+        let sums = halves::tail_sums(alloc, &stages, &judge, tails)?;
+        Ok(sums)
     }
 }
