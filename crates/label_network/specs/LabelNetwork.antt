@@ -48,8 +48,8 @@ pub record IsMargin (m : RoomMeaning) (columns rows : List ℕ) : Type 0 where
   pub some : 2 ≤ length rows
   pub wide : length rows + m.slots ≤ 16
 
--- how many labellings of the rows have a value that passes, each seen by the columns, whose subjects
--- are consecutive
+-- how many labellings of the rows have a value that passes, each seen by the columns, whose
+-- subjects are consecutive
 abbrev pub labellings_passing : RoomMeaning → List ℕ → List ℕ → (ℤ → Bool) → ℕ
 labellings_passing m columns rows p =
     length (filter (λ xs. p (way_value m (columns_of (length rows) columns xs))) (labellings rows))

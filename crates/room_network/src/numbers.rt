@@ -44,8 +44,8 @@ impl Operation {
 }
 
 /// What is measured of the ways through rooms, where it is one number, a sum or a product over the
-/// choices: [`Numbered`] is then a [`Measure`] whose partial is what they come to so far. Its interval puts to a partial
-/// what the later choices can come to, at least and at most.
+/// choices: [`Numbered`] is then a [`Measure`] whose partial is what they come to so far. Its
+/// interval puts to a partial what the later choices can come to, at least and at most.
 pub trait NumberMeasure {
     /// The rooms whose ways are measured.
     ghost floor: { Self → Floor };

@@ -3,3 +3,4 @@ pub mod RankRooms
 pub mod SignLaws
 pub mod BlockLaws
 pub mod LabelRankLaws
+pub mod DrawLaws

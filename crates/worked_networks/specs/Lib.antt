@@ -2,3 +2,4 @@ pub mod SampleRanks
 pub mod SignedRanks
 pub mod Blocks
 pub mod LabelRanks
+pub mod Draws

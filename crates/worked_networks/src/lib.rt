@@ -3,6 +3,7 @@
 #![tactic(auto)]
 
 mod blocks;
+mod draws;
 mod from_lines;
 mod label_ranks;
 mod ranks;
@@ -11,6 +12,7 @@ mod signed_ranks;
 mod tests;
 
 pub use blocks::Blocks;
+pub use draws::{DrawRooms, WhiteBalls, drawing_law, white_draws};
 pub use from_lines::{OneSided, one_sided};
 pub use label_ranks::{LabelRanks, tail_by_labels};
 pub use ranks::Ranks;

@@ -1,5 +1,7 @@
 // What the networks and the tests come to, by hand.
-use crate::{Blocks, OneSided, RankStages, Ranks, SignedRanks, one_sided, tail_by_labels};
+use crate::{
+    Blocks, OneSided, RankStages, Ranks, SignedRanks, one_sided, tail_by_labels, white_draws,
+};
 use distribution::{above, below, far};
 use stage_network::{
     AdditiveStages, Line, OneOf, Prepared, Roomed, Spread, Stages, TailSum, TailSums, Way,
@@ -44,6 +46,14 @@ fn three_and_three_labels(rt: HostRuntime) -> Result<(), Fail> {
     assert_eq!(rt; greater, TailSum { sum: 1, opened: 3 });
     let two = tail_by_labels(rt.alloc(), Tail::Two)?;
     assert_eq!(rt; two, TailSum { sum: 2, opened: 5 });
+    Ok(())
+}
+
+// Of the six ways to draw two balls four draw the white one. The key after it is closed.
+#[test]
+fn white_balls(rt: HostRuntime) -> Result<(), Fail> {
+    let some = white_draws(rt.alloc(), Tail::Greater)?;
+    assert_eq!(rt; some, TailSum { sum: 4, opened: 2 });
     Ok(())
 }
 
