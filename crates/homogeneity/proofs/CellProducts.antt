@@ -3,7 +3,7 @@ use Rattle.std.proofs.Common.{◌≡◌, ℕ, ◌+◌, ◌*◌, ◌<◌, ◌≤�
 use Rattle.std.specs.Prelude.{min}
 use Rattle.std.proofs.lemmas.List.{drop_min}
 use Rattle.strata_cells.specs.declared.stratum.Stratum.{Stratum}
-use Rattle.strata_cells.specs.Strata.{cell_weight, cells_of, cells_weight, first_cell, greatest_cell, least_cell, size, stratum_at}
+use Rattle.strata_cells.specs.Strata.{cell_weight, cells_of, cells_weight, stratum_cell, greatest_cell, least_cell, size, stratum_at}
 use Rattle.strata_cells.proofs.FirstCells.{left-within, right-within, weight-some}
 use Rattle.strata_cells.proofs.StrataSums.{next-drop, past-drop}
 use Rattle.homogeneity.specs.ZelenMade.{own_cells}
@@ -71,8 +71,8 @@ pub own-step : (strata : List Stratum) (i : ℕ) → i < length strata → own_c
 own-step strata i h = ap own_cells (next-drop strata i h)
 
 pub labels-step : (strata : List Stratum) (i : ℕ) (later : List ℕ) → i < length strata
-    → cells_of (drop i strata) later ≡ first_cell (stratum_at strata i) later ∷ cells_of (drop (i + 1) strata) (drop (min (length later) (size (stratum_at strata i))) later)
+    → cells_of (drop i strata) later ≡ stratum_cell (stratum_at strata i) later ∷ cells_of (drop (i + 1) strata) (drop (min (length later) (size (stratum_at strata i))) later)
 labels-step strata i later h =
     let least : min (length later) (size (stratum_at strata i)) ≡ min (size (stratum_at strata i)) (length later) = omega arith in
     let rest : drop (min (length later) (size (stratum_at strata i))) later ≡ drop (size (stratum_at strata i)) later = ap (λ n. drop n later) least ∙ drop_min (size (stratum_at strata i)) later in
-    ap (λ ts. cells_of ts later) (next-drop strata i h) ∙ ap (λ (l : List ℕ). first_cell (stratum_at strata i) later ∷ cells_of (drop (i + 1) strata) l) (sym rest)
+    ap (λ ts. cells_of ts later) (next-drop strata i h) ∙ ap (λ (l : List ℕ). stratum_cell (stratum_at strata i) later ∷ cells_of (drop (i + 1) strata) l) (sym rest)

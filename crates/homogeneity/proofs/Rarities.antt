@@ -10,7 +10,7 @@ use Rattle.weights.proofs.Ranges.{range-none, range-one}
 use Rattle.weights.proofs.Sums.{sum_by-filter, sum_by-same, sum_by-zero}
 use Rattle.enumerate.proofs.JoinedMembers.{parts-of}
 use Rattle.strata_cells.specs.declared.stratum.Stratum.{Stratum}
-use Rattle.strata_cells.specs.Strata.{cell_lists, cell_weight, cells_in, cells_of, cells_weight, first_cell, first_cells, first_column, greatest_cell, least_cell, row_counts, row_labellings, size, strata_labellings}
+use Rattle.strata_cells.specs.Strata.{cell_lists, cell_weight, cells_in, cells_of, cells_weight, stratum_cell, first_cells, first_column, greatest_cell, least_cell, row_counts, row_labellings, size, strata_labellings}
 use Rattle.strata_cells.proofs.CellLaws.{by-cells}
 use Rattle.strata_cells.proofs.FirstCells.{cells-meet, cells-same, cells-sum, rows-sum}
 use Rattle.stage_network.proofs.Bounds.{term-le-sum_by}
@@ -50,25 +50,25 @@ over-one (s ∷ strata) (c ∷ cells) a =
     inner later false = sum_by-same (λ others. cells_weight strata others * 0) (λ others. 0) (λ others. omega arith) (cell_lists strata) ∙ sum_by-zero (cell_lists strata)
 
 -- a labelling gives such first cells
-cell-in : (s : Stratum) (x : List ℕ) → Contains (row_labellings s) x → (least_cell s ≤ first_cell s x) × (first_cell s x ≤ greatest_cell s)
+cell-in : (s : Stratum) (x : List ℕ) → Contains (row_labellings s) x → (least_cell s ≤ stratum_cell s x) × (stratum_cell s x ≤ greatest_cell s)
 cell-in s x m =
-    let f : ℕ → ℕ = λ y. one_if (nat_eq (first_cell s x) y) in
-    let one : f (first_cell s x) ≡ 1 = ap one_if (eq-eqb (first_cell s x) (first_cell s x) refl) in
-    let some : 1 ≤ sum_by (λ y. cell_weight s y * f y) (cells_in s) = omega (arith, term-le-sum_by (λ r. f (first_cell s r)) (row_labellings s) x m, one, cells-same s f) in
-    elim (cases_lt (first_cell s x) (least_cell s)) [
+    let f : ℕ → ℕ = λ y. one_if (nat_eq (stratum_cell s x) y) in
+    let one : f (stratum_cell s x) ≡ 1 = ap one_if (eq-eqb (stratum_cell s x) (stratum_cell s x) refl) in
+    let some : 1 ≤ sum_by (λ y. cell_weight s y * f y) (cells_in s) = omega (arith, term-le-sum_by (λ r. f (stratum_cell s r)) (row_labellings s) x m, one, cells-same s f) in
+    elim (cases_lt (stratum_cell s x) (least_cell s)) [
       | inl few ↦ absurd (omega (arith, some, none f (inl few)))
-      | inr least ↦ elim (cases_lt (greatest_cell s) (first_cell s x)) [
+      | inr least ↦ elim (cases_lt (greatest_cell s) (stratum_cell s x)) [
         | inl many ↦ absurd (omega (arith, some, none f (inr (omega (arith, many, cells-meet s)))))
         | inr most ↦ (omega (arith, least), omega (arith, most))
       ]
     ]
   where
-    none : (f : ℕ → ℕ) → (first_cell s x < least_cell s) ⊎ (least_cell s + (greatest_cell s + 1 - least_cell s) ≤ first_cell s x) → sum_by (λ y. cell_weight s y * one_if (nat_eq (first_cell s x) y)) (cells_in s) ≡ 0
+    none : (f : ℕ → ℕ) → (stratum_cell s x < least_cell s) ⊎ (least_cell s + (greatest_cell s + 1 - least_cell s) ≤ stratum_cell s x) → sum_by (λ y. cell_weight s y * one_if (nat_eq (stratum_cell s x) y)) (cells_in s) ≡ 0
     none f out =
-        sum_by-same (λ y. cell_weight s y * one_if (nat_eq (first_cell s x) y)) (λ y. cond (nat_eq (first_cell s x) y) (cell_weight s y * 1) 0) (λ y. times-cond (cell_weight s y) (nat_eq (first_cell s x) y) 1) (cells_in s)
-        ∙ range-none (λ y. cell_weight s y * 1) (first_cell s x) (least_cell s) (greatest_cell s + 1 - least_cell s) out
+        sum_by-same (λ y. cell_weight s y * one_if (nat_eq (stratum_cell s x) y)) (λ y. cond (nat_eq (stratum_cell s x) y) (cell_weight s y * 1) 0) (λ y. times-cond (cell_weight s y) (nat_eq (stratum_cell s x) y) 1) (cells_in s)
+        ∙ range-none (λ y. cell_weight s y * 1) (stratum_cell s x) (least_cell s) (greatest_cell s + 1 - least_cell s) out
 
-front-cell : (s : Stratum) (r : List ℕ) → size s ≤ length r → first_cell s (take (size s) r) ≡ first_cell s r
+front-cell : (s : Stratum) (r : List ℕ) → size s ≤ length r → stratum_cell s (take (size s) r) ≡ stratum_cell s r
 front-cell s r h = ap zeros_in (take-front (first_column s) (size s) r (omega arith))
   where
     take-front : (m n : ℕ) (xs : List ℕ) → m ≤ n → take m (take n xs) ≡ take m xs

@@ -6,7 +6,7 @@ ghost use Rattle.strata_cells.specs.StrataLimits.{AreSmall};
 ghost use Rattle.homogeneity.specs.ZelenMade.{own_cells};
 
 use crate::rests::weight_of;
-use strata_cells::{Stratum, first_cell};
+use strata_cells::{Stratum, stratum_cell};
 
 /// How many labellings give the first cells of the strata as they are.
 pub(crate) fn own_weight(strata: &[Stratum]) -> u128
@@ -31,7 +31,7 @@ pub(crate) fn labels_weight(strata: &[Stratum], labels: &[u8]) -> u128
     let mut product = 1;
     let mut later = labels;
     for stratum in strata {
-        product *= weight_of(*stratum, first_cell(*stratum, later));
+        product *= weight_of(*stratum, stratum_cell(*stratum, later));
         later = &later[later.len().min(stratum.size() as usize)..];
     }
     product

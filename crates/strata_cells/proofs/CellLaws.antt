@@ -7,11 +7,11 @@ use Rattle.std.proofs.lemmas.List.Sums.{sum_by-cons}
 use Rattle.weights.proofs.Sums.{sum_by-flat_map, sum_by-fronts, sum_by-map, sum_by-same, sum_by-same_where, sum_by-scaled}
 use Rattle.enumerate.proofs.JoinedMembers.{joined-front}
 use Rattle.strata_cells.specs.declared.stratum.Stratum.{Stratum}
-use Rattle.strata_cells.specs.Strata.{cell_lists, cell_weight, cells_in, cells_of, cells_weight, first_cell, first_column, row_counts, row_labellings, size, strata_labellings}
+use Rattle.strata_cells.specs.Strata.{cell_lists, cell_weight, cells_in, cells_of, cells_weight, stratum_cell, first_column, row_counts, row_labellings, size, strata_labellings}
 use Rattle.strata_cells.proofs.FirstCells.{IsRowed, cells-same, each-rowed}
 
 -- the first cells of a stratum's labels, and those of the next
-pub cells_of-joined : (s : Stratum) (strata : List Stratum) (x ys : List ℕ) → length x ≡ size s → cells_of (s ∷ strata) (x ++ ys) ≡ first_cell s x ∷ cells_of strata ys
+pub cells_of-joined : (s : Stratum) (strata : List Stratum) (x ys : List ℕ) → length x ≡ size s → cells_of (s ∷ strata) (x ++ ys) ≡ stratum_cell s x ∷ cells_of strata ys
 cells_of-joined s strata x ys long =
     let column : take (first_column s) (x ++ ys) ≡ take (first_column s) x = take-append-le (first_column s) x ys (omega (arith, long)) in
     let rest : drop (size s) (x ++ ys) ≡ ys = ap (λ n. drop n (x ++ ys)) (sym long) ∙ drop-append_seam x ys in
@@ -37,13 +37,13 @@ module _ (s : Stratum) (strata : List Stratum) (f : List ℕ → ℕ) where
       → sum_by (λ r. f (cells_of (s ∷ strata) r)) (strata_labellings (s ∷ strata)) ≡ sum_by (λ cells. cells_weight (s ∷ strata) cells * f cells) (cell_lists (s ∷ strata))
   with-first again =
       apart
-      ∙ sum_by-same_where (IsRowed s) (λ x. sum_by (λ ys. f (cells_of (s ∷ strata) (x ++ ys))) (strata_labellings strata)) (λ x. others (first_cell s x)) one (row_labellings s) (each-rowed s)
+      ∙ sum_by-same_where (IsRowed s) (λ x. sum_by (λ ys. f (cells_of (s ∷ strata) (x ++ ys))) (strata_labellings strata)) (λ x. others (stratum_cell s x)) one (row_labellings s) (each-rowed s)
       ∙ cells-same s others
       ∙ sum_by-same (λ x. cell_weight s x * others x) (λ x. sum_by (λ cells. cells_weight (s ∷ strata) (x ∷ cells) * f (x ∷ cells)) (cell_lists strata)) weighed (cells_in s)
       ∙ sym (sum_by-fronts (λ cells. cells_weight (s ∷ strata) cells * f cells) (λ x. x) (λ x. cell_lists strata) (cells_in s))
     where
-      one : (x : List ℕ) → IsRowed s x → sum_by (λ ys. f (cells_of (s ∷ strata) (x ++ ys))) (strata_labellings strata) ≡ others (first_cell s x)
-      one x r = sum_by-same (λ ys. f (cells_of (s ∷ strata) (x ++ ys))) (λ ys. f (first_cell s x ∷ cells_of strata ys)) (λ ys. ap f (cells_of-joined s strata x ys r.long)) (strata_labellings strata) ∙ again (λ cells. f (first_cell s x ∷ cells))
+      one : (x : List ℕ) → IsRowed s x → sum_by (λ ys. f (cells_of (s ∷ strata) (x ++ ys))) (strata_labellings strata) ≡ others (stratum_cell s x)
+      one x r = sum_by-same (λ ys. f (cells_of (s ∷ strata) (x ++ ys))) (λ ys. f (stratum_cell s x ∷ cells_of strata ys)) (λ ys. ap f (cells_of-joined s strata x ys r.long)) (strata_labellings strata) ∙ again (λ cells. f (stratum_cell s x ∷ cells))
 
       weighed : (x : ℕ) → cell_weight s x * others x ≡ sum_by (λ cells. cell_weight s x * cells_weight strata cells * f (x ∷ cells)) (cell_lists strata)
       weighed x =

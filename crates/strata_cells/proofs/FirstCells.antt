@@ -14,7 +14,7 @@ use Rattle.weights.proofs.Members.{labelling_from}
 use Rattle.weights.proofs.Sums.{sum_by-one, sum_by-same}
 use Rattle.enumerate.proofs.JoinedMembers.{none-joined, own, parts-of}
 use Rattle.strata_cells.specs.declared.stratum.Stratum.{Stratum}
-use Rattle.strata_cells.specs.Strata.{cell_weight, cells_in, cells_of, first_cell, first_cells, first_column, first_row, greatest_cell, least_cell, own_labels, row_counts, row_labellings, second_row, size, strata_labellings, stratum_at}
+use Rattle.strata_cells.specs.Strata.{cell_weight, cells_in, cells_of, stratum_cell, first_cells, first_column, first_row, greatest_cell, least_cell, own_labels, row_counts, row_labellings, second_row, size, strata_labellings, stratum_at}
 use Rattle.strata_cells.specs.StrataLimits.{labelled}
 use Rattle.strata_cells.proofs.StrataSums.{next-drop}
 
@@ -23,7 +23,7 @@ use Rattle.strata_cells.proofs.StrataSums.{next-drop}
 pub cells-meet : (s : Stratum) → least_cell s ≤ greatest_cell s
 cells-meet s = omega arith
 
-pub cells-same : (s : Stratum) (f : ℕ → ℕ) → sum_by (λ x. f (first_cell s x)) (row_labellings s) ≡ sum_by (λ x. cell_weight s x * f x) (cells_in s)
+pub cells-same : (s : Stratum) (f : ℕ → ℕ) → sum_by (λ x. f (stratum_cell s x)) (row_labellings s) ≡ sum_by (λ x. cell_weight s x * f x) (cells_in s)
 cells-same s f =
     let c : ℕ = first_column s in
     let k : ℕ = size s - first_column s in
@@ -109,20 +109,20 @@ no-labels [] = refl
 no-labels (t ∷ ts) = rw (take-none (first_column t), drop-none (size t)) (omega (arith, no-labels ts))
 
 -- the cells of a stratum's labels, and those of the next
-pub cells-joined : (t : Stratum) (ts : List Stratum) (x ys : List ℕ) → length x ≡ size t → first_cells (t ∷ ts) (x ++ ys) ≡ first_cell t x + first_cells ts ys
+pub cells-joined : (t : Stratum) (ts : List Stratum) (x ys : List ℕ) → length x ≡ size t → first_cells (t ∷ ts) (x ++ ys) ≡ stratum_cell t x + first_cells ts ys
 cells-joined t ts x ys long =
     let column : take (first_column t) (x ++ ys) ≡ take (first_column t) x = take-append-le (first_column t) x ys (omega (arith, long)) in
     let rest : drop (size t) (x ++ ys) ≡ ys = ap (λ n. drop n (x ++ ys)) (sym long) ∙ drop-append_seam x ys in
     rw (column, rest) refl
 
 -- a first cell has at most the first row's labels
-pub cell-zeros : (t : Stratum) (x : List ℕ) → first_cell t x ≤ zeros_in x
+pub cell-zeros : (t : Stratum) (x : List ℕ) → stratum_cell t x ≤ zeros_in x
 cell-zeros t x = sum_by-take-le (λ l. cond (nat_eq l 0) 1 0) x (first_column t)
 
 pub zeros-joined : (x ys : List ℕ) → zeros_in (x ++ ys) ≡ zeros_in x + zeros_in ys
 zeros-joined x ys = sum_by-append (λ l. cond (nat_eq l 0) 1 0) x ys
 
-pub cell-within : (s : Stratum) (labels : List ℕ) → first_cell s labels ≤ size s
+pub cell-within : (s : Stratum) (labels : List ℕ) → stratum_cell s labels ≤ size s
 cell-within s labels = omega (arith, count_by-le-length (λ l. nat_eq l 0) (take (first_column s) labels), length-take (first_column s) labels)
 
 pub cells-within : (strata : List Stratum) (labels : List ℕ) → first_cells strata labels ≤ sum_by size strata
@@ -152,7 +152,7 @@ own-long s =
       length-replicate {A = ℕ} s.d 1,
     )
 
-pub own-cell : (s : Stratum) → first_cell s (own_labels s) ≡ s.a
+pub own-cell : (s : Stratum) → stratum_cell s (own_labels s) ≡ s.a
 own-cell s =
     let column : List ℕ = replicate s.a 0 ++ replicate s.c 1 in
     let others : List ℕ = replicate s.b 0 ++ replicate s.d 1 in
@@ -179,7 +179,7 @@ member-zeros (s ∷ strata) r m =
 
 pub cells-sum : (strata : List Stratum) (labels : List ℕ) → first_cells strata labels ≡ sum (cells_of strata labels)
 cells-sum [] labels = refl
-cells-sum (s ∷ strata) labels = omega (arith, cells-sum strata (drop (size s) labels), sum_by-cons (λ v. v) (first_cell s labels) (cells_of strata (drop (size s) labels)))
+cells-sum (s ∷ strata) labels = omega (arith, cells-sum strata (drop (size s) labels), sum_by-cons (λ v. v) (stratum_cell s labels) (cells_of strata (drop (size s) labels)))
 
 -- first cells so far
 pub record IsCounted (strata : List Stratum) (labels : List ℕ) (i sum : ℕ) (later : List ℕ) : Type 0 where
@@ -187,8 +187,8 @@ pub record IsCounted (strata : List Stratum) (labels : List ℕ) (i sum : ℕ) (
 
 module _ (strata : List Stratum) (labels : List ℕ) where
   module _ (i sum : ℕ) (later : List ℕ) (h : i < length strata) (s : IsCounted strata labels i sum later) where
-    step : first_cells (drop i strata) later ≡ first_cell (stratum_at strata i) later + first_cells (drop (i + 1) strata) (drop (size (stratum_at strata i)) later)
+    step : first_cells (drop i strata) later ≡ stratum_cell (stratum_at strata i) later + first_cells (drop (i + 1) strata) (drop (size (stratum_at strata i)) later)
     step = rw (next-drop strata i h) refl
 
-    pub count-room : sum + first_cell (stratum_at strata i) later ≤ sum_by size strata
+    pub count-room : sum + stratum_cell (stratum_at strata i) later ≤ sum_by size strata
     count-room = omega (arith, s.counting, step, cells-within strata labels)

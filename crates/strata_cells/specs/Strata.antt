@@ -70,18 +70,18 @@ own_labels s = (replicate s.a 0 ++ replicate s.c 1) ++ (replicate s.b 0 ++ repli
 
 -- the first cell of the table that a stratum's labels give: its first column's subjects with the
 -- first row's label
-abbrev pub first_cell : Stratum → List ℕ → ℕ
-first_cell s labels = count_by (λ l. nat_eq l 0) (take (first_column s) labels)
+abbrev pub stratum_cell : Stratum → List ℕ → ℕ
+stratum_cell s labels = count_by (λ l. nat_eq l 0) (take (first_column s) labels)
 
 -- that of each stratum
 abbrev pub cells_of : List Stratum → List ℕ → List ℕ
 cells_of [] labels = []
-cells_of (s ∷ strata) labels = first_cell s labels ∷ cells_of strata (drop (size s) labels)
+cells_of (s ∷ strata) labels = stratum_cell s labels ∷ cells_of strata (drop (size s) labels)
 
 -- the sum of the first cells of all strata
 abbrev pub first_cells : List Stratum → List ℕ → ℕ
 first_cells [] labels = 0
-first_cells (s ∷ strata) labels = first_cell s labels + first_cells strata (drop (size s) labels)
+first_cells (s ∷ strata) labels = stratum_cell s labels + first_cells strata (drop (size s) labels)
 
 -- how many labellings give a first cell: so many of the first column's subjects, and of the
 -- others, are in the first row

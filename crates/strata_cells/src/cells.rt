@@ -2,7 +2,7 @@
 ghost use Rattle.std.specs.Prelude.{◌≡◌, ◌≤◌, length, SomeIff};
 ghost use Rattle.weights.specs.declared.TheConstants.{MAX};
 ghost use Rattle.record_reader.specs.declared.TheConstants.{MOST_ROWS};
-ghost use Rattle.strata_cells.specs.Strata.{cell_weight, first_cell, first_cells};
+ghost use Rattle.strata_cells.specs.Strata.{cell_weight, first_cells, stratum_cell};
 ghost use Rattle.strata_cells.specs.Strata.{greatest_cell, least_cell};
 ghost use Rattle.strata_cells.specs.StrataLimits.{AreSmall, IsSmall, labelled};
 
@@ -33,9 +33,9 @@ pub fn cell_weight(stratum: Stratum, cell: u64) -> Option<u128>
 }
 
 /// The first cell of the table that a stratum's labels give.
-pub fn first_cell(stratum: Stratum, labels: &[u8]) -> u64
+pub fn stratum_cell(stratum: Stratum, labels: &[u8]) -> u64
     requires { IsSmall stratum }
-    ensures { result ≡ first_cell stratum labels.now }
+    ensures { result ≡ stratum_cell stratum labels.now }
 {
     let column = labels.len().min(stratum.first_column() as usize);
     labels[..column].iter().filter(|label| **label == 0).count() as u64
@@ -50,7 +50,7 @@ pub fn first_cells(strata: &[Stratum], labels: &[u8]) -> u64
     let mut sum = 0;
     let mut later = labels;
     for stratum in strata {
-        sum += first_cell(*stratum, later);
+        sum += stratum_cell(*stratum, later);
         later = &later[later.len().min(stratum.size() as usize)..];
     }
     sum

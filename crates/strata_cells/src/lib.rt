@@ -7,7 +7,7 @@ mod labels;
 mod stratum;
 mod sums;
 
-pub use cells::{cell_weight, first_cell, first_cells, labelled};
+pub use cells::{cell_weight, first_cells, labelled, stratum_cell};
 pub use labels::{first_labels, sizes};
 pub use stratum::{Stratum, strata_of};
 pub use sums::{first_rows, own_sum, subjects};

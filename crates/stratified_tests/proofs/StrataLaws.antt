@@ -27,7 +27,7 @@ use Rattle.stage_network.proofs.AdditiveLaws.{additive_intervals, value_even}
 use Rattle.stage_network.proofs.Flat.{AllAt, AllParts, IsJoined, ends_flat, total_flat}
 use Rattle.stage_network.proofs.Parts.{AreStages as AreParts, IsStage, Pieces, product_weight, summed}
 use Rattle.strata_cells.specs.declared.stratum.Stratum.{Stratum}
-use Rattle.strata_cells.specs.Strata.{cell_weight, cells_in, first_cell, first_cells, first_row, greatest_cell, least_cell, row_counts, row_labellings, size, strata_labellings, stratum_at}
+use Rattle.strata_cells.specs.Strata.{cell_weight, cells_in, stratum_cell, first_cells, first_row, greatest_cell, least_cell, row_counts, row_labellings, size, strata_labellings, stratum_at}
 use Rattle.strata_cells.proofs.FirstCells.{IsRowed, cell-zeros, cells-joined, cells-meet, cells-same, cells-total, each-rowed, left-within, member-zeros, no-labels, right-within, term-within, weight-some, zeros-joined}
 use Rattle.strata_cells.proofs.StrataSums.{drop-head, past-end}
 use Rattle.stratified_tests.specs.StrataTests.{stratified_test, weight_by}
@@ -39,7 +39,7 @@ use Rattle.stratified_tests.proofs.OddsLaws.{cell-is, product-some, weight-joine
 -- ---- one stratum
 
 module _ (odds : Option Odds) where
-  stage-same : (s : Stratum) (f : List ℤ → ℕ) → sum_by (λ x. weight_by odds (first_row s) (first_cell s x) * f (pos (first_cell s x) ∷ [])) (row_labellings s) ≡ sum_by (λ c. weighed_cell odds s (slice_index c 0) * f (pos (slice_index c 0) ∷ [])) (cell_choices s)
+  stage-same : (s : Stratum) (f : List ℤ → ℕ) → sum_by (λ x. weight_by odds (first_row s) (stratum_cell s x) * f (pos (stratum_cell s x) ∷ [])) (row_labellings s) ≡ sum_by (λ c. weighed_cell odds s (slice_index c 0) * f (pos (slice_index c 0) ∷ [])) (cell_choices s)
   stage-same s f =
       let cells : List ℕ = range_with_len (least_cell s) (greatest_cell s + 1 - least_cell s) in
       cells-same s (λ x. weight_by odds (first_row s) x * f (pos x ∷ []))
@@ -172,8 +172,8 @@ module _ (odds : Option Odds) (strata : List Stratum) (judge : Judge) where
 
   pieces : Pieces
   pieces = record {
-    mass = λ g x. weight_by odds (first_row (stratum_at strata g)) (first_cell (stratum_at strata g) x);
-    added = λ g x. pos (first_cell (stratum_at strata g) x) ∷ [];
+    mass = λ g x. weight_by odds (first_row (stratum_at strata g)) (stratum_cell (stratum_at strata g) x);
+    added = λ g x. pos (stratum_cell (stratum_at strata g) x) ∷ [];
   }
 
   all-one : (g : ℕ) (xs : List (List ℕ)) → AllByRecursion (λ x. length (pieces.added g x) ≡ 1) xs
@@ -213,9 +213,9 @@ module _ (odds : Option Odds) (strata : List Stratum) (judge : Judge) where
   measures-from (t ∷ ts) g k (x ∷ xs) d h =
       let here = drop-head g strata t ts d in
       let long : length x ≡ size t = h.0.rowed.long ∙ ap size here.0 in
-      ap (λ n. k +ℤ pos n) (cells-joined t ts x (concat xs) long) ∙ grouped-plus k (first_cell t x) (first_cells ts (concat xs))
-      ∙ ap (λ (s : Stratum). (k +ℤ pos (first_cell s x)) +ℤ pos (first_cells ts (concat xs))) (sym here.0)
-      ∙ measures-from ts (g + 1) (k +ℤ pos (first_cell (stratum_at strata g) x)) xs here.1 h.1
+      ap (λ n. k +ℤ pos n) (cells-joined t ts x (concat xs) long) ∙ grouped-plus k (stratum_cell t x) (first_cells ts (concat xs))
+      ∙ ap (λ (s : Stratum). (k +ℤ pos (stratum_cell s x)) +ℤ pos (first_cells ts (concat xs))) (sym here.0)
+      ∙ measures-from ts (g + 1) (k +ℤ pos (stratum_cell (stratum_at strata g) x)) xs here.1 h.1
 
   -- what a list of labels weighs, also where it is cut off after some strata
   abbrev own_weight : List ℕ → ℕ
@@ -240,9 +240,9 @@ module _ (odds : Option Odds) (strata : List Stratum) (judge : Judge) where
       let zeros : zeros_in x ≡ first_row t = h.0.rowed.zeros ∙ ap first_row here.0 in
       ap (λ n. weight_by odds n (first_cells (t ∷ ts) (x ++ ys))) (zeros-joined x ys ∙ ap (λ n. n + zeros_in ys) zeros)
       ∙ ap (weight_by odds (first_row t + zeros_in ys)) (cells-joined t ts x ys long)
-      ∙ weight-joined odds (first_row t) (zeros_in ys) (first_cell t x) (first_cells ts ys) (omega (arith, cell-zeros t x, zeros)) (within-from ts (g + 1) xs here.1 h.1)
-      ∙ ap (λ (s : Stratum). weight_by odds (first_row s) (first_cell s x) * weight_by odds (zeros_in ys) (first_cells ts ys)) (sym here.0)
-      ∙ ap (λ n. weight_by odds (first_row (stratum_at strata g)) (first_cell (stratum_at strata g) x) * n) (weighs-from ts (g + 1) xs here.1 h.1)
+      ∙ weight-joined odds (first_row t) (zeros_in ys) (stratum_cell t x) (first_cells ts ys) (omega (arith, cell-zeros t x, zeros)) (within-from ts (g + 1) xs here.1 h.1)
+      ∙ ap (λ (s : Stratum). weight_by odds (first_row s) (stratum_cell s x) * weight_by odds (zeros_in ys) (first_cells ts ys)) (sym here.0)
+      ∙ ap (λ n. weight_by odds (first_row (stratum_at strata g)) (stratum_cell (stratum_at strata g) x) * n) (weighs-from ts (g + 1) xs here.1 h.1)
 
   joined : (measure : List ℕ → ℤ) → ((r : List ℕ) → measure r ≡ pos (first_cells strata r)) → IsJoined a pieces (IsPart strata) measure own_weight
   joined measure is = record {

@@ -7,4 +7,4 @@ use Rattle.strata_cells.proofs.cells.first_cells.Goals as goal
 
 pub overflow_add-sum : goal.overflow_add-sum
 overflow_add-sum c =
-    omega (arith, c.first_cell-sum.ensures, count-room c.args.strata.now c.args.labels.now c.loop-stratum.stratum-index c.loop-stratum.sum c.loop-stratum.later.now c.loop-stratum-test.true c.loop-stratum.invariant, subjects-few c.args.strata.now (recursion_from_All IsSmall c.args.strata.now c.requires.small) c.requires.few)
+    omega (arith, c.stratum_cell-sum.ensures, count-room c.args.strata.now c.args.labels.now c.loop-stratum.stratum-index c.loop-stratum.sum c.loop-stratum.later.now c.loop-stratum-test.true c.loop-stratum.invariant, subjects-few c.args.strata.now (recursion_from_All IsSmall c.args.strata.now c.requires.small) c.requires.few)
