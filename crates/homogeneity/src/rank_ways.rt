@@ -6,9 +6,9 @@ use crate::stratified_ranks::StratifiedRanks;
 use enumerate::{Plain, next_joined};
 use room_network::{Numbered, RoomNetwork};
 use scores::labelled_sum;
-use stage_network::{Judge, Prepared};
+use stage_network::{Judge, Prepared, TailSums};
 use std::alloc::Global;
-use weights::{Bytes, Frame, NoMemory, Tail};
+use weights::{Bytes, Frame, NoMemory, Tail, Tails};
 
 impl Plain for StratifiedRanks {
     ghost use Rattle.homogeneity.specs.StratifiedRanks.{stratified_rank_test};
@@ -66,5 +66,13 @@ impl Prepared for StratifiedRanks {
             judge: Judge::of(&made.frame),
         };
         Ok(RoomNetwork::new(rooms, Numbered::new(measure)))
+    }
+
+    // Where sums seldom meet, by two halves.
+    fn numerators(&self, alloc: Global, tails: Tails) -> Result<TailSums, NoMemory> {
+        let judge = Judge::of(&self.made().frame);
+        let stages = self.stages_of(alloc, Tail::Less)?;
+        let sums = halves::tail_sums(alloc, &stages, &judge, tails)?;
+        Ok(sums)
     }
 }
