@@ -32,7 +32,7 @@ pub sum-singles : (n : ℕ) → sum (replicate n 1) ≡ n
 sum-singles zero = refl
 sum-singles (suc n) = sum_by-cons (λ v. v) 1 (replicate n 1) ∙ omega (arith, sum-singles n)
 
-pub length-singles : (n : ℕ) → length (replicate n 1) ≡ n
+pub length-singles : (n : ℕ) → length {A = ℕ} (replicate n 1) ≡ n
 length-singles zero = refl
 length-singles (suc n) = ap suc (length-singles n)
 

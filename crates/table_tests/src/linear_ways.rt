@@ -20,11 +20,9 @@ use weights::{Bytes, Frame, NoMemory, Tail};
 impl LinearTable {
     // The network whose columns are single subjects.
     fn by_subjects(&self, alloc: Global) -> Result<ProductStages, NoMemory>
-        ensures built { let meaning = subject_meaning self.now in
+        ensures { let meaning = subject_meaning self.now in
             IfOk result (λ s. meaning ≡ linear_meaning s.1.scores.items s.1.rows.items
             s.1.later.scores.items s.1.later.columns.items s.1.judge) }
-        ensures follows { (tail : Tail) → Follows (linear_test self.now) tail
-            (label_network (subject_meaning self.now)) }
     {
         let made = self.made();
         let row_scores = made.row_scores.as_slice();
@@ -36,6 +34,14 @@ impl LinearTable {
         };
         let judge = Judge::of(&made.frame);
         product_stages(alloc, &margins, row_scores, scores.as_slice(), judge)
+    }
+
+    // It follows the test, for every tail.
+    fn subjects_follow(&self)
+        ensures { (tail : Tail) → Follows (linear_test self.now) tail
+            (label_network (subject_meaning self.now)) }
+    {
+        let _made = self.made();
     }
 }
 
@@ -102,6 +108,7 @@ impl Prepared for LinearTable {
         if self.made().margins.rows.len() == 2 {
             self.stages_of(alloc, tail)
         } else {
+            self.subjects_follow();
             self.by_subjects(alloc)
         }
     }
