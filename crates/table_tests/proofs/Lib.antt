@@ -4,6 +4,7 @@ mod Observed
 mod Products
 mod ProductLimits
 mod LinearTests
+mod SingleSubjects
 mod WeightNarrows
 mod WeightKeys
 mod SharperFactors

@@ -1,11 +1,12 @@
 -- The networks of the tests of a table: a stage is a column, in the order of the table, and its
 -- choice says how many of its subjects are in each row.
-use Rattle.std.specs.Prelude.{ℤ, pos, List, [], ◌∷◌}
+use Rattle.std.specs.Prelude.{ℕ, ℤ, pos, List, [], ◌∷◌, length, replicate}
 use Rattle.weights.specs.declared.tails.Tail.{Tail}
 use Rattle.weights.specs.declared.tails.Tail.TheVariants.{Less, Greater, Two}
 use Rattle.stage_network.specs.Judged.{judge_of}
 use Rattle.stage_network.specs.Network.{Network}
 use Rattle.label_network.specs.LabelNetwork.{label_network}
+use Rattle.label_network.specs.LaterSums.{subjects}
 use Rattle.label_network.specs.Linear.{linear_meaning}
 use Rattle.label_network.specs.Meanings.{Meaning}
 use Rattle.table_reader.specs.TableLayout.{TableData}
@@ -22,6 +23,14 @@ product_meaning scored =
 -- one network for all tails
 abbrev pub linear_network : ScoredTable → Tail → Network
 linear_network scored tail = label_network (product_meaning scored)
+
+-- the same sum with each subject as a column of its own, which has its column's score: what remains
+-- of the rows asks for the sums alone, so that tied subjects need not be taken together
+abbrev pub subject_meaning : ScoredTable → Meaning
+subject_meaning scored =
+    let units : List ℤ = subjects scored.column_scores (column_sums scored.table) in
+    linear_meaning scored.row_scores (row_sums scored.table)
+    units (replicate (length units) 1) (judge_of (linear_test scored))
 
 -- the first cell has the subjects of the first row and the first column, which score 1
 abbrev pub first_scores : List ℤ

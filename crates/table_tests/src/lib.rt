@@ -22,6 +22,7 @@ mod odds_ways;
 mod odds_weights;
 mod product_stages;
 mod scaled;
+mod single_subjects;
 mod sorted_weights;
 mod sums;
 mod table_test;
