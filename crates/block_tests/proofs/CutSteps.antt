@@ -1,5 +1,5 @@
 -- One step of the loops that cut a list into blocks.
-use Rattle.std.proofs.Common.{◌≡◌, ℕ, suc, ◌+◌, ◌*◌, ◌-◌, ◌<◌, ◌≤◌, List, [], ◌∷◌, ◌++◌, length, drop, take, map, get_or, refl, sym, ◌∙◌, ap, subst, arith, append_assoc, append-nil, length-drop, length-take}
+use Rattle.std.proofs.Common.{◌≡◌, ℕ, suc, ◌+◌, ◌*◌, ◌-◌, ◌<◌, ◌≤◌, List, [], ◌∷◌, ◌++◌, length, drop, take, map, get_or, refl, sym, ◌∙◌, ap, subst, arith, append_assoc, length-drop, length-take}
 use Rattle.std.specs.Prelude.{ℤ}
 use Rattle.std.specs.List.{All, AllByRecursion, concat}
 use Rattle.std.proofs.lemmas.List.Elements.{All-from_recursion}

@@ -1,13 +1,12 @@
 -- What runs for Page's test stands for what is written: the keys are the same, and the lines of a block are its arrangements, those that add as much taken together.
-use Rattle.std.proofs.Common.{◌≡◌, ◌<◌, ◌≤◌, ◌*◌, ℕ, List, [], ◌∷◌, length, inl, inr, refl, sym, ◌∙◌, ap, subst, arith}
+use Rattle.std.proofs.Common.{◌≡◌, ◌<◌, ◌*◌, ℕ, List, [], ◌∷◌, inl, inr, refl, sym, ◌∙◌, ap, subst, arith}
 use Rattle.std.specs.Prelude.{ℤ, pos}
 use Rattle.std.specs.List.{Contains, sum_by}
-use Rattle.weights.specs.Conditional.{ConditionalTest}
 use Rattle.weights.specs.Labellings.{labellings}
 use Rattle.weights.specs.declared.lines.Line.{Line}
 use Rattle.weights.specs.declared.tails.Tail.{Tail}
 use Rattle.weights.proofs.Sums.{sum_by-same}
-use Rattle.stage_network.specs.Addends.{Addends, additive_network}
+use Rattle.stage_network.specs.Addends.{additive_network}
 use Rattle.stage_network.specs.Completions.{over_arcs}
 use Rattle.stage_network.specs.Judged.{judge_of}
 use Rattle.stage_network.specs.Network.{Network, IsReached}
@@ -15,7 +14,7 @@ use Rattle.stage_network.specs.PartialSums.{plus}
 use Rattle.stage_network.specs.Written.{AreWritten, RunsFor, Writes}
 use Rattle.stage_network.specs.declared.verdicts.Judge.{Judge}
 use Rattle.stage_network.proofs.Bridge.{choices-before}
-use Rattle.block_tests.specs.BlockNetworks.{addends_of, block_at, block_network, line_addends, line_of, page_addends, page_lines, places_from, running_addends, running_network}
+use Rattle.block_tests.specs.BlockNetworks.{addends_of, block_at, block_network, line_addends, line_of, page_addends, page_lines, running_addends, running_network}
 use Rattle.block_tests.specs.BlockTests.{BlockTests, block_counts, block_test, page_sum}
 use Rattle.block_tests.specs.declared.kinds.BlockKind.{BlockKind}
 use Rattle.block_tests.specs.declared.kinds.BlockKind.TheVariants.{Friedman, Page, Cochran}

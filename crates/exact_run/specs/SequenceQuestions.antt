@@ -12,7 +12,7 @@ use Rattle.report.specs.declared.headings.Extra.TheVariants as extra
 use Rattle.report.specs.declared.headings.Sizes.{Sizes}
 use Rattle.report.specs.declared.headings.Sizes.TheVariants as sizes
 use Rattle.report.specs.declared.refusals.Refusal.{Refusal}
-use Rattle.sequence_tests.specs.SequenceTests.{sequence_network, sequence_test}
+use Rattle.sequence_tests.specs.SequenceTests.{running_network, sequence_network, sequence_test}
 use Rattle.exact_run.specs.Question.{Question, dropped_told, layout_refusal, question_about}
 
 -- ---- twins
@@ -23,7 +23,7 @@ twin_sizes twins = sizes.Pairs (length twins.first) (length twins.first)
 
 abbrev pub kendall_question : Option ℕ → TwinData → Question
 kendall_question dropped twins =
-    question_about sequence_test sequence_network sequence_network (First twins)
+    question_about sequence_test sequence_network running_network (First twins)
     (twin_sizes twins) dropped extra.None
 
 abbrev pub kendall_of : Settings → List (List (List ℕ)) → Result Question Refusal
@@ -40,7 +40,7 @@ sequence_sizes sequence =
 
 abbrev pub runs_question : Option ℕ → SequenceData → Question
 runs_question dropped sequence =
-    question_about sequence_test sequence_network sequence_network (Second sequence)
+    question_about sequence_test sequence_network running_network (Second sequence)
     (sequence_sizes sequence) dropped extra.None
 
 abbrev pub runs_of : Settings → List (List (List ℕ)) → Result Question Refusal

@@ -13,7 +13,6 @@ use Rattle.stage_network.specs.Completions.{total_weight}
 use Rattle.stage_network.specs.Laws.{IsLawful}
 use Rattle.stage_network.specs.Network.{Network, IsReached}
 use Rattle.stage_network.specs.NodeSteps.{AllHeavy, AllReached}
-use Rattle.stage_network.proofs.Conserved.{all_weaker}
 use Rattle.pieces.specs.declared.cuts.Cut.{Cut}
 use Rattle.pieces.specs.declared.ordering.Entry.{Entry}
 use Rattle.pieces.specs.Cuts.{IsCut, closed_sum, cut_nodes, met_sum, keys_open_at}

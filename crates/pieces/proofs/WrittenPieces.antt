@@ -1,12 +1,11 @@
 -- The pieces of a network that runs are those of the network that is written down, where its keys stand for that one's: the same is closed, and each part is given the keys that stand for its written ones.
-use Rattle.std.proofs.Common.{◌≡◌, ℕ, zero, suc, ◌+◌, ◌-◌, ◌*◌, ◌%◌, ◌<◌, ◌≤◌, List, [], ◌∷◌, Bool, true, false, cond, inl, inr, refl, sym, ◌∙◌, ap, subst, arith, nat_eq, ◌⊎◌}
+use Rattle.std.proofs.Common.{◌≡◌, ℕ, zero, suc, ◌+◌, ◌-◌, ◌*◌, ◌%◌, ◌<◌, ◌≤◌, List, [], ◌∷◌, Bool, true, false, cond, inl, inr, refl, sym, ◌∙◌, ap, subst, arith, nat_eq}
 use Rattle.std.specs.Prelude.{ℤ, min}
 use Rattle.std.specs.List.{sum_by, filter, Contains}
 use Rattle.std.specs.Ordering.{is_lt}
-use Rattle.std.specs.Set.{distinct_count}
 use Rattle.weights.specs.declared.tails.Tail.{Tail}
 use Rattle.weights.proofs.Members.{Contains-filter}
-use Rattle.node_pool.specs.Nodes.{key_cmp, key_eq}
+use Rattle.node_pool.specs.Nodes.{key_cmp}
 use Rattle.stage_network.specs.declared.stages.Verdict.{Verdict}
 use Rattle.stage_network.specs.declared.stages.Verdict.TheVariants.{Inside, Outside, Undecided}
 use Rattle.stage_network.specs.Completions.{extreme_weight, is_extreme, is_inside, over_arcs, path_weight, paths}

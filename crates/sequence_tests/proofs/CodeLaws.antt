@@ -176,10 +176,6 @@ shifted (suc c) later h =
     turned : (a z : ℕ) → (2 * z + 1) * a ≡ a * (1 + 2 * z)
     turned a z = omega arith
 
-pub last-shifted : (units : ℕ) → 0 < units → 2 ^ (units - 1) ≡ last_mark units
-last-shifted zero h = absurd (omega (arith, h))
-last-shifted (suc n) h = let one : suc n - 1 ≡ n = omega arith in rw one refl
-
 pub last-small : (units : ℕ) → units ≤ 120 → last_mark units < 2 ^ 120
 last-small zero h = lit≤ tt
 last-small (suc n) h =

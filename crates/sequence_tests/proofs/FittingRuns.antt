@@ -26,7 +26,7 @@ use Rattle.stage_network.specs.Follows.{Follows}
 use Rattle.stage_network.specs.Judged.{judge_of}
 use Rattle.stage_network.proofs.Following.{judge-fits}
 use Rattle.label_network.proofs.LabelFollows.{label_follows}
-use Rattle.sequence_tests.specs.RunCounts.{runs_meaning, runs_network}
+use Rattle.sequence_tests.specs.RunCounts.{running_runs, runs_meaning}
 use Rattle.sequence_tests.specs.Runs.{rows_with, runs, runs_test}
 use Rattle.sequence_tests.specs.RunSteps.{AreRuns, IsRunning}
 use Rattle.sequence_tests.proofs.RunNarrows.{runs_measure, sum-two}
@@ -137,7 +137,7 @@ module _ (s : SequenceData) (first second : ℕ) (frame : Frame) (r : AreRuns s 
     rules_fit = λ n h. judge-fits (runs_test s) judge e (pos n) (λ tail. rule-fits (runs_test s) centred tail (pos n) (runs-fit n h));
   }
 
-  pub follows : (tail : Tail) → Follows (runs_test s) tail (runs_network s tail)
+  pub follows : (tail : Tail) → Follows (runs_test s) tail (running_runs s tail)
   follows tail =
       label_follows (runs_meaning (rows_with s 0) (rows_with s 1) (judge_of (runs_test s))) (runs_measure (rows_with s 0) (rows_with s 1) (judge_of (runs_test s))) (runs_test s) tail (record {
         judge_is = refl;

@@ -13,6 +13,7 @@ pub mod KendallFitting
 pub mod RunNarrows
 pub mod RunKeys
 pub mod RunValues
+pub mod RunWriting
 pub mod FittingRuns
 mod KendallVectors
 pub mod RunVectors

@@ -47,7 +47,7 @@ high-second (suc zero) a b h = grind arith
 high-second (suc (suc n)) a b h = grind (arith, clamps)
 
 -- a choice for one row of two labels
-data IsOne (a b : ℕ) (c : List ℕ) : Type 0 where
+pub data IsOne (a b : ℕ) (c : List ℕ) : Type 0 where
   one_first : 1 ≤ a → c ≡ 1 ∷ 0 ∷ [] → IsOne a b c
   one_second : 1 ≤ b → c ≡ 0 ∷ 1 ∷ [] → IsOne a b c
 
@@ -135,12 +135,12 @@ module _ (a b : ℕ) (judge : Judge) where
   abbrev m : Meaning
   m = runs_meaning a b judge
 
-  one-each : (g : ℕ) → g < length m.columns → slice_index m.columns g ≡ 1
+  pub one-each : (g : ℕ) → g < length m.columns → slice_index m.columns g ≡ 1
   one-each g h =
       let long : length m.columns ≡ a + b = length-replicate (a + b) 1 in
       get_or-replicate (a + b) g 1 0 (omega (arith, h, long))
 
-  here : (g : ℕ) (r c : List ℕ) → g < length m.columns → IsChoice (slice_index m.columns g) r c → length r ≡ 2 → IsOne (firsts_in r) (seconds_in r) c
+  pub here : (g : ℕ) (r c : List ℕ) → g < length m.columns → IsChoice (slice_index m.columns g) r c → length r ≡ 2 → IsOne (firsts_in r) (seconds_in r) c
   here g [] c h o e = absurd (omega (arith, e))
   here g (x ∷ []) c h o e = absurd (omega (arith, e))
   here g (x ∷ y ∷ []) c h o e = one_of x y c (rw (one-each g h) at o)

@@ -1,11 +1,12 @@
--- The network of the runs test: a stage is a row, in the order of the file, and its choice says
--- which of two labels it gets. A key's partial has the label of the row before, or 2 before the
--- first row, and the runs so far.
-use Rattle.std.specs.Prelude.{ℕ, zero, suc, ◌+◌, ◌*◌, ℤ, pos, ◌+ℤ◌, nat_abs, List, [], ◌∷◌, get_or, min, replicate, nat_eq, nat_lt, if◌then◌else◌}
+-- The networks of the runs test: a stage is a row, in the order of the file, and its choice says
+-- which of two labels it gets. As it is written, a key has how many rows are left to get the first
+-- label, the label of the row before, or 2 before the first row, and the runs so far. What runs
+-- keeps beside these how many are left to get the second label.
+use Rattle.std.specs.Prelude.{ℕ, zero, suc, ◌+◌, ◌-◌, ◌*◌, ℤ, pos, ◌+ℤ◌, nat_abs, List, [], ◌∷◌, drop, get_or, min, replicate, nat_eq, nat_lt, if◌then◌else◌}
 use Rattle.stage_network.specs.declared.verdicts.Judge.{Judge}
 use Rattle.weights.specs.declared.tails.Tail.{Tail}
 use Rattle.sample_reader.specs.Sequences.{SequenceData}
-use Rattle.stage_network.specs.Judged.{judge_of}
+use Rattle.stage_network.specs.Judged.{judge_of, rule_in, verdict_of}
 use Rattle.stage_network.specs.Network.{Network}
 use Rattle.label_network.specs.LabelNetwork.{label_network}
 use Rattle.label_network.specs.Meanings.{Meaning}
@@ -79,7 +80,58 @@ runs_meaning a b judge = record {
   judge = judge;
 }
 
+-- ---- the network as it is written
+
+-- how many rows are left to get the first label, and of so many rows the second
+abbrev pub firsts_left : List ℤ → ℕ
+firsts_left k = nat_abs (get_or k 0 (pos 0))
+
+abbrev pub seconds_left : ℕ → ℕ → List ℤ → ℕ
+seconds_left rows g k = rows - g - firsts_left k
+
+-- the labels that a row can get
+abbrev pub labels_for : ℕ → ℕ → List (List ℕ)
+labels_for zero zero = []
+labels_for zero (suc b) = (1 ∷ []) ∷ []
+labels_for (suc a) zero = (0 ∷ []) ∷ []
+labels_for (suc a) (suc b) = (0 ∷ []) ∷ (1 ∷ []) ∷ []
+
+-- where a label leads so many rows of the first
+abbrev pub firsts_after : ℕ → ℕ → ℕ
+firsts_after zero a = a - 1
+firsts_after (suc label) a = a
+
+-- the runs so far, and with them as many as can still come
+abbrev pub with_runs : (ℕ → ℕ → ℕ → ℕ) → ℕ → ℕ → List ℤ → ℤ
+with_runs to_come rows g k = runs_so_far (drop 1 k)
+    +ℤ pos (to_come (last_in (drop 1 k)) (firsts_left k) (seconds_left rows g k))
+
+-- of so many rows of the first label and so many of the second
+abbrev pub written_runs : ℕ → ℕ → Judge → Network
+written_runs a b judge = record {
+  count = a + b;
+  width = 3;
+  choice_width = 1;
+  first = pos a ∷ pos 2 ∷ pos 0 ∷ [];
+  choices = λ g k. labels_for (firsts_left k) (seconds_left (a + b) g k);
+  later = λ g k c.
+      if nat_eq (get_or c 0 0) 0 then labels_for 0 (seconds_left (a + b) g k) else [];
+  weight = λ g k c. 1;
+  next = λ g k c. pos (firsts_after (get_or c 0 0) (firsts_left k)) ∷ pos (get_or c 0 0)
+      ∷ (runs_so_far (drop 1 k) +ℤ pos (begins_run (last_in (drop 1 k)) (get_or c 0 0))) ∷ [];
+  verdict = λ t g k. verdict_of (rule_in judge t)
+      (with_runs least_to_come (a + b) g k) (with_runs most_to_come (a + b) g k);
+  value = λ k. runs_so_far (drop 1 k);
+}
+
+-- ---- of a sequence
+
 abbrev pub runs_network : SequenceData → Tail → Network
 runs_network sequence tail =
+    written_runs (rows_with sequence 0) (rows_with sequence 1) (judge_of (runs_test sequence))
+
+-- what runs
+abbrev pub running_runs : SequenceData → Tail → Network
+running_runs sequence tail =
     label_network (runs_meaning (rows_with sequence 0) (rows_with sequence 1)
     (judge_of (runs_test sequence)))

@@ -8,7 +8,7 @@ use Rattle.stage_network.specs.Network.{Network}
 use Rattle.stage_network.specs.OneOf.{of_either}
 use Rattle.sequence_tests.specs.Kendall.{twin_test}
 use Rattle.sequence_tests.specs.KendallNetwork.{twin_network}
-use Rattle.sequence_tests.specs.RunCounts.{runs_network}
+use Rattle.sequence_tests.specs.RunCounts.{running_runs, runs_network}
 use Rattle.sequence_tests.specs.Runs.{runs_test}
 
 abbrev pub sequence_test : OneOf TwinData SequenceData → ConditionalTest
@@ -16,3 +16,7 @@ sequence_test = of_either twin_test runs_test
 
 abbrev pub sequence_network : OneOf TwinData SequenceData → Tail → Network
 sequence_network = of_either twin_network runs_network
+
+-- what runs
+abbrev pub running_network : OneOf TwinData SequenceData → Tail → Network
+running_network = of_either twin_network running_runs

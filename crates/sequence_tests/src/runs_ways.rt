@@ -39,13 +39,13 @@ impl Plain for Runs {
 }
 
 impl Prepared for Runs {
-    ghost use Rattle.sequence_tests.specs.RunCounts.{runs_network};
+    ghost use Rattle.sequence_tests.specs.RunCounts.{running_runs, runs_network};
 
     type Built = LabelStages<RunCounts>;
 
     ghost network = { runs_network };
 
-    ghost runs = { runs_network };
+    ghost runs = { running_runs };
 
     fn has_tail(&self, _tail: Tail) -> bool {
         true

@@ -6,6 +6,7 @@ use Rattle.sequence_tests.specs.declared.run_counts.RunCounts.{RunCounts}
 use Rattle.sequence_tests.specs.RunCounts.{runs_meaning}
 use Rattle.sequence_tests.specs.Runs.{runs_test}
 use Rattle.sequence_tests.proofs.FittingRuns.{follows, is-running}
+use Rattle.sequence_tests.proofs.RunWriting.{written}
 use Rattle.sequence_tests.proofs.runs_ways.RunsPrepared.stages_of.Goals as goal
 
 pub new-measure-requires : goal.new-measure-requires
@@ -18,6 +19,12 @@ returns-in_err-columns-clause-follows c t has = follows c.args.self.now c.made-m
 
 pub returns-clause-follows : goal.returns-clause-follows
 returns-clause-follows c t has = follows c.args.self.now c.made-made.result.now.first c.made-made.result.now.second c.made-made.result.now.frame c.made-made.ensures t
+
+pub returns-in_err-columns-clause-written : goal.returns-in_err-columns-clause-written
+returns-in_err-columns-clause-written c = written c.args.self.now
+
+pub returns-clause-written : goal.returns-clause-written
+returns-clause-written c = written c.args.self.now
 
 pub returns-clause-built : goal.returns-clause-built
 returns-clause-built c =
