@@ -8,4 +8,4 @@ mod Ascending
 mod Laying
 mod Found
 mod Finding
-mod WholeRuns
+pub mod WholeRuns
