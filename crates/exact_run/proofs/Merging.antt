@@ -1,5 +1,5 @@
 -- What is promised of a run that puts pieces together, by how it ended.
-use Rattle.std.proofs.Common.{◌≡◌, ◌⊎◌, inl, inr, ℕ, List, Bool, true, false, Option, Some, None, Ok, Err, refl, subst, arith}
+use Rattle.std.proofs.Common.{◌≡◌, ◌≢◌, ◌⊎◌, inl, inr, ℕ, List, Bool, true, false, Option, Some, None, Ok, Err, refl, subst, arith}
 use Rattle.std.specs.Prelude.{IfSome}
 use Rattle.piece_texts.specs.declared.merging.MergeFault.{MergeFault}
 use Rattle.piece_texts.specs.declared.merging.MergeFault.TheVariants as fault
@@ -105,6 +105,7 @@ merging-done held text source_rose out_rose took took_prefix told is written = r
   line = λ other. absurd (other refl);
   bad_data = weaker _ _ (none-asked status.Done text (λ e. cc)) held is;
   complete = each _ (λ bytes outcome comes asked steady room. inl refl) held;
+  never = (λ e. cc, λ e. cc);
   all_parts = each _ all-parts-merge held;
 }
 
@@ -118,24 +119,27 @@ merging-write_fault held text source_rose out_rose took took_prefix told is rose
   line = λ other. record { cause = refusal.WriteFault; of_status = refl; told = line; of_bytes = λ own. absurd own };
   bad_data = weaker _ _ (none-asked status.WriteFault text (λ e. cc)) held is;
   complete = each _ (λ bytes outcome comes asked steady room. absurd (room rose)) held;
+  never = (λ e. cc, λ e. cc);
   all_parts = each _ all-parts-merge held;
 }
 
 -- ---- a refusal
 
 by-bytes : (cause : Refusal) (held : Option (List ℕ)) (source_rose out_rose : Type 0) (took took_prefix told : List ℕ → Type 0)
+    → (status_of cause ≢ status.Usage) × (status_of cause ≢ status.TooWide)
     → IfSome held (λ bytes. MergeOutcome bytes (Err cause)) → told (refusal_line_text cause)
     → MergePromises (status_of cause) held source_rose out_rose took took_prefix told
-by-bytes cause None source_rose out_rose took took_prefix told is line = record {
+by-bytes cause None source_rose out_rose took took_prefix told never is line = record {
   done = λ e. tt;
   undivided = λ e. tt;
   prefix = λ e. tt;
   line = λ other. record { cause = cause; of_status = refl; told = line; of_bytes = λ own. tt };
   bad_data = tt;
   complete = tt;
+  never = never;
   all_parts = tt;
 }
-by-bytes cause (Some bytes) source_rose out_rose took took_prefix told is line =
+by-bytes cause (Some bytes) source_rose out_rose took took_prefix told never is line =
     let bad : status_of cause ≡ status.BadData = bad-data bytes cause is in
     record {
       done = λ e. absurd (not-done bad e);
@@ -144,6 +148,7 @@ by-bytes cause (Some bytes) source_rose out_rose took took_prefix told is line =
       line = λ other. record { cause = cause; of_status = refl; told = line; of_bytes = λ own. is };
       bad_data = λ outcome comes. record { only = λ e. always-bad bytes cause outcome is comes; always = λ asked. inl bad };
       complete = λ outcome comes asked steady room. absurd (not-done (always-bad bytes cause outcome is comes) asked);
+      never = never;
       all_parts = all-parts-merge bytes;
     }
   where
@@ -166,6 +171,7 @@ by-source held source_rose out_rose took took_prefix told rose line = record {
   line = λ other. record { cause = refusal.ReadFault; of_status = refl; told = line; of_bytes = λ own. absurd own };
   bad_data = each _ (came-first status.ReadFault (λ e. cc) (inl refl)) held;
   complete = each _ (λ bytes outcome comes asked steady room. absurd (steady rose)) held;
+  never = (λ e. cc, λ e. cc);
   all_parts = each _ all-parts-merge held;
 }
 
@@ -178,21 +184,22 @@ by-memory held source_rose out_rose took took_prefix told line = record {
   line = λ other. record { cause = refusal.NoMemory; of_status = refl; told = line; of_bytes = λ own. absurd own };
   bad_data = each _ (came-first status.NoMemory (λ e. cc) (inr refl)) held;
   complete = each _ (λ bytes outcome comes asked steady room. inr refl) held;
+  never = (λ e. cc, λ e. cc);
   all_parts = each _ all-parts-merge held;
 }
 
 pub merging-refused : (cause : Refusal) (held : Option (List ℕ)) (source_rose out_rose : Type 0) (took took_prefix told : List ℕ → Type 0)
     → MergeComes source_rose held (Err cause) → told (refusal_line_text cause) → MergePromises (status_of cause) held source_rose out_rose took took_prefix told
 merging-refused (refusal.Usage fault) held s o t p told is line = absurd is
-merging-refused (refusal.Unfit name) held s o t p told is line = by-bytes (refusal.Unfit name) held s o t p told is line
-merging-refused (refusal.Row fault) held s o t p told is line = by-bytes (refusal.Row fault) held s o t p told is line
-merging-refused refusal.TooLong held s o t p told is line = by-bytes refusal.TooLong held s o t p told is line
-merging-refused (refusal.PieceLine number) held s o t p told is line = by-bytes (refusal.PieceLine number) held s o t p told is line
-merging-refused (refusal.Foreign piece) held s o t p told is line = by-bytes (refusal.Foreign piece) held s o t p told is line
-merging-refused (refusal.Doubled piece) held s o t p told is line = by-bytes (refusal.Doubled piece) held s o t p told is line
-merging-refused (refusal.MissingPart part) held s o t p told is line = by-bytes (refusal.MissingPart part) held s o t p told is line
-merging-refused (refusal.Unequal piece) held s o t p told is line = by-bytes (refusal.Unequal piece) held s o t p told is line
-merging-refused (refusal.TooWide what) held s o t p told is line = by-bytes (refusal.TooWide what) held s o t p told is line
+merging-refused (refusal.Unfit name) held s o t p told is line = absurd is
+merging-refused (refusal.Row fault) held s o t p told is line = by-bytes (refusal.Row fault) held s o t p told (λ e. cc, λ e. cc) is line
+merging-refused refusal.TooLong held s o t p told is line = by-bytes refusal.TooLong held s o t p told (λ e. cc, λ e. cc) is line
+merging-refused (refusal.PieceLine number) held s o t p told is line = by-bytes (refusal.PieceLine number) held s o t p told (λ e. cc, λ e. cc) is line
+merging-refused (refusal.Foreign piece) held s o t p told is line = by-bytes (refusal.Foreign piece) held s o t p told (λ e. cc, λ e. cc) is line
+merging-refused (refusal.Doubled piece) held s o t p told is line = by-bytes (refusal.Doubled piece) held s o t p told (λ e. cc, λ e. cc) is line
+merging-refused (refusal.MissingPart part) held s o t p told is line = by-bytes (refusal.MissingPart part) held s o t p told (λ e. cc, λ e. cc) is line
+merging-refused (refusal.Unequal piece) held s o t p told is line = by-bytes (refusal.Unequal piece) held s o t p told (λ e. cc, λ e. cc) is line
+merging-refused (refusal.TooWide what) held s o t p told is line = absurd is
 merging-refused refusal.WriteFault held s o t p told is line = absurd is
 merging-refused refusal.ReadFault held s o t p told is line = by-source held s o t p told is line
 merging-refused refusal.NoMemory held s o t p told is line = by-memory held s o t p told line
@@ -204,7 +211,7 @@ merging-comes reads rose held (Err refusal.NoMemory) is comes = tt
 merging-comes reads rose held (Err refusal.ReadFault) is comes = (is, comes)
 merging-comes reads rose held (Err refusal.WriteFault) is comes = absurd comes
 merging-comes reads rose held (Err (refusal.Usage fault)) is comes = absurd comes
-merging-comes reads rose held (Err (refusal.Unfit name)) is comes = tt
+merging-comes reads rose held (Err (refusal.Unfit name)) is comes = absurd comes
 merging-comes reads rose held (Err (refusal.Row fault)) is comes = tt
 merging-comes reads rose held (Err refusal.TooLong) is comes = tt
 merging-comes reads rose held (Err (refusal.PieceLine number)) is comes = tt
@@ -212,4 +219,4 @@ merging-comes reads rose held (Err (refusal.Foreign piece)) is comes = tt
 merging-comes reads rose held (Err (refusal.Doubled piece)) is comes = tt
 merging-comes reads rose held (Err (refusal.MissingPart part)) is comes = tt
 merging-comes reads rose held (Err (refusal.Unequal piece)) is comes = tt
-merging-comes reads rose held (Err (refusal.TooWide what)) is comes = tt
+merging-comes reads rose held (Err (refusal.TooWide what)) is comes = absurd comes

@@ -10,7 +10,7 @@ use Rattle.settings.specs.declared.names.TestName.TheVariants as test
 use Rattle.settings.specs.declared.pieces.PieceOf.{PieceOf}
 use Rattle.settings.specs.declared.settings.Settings.{Settings}
 use Rattle.report.specs.declared.refusals.Refusal.TheVariants as refusal
-use Rattle.exact_run.specs.Divided.{AsksAnswerable}
+use Rattle.exact_run.specs.Divided.{AsksAnswerable, IsAnswerable}
 use Rattle.exact_run.specs.Outcome.{Outcome, asked, asking_of, outcome_for, outcome_of_bytes, outcome_of_question, outcome_of_rows, tails_in, text_for}
 use Rattle.exact_run.specs.Question.{Question}
 use Rattle.exact_run.specs.Questions.{question_for}
@@ -18,6 +18,16 @@ use Rattle.exact_run.specs.declared.reports.Asking.{Asking}
 use Rattle.exact_run.proofs.EachName.{each-name, of_piece}
 
 -- no part is looked at to find the question
+same-question : (name : TestName) (settings : Settings) (piece : Option PieceOf) (rows : List (List (List ℕ))) → question_for name (of_piece settings piece) rows ≡ question_for name settings rows
+same-question name settings piece rows = elim (each-name name) [
+  | inl shift ↦ subst (λ n. question_for n (of_piece settings piece) rows ≡ question_for n settings rows) (sym shift) refl
+  | inr a ↦ a.question settings piece rows
+]
+
+-- where a part answers it, so does the run
+pub answer-of-part : (settings : Settings) (piece : PieceOf) (file : List ℕ) → AsksAnswerable (of_piece settings (Some piece)) file → AsksAnswerable settings file
+answer-of-part settings piece file answers = subst (IsAnswerable settings.tail) (same-question settings.test settings (Some piece) (records_of settings.separator file)) answers
+
 one-question : (name : TestName) (asking : Asking) (settings : Settings) (piece : Option PieceOf) (rows : List (List (List ℕ))) (question : Question)
     → question_for name settings rows ≡ Ok question → outcome_for name asking (of_piece settings piece) rows ≡ outcome_of_question asking question
 one-question name asking settings piece rows question is = elim (each-name name) [

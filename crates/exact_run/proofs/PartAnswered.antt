@@ -15,8 +15,8 @@ use Rattle.settings.specs.declared.names.UsageFault.TheVariants.{Form, Value}
 use Rattle.settings.specs.declared.pieces.PieceOf.{PieceOf}
 use Rattle.settings.specs.declared.settings.Settings.{Settings}
 use Rattle.exact_run.specs.CauseSteps.{AnswersRows, Meets, MeetsAnd}
-use Rattle.exact_run.specs.Divided.{AsksAnswerable, IsAnswerable, PartAnswers}
-use Rattle.exact_run.specs.Outcome.{Outcome, asking_of, outcome_for, part_of}
+use Rattle.exact_run.specs.Divided.{AsksAnswerable, IsAnswerable, PartAnswers, Writes}
+use Rattle.exact_run.specs.Outcome.{Outcome, asking_of, outcome_for, outcome_of_bytes, part_of}
 use Rattle.exact_run.specs.Questions.{question_for}
 use Rattle.exact_run.specs.declared.reports.Asking.{Asking}
 use Rattle.exact_run.proofs.EachName.{each-name}
@@ -69,6 +69,12 @@ held-part settings bytes (Some other) same (Some piece) is = subst (AsksAnswerab
 
 pub answered-held : (settings : Settings) (bytes : List ℕ) (held : Option (List ℕ)) (result : Outcome) → IfSome held (λ other. bytes ≡ other) → OnOk result (PartAnswers settings (Some bytes)) → OnOk result (PartAnswers settings held)
 answered-held settings bytes held result same = on-ok _ _ result (held-part settings bytes held same settings.piece)
+
+-- what a run that ended with 0 wrote
+pub written-text : (settings : Settings) (held : Option (List ℕ)) (text : List ℕ) (took : List ℕ → Type 0) → IfSome (option_map (outcome_of_bytes settings) held) (λ outcome. outcome ≡ Ok text) → PartAnswers settings held → took text
+    → Writes settings held took
+written-text settings None text took is answers written = tt
+written-text settings (Some file) text took is answers written = (text, record { outcome = is; answers = answers }, written)
 
 -- ---- the words of a test ask for no shift
 

@@ -134,3 +134,8 @@ promised-refused (refusal.TooWide what) known s o t p told is line = by-outcome 
 promised-refused refusal.ReadFault known s o t p told is line = by-source known s o t p told is line
 promised-refused refusal.WriteFault known s o t p told is line = absurd is
 promised-refused refusal.NoMemory known s o t p told is line = by-memory known s o t p told line
+
+-- no refusal ends with 0
+pub never-done : (cause : Refusal) → status_of cause ≡ status.Done → ⊥
+never-done (refusal.Usage fault) is = cc
+never-done _ is = cc

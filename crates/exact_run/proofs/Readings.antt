@@ -52,20 +52,3 @@ pub held-outcome : (rose : Type 0) (settings : Settings) (held : Option (List �
     → Meets (outcome_of_bytes settings bytes) result → ComesTo rose (option_map (outcome_of_bytes settings) held) result
 held-outcome rose settings None bytes result same meets = known-outcome rose (outcome_of_bytes settings bytes) None result tt meets
 held-outcome rose settings (Some other) bytes result same meets = known-outcome rose (outcome_of_bytes settings bytes) (Some (outcome_of_bytes settings other)) result (ap (outcome_of_bytes settings) (sym same)) meets
-
--- a source whose count rose was read
-pub read-comes : (reads rose : Type 0) (known : Option Outcome) (result : Outcome) → reads → ComesTo rose known result → ComesTo (reads × rose) known result
-read-comes reads rose known (Ok text) is comes = comes
-read-comes reads rose known (Err refusal.NoMemory) is comes = tt
-read-comes reads rose known (Err refusal.ReadFault) is comes = (is, comes)
-read-comes reads rose known (Err refusal.WriteFault) is comes = comes
-read-comes reads rose known (Err (refusal.Usage fault)) is comes = comes
-read-comes reads rose known (Err (refusal.Unfit name)) is comes = comes
-read-comes reads rose known (Err (refusal.Row fault)) is comes = comes
-read-comes reads rose known (Err (refusal.PieceLine number)) is comes = comes
-read-comes reads rose known (Err (refusal.Foreign piece)) is comes = comes
-read-comes reads rose known (Err (refusal.Doubled piece)) is comes = comes
-read-comes reads rose known (Err (refusal.MissingPart part)) is comes = comes
-read-comes reads rose known (Err (refusal.Unequal piece)) is comes = comes
-read-comes reads rose known (Err refusal.TooLong) is comes = comes
-read-comes reads rose known (Err (refusal.TooWide what)) is comes = comes

@@ -3,39 +3,44 @@ use Rattle.std.proofs.Common.{◌≡◌, ◌≢◌, ◌∙◌, ◌⊎◌, inl, i
 use Rattle.std.specs.Prelude.{option_map}
 use Rattle.std.specs.List.{AllByRecursion, flat_map}
 use Rattle.outside.specs.declared.source.TheConstants.{LONGEST_FILE}
-use Rattle.weights.specs.Conditional.{ConditionalTest, numerator, observed_statistic, total}
+use Rattle.weights.specs.Conditional.{ConditionalTest, is_extreme, numerator, observed_statistic, total}
 use Rattle.weights.specs.Frames.{first_tail}
+use Rattle.weights.proofs.Sums.{sum_by-filter-≤}
 use Rattle.weights.specs.declared.TheConstants.{MAX}
 use Rattle.weights.specs.declared.tails.Tail.{Tail}
 use Rattle.weights.specs.declared.tails.Tail.TheVariants.{Less, Greater, Two}
 use Rattle.weights.specs.declared.tails.Tails.{Tails}
 use Rattle.stage_network.specs.Asked.{asks}
+use Rattle.stage_network.specs.Completions.{extreme_weight}
 use Rattle.stage_network.specs.Follows.{answer_of, open_keys}
 use Rattle.stage_network.specs.Network.{Network}
 use Rattle.stage_network.proofs.Following.{extreme-is}
 use Rattle.settings.specs.declared.pieces.PieceOf.{PieceOf}
+use Rattle.settings.specs.WholeRuns.{whole}
 use Rattle.settings.specs.declared.settings.Settings.{Settings}
 use Rattle.settings.specs.declared.tails.TailChoice.{TailChoice}
 use Rattle.settings.specs.declared.tails.TailChoice.TheVariants as choice
 use Rattle.piece_texts.specs.declared.merging.Merged.{Merged}
 use Rattle.piece_texts.specs.declared.piece.Piece.{Piece}
 use Rattle.piece_texts.specs.declared.piece.PieceSum.{PieceSum}
-use Rattle.piece_texts.specs.Merges.{AddsUp, MergeGives, closed_of, greater_of, less_of, merged_number, number_of, over_parts, sum_of, summed_to, two_of}
+use Rattle.piece_texts.specs.Merges.{MergeGives, greater_of, less_of, merged_number, number_of, summed_to, two_of}
 use Rattle.piece_texts.specs.PieceTexts.{IsPiece, TailFits, ended, line_count, piece_text, tail_line}
 use Rattle.piece_texts.specs.ReadPieces.{AreTexts}
 use Rattle.piece_texts.proofs.EachPart.{all-add-up}
-use Rattle.pieces.specs.Cuts.{closed_sum, cut_stage, piece_sum}
+use Rattle.pieces.specs.Cuts.{piece_sum}
+use Rattle.pieces.specs.Undivided.{AreSumsOf, IsDivided, IsUndivided}
 use Rattle.pieces.proofs.CutSums.{piece-fits, pieces-add-up}
+use Rattle.pieces.proofs.WholeRuns.{undivided-result}
 use Rattle.report.specs.Report.{head_text, report_text}
 use Rattle.report.specs.declared.headings.Title.TheVariants as title
 use Rattle.report.proofs.AnswerLemmas.{merged_text-answer_of}
-use Rattle.exact_run.specs.Divided.{AreParts, AsksAnswerable, Serves, WritesUndivided, of_part, whole, with_part}
+use Rattle.exact_run.specs.Divided.{AreParts, AsksAnswerable, PartAnswers, Serves, WritesUndivided, of_part, settings_of_part}
 use Rattle.exact_run.specs.MergedRuns.{MergeOutcome, MergesWith, text_of_merged}
 use Rattle.exact_run.specs.Outcome.{asked, asking_of, outcome_of_bytes, part_of, piece_for, spread_of, tail_piece, tails_in, way_of}
 use Rattle.exact_run.specs.Question.{Question}
 use Rattle.exact_run.specs.declared.parts.PartOf.{PartOf}
 use Rattle.exact_run.proofs.HeadLines.{head-is}
-use Rattle.exact_run.proofs.OneQuestion.{asked-text, other-text}
+use Rattle.exact_run.proofs.OneQuestion.{answer-of-part, asked-text, other-text}
 use Rattle.exact_run.proofs.OneReading.{texts-once}
 use Rattle.exact_run.proofs.RunNameShape.{name-is}
 use Rattle.exact_run.proofs.Showable.{total-fits}
@@ -116,6 +121,15 @@ same-texts own texts parts each (part ∷ order) below =
 
 -- ---- the parts of one run
 
+of-part : (settings : Settings) (part : ℕ) (piece : PieceOf) → settings.piece ≡ Some piece → settings_of_part part settings ≡ record settings { piece = Some (of_part part piece) }
+of-part settings part piece is = ap (λ (found : Option PieceOf). record settings { piece = option_map (of_part part) found }) is
+
+-- the first part says that the question is answerable
+pub whole-answer : (settings : Settings) (file bytes : List ℕ) → AreParts settings file bytes → AsksAnswerable settings file
+whole-answer settings file bytes parts =
+    answer-of-part settings (of_part 0 parts.piece) file
+    (subst (λ (s : Settings). PartAnswers s (Some file)) (of-part settings 0 parts.piece parts.is_asked) (parts.written 0 parts.alone.usable.some).answers)
+
 module _ (settings : Settings) (file bytes : List ℕ) (parts : AreParts settings file bytes) (answer : AsksAnswerable settings file) where
   abbrev question : Question
   question = answer.question
@@ -129,11 +143,8 @@ module _ (settings : Settings) (file bytes : List ℕ) (parts : AreParts setting
   abbrev pub own_head : List ℕ
   own_head = head_text (title.Test settings.test) question.sizes question.dropped question.extra (observed_statistic question.test) question.test.scale (total question.test)
 
-  of-part : (part : ℕ) → with_part part settings ≡ record settings { piece = Some (of_part part parts.piece) }
-  of-part part = ap (λ (piece : Option PieceOf). record settings { piece = option_map (of_part part) piece }) parts.is_asked
-
   written-text : (part : ℕ) → part < parts.piece.parts → outcome_of_bytes (record settings { piece = Some (of_part part parts.piece) }) file ≡ Ok (parts.texts part)
-  written-text part below = ap (λ (s : Settings). outcome_of_bytes s file) (sym (of-part part)) ∙ parts.written part below
+  written-text part below = ap (λ (s : Settings). outcome_of_bytes s file) (sym (of-part settings part parts.piece parts.is_asked)) ∙ (parts.written part below).outcome
 
   part-text : (part : ℕ) → part < parts.piece.parts → parts.texts part ≡ piece_text (own part)
   part-text part below = asked-text settings file answer (Some (of_part part parts.piece)) (parts.texts part) (written-text part below)
@@ -150,8 +161,8 @@ module _ (settings : Settings) (file bytes : List ℕ) (parts : AreParts setting
   own-formed : line_count own_head ≤ MAX → (part : ℕ) → part < parts.piece.parts → IsPiece (own part)
   own-formed few part below = record {
     name = name-is parts.piece.given file;
-    some_parts = parts.usable.some;
-    few_parts = parts.usable.few;
+    some_parts = parts.alone.usable.some;
+    few_parts = parts.alone.usable.few;
     part = below;
     head = head-is settings.test question.sizes question.dropped question.extra (observed_statistic question.test) question.test.scale (total question.test);
     few_lines = few;
@@ -163,32 +174,44 @@ module _ (settings : Settings) (file bytes : List ℕ) (parts : AreParts setting
     asked = some-piece part;
   }
 
+  all-own : (P : Piece → Type 0) → ((part : ℕ) → P (own part)) → (order : List ℕ) → AllByRecursion P (map own order)
+  all-own P each [] = tt
+  all-own P each (part ∷ order) = (each part, all-own P each order)
+
+  -- each piece has the sums of its part
+  sums-of : (get : Piece → Option PieceSum) (tail : Tail) (first : ℕ) (rest : List ℕ) → Serves question.test tail (question.runs tail)
+      → ((part : ℕ) → get (own part) ≡ Some (piece_sum (question.runs tail) tail parts.piece.at parts.piece.parts part))
+      → AreSumsOf (question.runs tail) tail parts.piece.at get (map own (first ∷ rest))
+  sums-of get tail first rest serves each = record {
+    add = pieces-add-up (question.runs tail) serves.lawful tail parts.piece.at parts.piece.parts parts.alone.usable.some;
+    each = all-own (λ (p : Piece). get p ≡ Some (piece_sum (question.runs tail) tail parts.piece.at parts.piece.parts p.part)) each (first ∷ rest);
+  }
+
+  -- the tail of a run that is divided, whose number is at most the total
+  pub divided : (get : Piece → Option PieceSum) (tail : Tail) (is_asked : Bool) (first : ℕ) (rest : List ℕ) → (is_asked ≡ true → Serves question.test tail (question.runs tail))
+      → ((part : ℕ) → get (own part) ≡ tail_piece (part_at part) question.runs tail is_asked)
+      → IsDivided get (map own (first ∷ rest))
+  divided get tail false first rest serves each = inl (all-own (λ (p : Piece). get p ≡ None) each (first ∷ rest))
+  divided get tail true first rest serves each =
+      let n = question.runs tail in
+      let most : extreme_weight n tail 0 n.first ≤ total question.test =
+      omega (arith, extreme-is question.test tail n (serves refl).follows, sum_by-filter-≤ question.test.weight (is_extreme question.test tail) question.test.reference) in
+      inr (n, tail, parts.piece.at, sums-of get tail first rest (serves refl) each, most)
+
   -- what the parts of a tail come to
-  abbrev pub told : Bool → Tail → Option ℕ
+  abbrev told : Bool → Tail → Option ℕ
   told is_asked tail = cond is_asked (Some (numerator question.test tail)) None
 
-  sum-of-all : (get : Piece → Option PieceSum) (tail : Tail) (first : ℕ) (rest : List ℕ) → Serves question.test tail (question.runs tail)
-      → ((part : ℕ) → get (own part) ≡ Some (piece_sum (question.runs tail) tail parts.piece.at parts.piece.parts part))
-      → AddsUp get (map own (first ∷ rest)) → merged_number get (map own (first ∷ rest)) ≡ Some (numerator question.test tail)
-  sum-of-all get tail first rest serves each up =
-      let n = question.runs tail in
-      let here : closed_of (get (own first)) ≡ closed_sum n tail (cut_stage n parts.piece.at) = ap closed_of (each first) in
-      let sum : summed_to get (map own (first ∷ rest)) (length (map own (first ∷ rest))) ≡ numerator question.test tail =
-      up (λ part. (piece_sum n tail parts.piece.at parts.piece.parts part).sum) (sums (first ∷ rest))
-      ∙ ap (λ closed. closed + over_parts (λ part. (piece_sum n tail parts.piece.at parts.piece.parts part).sum) parts.piece.parts) here
-      ∙ pieces-add-up n serves.lawful tail parts.piece.at parts.piece.parts parts.usable.some
-      ∙ extreme-is question.test tail n serves.follows in
-      ap (λ found. number_of found (summed_to get (map own (first ∷ rest)) (length (map own (first ∷ rest))))) (each first) ∙ ap Some sum
-    where
-      sums : (order : List ℕ) → AllByRecursion (λ (p : Piece). sum_of (get p) ≡ (piece_sum (question.runs tail) tail parts.piece.at parts.piece.parts p.part).sum) (map own order)
-      sums [] = tt
-      sums (part ∷ order) = (ap sum_of (each part), sums order)
-
-  pub tail-sum : (get : Piece → Option PieceSum) (tail : Tail) (is_asked : Bool) (first : ℕ) (rest : List ℕ) → (is_asked ≡ true → Serves question.test tail (question.runs tail))
+  told-sum : (get : Piece → Option PieceSum) (tail : Tail) (is_asked : Bool) (first : ℕ) (rest : List ℕ) (number : Option ℕ) → (is_asked ≡ true → Serves question.test tail (question.runs tail))
       → ((part : ℕ) → get (own part) ≡ tail_piece (part_at part) question.runs tail is_asked)
-      → AddsUp get (map own (first ∷ rest)) → merged_number get (map own (first ∷ rest)) ≡ told is_asked tail
-  tail-sum get tail true first rest serves each up = sum-of-all get tail first rest (serves refl) each up
-  tail-sum get tail false first rest serves each up = ap (λ found. number_of found (summed_to get (map own (first ∷ rest)) (length (map own (first ∷ rest))))) (each first)
+      → number ≡ merged_number get (map own (first ∷ rest))
+      → ((n : Network) (t : Tail) (at : ℕ) → AreSumsOf n t at get (map own (first ∷ rest)) → number ≡ Some (extreme_weight n t 0 n.first))
+      → number ≡ told is_asked tail
+  told-sum get tail true first rest number serves each is undivided =
+      let n = question.runs tail in
+      undivided n tail parts.piece.at (sums-of get tail first rest (serves refl) each) ∙ ap Some (extreme-is question.test tail n (serves refl).follows)
+  told-sum get tail false first rest number serves each is undivided =
+      is ∙ ap (λ found. number_of found (summed_to get (map own (first ∷ rest)) (length (map own (first ∷ rest))))) (each first)
 
   abbrev report : List ℕ
   report = report_text (title.Test settings.test) question.sizes question.dropped question.extra (answer_of question.test (open_keys question.network) answer.tails (way_of settings.nodes)) false None
@@ -196,10 +219,11 @@ module _ (settings : Settings) (file bytes : List ℕ) (parts : AreParts setting
   -- the pieces put together are the report
   pub merged-report : (first : ℕ) (rest : List ℕ) (merged : Merged) → AllByRecursion IsPiece (map own (first ∷ rest)) → MergeGives (map own (first ∷ rest)) (Ok merged) → text_of_merged merged ≡ report
   merged-report first rest merged formed gives =
-      let up = all-add-up (map own (first ∷ rest)) formed gives.0.0 in
-      let less = gives.1.less ∙ tail-sum less_of Less answer.tails.less first rest (answer.divisible.networks Less) (λ part. refl) up.less in
-      let greater = gives.1.greater ∙ tail-sum greater_of Greater answer.tails.greater first rest (answer.divisible.networks Greater) (λ part. refl) up.greater in
-      let two = gives.1.two ∙ tail-sum two_of Two answer.tails.two first rest (answer.divisible.networks Two) (λ part. refl) up.two in
+      let pieces = map own (first ∷ rest) in
+      let is : IsUndivided pieces merged = undivided-result pieces (Ok merged) (omega arith) gives (all-add-up pieces formed gives.0.0) in
+      let less = told-sum less_of Less answer.tails.less first rest merged.less (answer.divisible.networks Less) (λ part. refl) gives.1.less is.less in
+      let greater = told-sum greater_of Greater answer.tails.greater first rest merged.greater (answer.divisible.networks Greater) (λ part. refl) gives.1.greater is.greater in
+      let two = told-sum two_of Two answer.tails.two first rest merged.two (answer.divisible.networks Two) (λ part. refl) gives.1.two is.two in
       rw (gives.1.head, gives.1.total, less, greater, two)
       (merged_text-answer_of (title.Test settings.test) question.sizes question.dropped question.extra question.test (open_keys question.network) answer.tails (way_of settings.nodes))
 
@@ -208,8 +232,8 @@ module _ (settings : Settings) (file bytes : List ℕ) (parts : AreParts setting
   whole-report first below =
       let made = answer_of question.test (open_keys question.network) answer.tails (way_of settings.nodes) in
       other-text settings file answer (Some (of_part first parts.piece)) None (parts.texts first) (written-text first below)
-      ∙ ap (λ (nodes : Bool). Ok (report_text (title.Test settings.test) question.sizes question.dropped question.extra made nodes (spread_of settings.distribution question.test))) parts.no_nodes
-      ∙ ap (λ (shown : Bool). Ok (report_text (title.Test settings.test) question.sizes question.dropped question.extra made false (spread_of shown question.test))) parts.no_distribution
+      ∙ ap (λ (nodes : Bool). Ok (report_text (title.Test settings.test) question.sizes question.dropped question.extra made nodes (spread_of settings.distribution question.test))) parts.alone.no_nodes
+      ∙ ap (λ (shown : Bool). Ok (report_text (title.Test settings.test) question.sizes question.dropped question.extra made false (spread_of shown question.test))) parts.alone.no_distribution
 
   few-lines : (first : ℕ) (rest : List ℕ) → length bytes ≤ LONGEST_FILE → bytes ≡ flat_map piece_text (map own (first ∷ rest)) → line_count own_head ≤ MAX
   few-lines first rest short is =
@@ -239,4 +263,4 @@ module _ (settings : Settings) (file bytes : List ℕ) (parts : AreParts setting
 
 -- what is written for the parts of a run
 pub writes-undivided : (took : List ℕ → Type 0) (bytes : List ℕ) → MergesWith bytes took → WritesUndivided took bytes
-writes-undivided took bytes with = λ settings file parts answer. rw (undivided settings file bytes parts answer with.0 with.1) with.2
+writes-undivided took bytes with = λ settings file parts. rw (undivided settings file bytes parts (whole-answer settings file bytes parts) with.0 with.1) with.2

@@ -1,5 +1,5 @@
 -- A run that is divided into parts, and the run that is not.
-use Rattle.std.specs.Prelude.{◌≡◌, ◌≢◌, ◌<◌, ◌≤◌, ℕ, List, false, true, Option, Some, None, IfSome, Result, Ok, option_map}
+use Rattle.std.specs.Prelude.{◌≡◌, ◌≢◌, ◌<◌, ◌≤◌, ℕ, List, true, Option, Some, None, IfSome, Result, Ok, option_map}
 use Rattle.std.specs.List.{AllByRecursion, AllPairs, Contains, flat_map}
 use Rattle.weights.specs.Conditional.{ConditionalTest, total}
 use Rattle.weights.specs.Frames.{first_tail}
@@ -11,7 +11,7 @@ use Rattle.stage_network.specs.Follows.{Follows}
 use Rattle.stage_network.specs.Laws.{IsLawful}
 use Rattle.stage_network.specs.Network.{Network}
 use Rattle.record_reader.specs.Records.{records_of}
-use Rattle.settings.specs.Usable.{IsPieceOf}
+use Rattle.settings.specs.WholeRuns.{IsAskedAlone, whole}
 use Rattle.settings.specs.declared.pieces.PieceOf.{PieceOf}
 use Rattle.settings.specs.declared.settings.Settings.{Settings}
 use Rattle.settings.specs.declared.tails.TailChoice.{TailChoice}
@@ -62,27 +62,32 @@ abbrev pub of_part : ℕ → PieceOf → PieceOf
 of_part part piece = record piece { part = part }
 
 -- the settings of the run of another part
-abbrev pub with_part : ℕ → Settings → Settings
-with_part part settings =
+abbrev pub settings_of_part : ℕ → Settings → Settings
+settings_of_part part settings =
     record settings { piece = option_map (of_part part) settings.piece }
 
--- the settings of the run that is not divided
-abbrev pub whole : Settings → Settings
-whole settings = record settings { piece = None }
+-- The text is what a run that ended with 0 wrote: it is the outcome, and where a part is asked for,
+-- the parts of the run answer the question.
+pub record IsWritten (settings : Settings) (file text : List ℕ) : Type 0 where
+  pub outcome : outcome_of_bytes settings file ≡ Ok text
+  pub answers : PartAnswers settings (Some file)
 
--- The bytes are texts that parts of one run write, one after another in any order. Beside a part no
--- open keys and no distribution are asked for.
+-- such a text was taken, where the source tells what the file holds
+abbrev pub Writes : Settings → Option (List ℕ) → (List ℕ → Type 0) → Type 0
+Writes settings held took =
+    IfSome held (λ file. (text : List ℕ) × IsWritten settings file text × took text)
+
+-- The bytes are texts that runs of parts of one run wrote, each of which ended with 0, one after
+-- another in any order.
 pub record AreParts (settings : Settings) (file bytes : List ℕ) : Type 0 where
   pub piece : PieceOf
   pub is_asked : settings.piece ≡ Some piece
-  pub usable : IsPieceOf piece
-  pub no_nodes : settings.nodes ≡ false
-  pub no_distribution : settings.distribution ≡ false
+  pub alone : IsAskedAlone settings piece
   pub order : List ℕ
   pub are_parts : AllByRecursion (λ part. part < piece.parts) order
   pub texts : ℕ → List ℕ
   pub written : (part : ℕ) → part < piece.parts
-      → outcome_of_bytes (with_part part settings) file ≡ Ok (texts part)
+      → IsWritten (settings_of_part part settings) file (texts part)
   pub joined : bytes ≡ flat_map texts order
 
 -- all parts of a run, each once
@@ -91,8 +96,7 @@ pub record AreAll (parts : ℕ) (order : List ℕ) : Type 0 where
   pub once : AllPairs ◌≢◌ order
 
 -- What was written for these bytes is the report of the run that is not divided, where they are
--- texts of its parts, each of which promised that its question is answerable.
+-- texts that its parts wrote.
 abbrev pub WritesUndivided : (List ℕ → Type 0) → List ℕ → Type 0
 WritesUndivided took bytes = (settings : Settings) (file : List ℕ)
-    → AreParts settings file bytes → AsksAnswerable settings file
-    → ReportsWith (outcome_of_bytes (whole settings) file) took
+    → AreParts settings file bytes → ReportsWith (outcome_of_bytes (whole settings) file) took

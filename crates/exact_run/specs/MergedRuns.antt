@@ -13,8 +13,9 @@ use Rattle.report.specs.Report.{merged_text}
 use Rattle.report.specs.Refusals.{refusal_line_text}
 use Rattle.report.specs.declared.refusals.Refusal.{Refusal}
 use Rattle.report.specs.declared.refusals.Refusal.TheVariants as refusal
+use Rattle.settings.specs.WholeRuns.{whole}
 use Rattle.settings.specs.declared.settings.Settings.{Settings}
-use Rattle.exact_run.specs.Divided.{AreAll, AreParts, AsksAnswerable, WritesUndivided, whole}
+use Rattle.exact_run.specs.Divided.{AreAll, AreParts, WritesUndivided}
 use Rattle.exact_run.specs.Outcome.{Outcome, outcome_of_bytes}
 use Rattle.exact_run.specs.Promises.{ComesExactly, IsCompleted, IsDecided, status_of}
 use Rattle.exact_run.specs.declared.status.Status.{Status}
@@ -68,6 +69,8 @@ MergeComes rose held (Err refusal.NoMemory) = ⊤
 MergeComes rose held (Err refusal.ReadFault) = rose
 MergeComes rose held (Err refusal.WriteFault) = ⊥
 MergeComes rose held (Err (refusal.Usage fault)) = ⊥
+MergeComes rose held (Err (refusal.Unfit name)) = ⊥
+MergeComes rose held (Err (refusal.TooWide what)) = ⊥
 MergeComes rose held result = IfSome held (λ bytes. MergeOutcome bytes result)
 
 -- the bytes come to a text, of which this holds
@@ -77,8 +80,8 @@ MergesWith bytes P = (text : List ℕ) × MergeOutcome bytes (Ok text) × P text
 -- the texts of all parts of a run, each once, come to the outcome of the run that is not divided
 abbrev pub AllPartsMerge : List ℕ → Type 0
 AllPartsMerge bytes = (settings : Settings) (file : List ℕ) → (parts : AreParts settings file bytes)
-    → AreAll parts.piece.parts parts.order → AsksAnswerable settings file
-    → length bytes ≤ LONGEST_FILE → MergeOutcome bytes (outcome_of_bytes (whole settings) file)
+    → AreAll parts.piece.parts parts.order → length bytes ≤ LONGEST_FILE
+    → MergeOutcome bytes (outcome_of_bytes (whole settings) file)
 
 -- some refusal of the status is told, and it is what the bytes come to, where these decide it
 pub record TellsMergeFault (answer : Status) (held : Option (List ℕ))
@@ -106,5 +109,7 @@ pub record MergePromises (answer : Status) (held : Option (List ℕ)) (source_ro
   -- where the bytes come to a report and no count rose, it is written, or memory ran out
   pub complete : IfSome held (λ bytes. (outcome : Outcome)
       → MergeOutcome bytes outcome → IsCompleted answer source_rose out_rose outcome)
+  -- pieces are neither a fault of the words nor too wide, also where the source tells nothing
+  pub never : (answer ≢ status.Usage) × (answer ≢ status.TooWide)
   -- all parts of a run, each once, come to a report, that of the run that is not divided
   pub all_parts : IfSome held AllPartsMerge

@@ -15,7 +15,7 @@ use Rattle.exact_run.specs.PairQuestions.{pairs_of}
 use Rattle.exact_run.specs.Question.{Question}
 use Rattle.exact_run.specs.SequenceQuestions.{kendall_of, runs_of}
 use Rattle.exact_run.specs.StrataGroupQuestions.{stratified_ranks_of}
-use Rattle.exact_run.specs.StrataQuestions.{strata_of, zelen_of}
+use Rattle.exact_run.specs.StrataQuestions.{stratified_of, zelen_of}
 use Rattle.exact_run.specs.TableQuestions.{fisher_of, linear_of, mcnemar_of}
 
 -- What a test asks. Made data are in no file, and no words ask for the tests that are not named
@@ -39,7 +39,7 @@ question_for test.Page = blocks_of blocks.Page
 question_for test.Cochran = blocks_of blocks.Cochran
 question_for test.Fisher = fisher_of
 question_for test.Linear = linear_of
-question_for test.Strata = strata_of
+question_for test.Strata = stratified_of
 question_for test.Zelen = zelen_of
 question_for test.StratRankSum = stratified_ranks_of
 question_for test.Kendall = kendall_of

@@ -20,8 +20,8 @@ abbrev pub strata_sizes : List ℕ → Sizes
 strata_sizes cells = sizes.Strata (length cells / 4) (sum cells)
 
 -- the strata of the rows
-abbrev pub cells_of : Settings → List (List (List ℕ)) → Result (List ℕ) Refusal
-cells_of settings rows = with_fault layout_refusal (strata_in settings.picks rows)
+abbrev pub strata_cells_of : Settings → List (List (List ℕ)) → Result (List ℕ) Refusal
+strata_cells_of settings rows = with_fault layout_refusal (strata_in settings.picks rows)
 
 -- ---- common independence
 
@@ -31,9 +31,9 @@ strata_question odds cells =
     question_about strata_test strata_network strata_network (data_of odds cells)
     (strata_sizes cells) None extra.None
 
-abbrev pub strata_of : Settings → List (List (List ℕ)) → Result Question Refusal
-strata_of settings rows =
-    with_value (strata_question settings.odds) (cells_of settings rows)
+abbrev pub stratified_of : Settings → List (List (List ℕ)) → Result Question Refusal
+stratified_of settings rows =
+    with_value (strata_question settings.odds) (strata_cells_of settings rows)
 
 -- ---- equal odds ratios
 
@@ -43,4 +43,4 @@ zelen_question cells =
     (strata_sizes cells) None extra.None
 
 abbrev pub zelen_of : Settings → List (List (List ℕ)) → Result Question Refusal
-zelen_of settings rows = with_value zelen_question (cells_of settings rows)
+zelen_of settings rows = with_value zelen_question (strata_cells_of settings rows)

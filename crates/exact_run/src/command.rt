@@ -9,7 +9,7 @@ ghost use Rattle.settings.specs.Usable.{AreUsable};
 ghost use Rattle.settings.specs.declared.names.UsageFault.{UsageFault};
 ghost use Rattle.report.specs.Refusals.{refusal_line_text};
 ghost use Rattle.exact_run.specs.CauseSteps.{ComesTo, Meets};
-ghost use Rattle.exact_run.specs.Divided.{PartAnswers};
+ghost use Rattle.exact_run.specs.Divided.{PartAnswers, Writes};
 ghost use Rattle.exact_run.specs.Outcome.{names_file, outcome_of, outcome_of_bytes, usage_refusal as refusal_of};
 ghost use Rattle.exact_run.specs.MergedRuns.{MergeComes, MergePromises};
 ghost use Rattle.exact_run.specs.Promises.{IsBeforeWriting, Promises, ReadRose, WritesLine, status_of};
@@ -181,6 +181,12 @@ pub fn run<S: Source, O: Sink, E: Sink>(
     ensures answerable { let meaning = meaning_of (map string_bytes words.now) in
         (settings : Settings) → meaning ≡ Ok (CommandLine.Test settings)
         → result ≡ Status.Done → PartAnswers settings (S.held source.old settings.file) }
+
+    // With 0 `out` took such a text as `merge` puts together, where it is of a part.
+    ensures written { let meaning = meaning_of (map string_bytes words.now) in
+        let took = Appends (O.taken out.old) (O.taken out.new) in
+        (settings : Settings) → meaning ≡ Ok (CommandLine.Test settings)
+        → result ≡ Status.Done → Writes settings (S.held source.old settings.file) took }
 
     // Before the first write `out` is as it was, and a report is told by no line.
     ensures unchanged { IsBeforeWriting result → out.new ≡ out.old }

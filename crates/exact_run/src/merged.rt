@@ -5,7 +5,8 @@ ghost use Rattle.outside.specs.declared.source.TheConstants.{LONGEST_FILE};
 ghost use Rattle.exact_run.specs.MergedRuns.{MergeComes, MergeMeets, merge_refusal, piece_refusal};
 
 use outside::{ReadFail, Source, read_all};
-use piece_texts::{MergeFault, PieceFault, merge, read_pieces};
+use piece_texts::{MergeFault, PieceFault, read_pieces};
+use pieces::merge;
 use report::{Refusal, compose_merged};
 use settings::FileName;
 use std::alloc::Global;

@@ -6,7 +6,7 @@ ghost use Rattle.weights.specs.Wide.{Prepares};
 ghost use Rattle.stratified_tests.specs.StrataTests.{data_of, strata_test, tails_with};
 ghost use Rattle.exact_run.specs.CauseSteps.{Fulfils, IsCauseOf};
 ghost use Rattle.exact_run.specs.Outcome.{tails_by};
-ghost use Rattle.exact_run.specs.StrataQuestions.{cells_of, strata_of, strata_sizes, zelen_of};
+ghost use Rattle.exact_run.specs.StrataQuestions.{strata_cells_of, stratified_of, strata_sizes, zelen_of};
 
 use crate::refusing::layout_refusal;
 use crate::reports::{ALL, Heading, ONE_SIDED, TWO, report_on};
@@ -24,8 +24,8 @@ use weights::{Bytes, Odds, PrepareFault, Tails};
 // The strata of the rows, or the refusal of their fault.
 fn strata_read(alloc: Global, settings: &Settings, rows: &Rows) -> Result<Strata, Refusal>
     requires { MayPick 5 5 settings.now.picks }
-    ensures ok { IfOk result (λ strata. cells_of settings.now rows.now ≡ Ok strata.cells) }
-    ensures err { IfErr result (IsCauseOf (cells_of settings.now rows.now)) }
+    ensures ok { IfOk result (λ strata. strata_cells_of settings.now rows.now ≡ Ok strata.cells) }
+    ensures err { IfErr result (IsCauseOf (strata_cells_of settings.now rows.now)) }
 {
     strata(alloc, rows, &settings.picks).map_err(layout_refusal)
 }
@@ -71,7 +71,7 @@ fn tails_of(odds: Option<Odds>) -> Tails
 pub(crate) fn strata_report(alloc: Global, request: &Request) -> Result<Bytes, Refusal>
     requires picks { MayPick 5 5 request.now.settings.now.picks }
     requires odds { IfSome request.now.settings.now.odds IsOdds }
-    ensures { Fulfils request.now strata_of result }
+    ensures { Fulfils request.now stratified_of result }
 {
     let strata = strata_read(alloc, request.settings, request.rows)?;
     let problem = prepared(alloc, request.settings.odds, &strata);

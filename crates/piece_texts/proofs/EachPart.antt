@@ -73,14 +73,6 @@ occurs-least p (x ∷ xs) e = by (nat_eq x p) e (occurs-least p xs)
     by true h rest = omega arith
     by false h rest = omega (arith, rest h)
 
-pub occurs-none : (p : ℕ) (xs : List ℕ) → occurs p xs ≡ false → occurrences p xs ≡ 0
-occurs-none p [] e = refl
-occurs-none p (x ∷ xs) e = by (nat_eq x p) e (occurs-none p xs)
-  where
-    by : (b : Bool) → (b || occurs p xs) ≡ false → (occurs p xs ≡ false → occurrences p xs ≡ 0) → cond b 1 0 + occurrences p xs ≡ 0
-    by true h rest = cc
-    by false h rest = omega (arith, rest h)
-
 -- where unknown is doubled, each occurs at most once
 abbrev AtMostOnce : ℕ → List ℕ → List ℕ → Type 0
 AtMostOnce p seen xs = (occurs p seen ≡ true → occurrences p xs ≡ 0) × (occurrences p xs ≤ 1)

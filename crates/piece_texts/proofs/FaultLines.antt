@@ -6,8 +6,9 @@ use Rattle.piece_texts.specs.declared.piece.Piece.{Piece}
 use Rattle.piece_texts.specs.declared.reader.Step.{Step}
 use Rattle.piece_texts.specs.declared.reader.Step.TheVariants.{Outside, AtName, AtParts, AtPart, AtCount, InHead, AtTail}
 use Rattle.piece_texts.specs.PieceTexts.{IsPiece, HasNoFeed, ended, piece_text}
-use Rattle.piece_texts.specs.ReaderSteps.{Reading, fresh, Leads, Runs, whole, is_whole, behind, IsRead}
+use Rattle.piece_texts.specs.ReaderSteps.{Reading, fresh, Leads, is_whole, behind}
 use Rattle.piece_texts.specs.ReadPieces.{AreLines, AreTexts, Starts, NoTexts, IsFaultLine}
+use Rattle.piece_texts.proofs.LineRuns.{IsRead, Runs, after_pieces}
 use Rattle.piece_texts.proofs.LinesLead.{leads-on, runs-on, runs-split, runs-once}
 use Rattle.piece_texts.proofs.PieceRuns.{run-pieces, run-text, all-append, never-empty, lines-first, nothing-left}
 use Rattle.piece_texts.proofs.TextsGrow.{fresh-shown, shown-runs, flat-push, all-push, partial}
@@ -15,9 +16,6 @@ use Rattle.piece_texts.proofs.TextsGrow.{fresh-shown, shown-runs, flat-push, all
 pub no-length : (xs : List ℕ) → length xs ≡ 0 → xs ≡ []
 no-length [] e = refl
 no-length (x ∷ xs) e = absurd (omega (arith, e))
-
-pub nothing-read : (bytes : List ℕ) → IsRead bytes bytes 1 fresh
-nothing-read bytes = record { lines = []; cut = record { free = tt; cut = refl }; counted = refl; runs = refl }
 
 lines-more : (bytes : List ℕ) (lines : List (List ℕ)) (line rest rest' : List ℕ) → AreLines bytes lines rest → HasNoFeed line → rest ≡ line ++ 10 ∷ rest' → AreLines bytes (lines ++ line ∷ []) rest'
 lines-more bytes lines line rest rest' cut free e = record {
@@ -58,7 +56,7 @@ same-lines ls ms ns e rest left text =
 starts-from-runs : (lines : List (List ℕ)) (s : Reading) → AllByRecursion HasNoFeed lines → Runs fresh lines s → Starts (flat_map ended lines)
 starts-from-runs lines s free r =
     let on = leads-on lines s r in
-    let shown = shown-runs (lines ++ on.more) fresh (whole on.pieces) [] (all-append HasNoFeed lines on.more free on.free) fresh-shown on.runs in (
+    let shown = shown-runs (lines ++ on.more) fresh (after_pieces on.pieces) [] (all-append HasNoFeed lines on.more free on.free) fresh-shown on.runs in (
       flat_map ended on.more,
       on.pieces,
       record {
@@ -73,7 +71,7 @@ pub runs-from-starts : (lines : List (List ℕ)) → AllByRecursion HasNoFeed li
 runs-from-starts lines free s =
     let run = run-pieces s.1 [] s.2.formed in
     let found = lines-first lines run.lines s.0 free run.free (s.2.text ∙ sym (run-text s.1 run)) in
-    let parts = runs-split fresh (whole s.1) lines found.0 (subst (λ ls. Runs fresh ls (whole s.1)) found.1 run.runs) in
+    let parts = runs-split fresh (after_pieces s.1) lines found.0 (subst (λ ls. Runs fresh ls (after_pieces s.1)) found.1 run.runs) in
     (parts.0, parts.1)
 
 pub read-fault : (bytes rest line rest' : List ℕ) (number : ℕ) (s : Reading) → IsRead bytes rest number s → HasNoFeed line → rest ≡ line ++ 10 ∷ rest' → ((e : Reading) → Leads s.at s line e → ⊥) → IsFaultLine bytes number
@@ -98,7 +96,7 @@ read-fault bytes rest line rest' number s r free is cannot = record {
         let same : parts.0 ≡ s = runs-once fresh parts.0 s r.lines parts.1 r.runs in
         cannot parts.2.0 (subst (λ m. Leads m.at m line parts.2.0) same parts.2.1)
 
-whole-is : (pieces : List Piece) → 0 < length pieces → is_whole (whole pieces) ≡ true
+whole-is : (pieces : List Piece) → 0 < length pieces → is_whole (after_pieces pieces) ≡ true
 whole-is [] some = absurd (omega (arith, some))
 whole-is (p ∷ pieces) some = refl
 
@@ -122,7 +120,7 @@ read-end bytes rest number s r free early = record {
         let left : rest ≡ [] = nothing-left r.lines run.lines rest r.cut.free run.free free text in
         let found = lines-first r.lines run.lines rest r.cut.free run.free text in
         let found' : run.lines ≡ r.lines = same-lines r.lines run.lines found.0 found.1 rest left text in
-        let same : whole pieces ≡ s = runs-once fresh (whole pieces) s r.lines (subst (λ ls. Runs fresh ls (whole pieces)) found' run.runs) r.runs in
+        let same : after_pieces pieces ≡ s = runs-once fresh (after_pieces pieces) s r.lines (subst (λ ls. Runs fresh ls (after_pieces pieces)) found' run.runs) r.runs in
         let yes' : is_whole s ≡ true = ap is_whole (sym same) ∙ whole-is pieces t.some in
         let no' : is_whole s ≡ false = early left in
         cc

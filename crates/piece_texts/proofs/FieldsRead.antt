@@ -1,12 +1,11 @@
 -- The fields of a line.
-use Rattle.std.proofs.Common.{◌≡◌, ◌≢◌, ℕ, suc, ◌+◌, ◌<◌, ◌≤◌, ◌^◌, List, [], ◌∷◌, ◌++◌, length, take, drop, get_or, decimal, Option, Some, None, Result, Ok, Err, refl, sym, ◌∙◌, ap, subst, arith}
+use Rattle.std.proofs.Common.{◌≡◌, ◌≢◌, ℕ, ◌+◌, ◌<◌, ◌≤◌, ◌^◌, List, [], ◌∷◌, ◌++◌, take, drop, decimal, Option, Some, None, Result, Ok, Err, refl, sym, ◌∙◌, ap, subst, arith}
 use Rattle.std.specs.Str.{IsUtf8}
 use Rattle.std.specs.Char.{digit_value}
 use Rattle.std.specs.Str.Parse.{AllDigits, ParsesUnsigned}
-use Rattle.std.proofs.Math.Seq.{split_at}
 use Rattle.std.specs.Prelude.{SomeIff, MatchOption}
 use Rattle.std.specs.Borrow.{Bor}
-use Rattle.std.proofs.lemmas.List.{take_more, append_cancel_left}
+use Rattle.std.proofs.lemmas.List.{append_cancel_left}
 use Rattle.std.proofs.lemmas.Str.{IsUtf8-from_ascii}
 use Rattle.std.proofs.lemmas.Fmt.{parse-decimal_wide, IsAscii-decimal_wide, decimal_is_IsNumeral_wide}
 use Rattle.weights.specs.declared.TheConstants.{MAX}
@@ -25,23 +24,6 @@ parsed n text r h e p = parse-decimal_wide 128 n text r (below n h) (wide n h) e
 
 pub utf8 : (n : ℕ) (text : List ℕ) → n ≤ MAX → text ≡ decimal n → IsUtf8 text
 utf8 n text h e = subst IsUtf8 (sym e) (IsUtf8-from_ascii (decimal n) (IsAscii-decimal_wide n (wide n h)))
-
-pub without-push : (b : ℕ) (xs : List ℕ) (x : ℕ) → Without b xs → x ≢ b → Without b (xs ++ x ∷ [])
-without-push b [] x a p = (p, tt)
-without-push b (y ∷ xs) x a p = (a.0, without-push b xs x a.1 p)
-
-pub without-more : (b : ℕ) (xs : List ℕ) (i : ℕ) → i < length xs → Without b (take i xs) → get_or xs i 0 ≢ b → Without b (take (i + 1) xs)
-without-more b xs i low a p = subst (Without b) (sym (take_more xs i 0 low)) (without-push b (take i xs) (get_or xs i 0) a p)
-
-one_more : (i : ℕ) → suc i ≡ i + 1
-one_more i = omega arith
-
-pub cut-at : (b : ℕ) (xs : List ℕ) (i : ℕ) → i < length xs → Without b (take i xs) → get_or xs i 0 ≡ b → CutAt b xs i
-cut-at b xs i low a e = record {
-  within = low;
-  cut = ap (λ ys. ys) (split_at xs i 0 low) ∙ ap (λ x. take i xs ++ x ∷ drop (suc i) xs) e ∙ ap (λ j. take i xs ++ b ∷ drop j xs) (one_more i);
-  free = a;
-}
 
 pub not-without : (b : ℕ) (xs ys : List ℕ) → Without b (xs ++ b ∷ ys) → ⊥
 not-without b [] ys a = a.0 refl

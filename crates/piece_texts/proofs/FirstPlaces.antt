@@ -1,5 +1,5 @@
 -- Places that do not pass, one more of them.
-use Rattle.std.proofs.Common.{◌≡◌, ℕ, zero, suc, ◌+◌, ◌<◌, ◌≤◌, List, [], ◌∷◌, ◌++◌, length, take, get_or, Bool, true, false, ◌||◌, nat_eq, refl, sym, ◌∙◌, ap, arith}
+use Rattle.std.proofs.Common.{◌≡◌, ℕ, zero, suc, ◌+◌, ◌<◌, List, [], ◌∷◌, ◌++◌, length, take, get_or, Bool, true, false, ◌||◌, nat_eq, refl, sym, ◌∙◌, ap, arith}
 use Rattle.std.proofs.lemmas.List.{take_more, get_or-map}
 use Rattle.piece_texts.specs.declared.piece.Piece.{Piece}
 use Rattle.piece_texts.specs.Places.{unknown, piece_at, NoneBelow}
@@ -17,12 +17,6 @@ none-more p i none here j low = by (nat_eq j i) refl
     by : (b : Bool) → nat_eq j i ≡ b → p j ≡ false
     by true e = ap p (eq_is j i e) ∙ here
     by false e = none j (below i j low e)
-
-pub none-yet : (p : ℕ → Bool) → NoneBelow p 0
-none-yet p j low = absurd (omega (arith, low))
-
-pub none-all : (p : ℕ → Bool) (i n : ℕ) → NoneBelow p i → n ≤ i → NoneBelow p n
-none-all p i n none h j low = none j (omega (arith, low, h))
 
 or_false : (a : Bool) → (a || false) ≡ a
 or_false true = refl

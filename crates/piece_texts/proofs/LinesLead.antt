@@ -11,7 +11,8 @@ use Rattle.piece_texts.specs.declared.reader.Step.{Step}
 use Rattle.piece_texts.specs.declared.reader.Step.TheVariants.{Outside, AtName, AtParts, AtPart, AtCount, InHead, AtTail}
 use Rattle.piece_texts.specs.PieceTexts.{IsName, SumFits, sums_text, ended, HasNoFeed}
 use Rattle.piece_texts.specs.FieldSteps.{IsAfter, tail_words}
-use Rattle.piece_texts.specs.ReaderSteps.{Reading, fresh, with_tail, with_line, TailLeads, Leads, Runs, whole}
+use Rattle.piece_texts.specs.ReaderSteps.{Reading, fresh, with_tail, with_line, TailLeads, Leads}
+use Rattle.piece_texts.proofs.LineRuns.{Runs, after_pieces}
 use Rattle.piece_texts.proofs.FieldsRead.{cut-once, decimal-without, wide}
 use Rattle.piece_texts.proofs.FreeLines.{free-append, free-words, free-decimal, free-sums}
 
@@ -96,7 +97,7 @@ runs-split s e (x ∷ xs) ys r = let rest = runs-split r.0 e xs ys r.2 in (rest.
 
 -- the end of a piece
 abbrev Ends : Reading → Type 0
-Ends s = (lines : List (List ℕ)) × (pieces : List Piece) × (pieces ≢ []) × Runs s lines (whole pieces) × AllByRecursion HasNoFeed lines
+Ends s = (lines : List (List ℕ)) × (pieces : List Piece) × (pieces ≢ []) × Runs s lines (after_pieces pieces) × AllByRecursion HasNoFeed lines
 
 not_empty : {X : Type 0} (xs : List X) (x : X) → xs ++ x ∷ [] ≢ []
 not_empty [] x e = cc
@@ -170,7 +171,7 @@ pub record LeadsOn (lines : List (List ℕ)) : Type 0 where
   pub free : AllByRecursion HasNoFeed more
   pub pieces : List Piece
   pub some : pieces ≢ []
-  pub runs : Runs fresh (lines ++ more) (whole pieces)
+  pub runs : Runs fresh (lines ++ more) (after_pieces pieces)
 
 pub leads-on : (lines : List (List ℕ)) (s : Reading) → Runs fresh lines s → LeadsOn lines
 leads-on lines s r =

@@ -8,7 +8,8 @@ use Rattle.piece_texts.specs.declared.reader.Step.TheVariants.{InHead, AtTail}
 use Rattle.piece_texts.specs.PieceTexts.{IsPiece, TailFits, HasNoFeed, ended, line_count, sums_text, piece_text}
 use Rattle.piece_texts.specs.FieldSteps.{tail_words}
 use Rattle.piece_texts.specs.Places.{unknown}
-use Rattle.piece_texts.specs.ReaderSteps.{fresh, with_tail, Runs, whole}
+use Rattle.piece_texts.specs.ReaderSteps.{fresh, with_tail}
+use Rattle.piece_texts.proofs.LineRuns.{Runs, after_pieces}
 use Rattle.piece_texts.proofs.FieldsRead.{cut-once, not-without}
 use Rattle.piece_texts.proofs.FreeLines.{no_feed, free-decimal, free-append, free-words, free-name, free-sums}
 use Rattle.piece_texts.proofs.LinesLead.{runs-on}
@@ -30,7 +31,7 @@ known p = record unknown { name = p.name; parts = p.parts; part = p.part }
 part-fits : (p : Piece) → IsPiece p → p.part ≤ p.parts - 1
 part-fits p f = omega (arith, f.part)
 
-run-first : (p : Piece) (done : List Piece) → IsPiece p → 1 ≤ line_count p.head → line_count p.head ≤ MAX → Runs (whole done) (first_lines p) (record { done = done; draft = known p; at = InHead (line_count p.head - 1) })
+run-first : (p : Piece) (done : List Piece) → IsPiece p → 1 ≤ line_count p.head → line_count p.head ≤ MAX → Runs (after_pieces done) (first_lines p) (record { done = done; draft = known p; at = InHead (line_count p.head - 1) })
 run-first p done f some few = (
   _,
   (refl, refl),
@@ -117,7 +118,7 @@ last_lines p = tail_lines 0 p.less ++ (tail_lines 1 p.greater ++ (tail_lines 2 p
 abbrev lines_of : (p : Piece) → IsPiece p → List (List ℕ)
 lines_of p f = first_lines p ++ (f.head.lines ++ ((codes "total " ++ decimal p.total) ∷ last_lines p))
 
-run-last : (p : Piece) (done : List Piece) → IsPiece p → Runs (record { done = done; draft = tail_free p; at = AtTail 0 }) (last_lines p) (whole (done ++ p ∷ []))
+run-last : (p : Piece) (done : List Piece) → IsPiece p → Runs (record { done = done; draft = tail_free p; at = AtTail 0 }) (last_lines p) (after_pieces (done ++ p ∷ []))
 run-last p done f =
     let one : ℕ = place 0 0 p.less in
     let two : ℕ = place 1 one p.greater in
@@ -130,17 +131,17 @@ run-last p done f =
     (runs-on _ (record { done = done; draft = set_tail 2 p.two d'; at = AtTail (place 2 two p.two) }) _ (tail_lines 2 p.two) _ (run-tail 2 two p.two done d' low' (omega arith) f.two) (
       _,
       inr (record { some = some-place p.less p.greater p.two f.asked; text = refl; leads = refl }),
-      ap (λ x. whole (done ++ x ∷ [])) (sym (set-all p p.less p.greater p.two)),
+      ap (λ x. after_pieces (done ++ x ∷ [])) (sym (set-all p p.less p.greater p.two)),
     )))
 
 -- a piece's lines lead over it
-pub run-piece : (p : Piece) (done : List Piece) (f : IsPiece p) → Runs (whole done) (lines_of p f) (whole (done ++ p ∷ []))
+pub run-piece : (p : Piece) (done : List Piece) (f : IsPiece p) → Runs (after_pieces done) (lines_of p f) (after_pieces (done ++ p ∷ []))
 run-piece p done f =
     let count = head-count p f in
     let at : line_count p.head - 1 ≡ length f.head.lines = omega (arith, count) in
-    runs-on (whole done) (record { done = done; draft = known p; at = InHead (line_count p.head - 1) }) (whole (done ++ p ∷ [])) (first_lines p) _ (run-first p done f (omega (arith, count)) f.few_lines)
-    (subst (λ k. Runs (record { done = done; draft = known p; at = InHead k }) (f.head.lines ++ ((codes "total " ++ decimal p.total) ∷ last_lines p)) (whole (done ++ p ∷ []))) (sym at)
-    (runs-on (record { done = done; draft = known p; at = InHead (length f.head.lines) }) (record { done = done; draft = record (known p) { head = [] ++ flat_map ended f.head.lines }; at = InHead 0 }) (whole (done ++ p ∷ [])) f.head.lines _ (run-head f.head.lines done (known p)) (
+    runs-on (after_pieces done) (record { done = done; draft = known p; at = InHead (line_count p.head - 1) }) (after_pieces (done ++ p ∷ [])) (first_lines p) _ (run-first p done f (omega (arith, count)) f.few_lines)
+    (subst (λ k. Runs (record { done = done; draft = known p; at = InHead k }) (f.head.lines ++ ((codes "total " ++ decimal p.total) ∷ last_lines p)) (after_pieces (done ++ p ∷ []))) (sym at)
+    (runs-on (record { done = done; draft = known p; at = InHead (length f.head.lines) }) (record { done = done; draft = record (known p) { head = [] ++ flat_map ended f.head.lines }; at = InHead 0 }) (after_pieces (done ++ p ∷ [])) f.head.lines _ (run-head f.head.lines done (known p)) (
       record { done = done; draft = tail_free p; at = AtTail 0 },
       (p.total, record { low = f.some_total; high = f.total; fits = f.total; text = refl }, ap (λ h. record { done = done; draft = record (tail_free p) { head = h }; at = AtTail 0 }) f.head.text),
       run-last p done f,
@@ -195,21 +196,21 @@ free-lines p f =
 pub record PieceRun (done pieces : List Piece) : Type 0 where
   pub lines : List (List ℕ)
   pub free : AllByRecursion HasNoFeed lines
-  pub runs : Runs (whole done) lines (whole (done ++ pieces))
+  pub runs : Runs (after_pieces done) lines (after_pieces (done ++ pieces))
 
 pub run-pieces : (pieces done : List Piece) → AllByRecursion IsPiece pieces → PieceRun done pieces
-run-pieces [] done f = record { lines = []; free = tt; runs = ap whole (append-nil done) }
+run-pieces [] done f = record { lines = []; free = tt; runs = ap after_pieces (append-nil done) }
 run-pieces (p ∷ pieces) done f =
     let rest = run-pieces pieces (done ++ p ∷ []) f.1 in
     record {
       lines = lines_of p f.0 ++ rest.lines;
       free = all-append HasNoFeed (lines_of p f.0) rest.lines (free-lines p f.0) rest.free;
-      runs = runs-on (whole done) (whole (done ++ p ∷ [])) (whole (done ++ p ∷ pieces)) (lines_of p f.0) rest.lines (run-piece p done f.0)
-          (subst (λ x. Runs (whole (done ++ p ∷ [])) rest.lines (whole x)) (append_assoc done (p ∷ []) pieces) rest.runs);
+      runs = runs-on (after_pieces done) (after_pieces (done ++ p ∷ [])) (after_pieces (done ++ p ∷ pieces)) (lines_of p f.0) rest.lines (run-piece p done f.0)
+          (subst (λ x. Runs (after_pieces (done ++ p ∷ [])) rest.lines (after_pieces x)) (append_assoc done (p ∷ []) pieces) rest.runs);
     }
 
 pub run-text : (pieces : List Piece) (r : PieceRun [] pieces) → flat_map ended r.lines ≡ flat_map piece_text pieces
-run-text pieces r = (shown-runs r.lines fresh (whole pieces) [] r.free fresh-shown r.runs).is ∙ append-nil (flat_map piece_text pieces)
+run-text pieces r = (shown-runs r.lines fresh (after_pieces pieces) [] r.free fresh-shown r.runs).is ∙ append-nil (flat_map piece_text pieces)
 
 -- a line feed at the end of the first line, with what stands behind it
 feed-first : (line : List ℕ) (lines : List (List ℕ)) (more : List ℕ) → flat_map ended (line ∷ lines) ++ more ≡ line ++ 10 ∷ (flat_map ended lines ++ more)

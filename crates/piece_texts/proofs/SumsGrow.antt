@@ -1,5 +1,5 @@
 -- The sums of one piece more.
-use Rattle.std.proofs.Common.{◌≡◌, ℕ, ◌+◌, ◌<◌, ◌≤◌, List, length, true, false, nat_lt, Option, refl, arith}
+use Rattle.std.proofs.Common.{◌≡◌, ℕ, ◌+◌, ◌<◌, ◌≤◌, List, length, false, nat_lt, Option, refl, arith}
 use Rattle.std.proofs.lemmas.List.Sums.{sum_by_more}
 use Rattle.piece_texts.specs.declared.piece.Piece.{Piece}
 use Rattle.piece_texts.specs.declared.piece.PieceSum.{PieceSum}
@@ -15,9 +15,6 @@ summed-more tail pieces i low = omega (arith, sum_by_more (λ p. sum_of (tail p)
 not_over : (total sum : ℕ) → sum ≤ total → nat_lt total sum ≡ false
 not_over total sum h = grind (arith, h)
 
-is_over : (total sum : ℕ) → total < sum → nat_lt total sum ≡ true
-is_over total sum h = grind (arith, h)
-
 totalled-more : (pieces : List Piece) (i : ℕ) (sums : TailTotals) → i < length pieces → Totalled pieces i sums → Totalled pieces (i + 1) (sums_with sums (piece_at pieces i))
 totalled-more pieces i sums low t = record {
   less = omega (arith, summed-more less_of pieces i low, t.less);
@@ -27,9 +24,6 @@ totalled-more pieces i sums low t = record {
 
 not_passing : (tail : Piece → Option PieceSum) (pieces : List Piece) (i sum : ℕ) → sum ≡ summed_to tail pieces (i + 1) → sum ≤ (piece_at pieces 0).total → passes_total tail pieces i ≡ false
 not_passing tail pieces i sum is h = not_over (piece_at pieces 0).total (summed_to tail pieces (i + 1)) (omega (arith, is, h))
-
-passing : (tail : Piece → Option PieceSum) (pieces : List Piece) (i sum : ℕ) → sum ≡ summed_to tail pieces (i + 1) → (piece_at pieces 0).total < sum → passes_total tail pieces i ≡ true
-passing tail pieces i sum is h = is_over (piece_at pieces 0).total (summed_to tail pieces (i + 1)) (omega (arith, is, h))
 
 pub totals-more : (pieces : List Piece) (i : ℕ) (sums : TailTotals) → i < length pieces → NoneBelow (unequal_at pieces) i → Totalled pieces i sums → differs (piece_at pieces 0) (piece_at pieces i) ≡ false → AllWithin (piece_at pieces 0).total (sums_with sums (piece_at pieces i)) → NoneBelow (unequal_at pieces) (i + 1) × Totalled pieces (i + 1) (sums_with sums (piece_at pieces i))
 totals-more pieces i sums low none t same within =

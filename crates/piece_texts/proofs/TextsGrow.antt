@@ -10,7 +10,8 @@ use Rattle.piece_texts.specs.declared.reader.Step.TheVariants.{Outside, AtName, 
 use Rattle.piece_texts.specs.PieceTexts.{IsName, IsHead, IsPiece, TailFits, SumFits, HasNoFeed, ended, line_count, sums_text, tail_line, piece_text}
 use Rattle.piece_texts.specs.FieldSteps.{IsAfter, IsTail, tail_words}
 use Rattle.piece_texts.specs.Places.{unknown}
-use Rattle.piece_texts.specs.ReaderSteps.{Reading, fresh, with_tail, Leads, Runs}
+use Rattle.piece_texts.specs.ReaderSteps.{Reading, fresh, with_tail, Leads}
+use Rattle.piece_texts.proofs.LineRuns.{Runs}
 
 -- the text of a piece as it grows: up to its name, its number of parts, its part, the count of its
 -- head's lines, and its tails

@@ -1,5 +1,5 @@
 -- Where a reader of pieces stands, and which line may follow there.
-use Rattle.std.specs.Prelude.{◌≡◌, ℕ, zero, suc, ◌+◌, ◌-◌, ◌≤◌, List, [], ◌∷◌, ◌++◌, length, codes, Bool, true, false, Some, ◌⊎◌}
+use Rattle.std.specs.Prelude.{◌≡◌, ℕ, zero, suc, ◌-◌, ◌≤◌, List, [], ◌∷◌, ◌++◌, codes, Bool, true, false, Some, ◌⊎◌}
 use Rattle.weights.specs.declared.TheConstants.{MAX}
 use Rattle.piece_texts.specs.declared.piece.Piece.{Piece}
 use Rattle.piece_texts.specs.declared.piece.PieceSum.{PieceSum}
@@ -7,7 +7,6 @@ use Rattle.piece_texts.specs.declared.reader.Reader.{Reader}
 use Rattle.piece_texts.specs.declared.reader.Step.{Step}
 use Rattle.piece_texts.specs.declared.reader.Step.TheVariants.{Outside, AtName, AtParts, AtPart, AtCount, InHead, AtTail}
 use Rattle.piece_texts.specs.PieceTexts.{IsName, ended}
-use Rattle.piece_texts.specs.ReadPieces.{AreLines}
 use Rattle.piece_texts.specs.FieldSteps.{IsTail, IsAfter}
 use Rattle.piece_texts.specs.Places.{unknown}
 
@@ -88,18 +87,3 @@ Leads (AtTail from) s line next = TailLeads from s line next ⊎ EndLeads from s
 abbrev pub Gives : Step → Reading → List ℕ → Reading → Bool → Type 0
 Gives step s line next true = Leads step s line next
 Gives step s line next false = (e : Reading) → Leads step s line e → ⊥
-
--- where lines lead
-abbrev pub Runs : Reading → List (List ℕ) → Reading → Type 0
-Runs s [] e = e ≡ s
-Runs s (line ∷ lines) e = (next : Reading) × Leads s.at s line next × Runs next lines e
-
-abbrev pub whole : List Piece → Reading
-whole pieces = record { done = pieces; draft = unknown; at = Outside }
-
--- what was read of bytes: whole lines, each of which may follow
-pub record IsRead (bytes rest : List ℕ) (number : ℕ) (s : Reading) : Type 0 where
-  pub lines : List (List ℕ)
-  pub cut : AreLines bytes lines rest
-  pub counted : number ≡ length lines + 1
-  pub runs : Runs fresh lines s

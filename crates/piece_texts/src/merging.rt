@@ -54,7 +54,13 @@ fn number_of(tail: Option<PieceSum>, sum: u128) -> Option<u128>
 }
 
 /// The pieces of a run, each part once and in any order, put together: of each tail that is asked,
-/// the closed sum and the sums of all pieces, which are those of all parts. Or the first fault.
+/// the closed sum and the sums of all pieces, which are those of all parts.
+///
+/// # Errors
+/// The first of these faults: `Foreign`, where a piece is of another run or of another number of
+/// parts than piece 1; `Doubled`, where a part occurred before; `Missing`, where one does not
+/// occur; `Unequal`, where a piece differs from piece 1 in what all pieces of a run share, or with
+/// it a sum passes the total. Or else `NoMemory` where memory runs out.
 pub fn merge(alloc: Global, pieces: &Pieces) -> Result<Merged, MergeFault>
     requires { 0 < length pieces.now }
     ensures gives { MergeGives pieces.now result }

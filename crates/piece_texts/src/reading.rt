@@ -21,9 +21,10 @@ pub enum PieceFault {
 
 /// The pieces, at least one, whose texts, one after another, are all of the bytes.
 ///
-/// Where there are none such, the fault is the first line that no texts of pieces have at its
-/// place. Where there is no such line, it is the line behind the last line feed: the bytes end too
-/// early there, or without a line feed.
+/// # Errors
+/// `Line` where there are none such, with the first line that no texts of pieces have at its place.
+/// Where there is no such line, it is the line behind the last line feed: the bytes end too early
+/// there, or without a line feed. Or else `NoMemory` where memory runs out.
 pub fn read_pieces(alloc: Global, bytes: &[u8]) -> Result<Pieces, PieceFault>
     ensures { ReadGives bytes.now result }
 {

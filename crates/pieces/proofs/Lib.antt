@@ -9,4 +9,4 @@ mod Ascending
 mod Laying
 mod Found
 mod Finding
-mod WholeRuns
+pub mod WholeRuns

@@ -16,7 +16,7 @@ use Rattle.piece_texts.specs.declared.merging.MergeFault.{MergeFault}
 use Rattle.piece_texts.specs.declared.merging.MergeFault.TheVariants.{Foreign, Doubled, Missing, Unequal, NoMemory}
 use Rattle.piece_texts.specs.PieceTexts.{IsPiece}
 use Rattle.piece_texts.specs.Places.{piece_at, NoneBelow, IsFirst}
-use Rattle.piece_texts.specs.Merges.{less_of, greater_of, two_of, summed_to, sum_of, closed_of, over_parts, number_of, merged_number, AddsUp, AllAddUp, IsMerged, MergeGives, foreign_at, doubled_at, is_missing, unequal_at, tail_differs, passes_total}
+use Rattle.piece_texts.specs.Merges.{less_of, greater_of, two_of, summed_to, sum_of, closed_of, over_parts, number_of, merged_number, AddsUp, AllAddUp, IsComplete, IsMergeable, IsMerged, MergeGives, foreign_at, doubled_at, is_missing, unequal_at, tail_differs, passes_total}
 use Rattle.piece_texts.proofs.EachPart.{all-add-up}
 use Rattle.pieces.specs.Cuts.{closed_sum, cut_stage, piece_sum}
 use Rattle.pieces.specs.Undivided.{AreSumsOf, IsUndivided, IsDivided, AreOfOneRun, OkOrNoMemory}
@@ -105,11 +105,20 @@ not-unequal pieces some up run i low =
 refuses : (p : ℕ → Bool) (n k : ℕ) → IsFirst p n k → NoneBelow p n → ⊥
 refuses p n k first none = let yes' : p k ≡ true = first.passes in let no' : p k ≡ false = none k first.within in cc
 
--- pieces of one run are merged
+-- pieces of one run can be merged
+pub one-run-mergeable : (pieces : List Piece) → 0 < length pieces → AllByRecursion IsPiece pieces → AreOfOneRun pieces → IsMergeable pieces
+one-run-mergeable pieces some formed run =
+    let complete : IsComplete pieces = ((not-foreign pieces run, run.once), run.each) in
+    (complete, not-unequal pieces some (all-add-up pieces formed complete) run)
+
+only-memory : (pieces : List Piece) (r : Result Merged MergeFault) → IsMergeable pieces → MergeGives pieces r → OkOrNoMemory r
+only-memory pieces (Ok m) able g = tt
+only-memory pieces (Err (Foreign k)) able g = refuses (foreign_at pieces) (length pieces) g.place g.first able.0.0.0
+only-memory pieces (Err (Doubled k)) able g = refuses (doubled_at pieces) (length pieces) g.1.place g.1.first able.0.0.1
+only-memory pieces (Err (Missing i)) able g = refuses (is_missing pieces) (piece_at pieces 0).parts i g.1 able.0.1
+only-memory pieces (Err (Unequal k)) able g = refuses (unequal_at pieces) (length pieces) g.1.place g.1.first able.1
+only-memory pieces (Err NoMemory) able g = tt
+
+-- and are
 pub one-run-merges : (pieces : List Piece) (r : Result Merged MergeFault) → 0 < length pieces → AllByRecursion IsPiece pieces → MergeGives pieces r → AreOfOneRun pieces → OkOrNoMemory r
-one-run-merges pieces (Ok m) some formed g run = tt
-one-run-merges pieces (Err (Foreign k)) some formed g run = refuses (foreign_at pieces) (length pieces) g.place g.first (not-foreign pieces run)
-one-run-merges pieces (Err (Doubled k)) some formed g run = refuses (doubled_at pieces) (length pieces) g.1.place g.1.first run.once
-one-run-merges pieces (Err (Missing i)) some formed g run = refuses (is_missing pieces) (piece_at pieces 0).parts i g.1 run.each
-one-run-merges pieces (Err (Unequal k)) some formed g run = refuses (unequal_at pieces) (length pieces) g.1.place g.1.first (not-unequal pieces some (all-add-up pieces formed g.0) run)
-one-run-merges pieces (Err NoMemory) some formed g run = tt
+one-run-merges pieces r some formed g run = only-memory pieces r (one-run-mergeable pieces some formed run) g

@@ -8,7 +8,11 @@ use std::alloc::Global;
 
 /// One piece of each part of a run, in any order, put together: of each asked tail the closed sum
 /// and the sums of all pieces, which is the number of the run that is not divided where these are
-/// the sums of its parts. Or the first fault.
+/// the sums of its parts.
+///
+/// # Errors
+/// As `piece_texts::merge`: the first fault of the pieces, or `NoMemory` where memory runs out.
+/// Pieces of one run have no fault.
 pub fn merge(alloc: Global, pieces: &Pieces) -> Result<Merged, MergeFault>
     requires { 0 < length pieces.now }
     ensures gives { MergeGives pieces.now result }

@@ -1,6 +1,11 @@
+use Rattle.std.proofs.Common.{◌≡◌, ◌∙◌, Ok, subst, sym}
+use Rattle.std.specs.Prelude.{IfSome}
+use Rattle.exact_run.specs.Outcome.{outcome_of_command}
 use Rattle.exact_run.specs.Texts.{text_of}
+use Rattle.exact_run.specs.declared.status.Status.TheVariants as status
 use Rattle.exact_run.proofs.Merging.{merging-done, merging-refused, merging-write_fault}
-use Rattle.exact_run.proofs.Promised.{promised-done, promised-refused, promised-write_fault}
+use Rattle.exact_run.proofs.PartAnswered.{written-text}
+use Rattle.exact_run.proofs.Promised.{never-done, promised-done, promised-refused, promised-write_fault}
 use Rattle.exact_run.proofs.Words.{words-status}
 use Rattle.exact_run.proofs.command.run.Goals as goal
 
@@ -34,3 +39,15 @@ returns-in-Ok-clause-merged g c = λ file is.
 pub returns-clause-merged : goal.returns-clause-merged
 returns-clause-merged g c = λ file is.
     rw c.refuse-in-Err.ensures.status (merging-refused c.in-Err.refusal _ _ _ _ _ _ (c.in-Err.ensures.merged file is) c.refuse-in-Err.ensures.line)
+
+pub returns-in-Ok-write_all-clause-written : goal.returns-in-Ok-write_all-clause-written
+returns-in-Ok-write_all-clause-written g c = λ settings is done.
+    let whole = rw c.as_slice.ensures at c.in-Ok-write_all.ensures.ok in
+    let comes = subst (λ meaning. IfSome (outcome_of_command meaning (g.S.Source.held c.args.source.now)) (λ outcome. outcome ≡ Ok (text_of c.in-Ok.text))) is c.in-Ok.ensures.comes in
+    written-text settings _ (text_of c.in-Ok.text) _ comes (c.in-Ok.ensures.answerable settings is) whole
+
+pub returns-in-Ok-clause-written : goal.returns-in-Ok-clause-written
+returns-in-Ok-clause-written g c = λ settings is done. let none : status.WriteFault ≡ status.Done = sym c.refuse.ensures.status ∙ done in absurd cc
+
+pub returns-clause-written : goal.returns-clause-written
+returns-clause-written g c = λ settings is done. absurd (never-done c.in-Err.refusal (sym c.refuse-in-Err.ensures.status ∙ done))

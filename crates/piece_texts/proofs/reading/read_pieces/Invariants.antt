@@ -1,5 +1,6 @@
 use Rattle.std.proofs.Common.{length, ◌+◌, ◌≤◌}
-use Rattle.piece_texts.specs.ReaderSteps.{reading, IsRead}
+use Rattle.piece_texts.specs.ReaderSteps.{reading}
+use Rattle.piece_texts.proofs.LineRuns.{IsRead}
 use Rattle.piece_texts.proofs.reading.read_pieces.Given as goal
 
 abbrev pub invariant-loop-line : goal.invariant-loop-line
