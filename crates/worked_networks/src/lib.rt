@@ -4,6 +4,8 @@
 
 mod blocks;
 mod from_lines;
+#[cfg(test)]
+mod halved;
 mod ranks;
 mod signed_ranks;
 #[cfg(test)]
