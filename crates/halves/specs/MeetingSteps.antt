@@ -55,8 +55,8 @@ AreSumsOn n g tails sides closed nodes sums = (t : Tail)
     ≡ (sum_for closed t).sum
     + cond (asks tails t) (weighted (value_sum n (once (is_in (sides_for sides t))) g) nodes) 0
 
--- lines of some nodes of a room, and lines that they are read against: the pairs can be counted, and
--- those whose values sum to one that passes weigh what the completions of these nodes do whose
+-- lines of some nodes of a room, and lines that they are read against: the pairs can be counted,
+-- and those whose values sum to one that passes weigh what the completions of these nodes do whose
 -- values pass
 pub record AreRoomLines (n : Network) (g : ℕ) (nodes : List Node)
     (ones others : List Line) : Type 0 where

@@ -22,9 +22,9 @@ pub struct FirstHalf<C: Count> {
     pub closed: TailSums,
 }
 
-// The square of how many keys the first half is to have. Where rooms are few, as where there is one
-// alone, both halves have as many keys as the root of all completions. Where there are more, the
-// other half is swept once for each, and twice as many keys in the first half make them equal.
+// The square of how many keys the first half is to have. Where there is one room alone, both halves
+// have as many keys as the root of all completions. Where there are more, the other half is swept
+// once for each, and twice as many keys in the first half make them equal.
 fn wanted(room_width: usize, total: u128) -> u128 {
     if room_width == 0 {
         total
@@ -60,8 +60,8 @@ fn half_way<C: Count, S: Roomed>(
     Ok(sweep)
 }
 
-/// The first half of a network with so many completions: of each asked tail, what was closed and the
-/// extreme completions of its nodes, each times the node's weight, weigh what the extreme
+/// The first half of a network with so many completions: of each asked tail, what was closed and
+/// the extreme completions of its nodes, each times the node's weight, weigh what the extreme
 /// completions of the first key do. The number of completions decides where the halves meet, and
 /// nothing else.
 pub fn first_half<C: Count, S: Roomed>(

@@ -10,7 +10,8 @@ ghost use Rattle.stage_network.specs.Asked.{asks};
 ghost use Rattle.stage_network.specs.Completions.{extreme_weight};
 ghost use Rattle.stage_network.specs.Judged.{HasIntervals};
 ghost use Rattle.stage_network.specs.SweepSteps.{sum_for};
-ghost use Rattle.halves.specs.MeetingSteps.{AreMeeting, AreRoomLines, AreSums, AreSumsOn, IsFirstHalf, IsHalved};
+ghost use Rattle.halves.specs.MeetingSteps.{AreMeeting, AreRoomLines, AreSums, AreSumsOn};
+ghost use Rattle.halves.specs.MeetingSteps.{IsFirstHalf, IsHalved};
 ghost use Rattle.halves.specs.Pairs.{ArePairs, paired, weight_of};
 ghost use Rattle.halves.specs.Sides.{AreOrdered, is_in, sides_for};
 
