@@ -3,6 +3,5 @@ pub mod RoomLaws
 pub mod RoomFollows
 pub mod NetworkParts
 pub mod Raising
-pub mod Items
 pub mod NumberLaws
 pub mod Vectors

@@ -2,7 +2,6 @@
 use Rattle.std.proofs.Common.{◌≡◌, ℕ, zero, suc, ◌+◌, ◌-◌, ◌*◌, ◌<◌, ◌≤◌, Bool, true, false, cond, List, [], ◌∷◌, length, map, take, drop, get_or, Some, None, refl, sym, ◌∙◌, ap, subst, arith, nat_eq}
 use Rattle.std.specs.Prelude.{ℤ, pos, ◌+ℤ◌, ◌*ℤ◌, Contains}
 use Rattle.std.specs.List.{count_by, range_with_len, sum_by}
-use Rattle.std.proofs.Math.Nat.{mul-le-mul}
 use Rattle.std.proofs.lemmas.Bool.{eqb-true, le-leb, le-ltb}
 use Rattle.std.proofs.lemmas.Int.{ints}
 use Rattle.std.proofs.lemmas.List.FromFn.{get_or-map-range_with_len}
@@ -198,11 +197,6 @@ first-two (c ∷ d ∷ []) xs e = first-sum (count_by (λ l. nat_eq l 0) (take c
 first-two (c ∷ d ∷ b ∷ cs) xs e = absurd (omega (arith, e))
 
 module _ (t : TableData) (i : IsTable t) where
-  pub some-cells : 0 < length t.cells
-  some-cells =
-      let most : 2 * 2 ≤ t.rows * t.columns = mul-le-mul i.two_rows i.two_columns in
-      omega (arith, most, i.one_each)
-
   pub some-columns : 0 < length (column_sums t)
   some-columns = omega (arith, length-columns t, i.two_columns)
 
