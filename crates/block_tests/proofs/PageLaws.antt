@@ -235,8 +235,3 @@ next-place n (x ∷ []) e h = (let rest : n - (x + 1) ≡ suc (n - (x + 1 + 1)) 
 
 pub no-place : (n i : ℕ) → n ≤ i + 1 → places_from (i + 1) (n - (i + 1)) ≡ []
 no-place n i h = (let none : n - (i + 1) ≡ 0 = omega arith in ap (places_from (i + 1)) none)
-
-pub one-number : {X : Type 0} (xs : List X) (x : X) → length xs ≡ 1 → set xs 0 x ≡ x ∷ []
-one-number [] x e = absurd (omega arith)
-one-number (y ∷ []) x e = refl
-one-number (y ∷ z ∷ ys) x e = absurd (omega arith)

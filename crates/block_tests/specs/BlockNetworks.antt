@@ -5,7 +5,7 @@
 use Rattle.std.specs.Prelude.{ℕ, ◌+◌, ◌-◌, pos, List, [], ◌∷◌, length, map, reverse, true, false}
 use Rattle.std.specs.Prelude.{slice_index, slice_index_or}
 use Rattle.std.specs.List.{range_with_len}
-use Rattle.weights.specs.Conditional.{ConditionalTest, by_distance, distribution, unit_weight}
+use Rattle.weights.specs.Conditional.{ConditionalTest, distribution, one_sided, unit_weight}
 use Rattle.weights.specs.Labellings.{labellings}
 use Rattle.weights.specs.declared.lines.Line.{Line}
 use Rattle.stage_network.specs.Judged.{judge_of}
@@ -81,7 +81,7 @@ arrangement_test counts = record {
   observed = first_arrangement counts;
   weight = unit_weight;
   has_tail = is_upper;
-  two_sided = by_distance 0 (pos 0);
+  two_sided = one_sided;
   scale = 1;
   bound = 0;
 }

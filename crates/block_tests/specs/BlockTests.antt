@@ -6,7 +6,7 @@
 use Rattle.std.specs.Prelude.{ℕ, zero, suc, ℤ, pos, ◌+◌, ◌*◌, nat_abs, List, [], ◌∷◌, map}
 use Rattle.std.specs.Prelude.{take, drop, replicate, Bool, true, false, All, ⊤}
 use Rattle.std.specs.List.{concat, sum, sum_by}
-use Rattle.weights.specs.Conditional.{ConditionalTest, TwoSided, by_distance, every_tail, unit_weight}
+use Rattle.weights.specs.Conditional.{ConditionalTest, TwoSided, by_distance, every_tail, one_sided, unit_weight}
 use Rattle.weights.specs.Labellings.{counts_of}
 use Rattle.enumerate.specs.Joined.{joined_labellings}
 use Rattle.weights.specs.declared.tails.Tail.{Tail}
@@ -118,11 +118,11 @@ has_tail Friedman = is_upper
 has_tail Page = every_tail
 has_tail Cochran = is_upper
 
--- Page's sum has the mean n k (k + 1)^2 / 2 in doubled ranks; the others have no centre
+-- Page's sum has the mean n k (k + 1)^2 / 2 in doubled ranks; the others have one side
 abbrev pub sides_of : BlockKind → ℕ → ℕ → TwoSided
-sides_of Friedman n k = by_distance 0 (pos 0)
+sides_of Friedman n k = one_sided
 sides_of Page n k = by_distance 2 (pos (n * k * squared (k + 1)))
-sides_of Cochran n k = by_distance 0 (pos 0)
+sides_of Cochran n k = one_sided
 
 -- doubled ranks have their squares over 4
 abbrev pub scale_of : BlockKind → ℕ

@@ -117,7 +117,7 @@ fn sides_rule(kind: BlockKind, blocks: u64, treatments: u64, observed: i128) -> 
             let centre = blocks as u128 * treatments as u128 * squared(treatments + 1);
             Rule::far(2, centre as i128, observed)
         }
-        BlockKind::Friedman | BlockKind::Cochran => Rule::far(0, 0, observed),
+        BlockKind::Friedman | BlockKind::Cochran => Rule::one_sided(observed),
     }
 }
 

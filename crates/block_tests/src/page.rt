@@ -62,7 +62,7 @@ impl Plain for Block {
             statistic,
             scale: 1,
             total: self.number(),
-            two: Rule::far(0, 0, statistic),
+            two: Rule::one_sided(statistic),
         }
     }
 

@@ -96,9 +96,6 @@ part_of p k rest h = ap (λ us. us ++ rest) (ap (λ n. replicate n p.score) (who
     whole : (n k : ℕ) → k ≤ n → n ≡ k + (n - k)
     whole n k h = omega (arith, h)
 
-pub left-row : (rows : List Part) (columns : List Later) (i : ℕ) (row : Part) (j : ℕ) (d : Part) → row.count ≡ 0 → i < length rows → walk_left rows columns (i + 1) (get_or rows i d) j < walk_left rows columns i row j
-left-row rows columns i row j d e h = omega (arith, h, ap length (rows-step rows i row d e h))
-
 pub left-pairs : (rows : List Part) (columns : List Later) (i : ℕ) (row : Part) (j : ℕ) (k : ℕ) → 1 ≤ k → k ≤ row.count → walk_left rows columns i (record { score = row.score; count = row.count - k }) j < walk_left rows columns i row j
 left-pairs rows columns i row j k s h = omega (arith, s, h, length-append (units_of row) (row_units (drop i rows)), length-append (replicate (row.count - k) row.score) (row_units (drop i rows)), length-replicate row.count row.score, length-replicate (row.count - k) row.score)
 

@@ -6,9 +6,9 @@ use Rattle.std.specs.List.{sum_by, AllByRecursion}
 use Rattle.std.specs.Ordering.{int_eq}
 use Rattle.weights.specs.declared.lines.Line.{Line}
 use Rattle.weights.specs.declared.tails.Tail.TheVariants.{Less, Greater, Two}
-use Rattle.weights.specs.Conditional.{ConditionalTest, TwoSided, by_distance, ascending_values, distance, distribution, is_extreme_on_both, numerator, observed_statistic, total, value_weight}
-use Rattle.weights.proofs.Sums.{sum_by-same, sum_by-filter, sum_by-map, sum_by-plus}
-use Rattle.stage_network.specs.Lines.{every, line_sum}
+use Rattle.weights.specs.Conditional.{ConditionalTest, TwoSided, by_distance, ascending_values, distance, distribution, is_extreme_on_both, numerator, observed_statistic, value_weight}
+use Rattle.weights.proofs.Sums.{sum_by-same, sum_by-map, sum_by-plus}
+use Rattle.stage_network.specs.Lines.{line_sum}
 use Rattle.stage_network.specs.Follows.{statistic_sums}
 use Rattle.stage_network.proofs.DistributionLines.{distribution-is}
 
@@ -74,10 +74,6 @@ module _ (test : ConditionalTest) (p : ℤ → Bool) where
   pub distribution-sum : line_sum p (distribution test) ≡ statistic_sums test p
   unfolding sums_of weighted_by lines_of one_more one
   distribution-sum = omega (arith, lines-more, sums-more, weighty-sum one_more (λ r. omega arith), weighty-sum one (λ r. omega arith))
-
--- all lines weigh what all rearrangements do
-pub distribution-total : (test : ConditionalTest) → line_sum every (distribution test) ≡ total test
-distribution-total test = distribution-sum test every ∙ sum_by-filter test.weight (λ r. true) test.reference
 
 -- each tail at the observed statistic
 

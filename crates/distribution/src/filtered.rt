@@ -1,5 +1,6 @@
 // The weight of the lines whose values are extreme.
-ghost use Rattle.std.specs.Prelude.{◌≡◌, int_le, nat_le};
+ghost use Rattle.std.specs.Prelude.{◌≡◌, ◌≤◌, int_le, nat_le};
+ghost use Rattle.weights.specs.declared.TheConstants.{MAX};
 ghost use Rattle.weights.specs.Conditional.{ConditionalTest, by_distance, distance, distribution};
 ghost use Rattle.weights.specs.Conditional.{numerator, observed_statistic};
 ghost use Rattle.weights.specs.declared.tails.Tail.TheVariants.{Less, Greater, Two};
@@ -50,19 +51,50 @@ pub fn above(spread: &Spread, value: i128) -> u128
     weight_of(spread.as_slice(), Rule::AtLeast(value))
 }
 
+// Whether a value times a factor is at least so far apart from a centre. A number past 128 bits is
+// held at the greatest of them, which is farther from any centre than the limit.
+fn is_far(factor: u128, centre: i128, value: i128, apart: u128) -> bool
+    requires { apart ≤ MAX }
+    ensures { result ≡ nat_le apart (distance factor centre value) }
+{
+    let product = factor.saturating_mul(value.unsigned_abs());
+    let size = centre.unsigned_abs();
+    let away = if (value < 0) == (centre < 0) {
+        product.abs_diff(size)
+    } else {
+        product.saturating_add(size)
+    };
+    apart <= away
+}
+
+// The weight of the lines with such values.
+fn weight_far(lines: &[Line], factor: u128, centre: i128, apart: u128) -> u128
+    requires total { WeightsFit lines.now }
+    requires apart { apart ≤ MAX }
+    ensures { result ≡ line_sum (λ v. nat_le apart (distance factor centre v)) lines.now }
+{
+    let mut weight = 0;
+    for line in lines {
+        if is_far(factor, centre, line.value, apart) {
+            weight += line.weight;
+        }
+    }
+    weight
+}
+
 /// The weight of the lines with a value that, times a factor, is at least so far apart from a
-/// centre, where the weights of all lines sum to at most [`weights::MAX`] and no such number of a
-/// line passes it. Of the distribution of a test that goes by distance, with the test's factor and
-/// centre and as far apart as the observed statistic, it is the numerator of the tail `Two`. It
-/// takes no memory, and looks at each line once.
+/// centre, `apart` being at most [`weights::MAX`], where the weights of all lines sum to at most
+/// that. Of the distribution of a test that goes by distance, with the test's factor and centre and
+/// as far apart as the observed statistic, it is the numerator of the tail `Two`. It takes no
+/// memory, and looks at each line once.
 pub fn far(spread: &Spread, factor: u128, centre: i128, apart: u128) -> u128
     requires total { WeightsFit spread.now }
-    requires fits { RuleFitsLines (Rule.Far factor centre apart) spread.now }
+    requires apart { apart ≤ MAX }
     ensures sum { result ≡ line_sum (λ v. nat_le apart (distance factor centre v)) spread.now }
     ensures law { (test : ConditionalTest) → spread.now ≡ distribution test
         → test.two_sided ≡ by_distance factor centre
         → apart ≡ distance factor centre (observed_statistic test)
         → result ≡ numerator test Two }
 {
-    weight_of(spread.as_slice(), Rule::Far(factor, centre, apart))
+    weight_far(spread.as_slice(), factor, centre, apart)
 }

@@ -56,9 +56,3 @@ parts-of counts parts r m =
 pub none-joined : (r : List ℕ) → Contains (joined_labellings []) r → r ≡ []
 none-joined [] m = refl
 none-joined (x ∷ r) m = absurd (All-contains (λ y. y ≡ x ∷ r → ⊥) ([] ∷ []) (x ∷ r) (All-from_recursion (λ y. y ≡ x ∷ r → ⊥) ([] ∷ []) ((λ e. absurd (cc e)), tt)) m refl)
-
-pub joined-long : (parts : List (List ℕ)) (r : List ℕ) → Contains (joined_labellings parts) r → length r ≡ sum (map sum parts)
-joined-long [] r m = ap length (none-joined r m)
-joined-long (counts ∷ parts) r m =
-    let p = parts-of counts parts r m in
-    omega (arith, p.long, joined-long parts (drop (sum counts) r) p.rest, length-drop (sum counts) r, sum_by-cons (λ v. v) (sum counts) (map sum parts))

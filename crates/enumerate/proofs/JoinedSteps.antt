@@ -183,10 +183,6 @@ module _ (lengths labels : List ℕ) (end : ℕ) (front rest : List ℕ) (some :
       (subst (λ members. BeginsWith members (reverse front ++ begun)) (sym (joined-front counts parts))
       (BeginsWith-joined (sum counts) (reverse front) begun (labellings counts) (joined_labellings parts) (each-long counts) (last-turned counts front c.front_in ends.0) (b parts c.lengths c.rest_in ends.1)))
 
-pub no-lengths : (lengths labels : List ℕ) → length lengths ≡ 0 → (parts : List (List ℕ)) → map sum parts ≡ lengths → Contains (joined_labellings parts) labels → parts ≡ []
-no-lengths lengths labels e [] h m = refl
-no-lengths lengths labels e (counts ∷ parts) h m = absurd (omega (arith, e, ap length h))
-
 -- ---- the first member grows at its end
 
 pub one-first : (members : List (List ℕ)) (x y : List ℕ) → BeginsWith members x → BeginsWith members y → x ≡ y

@@ -60,11 +60,6 @@ module _ (strata : List Stratum) (all i product x : ℕ) (later : List ℕ) (h :
     weighing = grouped product (cell_weight s x) (cells_weight after later) ∙ step;
   }
 
-pub weigh-whole : (strata : List Stratum) (all i product : ℕ) (cells : List ℕ) → length strata ≤ i → IsWeighing strata all i product cells → product ≡ all
-weigh-whole strata all i product cells h w =
-    let last : product * 1 ≡ all = subst (λ ts. product * cells_weight ts cells ≡ all) (past-drop strata i h) w.weighing in
-    omega (arith, last)
-
 -- ---- the cells that are left
 
 pub own-step : (strata : List Stratum) (i : ℕ) → i < length strata → own_cells (drop i strata) ≡ (stratum_at strata i).a ∷ own_cells (drop (i + 1) strata)

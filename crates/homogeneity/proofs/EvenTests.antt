@@ -102,9 +102,6 @@ module _ (strata : List Stratum) where
   rule-fits Greater v = at_least-fits (observed_statistic (even_test strata)) v
   rule-fits Two v = at_most-fits (pos (rarity strata (observed_labels strata))) v
 
-  pub rules-fit : RulesFit (even_test strata)
-  rules-fit = record { fits = λ tail r m. rule-fits tail (measured (even_test strata) tail r) }
-
   judge-fits : (t : Tail) (v : ℤ) → RuleFits (rule_in (judge_of (even_test strata)) t) v
   judge-fits Less v = rule-fits Less v
   judge-fits Greater v = rule-fits Greater v
@@ -112,9 +109,6 @@ module _ (strata : List Stratum) where
 
   pub judges-fit : (v : ℤ) → JudgeFits (judge_of (even_test strata)) v
   judges-fit v = record { fits = λ t. judge-fits t v }
-
-  pub shown : IsShown (even_test strata)
-  shown = record { has = refl; statistic_is = λ r. refl; weighty = all-weigh (even_labellings strata) }
 
   -- ---- the network
 

@@ -89,9 +89,6 @@ module _ (strata : List Stratum) (given : ℕ) where
     pub member : Contains all labels
     pub same : filter p (members_after old all) ≡ filter p (members_after labels all)
 
-  pub passing-first : (old : List ℕ) → Contains all old → IsPassing old old
-  passing-first old m = record { member = m; same = refl }
-
   module _ (old labels new : List ℕ) (h : IsPassing old labels) where
     pub passing-next : StepsThrough all labels true new → has_sum strata given new ≡ false → IsPassing old new
     passing-next t e = record {
@@ -106,17 +103,6 @@ module _ (strata : List Stratum) (given : ℕ) where
       has = λ q. e;
       last = λ q. absurd (cc q);
     }
-
-    pub onward-none : StepsThrough all labels false new → IsOnward strata given old false new
-    onward-none t = record {
-      member = subst (Contains all) (sym t.stays) h.member;
-      onward = h.same ∙ ap (filter p) t.onward;
-      has = λ q. absurd (cc q);
-      last = λ q. ap (λ v. members_after v all) t.stays ∙ t.onward;
-    }
-
-    pub fewer : StepsThrough all labels true new → length (members_after new all) < length (members_after labels all)
-    fewer t = omega (arith, ap length t.onward)
 
   -- ---- a step
 
@@ -151,32 +137,6 @@ module _ (strata : List Stratum) (given : ℕ) where
     pub within : left ≤ total
 
   module _ (total : ℕ) (t : total ≡ length (filter p all)) where
-    first-count : (labels : List ℕ) → BeginsWith all labels → total ≡ length (filter p (labels ∷ members_after labels all))
-    first-count labels b = t ∙ ap (λ vs. length (filter p vs)) b
-
-    pub counting-in : (labels : List ℕ) → BeginsWith all labels → p labels ≡ true → (0 < total) × IsCounting total (total - 1) labels
-    counting-in labels b e =
-        let more : total ≡ suc (length (filter p (members_after labels all))) = first-count labels b ∙ ap length (passing p labels (members_after labels all) e) in (
-          omega (arith, more),
-          record { member = Contains-first labels all b; counted = omega (arith, more); has = λ h. e; within = omega arith },
-        )
-
-    pub counting-out : (labels : List ℕ) → BeginsWith all labels → p labels ≡ false → IsCounting total total labels
-    counting-out labels b e = record {
-      member = Contains-first labels all b;
-      counted = first-count labels b ∙ ap length (missing p labels (members_after labels all) e);
-      has = λ h. absurd (omega (arith, h));
-      within = omega arith;
-    }
-
-    pub counting-next : (left : ℕ) (labels new : List ℕ) (moved : Bool) → 0 < left → IsCounting total left labels → IsOnward strata given labels moved new → IsCounting total (left - 1) new
-    counting-next left labels new true some c o =
-        let fewer-left : left ≡ suc (length (filter p (members_after new all))) = c.counted ∙ ap length o.onward in
-        record { member = o.member; counted = omega (arith, fewer-left); has = λ h. o.has refl; within = omega (arith, c.within) }
-    counting-next left labels new false some c o =
-        let none : left ≡ 0 = c.counted ∙ ap length o.onward in
-        absurd (omega (arith, none, some))
-
     pub counted-last : (labels : List ℕ) → 1 ≤ total → IsCounting total 0 labels → IsLastWith strata given labels
     counted-last labels some c =
         let e : p labels ≡ true = c.has (omega (arith, some)) in

@@ -47,9 +47,6 @@ first-choice low high h =
     ap (λ n. map (λ x. x ∷ []) (range_with_len low n)) (let e : high + 1 - low ≡ suc (high - low) = omega (arith, h) in e)
     ∙ ap (λ n. (low ∷ []) ∷ map (λ x. x ∷ []) (range_with_len (low + 1) n)) (let e : high - low ≡ high + 1 - (low + 1) = omega arith in e)
 
-pub no-choice : (low high : ℕ) → high < low → choices_between low high ≡ []
-no-choice low high h = ap (λ n. map (λ x. x ∷ []) (range_with_len low n)) (let e : high + 1 - low ≡ 0 = omega (arith, h) in e)
-
 ones-apart : (x y : ℕ) → x < y → x ∷ [] ≢ y ∷ []
 ones-apart x y l e = let same : x ≡ y = cc in omega arith
 

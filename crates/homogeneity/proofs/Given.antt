@@ -149,9 +149,6 @@ number-with strata done left all e =
     sum_by-same (λ cells. cells_weight strata cells * cond (nat_eq (done + sum cells) all) 1 0) (λ cells. cells_weight strata cells * cond (nat_eq (0 + sum cells) left) 1 0) (λ cells. ap (λ b. cells_weight strata cells * cond b 1 0) (same-sum done left all (sum cells) e)) (cell_lists strata)
     ∙ sym (number-is strata left)
 
-pub number-none : number_with [] 0 ≡ 1
-number-none = refl
-
 -- a first cell, and what is left for the others
 abbrev pub number_by : Stratum → List Stratum → ℕ → ℕ → ℕ
 number_by s strata left x = cell_weight s x * number_with strata (left - x)

@@ -8,9 +8,6 @@ use Rattle.homogeneity.specs.ZelenSteps.{AreNumbers, counted}
 use Rattle.homogeneity.specs.declared.laters.Later.{Later}
 
 module _ (s : Stratum) (later : Later) (first : ℕ) where
-  pub numbers-none : AreNumbers s later first first []
-  numbers-none = record { long = omega arith; each = λ left l h. absurd (omega (arith, l, h)); fits = λ left l h. absurd (omega (arith, l, h)) }
-
   pub numbers-next : (end number : ℕ) (numbers : List ℕ) → first ≤ end → counted s later end ≤ MAX → number ≡ counted s later end → AreNumbers s later first end numbers → AreNumbers s later first (end + 1) (numbers ++ number ∷ [])
   numbers-next end number numbers from few e a = record {
     long = omega (arith, length-append numbers (number ∷ []), a.long, from);

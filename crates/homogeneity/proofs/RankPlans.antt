@@ -70,9 +70,6 @@ counts-some s (suc n) h e = cc
 
 -- ---- columns from a stage on
 
-no_column : Column
-no_column = record { size = 0; later = 0; rank = 0; ahead = 0 }
-
 pub stage-split : (columns : List Column) (g : ℕ) → g < length columns → drop g columns ≡ column_at columns g ∷ drop (g + 1) columns
 stage-split columns g h = rw add-one (drop-cons columns g (record { size = 0; later = 0; rank = 0; ahead = 0 }) h)
 

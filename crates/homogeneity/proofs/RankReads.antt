@@ -12,9 +12,6 @@ pub record IsAdding (added : List Column → ℕ → ℕ) (columns : List Column
   pub within : later ≤ left (drop i columns)
   pub all : sum + added (drop i columns) later ≡ added columns r
 
-pub adding-first : (added : List Column → ℕ → ℕ) (columns : List Column) (r : ℕ) → r ≤ left columns → IsAdding added columns r 0 0 r
-adding-first added columns r h = record { within = h; all = omega arith }
-
 module _ (columns : List Column) (s : AreColumns columns) (r i a later : ℕ) (before : i < length columns) where
   abbrev c : Column
   c = column_at columns i

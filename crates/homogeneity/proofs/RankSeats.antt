@@ -108,16 +108,6 @@ own-fits c columns b e same h =
     first-within : (a b : ℕ) → 1 ≤ b → a * b ≤ MAX → a ≤ MAX
     first-within a b h l = grind arith
 
-pub table-first : (columns : List Column) (ways : List ℕ) → ways ≡ 1 ∷ [] → AreLaterWays columns 0 ways
-table-first columns ways e = record {
-  long = ap length e;
-  within = omega arith;
-  each = λ i h. (let z : i ≡ 0 = omega (arith, h) in
-      let last : length columns - 0 ≡ length columns = omega arith in
-      let none : drop (length columns) columns ≡ [] = drop_of_length-le columns {i = length columns} (omega arith) in
-      rw (z, e, last, none) refl);
-}
-
 pub table-read : (columns : List Column) (ways : List ℕ) (g : ℕ) → AreLaterWays columns (length columns) ways → g ≤ length columns → get_or ways (length columns - g) 0 ≡ later_ways (drop g columns)
 table-read columns ways g a h =
     let back : length columns - (length columns - g) ≡ g = omega (arith, h) in

@@ -73,12 +73,6 @@ module _ (parts : List Part) where
 
 -- ---- lists that are made of strata
 
-pub first-at : (strata : List (List Subject)) (i : ℕ) → i < length strata → first_second (drop i strata) ≡ second_size (slice_index_or strata i [])
-first-at strata i h = ap first_second (drop_more strata i [] h)
-
-pub first-past : (strata : List (List Subject)) (i : ℕ) → length strata ≤ i → first_second (drop i strata) ≡ 0
-first-past strata i h = ap first_second (past strata i h)
-
 pub columns-more : (strata : List (List Subject)) (i : ℕ) → i < length strata → columns_of (drop i strata) ≡ columns_in (first_second (drop (i + 1) strata)) (slice_index_or strata i []) ++ columns_of (drop (i + 1) strata)
 columns-more strata i h = ap columns_of (drop_more strata i [] h)
 

@@ -185,13 +185,6 @@ module _ (strata : List Stratum) (sum : ℕ) (d : AreSummed strata sum) where
 
   -- ---- lesser weights
 
-  pub lesser-first : AreLesser strata (length strata - 0) (1 ∷ [])
-  lesser-first = record { long = omega arith; each = by }
-    where
-      by : (j : ℕ) → j < 1 → slice_index (1 ∷ []) j ≡ lesser_weights (drop (length strata - j) strata)
-      by zero h = sym (ap lesser_weights (drop_of_length-le strata {i = length strata - 0} (omega arith)))
-      by (suc j) h = absurd (omega (arith, h))
-
   pub lesser-on : (done : ℕ) → done < length strata → lesser_weights (drop (length strata - done - 1) strata) ≡ lesser_weight (stratum_at strata (length strata - done - 1)) * lesser_weights (drop (length strata - done) strata)
   lesser-on done h =
       let place : length strata - done - 1 + 1 ≡ length strata - done = omega (arith, h) in
@@ -219,12 +212,6 @@ module _ (strata : List Stratum) (sum : ℕ) (d : AreSummed strata sum) where
 
   pub lesser-one : (done : ℕ) → done < length strata → lesser_weight (stratum_at strata (length strata - done - 1)) ≤ lesser_weights (drop (length strata - done - 1) strata)
   lesser-one done h = omega (arith, lesser-on done h, left-within (lesser_weight (stratum_at strata (length strata - done - 1))) (lesser_weights (drop (length strata - done) strata)) (lesser-all_some (drop (length strata - done) strata)))
-
-  pub lesser-none : 1 ≡ lesser_weights (drop (length strata - 0) strata)
-  lesser-none = sym (ap lesser_weights (drop_of_length-le strata {i = length strata - 0} (omega arith)))
-
-  pub lesser-whole : (done : ℕ) (lesser : List ℕ) → length strata ≤ done → AreLesser strata (length strata - done) lesser → AreLesser strata 0 lesser
-  lesser-whole done lesser h a = subst (λ n. AreLesser strata n lesser) (let e : length strata - done ≡ 0 = omega (arith, h) in e) a
 
   -- they are no more than the labellings with the sum
   pub lesser-within : (g : ℕ) → g ≤ length strata → lesser_weights (drop g strata) ≤ number_with strata sum

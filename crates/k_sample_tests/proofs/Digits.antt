@@ -115,9 +115,6 @@ numeral-more base xs each i h =
     let grows : base ^ suc (length rest) ≤ base ^ length xs = pow-le-pow_right some (omega (arith, long, h)) in
     omega (arith, here, power, grows)
 
-pub numeral-next : (base : ℕ) (xs : List ℤ) (i : ℕ) → i < length xs → numeral base (drop i xs) ≡ get_or xs i (pos 0) +ℤ (pos base *ℤ numeral base (drop (i + 1) xs))
-numeral-next base xs i h = ap (numeral base) (drop_more xs i (pos 0) h)
-
 -- the first partial's sums are 0
 pub pack-zeros : (half k : ℕ) → pack half (replicate k (pos 0)) ≡ numeral (2 * half) (replicate k (pos half))
 pack-zeros half zero = refl

@@ -64,15 +64,6 @@ module _ (m : RankSums) (sizes : List ℕ) (a : AreEqualGroups m sizes) where
       rw (front-key (length m.rows.items) room partial l, back-key (length m.rows.items) room partial l) at
       (is_key (over_rooms (sums_meaning m)) label_weight (label_width m.later.columns.items m.rows.items) g (room ++ partial) r).reached
 
-  -- what a choice leaves
-  pub in-next : (g : ℕ) (room partial : List ℤ) (c : List ℕ) → length room ≡ length m.rows.items → map pos (minus (sizes_in room) c) ++ drop (length m.rows.items) (key-network.next g (room ++ partial) c) ≡ key-network.next g (room ++ partial) c
-  in-next g room partial c l =
-      let left : List ℤ = map pos (minus (sizes_in room) c) in
-      let sums : List ℤ = (sums_meaning m).advance g (sizes_in room) c partial in
-      let long : length left ≡ length m.rows.items = length-pos (minus (sizes_in room) c) ∙ length-minus (sizes_in room) c ∙ length-map room nat_abs ∙ l in
-      let is : key-network.next g (room ++ partial) c ≡ left ++ sums = rw (front-key (length m.rows.items) room partial l, back-key (length m.rows.items) room partial l) refl in
-      ap (λ k. left ++ drop (length m.rows.items) k) is ∙ ap (λ ys. left ++ ys) (back-key (length m.rows.items) left sums long) ∙ sym is
-
   pub in-arc : (w g : ℕ) (room : List ℤ) (c : List ℕ) → IsArc (equal_groups_network (sums_meaning m)) w g room c → IsArc key-network w g room c
   in-arc w g room c v = record { partial = v.partial; wide = v.wide; reached = in-reached g (room ++ v.partial) v.reached; allowed = v.allowed }
 

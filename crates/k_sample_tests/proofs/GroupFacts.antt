@@ -39,9 +39,6 @@ module _ (groups : Groups) where
   pub few_subjects : length (pooled_values (data_of groups)) ≤ 10000
   few_subjects = omega (arith, values-long, groups.few_enough)
 
-  pub few_pooled : length (pooled (data_of groups)) ≤ 10000
-  few_pooled = omega (arith, few_subjects, length-map (pooled (data_of groups)) (λ (s : Subject). s.value))
-
   pub none-empty : All (λ size. 0 < size) (group_sizes (data_of groups))
   none-empty = λ i d h. omega (arith, subst (All (λ size. 1 ≤ size)) groups.counted groups.none_empty i d h)
 

@@ -61,10 +61,6 @@ open-is qs r = sum_by-scaled 2 (λ (q : UsedPair). slice_index r q.lesser * slic
 pub middle-is : (qs : List UsedPair) (rows r : List ℕ) → column_points qs rows r r ≡ sure_points qs rows r + subject_pairs qs r
 middle-is qs rows r = sum_by-plus (λ (q : UsedPair). 2 * (placed rows r q.lesser * slice_index r q.greater)) (λ (q : UsedPair). slice_index r q.lesser * slice_index r q.greater) qs
 
--- one pair's terms
-sure_term : List ℕ → List ℕ → UsedPair → ℕ
-sure_term rows r q = 2 * (placed rows r q.lesser * slice_index r q.greater)
-
 module _ (rows r x : List ℕ) (f : fits r rows ≡ true) (h : fits x r ≡ true) where
   pub points-rise : (qs : List UsedPair) → sure_points qs rows r ≤ column_points qs rows r x + sure_points qs rows (minus r x)
   points-rise [] = omega arith

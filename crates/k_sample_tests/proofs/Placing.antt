@@ -56,12 +56,6 @@ pub record IsPlacing (qs : List UsedPair) (rows columns labels initial : List �
   pub adding : sum_so_far + points_from qs rows left (drop g columns) later ≡ points_from qs rows initial columns labels
 
 module _ (qs : List UsedPair) (rows columns labels initial : List ℕ) (g : ℕ) (left later : List ℕ) (s : ℕ) (before : g < length columns) (k : IsPlacing qs rows columns labels initial g left later s) where
-  here : List ℕ
-  here = counts_of (length rows) (take (get_or columns g 0) later)
-
-  pub column-room : get_or columns g 0 ≤ length later
-  column-room = omega (arith, k.long, sum_by-drop_more (λ v. v) columns g 0 before)
-
   pub column-fits : fits (counts_of (length rows) (take (get_or columns g 0) later)) left ≡ true
   column-fits = (counts-left (length rows) (get_or columns g 0) later left k.counted).0
 
@@ -81,12 +75,6 @@ module _ (qs : List UsedPair) (rows columns labels initial : List ℕ) (g : ℕ)
         small = omega (arith, k.small, few);
         adding = rw (now, f) (omega (arith, k.adding, all, added));
       }
-
-pub placing-end : (qs : List UsedPair) (rows columns labels initial : List ℕ) (g : ℕ) (left later : List ℕ) (s : ℕ) → length columns ≤ g → IsPlacing qs rows columns labels initial g left later s → s ≡ points_from qs rows initial columns labels
-placing-end qs rows columns labels initial g left later s h k =
-    let none : drop g columns ≡ [] = drop_of_length-le columns {i = g} h in
-    let nothing : points_from qs rows left (drop g columns) later ≡ 0 = ap (λ cs. points_from qs rows left cs later) none in
-    omega (arith, k.adding, nothing)
 
 -- ---- no more than all pairs add
 

@@ -4,7 +4,7 @@
 -- n. With midranks as scores, the book's H rises with the sum of these. It is conditional on the
 -- pooled sample's values with their ties.
 use Rattle.std.specs.Prelude.{ℕ, ℤ, pos, ◌*◌, ◌/◌, List, length, map, max}
-use Rattle.weights.specs.Conditional.{ConditionalTest, by_distance, unit_weight}
+use Rattle.weights.specs.Conditional.{ConditionalTest, one_sided, unit_weight}
 use Rattle.weights.specs.Labellings.{labellings, labels}
 use Rattle.weights.specs.declared.tails.Tail.TheVariants.{Greater}
 use Rattle.completion_bounds.specs.Boxes.{factored_squares}
@@ -39,7 +39,7 @@ squares_test sizes scores observed scale =
       observed = observed;
       weight = unit_weight;
       has_tail = is_tail Greater;
-      two_sided = by_distance 0 (pos 0);
+      two_sided = one_sided;
       scale = common_multiple sizes * (scale * scale);
       bound = common_multiple sizes * (most * most);
     }

@@ -93,7 +93,7 @@ pub(crate) fn made_of(
         statistic,
         scale: multiple * (scored.scale * scored.scale),
         total,
-        two: Rule::far(0, 0, statistic),
+        two: Rule::one_sided(statistic),
     };
     Ok(GroupScores {
         sizes,

@@ -22,6 +22,7 @@ pub mod Ascending
 pub mod Sorting
 pub mod LeastPairing
 pub mod LinearSizes
+pub mod PairedUnits
 pub mod LinearNarrows
 pub mod RowOrder
 pub mod Summing

@@ -12,7 +12,8 @@ use Rattle.label_network.specs.LaterSums.{total_score, part_sum}
 use Rattle.label_network.specs.LaterSteps.{better_of}
 use Rattle.label_network.specs.declared.ends.End.{End}
 use Rattle.label_network.specs.declared.ends.End.TheVariants.{Least, Greatest}
-use Rattle.label_network.specs.Linear.{row_sum, steps_by, added_by, least_added, greatest_added}
+use Rattle.label_network.specs.Linear.{row_sum}
+use Rattle.label_network.specs.LinearSteps.{steps_by, added_by, least_added, greatest_added}
 use Rattle.label_network.proofs.Climbing.{RowsClimb, Climbs}
 use Rattle.label_network.proofs.LaterArcs.{Nearer, part-arc, more-times}
 use Rattle.completion_bounds.proofs.Products.{distribute, distribute_left}

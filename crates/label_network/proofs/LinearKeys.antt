@@ -19,8 +19,8 @@ use Rattle.label_network.specs.Meanings.{AreReached as LabelReached}
 use Rattle.label_network.specs.declared.linear.LinearMeasure.{LinearMeasure}
 use Rattle.label_network.specs.LaterSums.{later_scores}
 use Rattle.weights.specs.Numbers.{absolute_sum}
-use Rattle.label_network.specs.Linear.{row_sum, least_added, greatest_added, score_of, picked, order_of, ordered, ordered_scores, column_sum, linear_meaning, linear_numbers, greatest_sizes}
-use Rattle.label_network.specs.LinearSteps.{whole_reach, HasTails, ArePlaces, IsLinearMeasure}
+use Rattle.label_network.specs.Linear.{row_sum, least_paired, greatest_paired, score_of, column_sum, linear_meaning, linear_numbers, greatest_sizes}
+use Rattle.label_network.specs.LinearSteps.{least_added, greatest_added, picked, order_of, ordered_scores, whole_reach, HasTails, ArePlaces, IsLinearMeasure}
 use Rattle.label_network.proofs.Sizes.{sizes-of_pos}
 use Rattle.label_network.proofs.Narrowing.{IsLeft, chosen}
 use Rattle.label_network.proofs.Ascending.{ascending, order-inside}
@@ -31,7 +31,7 @@ use Rattle.label_network.proofs.Absolute.{sizes-block}
 use Rattle.label_network.proofs.Stages.{sizes-some}
 use Rattle.label_network.proofs.Later.{later-next}
 use Rattle.label_network.proofs.OverRooms.{over_number, over_place}
-use Rattle.label_network.proofs.LinearNarrows.{IsPartial, linear_measure, reached_left, reached_partial, rows-level, ordered-whole, low-small, high-small, low-rule, high-rule, choice-level, column-small}
+use Rattle.label_network.proofs.LinearNarrows.{IsPartial, least-stepwise, greatest-stepwise, linear_measure, reached_left, reached_partial, rows-level, ordered-whole, low-small, high-small, low-rule, high-rule, choice-level, column-small}
 
 sizes-long : (zs : List ℤ) → length (sizes_in zs) ≡ length zs
 sizes-long [] = refl
@@ -128,17 +128,30 @@ module _ (m : LinearMeasure) where
         grouped : (m s : ℕ) → (3 * m) * s ≡ 3 * (m * s)
         grouped m s = omega arith
 
+    -- the ends that are built row by row
+    pub least-built : least_added ordered_us (picked order (sizes_in f)) (later_scores scores columns g) ≡ least_paired us (sizes_in f) (later_scores scores columns g)
+    least-built =
+        ap (λ vs. least_added vs (picked order (sizes_in f)) (later_scores scores columns g)) h.ordered_is
+        ∙ ap (λ js. least_added (ordered_scores us) (picked js (sizes_in f)) (later_scores scores columns g)) h.order_is
+        ∙ sym (least-stepwise us rows scores columns judge h.linear g (sizes_in f) left)
+
+    pub greatest-built : greatest_added ordered_us (picked order (sizes_in f)) (later_scores scores columns g) ≡ greatest_paired us (sizes_in f) (later_scores scores columns g)
+    greatest-built =
+        ap (λ vs. greatest_added vs (picked order (sizes_in f)) (later_scores scores columns g)) h.ordered_is
+        ∙ ap (λ js. greatest_added (ordered_scores us) (picked js (sizes_in f)) (later_scores scores columns g)) h.order_is
+        ∙ sym (greatest-stepwise us rows scores columns judge h.linear g (sizes_in f) left)
+
     sums-within : greatest_sizes us scores columns ≤ MAX
     sums-within = omega (arith, h.linear.sums_fit)
 
     -- what later columns add
-    least-outcome : IsOutcome Sum judge (so_far p) (least_added (ordered_scores us) (ordered us (sizes_in f)) (later_scores scores columns g))
+    least-outcome : IsOutcome Sum judge (so_far p) (least_paired us (sizes_in f) (later_scores scores columns g))
     least-outcome = record {
       fits = omega (arith, sums-within, low-small us rows scores columns judge h.linear g (sizes_in f) left p partial_is);
       ruled = low-rule us rows scores columns judge h.linear g (sizes_in f) left p partial_is;
     }
 
-    greatest-outcome : IsOutcome Sum judge (so_far p) (greatest_added (ordered_scores us) (ordered us (sizes_in f)) (later_scores scores columns g))
+    greatest-outcome : IsOutcome Sum judge (so_far p) (greatest_paired us (sizes_in f) (later_scores scores columns g))
     greatest-outcome = record {
       fits = omega (arith, sums-within, high-small us rows scores columns judge h.linear g (sizes_in f) left p partial_is);
       ruled = high-rule us rows scores columns judge h.linear g (sizes_in f) left p partial_is;

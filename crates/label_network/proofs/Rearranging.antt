@@ -11,7 +11,8 @@ use Rattle.std.proofs.lemmas.List.Sums.{sum_by-cons, sum-map}
 use Rattle.weights.specs.Grouped.{minus, fits}
 use Rattle.weights.proofs.Sized.{first_and}
 use Rattle.completion_bounds.proofs.Products.{distribute}
-use Rattle.label_network.specs.Linear.{row_sum, score_of, picked, picked_scores}
+use Rattle.label_network.specs.Linear.{row_sum, score_of}
+use Rattle.label_network.specs.LinearSteps.{picked, picked_scores}
 
 pub get-within : (r x : List ℕ) (i : ℕ) → fits x r ≡ true → get_or x i 0 ≤ get_or r i 0
 get-within [] [] i f = omega arith
@@ -62,7 +63,7 @@ abbrev down : ℤ → ℕ
 down (pos a) = 0
 down (negsuc a) = suc a
 
-abbrev weighed : (ℤ → ℕ) → List ℤ → List ℕ → ℕ
+abbrev pub weighed : (ℤ → ℕ) → List ℤ → List ℕ → ℕ
 weighed f [] xs = 0
 weighed f (u ∷ us) [] = 0
 weighed f (u ∷ us) (x ∷ xs) = x * f u + weighed f us xs
@@ -82,7 +83,7 @@ weighed-picked : (f : ℤ → ℕ) (order : List ℕ) (us : List ℤ) (xs : List
 weighed-picked f [] us xs = refl
 weighed-picked f (i ∷ order) us xs = ap (λ n. get_or xs i 0 * f (score_of us i) + n) (weighed-picked f order us xs) ∙ sym (sum_by-cons (λ i. get_or xs i 0 * f (score_of us i)) i order)
 
-weighed-same : (f : ℤ → ℕ) (order : List ℕ) (us : List ℤ) (xs : List ℕ) → IsEach (length us) order → length xs ≡ length us → weighed f (picked_scores order us) (picked order xs) ≡ weighed f us xs
+pub weighed-same : (f : ℤ → ℕ) (order : List ℕ) (us : List ℤ) (xs : List ℕ) → IsEach (length us) order → length xs ≡ length us → weighed f (picked_scores order us) (picked order xs) ≡ weighed f us xs
 weighed-same f order us xs h e =
     let all : List ℕ = range_with_len 0 (length us) in
     let place : picked all xs ≡ xs = rw (← e) (in_place xs) in

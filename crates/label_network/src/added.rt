@@ -4,8 +4,7 @@ ghost use Rattle.std.specs.List.{sum};
 ghost use Rattle.label_network.specs.Meanings.{sizes_in};
 ghost use Rattle.label_network.specs.LaterSums.{later_scores};
 ghost use Rattle.weights.specs.Numbers.{absolute_sum};
-ghost use Rattle.label_network.specs.Linear.{picked, least_added, greatest_added};
-ghost use Rattle.label_network.specs.LinearSteps.{whole_reach, HasTails, ArePlaces};
+ghost use Rattle.label_network.specs.LinearSteps.{picked, least_added, greatest_added, whole_reach, HasTails, ArePlaces};
 
 use crate::later_scores::LaterScores;
 use stage_network::Interval;

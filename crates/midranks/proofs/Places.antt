@@ -11,9 +11,9 @@ use Rattle.std.proofs.lemmas.List.Elements.{All-from_recursion}
 use Rattle.std.proofs.lemmas.List.Sums.{get_or-le-sum_by, sum_by-cons}
 use Rattle.midranks.specs.Midranks.{doubled_midrank, number_below, number_equal}
 use Rattle.midranks.specs.MidrankSteps.{ranks_after}
-use Rattle.midranks.specs.Ties.{IsAscending, tie_groups, values_in}
+use Rattle.midranks.specs.Ties.{AreCounted, IsAscending, tie_groups, values_in}
 use Rattle.midranks.specs.declared.ties.Tie.{Tie}
-use Rattle.midranks.proofs.TieLemmas.{groups-ascend, less-from_test, not_less-from_test, other-from_test, same-from_test, sum_by-groups, summed, test-less, test-not_less, test-other, test-same}
+use Rattle.midranks.proofs.TieLemmas.{groups-ascend, groups-counts, less-from_test, not_less-from_test, other-from_test, same-from_test, sum_by-groups, summed, test-less, test-not_less, test-other, test-same}
 
 abbrev one_if : Bool → ℕ
 one_if b = cond b 1 0
@@ -180,6 +180,22 @@ number_equal-some values i d h =
 
 pub group-exists : (values : List ℤ) (i : ℕ) (d : ℤ) → i < length values → Any (λ t. t.value ≡ get_or values i d) (tie_groups values)
 group-exists values i d h = occurs (tie_groups values) (get_or values i d) (omega (arith, number_equal-some values i d h, number_equal-groups values (get_or values i d)))
+
+-- the groups of a list count how often their values occur in it
+groups-often : (ts : List Tie) → IsAscending ts → AllByRecursion (λ t. t.count ≡ equal_in ts t.value) ts
+groups-often [] up = tt
+groups-often (t ∷ ts) up = (sym (equal-first t ts up), later ts up.0 (groups-often ts up.1))
+  where
+    later : (us : List Tie) → AllByRecursion (λ u. t.value <ℤ u.value) us → AllByRecursion (λ u. u.count ≡ equal_in ts u.value) us → AllByRecursion (λ u. u.count ≡ equal_in (t ∷ ts) u.value) us
+    later [] above same = tt
+    later (u ∷ us) above same = (same.0 ∙ sym (equal-later t ts u.value above.0), later us above.1 same.1)
+
+pub groups-counted : (values : List ℤ) → AreCounted values (tie_groups values)
+groups-counted values = record {
+  some = All-from_recursion (λ t. 0 < t.count) (tie_groups values) (groups-counts values);
+  often = λ k d h. All-from_recursion (λ t. t.count ≡ equal_in (tie_groups values) t.value) (tie_groups values) (groups-often (tie_groups values) (groups-ascend values)) k d h ∙ sym (number_equal-groups values (get_or (tie_groups values) k d).value);
+  each = group-exists values;
+}
 
 -- the lesser and the equal values are some of the values
 pub below_and_equal : (values : List ℤ) (v : ℤ) → number_below values v + number_equal values v ≤ length values

@@ -3,7 +3,7 @@ ghost use Rattle.std.specs.Prelude.{◌≡◌, ◌<◌, length, IfOk};
 ghost use Rattle.std.specs.List.{Any, HoldsAt};
 ghost use Rattle.std.specs.List.Sorted.{IsSorted};
 ghost use Rattle.std.specs.Ordering.{int_cmp};
-ghost use Rattle.midranks.specs.Ties.{IsAscending, tie_groups};
+ghost use Rattle.midranks.specs.Ties.{AreCounted, IsAscending, tie_groups};
 
 use std::alloc::Global;
 use weights::{List, NoMemory};
@@ -41,7 +41,9 @@ fn runs(alloc: Global, sorted: &[i128]) -> Result<Ties, NoMemory>
 /// The distinct values in ascending order, each with how often it occurs: one sort of a copy of the
 /// values, and one pass.
 pub fn tie_groups(alloc: Global, values: &[i128]) -> Result<Ties, NoMemory>
-    ensures { IfOk result (λ ties. ties ≡ tie_groups values.now) }
+    ensures ascending { IfOk result (λ ties. IsAscending ties) }
+    ensures counted { IfOk result (λ ties. AreCounted values.now ties) }
+    ensures groups { IfOk result (λ ties. ties ≡ tie_groups values.now) }
 {
     let mut sorted = Vec::from_slice(alloc, values)?;
     sorted.sort_unstable();

@@ -229,8 +229,3 @@ pub next-choices : (n : ℕ) (choice : List ℕ) → length choice ≡ 1 → get
 next-choices n [] long h = absurd (omega arith)
 next-choices n (j ∷ k ∷ choice) long h = absurd (omega arith)
 next-choices n (j ∷ []) long h = let e : n - j ≡ suc (n - (j + 1)) = omega (arith, h) in rw e refl
-
-pub one-number : (xs : List ℤ) (x : ℤ) → length xs ≡ 1 → set xs 0 x ≡ x ∷ []
-one-number [] x e = absurd (omega arith)
-one-number (y ∷ []) x e = refl
-one-number (y ∷ z ∷ ys) x e = absurd (omega arith)

@@ -4,6 +4,5 @@ pub mod RoomEnds
 pub mod RoomFollows
 pub mod NetworkParts
 pub mod Raising
-pub mod Items
 pub mod NumberLaws
 pub mod Vectors

@@ -66,12 +66,6 @@ pub record IsFilling (all w left : ℕ) (columns : List ℕ) : Type 0 where
   pub some : 1 ≤ w
   pub most : w ≤ MAX + 1
 
-pub filling-first : (columns : List ℕ) (row : ℕ) → IsFilling (product_by factorial (filled_in_turn row columns)) 1 row columns
-filling-first columns row = record { value = ap cut (once (product_by factorial (filled_in_turn row columns))); some = omega arith; most = omega arith }
-  where
-    once : (n : ℕ) → 1 * n ≡ n
-    once n = omega arith
-
 pub filling-next : (all w left : ℕ) (columns : List ℕ) (i cell : ℕ) → i < length columns → cell ≡ min (get_or columns i 0) left → IsFilling all w left (drop i columns) → IsFilling all (cut (w * cut (factorial cell))) (left - cell) (drop (i + 1) columns)
 filling-next all w left columns i cell within e f =
     let parts : drop i columns ≡ get_or columns i 0 ∷ drop (i + 1) columns = rw add-one (drop-cons columns i 0 within) in

@@ -31,10 +31,6 @@ even-fewest xs h =
     least : (n : ℕ) → n ≤ n
     least n = omega arith
 
-none-total : (cs : List ℕ) → length cs ≡ 0 → total cs ≡ 0
-none-total [] e = refl
-none-total (c ∷ cs) e = absurd (omega (arith, e))
-
 -- a row that is divided evenly over one column more
 least-cell : (cs : List ℕ) (a r : ℕ) → a ≤ r → r - a ≤ total cs → least_product (suc (length cs)) r ≤ factorial a * least_product (length cs) (r - a)
 least-cell [] a r h left =

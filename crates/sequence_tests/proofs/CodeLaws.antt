@@ -154,28 +154,6 @@ marks-small xs i h =
 pub code-small : (xs : List ℕ) → sum xs ≤ 120 → code xs < 2 ^ 120
 code-small xs h = below (code xs) (marks xs) (2 ^ 120) (omega (arith, code-marks xs)) (marks-small xs 0 h)
 
--- the bits that are shifted
-pub later-small : (count later : ℕ) → 0 < count → with_count count later < 2 ^ 120 → 1 + 2 * later < 2 ^ 120
-later-small zero later h l = absurd (omega (arith, h))
-later-small (suc c) later h l =
-    let most : 1 * (1 + 2 * later) ≤ 2 ^ c * (1 + 2 * later) = mul-le-mul (pow_pos c) (same (1 + 2 * later)) in
-    below (1 + 2 * later) (2 ^ c * (1 + 2 * later)) (2 ^ 120) (once (1 + 2 * later) (2 ^ c * (1 + 2 * later)) most) l
-  where
-    same : (n : ℕ) → n ≤ n
-    same n = omega arith
-
-    once : (n m : ℕ) → 1 * n ≤ m → n ≤ m
-    once n m h = omega (arith, h)
-
-pub shifted : (count later : ℕ) → 0 < count → (2 * later + 1) * 2 ^ (count - 1) ≡ with_count count later
-shifted zero later h = absurd (omega (arith, h))
-shifted (suc c) later h =
-    let one : suc c - 1 ≡ c = omega arith in
-    rw one (turned (2 ^ c) later)
-  where
-    turned : (a z : ℕ) → (2 * z + 1) * a ≡ a * (1 + 2 * z)
-    turned a z = omega arith
-
 pub last-small : (units : ℕ) → units ≤ 120 → last_mark units < 2 ^ 120
 last-small zero h = lit≤ tt
 last-small (suc n) h =

@@ -76,9 +76,6 @@ module _ (sequence : Sequence) where
       sym (sum-two (rows_with (sequence_data_of sequence) 0) (rows_with (sequence_data_of sequence) 1))
       ∙ sum-counts_of (length sequence.members) 2 sequence.members (record { long = refl; below = recursion_from_All (λ label. label < 2) sequence.members labels-below })
 
-  pub sizes-few : sum sequence.sizes ≤ 10000
-  sizes-few = rw sizes-are (omega (arith, sum-two (rows_with (sequence_data_of sequence) 0) (rows_with (sequence_data_of sequence) 1), rows-whole, sequence.few_enough))
-
   -- what is made of it
   pub are-runs : (first second n t : ℕ) (frame : Frame) → first ≡ rows_with (sequence_data_of sequence) 0 → second ≡ rows_with (sequence_data_of sequence) 1 → n ≡ runs sequence.members → t ≡ number_of_labellings sequence.sizes → t ≤ MAX
       → frame ≡ record { statistic = pos n; scale = 1; total = t; two = Far (first + second) (pos ((first + second) + 2 * (first * second))) (distance (first + second) (pos ((first + second) + 2 * (first * second))) (pos n)) }

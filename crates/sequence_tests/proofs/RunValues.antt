@@ -10,7 +10,11 @@ use Rattle.label_network.specs.Endings.{labelling_value, partial_after}
 use Rattle.label_network.specs.Meanings.{Meaning}
 use Rattle.sequence_tests.specs.RunCounts.{begins_run, label_in, runs_meaning, runs_so_far}
 use Rattle.sequence_tests.specs.Runs.{blocks, put_before, runs}
-use Rattle.sequence_tests.specs.RunSteps.{runs_after}
+
+-- the runs that labels begin after a label
+abbrev pub runs_after : ℕ → List ℕ → ℕ
+runs_after last [] = 0
+runs_after last (x ∷ xs) = begins_run last x + runs_after x xs
 
 -- ---- blocks
 

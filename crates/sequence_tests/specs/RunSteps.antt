@@ -11,12 +11,7 @@ use Rattle.label_network.specs.LabelSteps.{AreSizes}
 use Rattle.label_network.specs.Meanings.{sizes_in}
 use Rattle.sample_reader.specs.Sequences.{SequenceData}
 use Rattle.sequence_tests.specs.Runs.{rows_with, runs_test}
-use Rattle.sequence_tests.specs.RunCounts.{begins_run, firsts_in, last_in, runs_so_far, seconds_in}
-
--- the runs that labels begin after a label
-abbrev pub runs_after : ℕ → List ℕ → ℕ
-runs_after last [] = 0
-runs_after last (x ∷ xs) = begins_run last x + runs_after x xs
+use Rattle.sequence_tests.specs.RunCounts.{firsts_in, last_in, runs_so_far, seconds_in}
 
 -- a partial has a label, or 2, and a number of runs
 pub record AreRunNumbers (p : List ℤ) : Type 0 where

@@ -11,10 +11,6 @@ use Rattle.weights.specs.declared.odds.Odds.{Odds}
 use Rattle.shift_limits.specs.LaterPairs.{greatest_to, labellings_below, later_pairs, misses_at_most}
 use Rattle.shift_limits.specs.LimitSteps.{is_within}
 
-pub greatest-here : (p : ℕ → Bool) (n : ℕ) → p n ≡ true → greatest_to p n ≡ n
-greatest-here p zero e = refl
-greatest-here p (suc n) e = rw e refl
-
 -- none above k passes
 pub greatest-above : (p : ℕ → Bool) (k n : ℕ) → ((j : ℕ) → k < j → p j ≡ false) → k ≤ n → greatest_to p n ≡ greatest_to p k
 greatest-above p k zero none h = let e : k ≡ 0 = omega (arith, h) in rw e refl

@@ -332,8 +332,3 @@ pub next-cells : (n : ℕ) (choice : List ℕ) → length choice ≡ 1 → get_o
 next-cells n [] long h = absurd (omega arith)
 next-cells n (j ∷ k ∷ choice) long h = absurd (omega arith)
 next-cells n (j ∷ []) long h = let e : n - j ≡ suc (n - (j + 1)) = omega (arith, h) in rw e refl
-
-pub one-number : (xs : List ℤ) (x : ℤ) → length xs ≡ 1 → set xs 0 x ≡ x ∷ []
-one-number [] x e = absurd (omega arith)
-one-number (y ∷ []) x e = refl
-one-number (y ∷ z ∷ ys) x e = absurd (omega arith)

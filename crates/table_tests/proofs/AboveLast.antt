@@ -1,16 +1,9 @@
 -- Lines one after another, each above the last.
 use Rattle.std.proofs.Common.{◌≡◌, ℕ, zero, suc, ◌<◌, List, [], ◌∷◌, length, map, take, get_or, ◌∙◌, ap, subst, arith}
-use Rattle.std.specs.Prelude.{◌<ℤ◌}
-use Rattle.std.specs.List.{AllByRecursion}
 use Rattle.std.proofs.lemmas.List.{get_or-map, length-map, take-map}
 use Rattle.weights.specs.declared.lines.Line.{Line}
 use Rattle.stage_network.specs.Lines.{IsAboveLast, IsAscending}
 use Rattle.table_tests.specs.Turned.{scaled_line}
-
-later-above : (l : Line) (lines : List Line) (i : ℕ) (d : Line) → AllByRecursion (λ m. l.value <ℤ m.value) lines → i < length lines → l.value <ℤ (get_or lines i d).value
-later-above l [] i d a h = absurd (omega (arith, h))
-later-above l (m ∷ lines) zero d a h = a.0
-later-above l (m ∷ lines) (suc i) d a h = later-above l lines i d a.1 (omega (arith, h))
 
 pub above-last : (lines : List Line) (i : ℕ) (d : Line) → IsAscending lines → i < length lines → IsAboveLast (get_or lines i d).value (take i lines)
 above-last [] i d a h = absurd (omega (arith, h))

@@ -87,12 +87,6 @@ module _ (us vs : List ℤ) (table : List (List ℕ)) where
       zero-plus t = omega (arith, ints)
 
   module _ (j : ℕ) (s : ℤ) (f : IsTableSum us vs table j s) where
-    pub sum-room : j < 64 → (term : ℤ) → unsigned_abs term ≤ most_added → unsigned_abs s + unsigned_abs term ≤ MAX
-    sum-room h term l =
-        let within : j ≤ 64 = omega (arith, h) in
-        let most : j * most_added ≤ 64 * most_added = mul-le-mul_right most_added within in
-        omega (arith, f.small, most, l)
-
     pub sum-next : j < length vs → j < length table → (term : ℤ) → unsigned_abs term ≤ most_added → term ≡ get_or vs j (pos 0) *ℤ row_sum us (get_or table j []) → IsTableSum us vs table (j + 1) (s +ℤ term)
     sum-next h i term l e =
         let scores : drop j vs ≡ get_or vs j (pos 0) ∷ drop (j + 1) vs = rw add-one (drop-cons vs j (pos 0) h) in

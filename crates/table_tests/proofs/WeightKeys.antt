@@ -85,9 +85,6 @@ module _ (rows columns : List ℕ) (width falling_width : ℕ) (highs : List ℕ
     pub roomy-sizes : AreRoomy falling_width (falling (sizes_in f))
     roomy-sizes = roomy falling_width rows (sizes_in f) (omega (arith, sizes-long f, some-rows)) (omega (arith, sizes-long f, few-rows)) few-sizes few-ways left.within h.falling_held
 
-    pub high-there : length columns - g < length highs
-    high-there = omega (arith, h.highs_are.long)
-
     pub high-is_greatest : (n x : ℕ) → n ≡ length columns - g → x ≡ get_or highs n x → min (number_of_labellings (sizes_in f)) x ≡ greatest_factor columns g (sizes_in f)
     high-is_greatest n x e k =
         high-at (length rows) columns highs g n (number_of_labellings (sizes_in f)) x h.highs_are within-stages e k few-ways

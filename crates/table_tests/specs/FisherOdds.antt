@@ -2,11 +2,11 @@
 -- (Fisher, The Logic of Inductive Inference, Journal of the Royal Statistical Society 98, 1935):
 -- where the odds are P/Q, a labelling whose first cell is x weighs P^x Q^(n - x), n being the
 -- number of subjects of the first row.
-use Rattle.std.specs.Prelude.{ℕ, pos, List, Bool, true, false, slice_index}
+use Rattle.std.specs.Prelude.{ℕ, List, Bool, true, false, slice_index}
 use Rattle.weights.specs.declared.odds.Odds.{Odds}
 use Rattle.weights.specs.declared.tails.Tail.{Tail}
 use Rattle.weights.specs.declared.tails.Tail.TheVariants.{Less, Greater, Two}
-use Rattle.weights.specs.Conditional.{ConditionalTest, by_distance}
+use Rattle.weights.specs.Conditional.{ConditionalTest, one_sided}
 use Rattle.table_reader.specs.TableLayout.{TableData}
 use Rattle.table_tests.specs.FisherExact.{first_cell, fisher_test}
 use Rattle.weights.specs.Odds.{odds_weight}
@@ -32,6 +32,6 @@ abbrev pub odds_test : WeightedTable → ConditionalTest
 odds_test weighted = record (fisher_test weighted.table) {
   weight = labels_weight weighted.odds (column_sums weighted.table) (row_sums weighted.table);
   has_tail = has_odds_tail;
-  two_sided = by_distance 0 (pos 0);
+  two_sided = one_sided;
   scale = 1;
 }

@@ -39,7 +39,7 @@ impl Plain for OddsTable {
             statistic,
             scale: 1,
             total: self.total(),
-            two: Rule::far(0, 0, statistic),
+            two: Rule::one_sided(statistic),
         }
     }
 

@@ -26,11 +26,6 @@ three_items (x ∷ y ∷ []) a b c e = absurd (omega arith)
 three_items (x ∷ y ∷ z ∷ []) a b c e = refl
 three_items (x ∷ y ∷ z ∷ w ∷ ws) a b c e = absurd (omega arith)
 
-pub one_item : {X : Type 0} (xs : List X) (x : X) → length xs ≡ 1 → set xs 0 x ≡ x ∷ []
-one_item [] x e = absurd (omega arith)
-one_item (y ∷ []) x e = refl
-one_item (y ∷ z ∷ ys) x e = absurd (omega arith)
-
 -- in how many ways a and b are put in order
 abbrev pub ways : ℕ → ℕ → ℕ
 ways zero b = 1

@@ -1,5 +1,5 @@
 -- The worked example keeps the laws, and its network follows the test.
-use Rattle.std.proofs.Common.{◌≡◌, ℕ, ◌+◌, ◌*◌, ◌<◌, ◌≤◌, List, [], ◌∷◌, length, set, refl, ◌∙◌, ap, arith, lit≤}
+use Rattle.std.proofs.Common.{◌≡◌, ℕ, ◌+◌, ◌*◌, ◌<◌, ◌≤◌, List, [], ◌∷◌, length, refl, ◌∙◌, ap, arith, lit≤}
 use Rattle.std.specs.Prelude.{ℤ, pos, slice_index, Contains}
 use Rattle.std.specs.List.{AllByRecursion, concat}
 use Rattle.std.proofs.lemmas.Int.{ints}
@@ -129,8 +129,3 @@ worked_follows tail =
 -- a choice is one sign
 pub sign_small : (c : List ℕ) → Contains ((0 ∷ []) ∷ (1 ∷ []) ∷ []) c → slice_index c 0 < 2
 sign_small c m = All-contains (λ d. slice_index d 0 < 2) ((0 ∷ []) ∷ (1 ∷ []) ∷ []) c (All-from_recursion (λ d. slice_index d 0 < 2) ((0 ∷ []) ∷ (1 ∷ []) ∷ []) (omega arith, (omega arith, tt))) m
-
-pub one_number : (xs : List ℤ) (x : ℤ) → length xs ≡ 1 → set xs 0 x ≡ x ∷ []
-one_number [] x e = absurd (omega arith)
-one_number (y ∷ []) x e = refl
-one_number (y ∷ z ∷ ys) x e = absurd (omega arith)

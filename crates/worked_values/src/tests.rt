@@ -312,6 +312,30 @@ fn pools_of_nodes(rt: HostRuntime) -> Result<(), Fail> {
     Ok(())
 }
 
+// A pool that is refused an allocation keeps its keys, and takes more of them afterwards. So many
+// keys of 16 numbers are more than half a terabyte, which the allocator does not have.
+#[test]
+fn pools_are_filled_after_a_refusal(rt: HostRuntime) -> Result<(), Fail> {
+    let mut pool = NodePool::<Wide>::new(rt.alloc(), 16)?;
+    put(&mut pool, &[1; 16], 3)?;
+    let spare = pool.spare();
+    assert!(rt; pool.reserve(2_147_000_000).is_err());
+    assert_eq!(rt; (pool.len(), pool.spare()), (1, spare));
+    put(&mut pool, &[2; 16], 5)?;
+    put(&mut pool, &[3; 16], 5)?;
+    put(&mut pool, &[4; 16], 5)?;
+    put(&mut pool, &[5; 16], 5)?;
+    put(&mut pool, &[6; 16], 5)?;
+    put(&mut pool, &[7; 16], 5)?;
+    put(&mut pool, &[8; 16], 5)?;
+    put(&mut pool, &[9; 16], 5)?;
+    put(&mut pool, &[1; 16], 4)?;
+    assert_eq!(rt; pool.len(), 9);
+    assert_eq!(rt; weight_of(&pool, &[1; 16]), 7);
+    assert_eq!(rt; weight_of(&pool, &[9; 16]), 5);
+    Ok(())
+}
+
 // Equal keys are one, at no number too.
 #[test]
 fn pools_of_empty_keys(rt: HostRuntime) -> Result<(), Fail> {

@@ -7,13 +7,10 @@ use Rattle.stage_network.specs.Lines.{line_sum}
 use Rattle.distribution.proofs.TailLaw.{two-law}
 use Rattle.distribution.proofs.filtered.far.Goals as goal
 
-pub weight_of-requires-clause-fits : goal.weight_of-requires-clause-fits
-weight_of-requires-clause-fits c = rw (c.as_slice.ensures.lines, to_z-of_z w128 c.args.centre c.ranges.centre) c.requires.fits
-
 pub returns-clause-law : goal.returns-clause-law
 returns-clause-law c test lines sides observed =
     let q = c.args.factor in
     let d = c.args.apart in
     let same : to_z w128 (of_z w128 c.args.centre) ≡ c.args.centre = to_z-of_z w128 c.args.centre c.ranges.centre in
-    let sum : c.weight_of.result ≡ line_sum (λ v. nat_le d (distance q c.args.centre v)) c.args.spread.now = c.weight_of.ensures ∙ ap (λ m. line_sum (λ v. nat_le d (distance q m v)) c.as_slice.result.now) same ∙ ap (line_sum (λ v. nat_le d (distance q c.args.centre v))) c.as_slice.ensures.lines in
+    let sum : c.weight_far.result ≡ line_sum (λ v. nat_le d (distance q c.args.centre v)) c.args.spread.now = c.weight_far.ensures ∙ ap (λ m. line_sum (λ v. nat_le d (distance q m v)) c.as_slice.result.now) same ∙ ap (line_sum (λ v. nat_le d (distance q c.args.centre v))) c.as_slice.ensures.lines in
     sum ∙ two-law test c.args.spread.now q c.args.centre d lines sides observed

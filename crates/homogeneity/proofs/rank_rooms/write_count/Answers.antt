@@ -1,4 +1,4 @@
-use Rattle.room_network.proofs.Items.{one_item}
+use Rattle.weights.proofs.Items.{one_item}
 use Rattle.homogeneity.proofs.rank_rooms.write_count.Goals as goal
 
 pub returns : goal.returns

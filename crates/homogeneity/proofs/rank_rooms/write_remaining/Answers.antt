@@ -2,7 +2,7 @@ use Rattle.std.proofs.Common.{◌≡◌, ◌∙◌, ◌∷◌, [], ℤ, pos, ap,
 use Rattle.std.proofs.lemmas.Int.{ints}
 use mir.Syntax.{w128}
 use mir.Val.{to_z}
-use Rattle.room_network.proofs.Items.{one_item}
+use Rattle.weights.proofs.Items.{one_item}
 use Rattle.homogeneity.proofs.rank_rooms.write_remaining.Goals as goal
 
 pub returns : goal.returns

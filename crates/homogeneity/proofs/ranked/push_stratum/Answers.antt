@@ -4,4 +4,4 @@ use Rattle.homogeneity.proofs.RankData.{values-long}
 use Rattle.homogeneity.proofs.ranked.push_stratum.Goals as goal
 
 pub push_columns-requires-clause-all : goal.push_columns-requires-clause-all
-push_columns-requires-clause-all c = rw (c.as_slice-2.ensures ∙ c.in_ok-ties.ensures ∙ ap tie_groups (c.as_slice.ensures ∙ c.in_ok-values.ensures)) (omega (arith, values-long c.args.subjects.now))
+push_columns-requires-clause-all c = rw (c.as_slice-2.ensures ∙ c.in_ok-ties.ensures.groups ∙ ap tie_groups (c.as_slice.ensures ∙ c.in_ok-values.ensures)) (omega (arith, values-long c.args.subjects.now))

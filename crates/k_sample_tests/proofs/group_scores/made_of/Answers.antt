@@ -95,6 +95,6 @@ returns c =
           c.in_ok-columns.ensures.scores ∙ ap (λ vs. first_scores (tie_groups vs) c.as_slice-5.result.now) held
           ∙ ap (first_scores (tie_groups (pooled_values samples.groups))) (c.as_slice-5.ensures ∙ found.scores.list)
           ∙ first_scores-are (score_of c.args.kind (pooled_values samples.groups)) (pooled_values samples.groups) (pooled-rises samples.groups);
-      frame = framed 0 (pos 0) (kruskal_wallis_test samples) _ refl (to_z-of_z w128 c.squares_statistic-statistic.result v ∙ statistic) (rw (found.multiple_is, found.scores.scale) refl) (c.requires.total ∙ ap number_of_labellings c.args.groups.now.counted ∙ sym (total-of samples)) c.far.ensures;
+      frame = framed 0 (pos 0) (kruskal_wallis_test samples) _ refl (to_z-of_z w128 c.squares_statistic-statistic.result v ∙ statistic) (rw (found.multiple_is, found.scores.scale) refl) (c.requires.total ∙ ap number_of_labellings c.args.groups.now.counted ∙ sym (total-of samples)) c.one_sided.ensures;
       fitting = found.fitting;
     }

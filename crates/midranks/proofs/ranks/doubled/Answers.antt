@@ -13,21 +13,21 @@ use Rattle.midranks.proofs.TieLemmas.{groups-ascend}
 use Rattle.midranks.proofs.ranks.doubled.Goals as goal
 
 pub ranks-requires : goal.ranks-requires
-ranks-requires c = rw (c.as_slice.ensures, c.in_ok-ties.ensures) (omega (arith, values_in-groups c.args.values.now, c.requires))
+ranks-requires c = rw (c.as_slice.ensures, c.in_ok-ties.ensures.groups) (omega (arith, values_in-groups c.args.values.now, c.requires))
 
 pub loop-value-init : goal.loop-value-init
 unfolding midranks_among
 loop-value-init c = c.empty-doubled.ensures
 
 pub group_of-group-requires-clause-ascending : goal.group_of-group-requires-clause-ascending
-group_of-group-requires-clause-ascending c = rw (c.as_slice-ties.ensures, c.in_ok-ties.ensures) (groups-ascend c.args.values.now)
+group_of-group-requires-clause-ascending c = rw (c.as_slice-ties.ensures, c.in_ok-ties.ensures.groups) (groups-ascend c.args.values.now)
 
 pub group_of-group-requires-clause-member : goal.group_of-group-requires-clause-member
 group_of-group-requires-clause-member c =
     let here = c.loop-value-test.true in
     let value = get_or c.args.values.now c.loop-value.value-index (pos 0) in
     let fits : FitsSigned w128 value = search rules in
-    rw (c.as_slice-ties.ensures, c.in_ok-ties.ensures, to_z-of_z w128 value fits) (group-exists c.args.values.now c.loop-value.value-index (pos 0) here)
+    rw (c.as_slice-ties.ensures, c.in_ok-ties.ensures.groups, to_z-of_z w128 value fits) (group-exists c.args.values.now c.loop-value.value-index (pos 0) here)
 
 -- the groups' ranks are those of their values
 ranks_of : (values : List ℤ) (ties groups : List Tie) (ranks some : List ℕ) → ties ≡ tie_groups values → groups ≡ ties → ranks ≡ some → some ≡ ranks_after 0 groups → ranks ≡ map (λ t. doubled_midrank values t.value) ties
@@ -44,7 +44,7 @@ rank-at values ties ranks group v e h found =
 pub bounds-ranks-group : goal.bounds-ranks-group
 bounds-ranks-group c =
     let value = get_or c.args.values.now c.loop-value.value-index (pos 0) in
-    let ties_are = c.as_slice-ties.ensures ∙ c.in_ok-ties.ensures in
+    let ties_are = c.as_slice-ties.ensures ∙ c.in_ok-ties.ensures.groups in
     let ranks = ranks_of c.args.values.now _ c.as_slice.result.now _ _ ties_are (c.as_slice.ensures ∙ sym c.as_slice-ties.ensures) c.as_slice-ranks.ensures c.in_ok-ranks.ensures in
     (rank-at c.args.values.now c.as_slice-ties.result.now c.as_slice-ranks.result.now c.group_of-group.result _ ranks c.group_of-group.ensures.within c.group_of-group.ensures.found).0
 
@@ -56,7 +56,7 @@ loop-value-preserved c =
     let here = c.loop-value-test.true in
     let value = get_or values i (pos 0) in
     let fits : FitsSigned w128 value = search rules in
-    let ties_are = c.as_slice-ties.ensures ∙ c.in_ok-ties.ensures in
+    let ties_are = c.as_slice-ties.ensures ∙ c.in_ok-ties.ensures.groups in
     let ranks = ranks_of values _ c.as_slice.result.now _ _ ties_are (c.as_slice.ensures ∙ sym c.as_slice-ties.ensures) c.as_slice-ranks.ensures c.in_ok-ranks.ensures in
     let rank = (rank-at values c.as_slice-ties.result.now c.as_slice-ranks.result.now c.group_of-group.result _ ranks c.group_of-group.ensures.within c.group_of-group.ensures.found).1 in
     let rank_is = rank ∙ ap (doubled_midrank values) (to_z-of_z w128 value fits) in

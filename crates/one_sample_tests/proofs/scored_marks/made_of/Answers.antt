@@ -29,7 +29,7 @@ returns c =
     let bound : 2 * c.in-Ok.scored.sum ≤ MAX = c.in-Some.ensures.0 in
     record {
       scores = are.list;
-      groups = c.in_ok-groups.ensures ∙ ap tie_groups (c.as_slice-4.ensures ∙ are.list);
+      groups = c.in_ok-groups.ensures.groups ∙ ap tie_groups (c.as_slice-4.ensures ∙ are.list);
       frame = rw (c.frame_of-frame.ensures, are.list, marks) (record { statistic = refl; scale = are.scale; total = c.requires.total ∙ ap (λ n. 2 ^ n) (sym (used-many sample)) ∙ sym (total-of sample); two = refl });
       total_fits = rw (used-many sample) (omega (arith, c.requires.total, c.requires.fits));
       bound_fits = omega (arith, bound, are.sum);

@@ -13,11 +13,11 @@ use Rattle.scores.proofs.AverageLemmas.{averaged-sum, common_size-some, multiple
 use Rattle.scores.proofs.averages.averaged.Goals as goal
 
 pub multiple_of_sizes-requires : goal.multiple_of_sizes-requires
-multiple_of_sizes-requires c = rw (c.as_slice-ties.ensures, c.in_ok-groups.ensures) (All-from_recursion (λ t. 0 < t.count) (tie_groups c.args.values.now) (groups-counts c.args.values.now))
+multiple_of_sizes-requires c = rw (c.as_slice-ties.ensures, c.in_ok-groups.ensures.groups) (All-from_recursion (λ t. 0 < t.count) (tie_groups c.args.values.now) (groups-counts c.args.values.now))
 
 pub returns-in_err-multiple : goal.returns-in_err-multiple
 returns-in_err-multiple c =
-    let ties = c.as_slice-ties.ensures ∙ c.in_ok-groups.ensures in
+    let ties = c.as_slice-ties.ensures ∙ c.in_ok-groups.ensures.groups in
     let none = rw c.in_err-multiple.ensures.ok_part at c.multiple_of_sizes.ensures in
     let multiple = multiple-is c.args.values.now c.as_slice-ties.result.now (common_multiple (map (λ (t : Tie). t.count) c.as_slice-ties.result.now)) ties refl in
     fault-where_wide _ _ _ c.from_residual-in_err-multiple.ensures.0
@@ -30,7 +30,7 @@ returns-in_err-total c =
 
 pub returns-in_err-sum : goal.returns-in_err-sum
 returns-in_err-sum c =
-    let ties = c.as_slice-ties.ensures ∙ c.in_ok-groups.ensures in
+    let ties = c.as_slice-ties.ensures ∙ c.in_ok-groups.ensures.groups in
     let some = rw c.in_ok-multiple.ensures.ok_part at c.multiple_of_sizes.ensures in
     let total = rw c.in_ok-total.ensures.ok_part at c.total.ensures in
     let multiple = multiple-is c.args.values.now c.as_slice-ties.result.now c.in_ok-multiple.multiple ties some.1 in
@@ -38,20 +38,20 @@ returns-in_err-sum c =
     fault-where_wide _ _ _ c.from_residual-in_err-sum.ensures.0 (wide-product _ c.args.places.now c.args.values.now c.requires.as_many (rw (← multiple, ← total.1) none))
 
 pub means-requires-clause-some : goal.means-requires-clause-some
-means-requires-clause-some c = rw (c.as_slice-ties.ensures, c.in_ok-groups.ensures) (All-from_recursion (λ t. 0 < t.count) (tie_groups c.args.values.now) (groups-counts c.args.values.now))
+means-requires-clause-some c = rw (c.as_slice-ties.ensures, c.in_ok-groups.ensures.groups) (All-from_recursion (λ t. 0 < t.count) (tie_groups c.args.values.now) (groups-counts c.args.values.now))
 
 pub means-requires-clause-as_many : goal.means-requires-clause-as_many
-means-requires-clause-as_many c = rw (c.as_slice-ties.ensures, c.in_ok-groups.ensures) (values_in-groups c.args.values.now ∙ sym c.requires.as_many)
+means-requires-clause-as_many c = rw (c.as_slice-ties.ensures, c.in_ok-groups.ensures.groups) (values_in-groups c.args.values.now ∙ sym c.requires.as_many)
 
 pub means-requires-clause-above : goal.means-requires-clause-above
 means-requires-clause-above c =
-    let ties = c.as_slice-ties.ensures ∙ c.in_ok-groups.ensures in
+    let ties = c.as_slice-ties.ensures ∙ c.in_ok-groups.ensures.groups in
     let some = rw c.in_ok-multiple.ensures.ok_part at c.multiple_of_sizes.ensures in
     rw (multiple-is c.args.values.now c.as_slice-ties.result.now c.in_ok-multiple.multiple ties some.1) (common_size-some c.args.values.now)
 
 pub spread-requires-clause-as_many : goal.spread-requires-clause-as_many
 spread-requires-clause-as_many c =
-    let ties = c.as_slice-ties.ensures ∙ c.in_ok-groups.ensures in
+    let ties = c.as_slice-ties.ensures ∙ c.in_ok-groups.ensures.groups in
     let some = rw c.in_ok-multiple.ensures.ok_part at c.multiple_of_sizes.ensures in
     let multiple = multiple-is c.args.values.now c.as_slice-ties.result.now c.in_ok-multiple.multiple ties some.1 in
     ap length (c.as_slice.ensures ∙ c.in_ok-scores.ensures ∙ scores-are c.args.places.now c.args.values.now c.as_slice-ties.result.now c.in_ok-multiple.multiple ties multiple)
@@ -59,7 +59,7 @@ spread-requires-clause-as_many c =
 
 pub overflow_mul-result : goal.overflow_mul-result
 overflow_mul-result c =
-    let ties = c.as_slice-ties.ensures ∙ c.in_ok-groups.ensures in
+    let ties = c.as_slice-ties.ensures ∙ c.in_ok-groups.ensures.groups in
     let some = rw c.in_ok-multiple.ensures.ok_part at c.multiple_of_sizes.ensures in
     let total = rw c.in_ok-total.ensures.ok_part at c.total.ensures in
     let product = rw c.in_ok-sum.ensures.ok_part at c.bounded_product.ensures in
@@ -69,7 +69,7 @@ overflow_mul-result c =
 
 pub returns : goal.returns
 returns c =
-    let ties = c.as_slice-ties.ensures ∙ c.in_ok-groups.ensures in
+    let ties = c.as_slice-ties.ensures ∙ c.in_ok-groups.ensures.groups in
     let some = rw c.in_ok-multiple.ensures.ok_part at c.multiple_of_sizes.ensures in
     let total = rw c.in_ok-total.ensures.ok_part at c.total.ensures in
     let product = rw c.in_ok-sum.ensures.ok_part at c.bounded_product.ensures in

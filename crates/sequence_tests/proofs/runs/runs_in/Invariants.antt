@@ -1,5 +1,5 @@
 use Rattle.std.proofs.Common.{◌≡◌, ◌+◌, ◌≤◌, drop}
-use Rattle.sequence_tests.specs.RunSteps.{runs_after}
+use Rattle.sequence_tests.proofs.RunValues.{runs_after}
 use Rattle.sequence_tests.proofs.runs.runs_in.Given as goal
 
 abbrev pub invariant-loop-label : goal.invariant-loop-label

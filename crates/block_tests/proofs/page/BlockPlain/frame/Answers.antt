@@ -16,7 +16,7 @@ page_sum-statistic-requires c =
 pub returns-clause-frame : goal.returns-clause-frame
 returns-clause-frame c =
     let observed : to_z w128 c.page_sum-statistic.result ≡ pos c.page_sum-statistic.result = search rules in
-    framed 0 (pos 0) (arrangement_test c.args.self.now) _ refl (observed ∙ ap pos (c.page_sum-statistic.ensures.is ∙ ap (page_sum 1) c.first-cells.ensures.first)) refl (c.number.ensures ∙ sym (arrangements-total c.args.self.now)) c.far.ensures
+    framed 0 (pos 0) (arrangement_test c.args.self.now) _ refl (observed ∙ ap pos (c.page_sum-statistic.ensures.is ∙ ap (page_sum 1) c.first-cells.ensures.first)) refl (c.number.ensures ∙ sym (arrangements-total c.args.self.now)) c.one_sided.ensures
 
 pub returns-clause-fits : goal.returns-clause-fits
 returns-clause-fits c = rules-fit (arrangement_test c.args.self.now) (arrangements-centred c.args.self.now)

@@ -4,7 +4,8 @@ use Rattle.std.specs.Int.{w128}
 use Rattle.std.proofs.lemmas.Int.{to_z-of_z}
 use Rattle.weights.specs.declared.lines.Line.{Line}
 use Rattle.block_tests.specs.BlockNetworks.{block_at, no_line, page_lines}
-use Rattle.block_tests.proofs.PageLaws.{one-number, place-within}
+use Rattle.block_tests.proofs.PageLaws.{place-within}
+use Rattle.weights.proofs.Items.{one_item}
 use Rattle.block_tests.proofs.Steps.{found-at}
 use Rattle.block_tests.proofs.page.PageBlocksAdditive.adds.Goals as goal
 
@@ -20,7 +21,7 @@ returns-clause-added c =
     let lines = c.lines.ensures ∙ ap page_lines (found-at c.args.self.now.blocks.items c.args.stage c.index.result.now c.requires.before c.index.ensures) in
     let fits : FitsSigned w128 c.line_at-line.result.value = search rules in
     ap (λ z. set c.args.added.now 0 z) (to_z-of_z w128 c.line_at-line.result.value fits)
-    ∙ one-number c.args.added.now _ c.requires.room ∙ ap (λ (l : Line). l.value ∷ []) (c.line_at-line.ensures ∙ ap (λ (ls : List Line). get_or ls place no_line) lines)
+    ∙ one_item c.args.added.now _ c.requires.room ∙ ap (λ (l : Line). l.value ∷ []) (c.line_at-line.ensures ∙ ap (λ (ls : List Line). get_or ls place no_line) lines)
 
 pub returns-clause-weight : goal.returns-clause-weight
 returns-clause-weight c =

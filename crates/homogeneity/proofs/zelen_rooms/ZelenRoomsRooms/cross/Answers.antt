@@ -1,5 +1,5 @@
 use Rattle.std.proofs.Common.{◌∙◌, ap, set, arith}
-use Rattle.room_network.proofs.Items.{one_item}
+use Rattle.weights.proofs.Items.{one_item}
 use Rattle.homogeneity.proofs.Bodies.{left-small, signed}
 use Rattle.homogeneity.proofs.EvenMeasures.{choice, room-parts, weight-within}
 use Rattle.homogeneity.proofs.zelen_rooms.ZelenRoomsRooms.cross.Goals as goal

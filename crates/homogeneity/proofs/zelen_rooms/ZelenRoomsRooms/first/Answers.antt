@@ -1,5 +1,5 @@
 use Rattle.std.proofs.Common.{◌∙◌, ap, set, arith}
-use Rattle.room_network.proofs.Items.{one_item}
+use Rattle.weights.proofs.Items.{one_item}
 use Rattle.homogeneity.proofs.Bodies.{signed}
 use Rattle.homogeneity.proofs.Windows.{sum-few}
 use Rattle.homogeneity.proofs.zelen_rooms.ZelenRoomsRooms.first.Goals as goal

@@ -5,7 +5,7 @@ use mir.Val.{to_z, of_z}
 use Rattle.std.proofs.lemmas.Int.{to_z-of_z}
 use Rattle.weights.specs.declared.TheConstants.{MAX}
 use Rattle.std.proofs.lemmas.List.{length-replicate}
-use Rattle.room_network.proofs.Items.{one_item}
+use Rattle.weights.proofs.Items.{one_item}
 use Rattle.k_sample_tests.specs.PackedSums.{numeral}
 use Rattle.k_sample_tests.proofs.Digits.{pack-zeros, zeros-each}
 use Rattle.k_sample_tests.proofs.PackedKeys.{as-few, as-many, some-half}

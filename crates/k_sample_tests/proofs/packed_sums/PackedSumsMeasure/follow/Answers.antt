@@ -4,7 +4,7 @@ use mir.Val.{to_z, of_z}
 use Rattle.std.proofs.lemmas.Int.{to_z-of_z}
 use Rattle.label_network.specs.Linear.{score_of}
 use Rattle.room_network.specs.Numbers.{so_far}
-use Rattle.room_network.proofs.Items.{one_item}
+use Rattle.weights.proofs.Items.{one_item}
 use Rattle.k_sample_tests.proofs.PackedKeys.{one-long, step-fits, step-sum}
 use Rattle.k_sample_tests.proofs.packed_sums.PackedSumsMeasure.follow.Goals as goal
 

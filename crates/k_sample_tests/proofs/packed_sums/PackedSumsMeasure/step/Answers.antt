@@ -2,7 +2,7 @@ use Rattle.std.proofs.Common.{rules, ◌∷◌, [], ℤ, ◌∙◌, ap, refl, sy
 use mir.Syntax.{w128}
 use mir.Val.{to_z, of_z}
 use Rattle.std.proofs.lemmas.Int.{to_z-of_z}
-use Rattle.room_network.proofs.Items.{one_item}
+use Rattle.weights.proofs.Items.{one_item}
 use Rattle.k_sample_tests.proofs.PackedKeys.{as-few, as-many, choice-wide, parts-digits, step}
 use Rattle.k_sample_tests.proofs.packed_sums.PackedSumsMeasure.step.Goals as goal
 

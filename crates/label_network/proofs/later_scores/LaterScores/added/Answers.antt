@@ -2,7 +2,7 @@ use Rattle.std.proofs.Common.{rules, ◌<◌, ◌-◌, arith, pos, get_or, lengt
 use mir.Syntax.{w128}
 use Rattle.std.proofs.lemmas.Int.{to_z-of_z}
 use Rattle.label_network.specs.Meanings.{sizes_in}
-use Rattle.label_network.specs.Linear.{picked}
+use Rattle.label_network.specs.LinearSteps.{picked}
 use Rattle.label_network.specs.LaterSums.{later_scores, least_sum, greatest_sum}
 use Rattle.label_network.proofs.Rearranging.{picked-length}
 use Rattle.label_network.proofs.Adding.{next-less, first-small, first-both, next-step, next-few, next-held, low-small, high-small, next-both, last-adding}

@@ -1,5 +1,5 @@
 use Rattle.label_network.specs.Meanings.{sizes_in}
-use Rattle.label_network.specs.Linear.{picked}
+use Rattle.label_network.specs.LinearSteps.{picked}
 use Rattle.label_network.specs.LaterSums.{later_scores}
 use Rattle.label_network.proofs.Adding.{AreAdding}
 use Rattle.label_network.proofs.later_scores.LaterScores.added.Given as goal

@@ -3,7 +3,7 @@ use mir.Syntax.{w128}
 use mir.Val.{to_z, of_z}
 use Rattle.std.proofs.lemmas.Int.{to_z-of_z}
 use Rattle.room_network.specs.Numbers.{start}
-use Rattle.room_network.proofs.Items.{one_item}
+use Rattle.weights.proofs.Items.{one_item}
 use Rattle.room_network.proofs.numbers.NumberedMeasure.first.Goals as goal
 
 pub returns : goal.returns

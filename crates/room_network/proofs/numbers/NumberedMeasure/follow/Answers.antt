@@ -4,7 +4,7 @@ use mir.Syntax.{w128}
 use mir.Val.{to_z, of_z}
 use Rattle.std.proofs.lemmas.Int.{to_z-of_z}
 use Rattle.room_network.specs.Numbers.{so_far}
-use Rattle.room_network.proofs.Items.{one_item}
+use Rattle.weights.proofs.Items.{one_item}
 use Rattle.room_network.proofs.numbers.NumberedMeasure.follow.Goals as goal
 
 pub returns : goal.returns

@@ -3,7 +3,7 @@ use Rattle.std.specs.Prelude.{pos}
 use mir.Syntax.{w128}
 use mir.Val.{to_z, of_z}
 use Rattle.std.proofs.lemmas.Int.{to_z-of_z}
-use Rattle.room_network.proofs.Items.{one_item}
+use Rattle.weights.proofs.Items.{one_item}
 use Rattle.sequence_tests.specs.Codes.{code}
 use Rattle.sequence_tests.proofs.kendall_rooms.KendallRoomsRooms.first.Goals as goal
 

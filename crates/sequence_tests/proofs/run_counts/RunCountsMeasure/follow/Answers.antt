@@ -1,7 +1,7 @@
 use Rattle.std.proofs.Common.{rules, ◌∙◌, arith, refl, FitsSigned}
 use mir.Syntax.{w128}
 use Rattle.std.proofs.lemmas.Int.{to_z-of_z}
-use Rattle.room_network.proofs.Items.{two_items}
+use Rattle.weights.proofs.Items.{two_items}
 use Rattle.sequence_tests.proofs.RunKeys.{choice-long, numbers}
 use Rattle.sequence_tests.proofs.run_counts.RunCountsMeasure.follow.Goals as goal
 

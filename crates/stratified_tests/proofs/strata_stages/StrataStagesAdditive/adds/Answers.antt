@@ -6,7 +6,8 @@ use mir.Val.{to_z}
 use Rattle.weights.specs.declared.TheConstants.{MAX}
 use Rattle.strata_cells.specs.Strata.{stratum_at}
 use Rattle.stratified_tests.specs.StrataNetwork.{weighed_cell}
-use Rattle.stratified_tests.proofs.StrataLaws.{IsCell, cell-fits, choice-cell, one-number, weight-within}
+use Rattle.stratified_tests.proofs.StrataLaws.{IsCell, cell-fits, choice-cell, weight-within}
+use Rattle.weights.proofs.Items.{one_item}
 use Rattle.stratified_tests.proofs.strata_stages.StrataStagesAdditive.adds.Goals as goal
 use Rattle.stratified_tests.proofs.strata_stages.StrataStagesAdditive.adds.Goals.{After-as_slice}
 
@@ -33,4 +34,4 @@ weight-requires-clause-fits c = rw c.as_slice.ensures (fits (goal.at.weight-requ
 pub returns-clause-added : goal.returns-clause-added
 returns-clause-added c =
     let same : to_z w128 (get_or c.args.choice.now 0 0) ≡ pos (get_or c.args.choice.now 0 0) = omega (arith, ints, c.type_inv.choice 0) in
-    ap (λ z. set c.args.added.now 0 z) same ∙ one-number c.args.added.now _ c.requires.room
+    ap (λ z. set c.args.added.now 0 z) same ∙ one_item c.args.added.now _ c.requires.room

@@ -4,7 +4,8 @@ use Rattle.std.proofs.lemmas.Int.{ints}
 use Rattle.std.proofs.lemmas.List.{length-append}
 use Rattle.stage_network.specs.Network.{IsReached}
 use Rattle.worked_networks.specs.SampleRanks.{at, rank_network, rank_step}
-use Rattle.worked_networks.proofs.RankLaws.{RankedKey, one_item, ranked_key}
+use Rattle.worked_networks.proofs.RankLaws.{RankedKey, ranked_key}
+use Rattle.weights.proofs.Items.{one_item}
 use Rattle.worked_networks.proofs.RankRooms.{partial-at, step-next, step-small}
 use Rattle.worked_networks.proofs.ranks.RanksRoomed.advance.Goals as goal
 

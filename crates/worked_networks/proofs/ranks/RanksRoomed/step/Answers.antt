@@ -2,7 +2,7 @@ use Rattle.std.proofs.Common.{◌≡◌, ◌∙◌, ◌≤◌, ◌+◌, [], ◌�
 use Rattle.std.specs.Prelude.{ℤ}
 use Rattle.std.proofs.lemmas.Bool.Decides.{nat_tests}
 use Rattle.std.proofs.lemmas.Int.{ints}
-use Rattle.worked_networks.proofs.RankLaws.{one_item}
+use Rattle.weights.proofs.Items.{one_item}
 use Rattle.worked_networks.proofs.ranks.RanksRoomed.step.Goals as goal
 
 pub returns-then-choice-eq0 : goal.returns-then-choice-eq0
