@@ -55,14 +55,14 @@ if-asked P Q more (Some part) m = more m
 
 pub asked_outcome : {X : Type 0} (test_of : X → ConditionalTest) (network_of runs_of : X → Tail → Network) (asking : Asking) (sizes : Sizes) (dropped : Option ℕ) (extra : Extra) (value : X)
     (prepared : Result X PrepareFault) (result : Outcome) → Prepares test_of value prepared
-    → MeetsAnd (IfSome asking.piece (λ part. IsDivided test_of runs_of (asked asking.tail (tails_in (test_of value))) prepared))
+    → MeetsAnd (IfSome asking.piece (λ part. IsDivided test_of network_of runs_of (asked asking.tail (tails_in (test_of value))) prepared))
     (prepared_outcome test_of network_of runs_of asking sizes dropped extra (asked asking.tail (tails_in (test_of value))) prepared) result
     → Answers asking (Ok (question_about test_of network_of runs_of value sizes dropped extra)) result
 asked_outcome {X} test_of network_of runs_of asking sizes dropped extra value prepared result is meets =
     by (asked asking.tail (tails_in (test_of value))) refl prepared is meets
   where
     by : (tails : Option Tails) → asked asking.tail (tails_in (test_of value)) ≡ tails → (prepared : Result X PrepareFault) → Prepares test_of value prepared
-        → MeetsAnd (IfSome asking.piece (λ part. IsDivided test_of runs_of tails prepared)) (prepared_outcome test_of network_of runs_of asking sizes dropped extra tails prepared) result
+        → MeetsAnd (IfSome asking.piece (λ part. IsDivided test_of network_of runs_of tails prepared)) (prepared_outcome test_of network_of runs_of asking sizes dropped extra tails prepared) result
         → MeetsAnd (IfSome asking.piece (λ part. IsAnswerable asking.tail (Ok (question_about test_of network_of runs_of value sizes dropped extra))))
         (outcome_of_asked asking tails (question_about test_of network_of runs_of value sizes dropped extra)) result
     by None same prepared is meets = refusal-meets _ _ (refusal.Unfit option.Tail) result meets
@@ -75,7 +75,7 @@ asked_outcome {X} test_of network_of runs_of asking sizes dropped extra value pr
           tails = tails;
           is_wanted = refl;
           are_asked = same;
-          divisible = subst (λ v. IsDivisible (test_of v) (runs_of v) tails) is.0 divided;
+          divisible = subst (λ v. IsDivisible (test_of v) (runs_of v) (network_of v) tails) is.0 divided;
         }) asking.piece) meets
     by (Some tails) same (Err (prepare.TooWide what)) is meets =
         subst (λ wanted. MeetsAnd (IfSome asking.piece (λ part. IsAnswerable asking.tail (Ok (question_about test_of network_of runs_of value sizes dropped extra)))) wanted result)

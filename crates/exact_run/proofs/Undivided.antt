@@ -29,7 +29,7 @@ use Rattle.piece_texts.specs.ReadPieces.{AreTexts}
 use Rattle.piece_texts.proofs.EachPart.{all-add-up}
 use Rattle.pieces.specs.Cuts.{piece_sum}
 use Rattle.pieces.specs.Undivided.{AreSumsOf, IsDivided, IsUndivided}
-use Rattle.pieces.proofs.CutSums.{piece-fits, pieces-add-up}
+use Rattle.pieces.proofs.WrittenPieces.{adds-up-written, extreme-written, fits-written}
 use Rattle.pieces.proofs.WholeRuns.{undivided-result}
 use Rattle.report.specs.Report.{head_text, report_text}
 use Rattle.report.specs.declared.headings.Title.TheVariants as title
@@ -75,13 +75,13 @@ some-asked test choice.Two tails has is = (Two, by (test.has_tail Two) is)
     by false e = absurd cc
 
 -- the sums of an asked tail fit
-fits-of : (part : PartOf) (runs : Tail → Network) (test : ConditionalTest) (tail : Tail) (is_asked : Bool) → (is_asked ≡ true → Serves test tail (runs tail)) → TailFits (tail_piece part runs tail is_asked)
-fits-of part runs test tail true serves = piece-fits (runs tail) (serves refl).lawful tail part.at part.parts part.part
-fits-of part runs test tail false serves = tt
+fits-of : (part : PartOf) (runs network : Tail → Network) (test : ConditionalTest) (tail : Tail) (is_asked : Bool) → (is_asked ≡ true → Serves test tail (runs tail) (network tail)) → TailFits (tail_piece part network tail is_asked)
+fits-of part runs network test tail true serves = fits-written (runs tail) (network tail) tail (serves refl).written (serves refl).lawful part.at part.parts part.part
+fits-of part runs network test tail false serves = tt
 
-there : (part : PartOf) (runs : Tail → Network) (tail : Tail) (is_asked : Bool) → is_asked ≡ true → tail_piece part runs tail is_asked ≢ None
-there part runs tail true e none = cc
-there part runs tail false e none = absurd cc
+there : (part : PartOf) (network : Tail → Network) (tail : Tail) (is_asked : Bool) → is_asked ≡ true → tail_piece part network tail is_asked ≢ None
+there part network tail true e none = cc
+there part network tail false e none = absurd cc
 
 -- ---- texts
 
@@ -153,9 +153,9 @@ module _ (settings : Settings) (file bytes : List ℕ) (parts : AreParts setting
   some-piece part = by (some-asked question.test settings.tail answer.tails answer.divisible.some_tail answer.are_asked)
     where
       by : (tail : Tail) × (asks answer.tails tail ≡ true) → ((own part).less ≢ None) ⊎ (((own part).greater ≢ None) ⊎ ((own part).two ≢ None))
-      by (Less, e) = inl (there (part_at part) question.runs Less answer.tails.less e)
-      by (Greater, e) = inr (inl (there (part_at part) question.runs Greater answer.tails.greater e))
-      by (Two, e) = inr (inr (there (part_at part) question.runs Two answer.tails.two e))
+      by (Less, e) = inl (there (part_at part) question.network Less answer.tails.less e)
+      by (Greater, e) = inr (inl (there (part_at part) question.network Greater answer.tails.greater e))
+      by (Two, e) = inr (inr (there (part_at part) question.network Two answer.tails.two e))
 
   -- each has the form of a piece, where its lines are not too many
   own-formed : line_count own_head ≤ MAX → (part : ℕ) → part < parts.piece.parts → IsPiece (own part)
@@ -168,9 +168,9 @@ module _ (settings : Settings) (file bytes : List ℕ) (parts : AreParts setting
     few_lines = few;
     some_total = answer.divisible.some_total;
     total = total-fits question.test answer.divisible.fits;
-    less = fits-of (part_at part) question.runs question.test Less answer.tails.less (answer.divisible.networks Less);
-    greater = fits-of (part_at part) question.runs question.test Greater answer.tails.greater (answer.divisible.networks Greater);
-    two = fits-of (part_at part) question.runs question.test Two answer.tails.two (answer.divisible.networks Two);
+    less = fits-of (part_at part) question.runs question.network question.test Less answer.tails.less (answer.divisible.networks Less);
+    greater = fits-of (part_at part) question.runs question.network question.test Greater answer.tails.greater (answer.divisible.networks Greater);
+    two = fits-of (part_at part) question.runs question.network question.test Two answer.tails.two (answer.divisible.networks Two);
     asked = some-piece part;
   }
 
@@ -178,38 +178,43 @@ module _ (settings : Settings) (file bytes : List ℕ) (parts : AreParts setting
   all-own P each [] = tt
   all-own P each (part ∷ order) = (each part, all-own P each order)
 
+  -- as much is extreme of the network that is written down as of what runs for it
+  is-numerator : (tail : Tail) → Serves question.test tail (question.runs tail) (question.network tail) → extreme_weight (question.network tail) tail 0 (question.network tail).first ≡ numerator question.test tail
+  is-numerator tail serves =
+      sym (extreme-written (question.runs tail) (question.network tail) tail serves.written) ∙ extreme-is question.test tail (question.runs tail) serves.follows
+
   -- each piece has the sums of its part
-  sums-of : (get : Piece → Option PieceSum) (tail : Tail) (first : ℕ) (rest : List ℕ) → Serves question.test tail (question.runs tail)
-      → ((part : ℕ) → get (own part) ≡ Some (piece_sum (question.runs tail) tail parts.piece.at parts.piece.parts part))
-      → AreSumsOf (question.runs tail) tail parts.piece.at get (map own (first ∷ rest))
+  sums-of : (get : Piece → Option PieceSum) (tail : Tail) (first : ℕ) (rest : List ℕ) → Serves question.test tail (question.runs tail) (question.network tail)
+      → ((part : ℕ) → get (own part) ≡ Some (piece_sum (question.network tail) tail parts.piece.at parts.piece.parts part))
+      → AreSumsOf (question.network tail) tail parts.piece.at get (map own (first ∷ rest))
   sums-of get tail first rest serves each = record {
-    add = pieces-add-up (question.runs tail) serves.lawful tail parts.piece.at parts.piece.parts parts.alone.usable.some;
-    each = all-own (λ (p : Piece). get p ≡ Some (piece_sum (question.runs tail) tail parts.piece.at parts.piece.parts p.part)) each (first ∷ rest);
+    add = adds-up-written (question.runs tail) (question.network tail) tail serves.written serves.lawful parts.piece.at parts.piece.parts parts.alone.usable.some;
+    each = all-own (λ (p : Piece). get p ≡ Some (piece_sum (question.network tail) tail parts.piece.at parts.piece.parts p.part)) each (first ∷ rest);
   }
 
   -- the tail of a run that is divided, whose number is at most the total
-  pub divided : (get : Piece → Option PieceSum) (tail : Tail) (is_asked : Bool) (first : ℕ) (rest : List ℕ) → (is_asked ≡ true → Serves question.test tail (question.runs tail))
-      → ((part : ℕ) → get (own part) ≡ tail_piece (part_at part) question.runs tail is_asked)
+  pub divided : (get : Piece → Option PieceSum) (tail : Tail) (is_asked : Bool) (first : ℕ) (rest : List ℕ) → (is_asked ≡ true → Serves question.test tail (question.runs tail) (question.network tail))
+      → ((part : ℕ) → get (own part) ≡ tail_piece (part_at part) question.network tail is_asked)
       → IsDivided get (map own (first ∷ rest))
   divided get tail false first rest serves each = inl (all-own (λ (p : Piece). get p ≡ None) each (first ∷ rest))
   divided get tail true first rest serves each =
-      let n = question.runs tail in
+      let n = question.network tail in
       let most : extreme_weight n tail 0 n.first ≤ total question.test =
-      omega (arith, extreme-is question.test tail n (serves refl).follows, sum_by-filter-≤ question.test.weight (is_extreme question.test tail) question.test.reference) in
+      omega (arith, is-numerator tail (serves refl), sum_by-filter-≤ question.test.weight (is_extreme question.test tail) question.test.reference) in
       inr (n, tail, parts.piece.at, sums-of get tail first rest (serves refl) each, most)
 
   -- what the parts of a tail come to
   abbrev told : Bool → Tail → Option ℕ
   told is_asked tail = cond is_asked (Some (numerator question.test tail)) None
 
-  told-sum : (get : Piece → Option PieceSum) (tail : Tail) (is_asked : Bool) (first : ℕ) (rest : List ℕ) (number : Option ℕ) → (is_asked ≡ true → Serves question.test tail (question.runs tail))
-      → ((part : ℕ) → get (own part) ≡ tail_piece (part_at part) question.runs tail is_asked)
+  told-sum : (get : Piece → Option PieceSum) (tail : Tail) (is_asked : Bool) (first : ℕ) (rest : List ℕ) (number : Option ℕ) → (is_asked ≡ true → Serves question.test tail (question.runs tail) (question.network tail))
+      → ((part : ℕ) → get (own part) ≡ tail_piece (part_at part) question.network tail is_asked)
       → number ≡ merged_number get (map own (first ∷ rest))
       → ((n : Network) (t : Tail) (at : ℕ) → AreSumsOf n t at get (map own (first ∷ rest)) → number ≡ Some (extreme_weight n t 0 n.first))
       → number ≡ told is_asked tail
   told-sum get tail true first rest number serves each is undivided =
-      let n = question.runs tail in
-      undivided n tail parts.piece.at (sums-of get tail first rest (serves refl) each) ∙ ap Some (extreme-is question.test tail n (serves refl).follows)
+      let n = question.network tail in
+      undivided n tail parts.piece.at (sums-of get tail first rest (serves refl) each) ∙ ap Some (is-numerator tail (serves refl))
   told-sum get tail false first rest number serves each is undivided =
       is ∙ ap (λ found. number_of found (summed_to get (map own (first ∷ rest)) (length (map own (first ∷ rest))))) (each first)
 

@@ -73,11 +73,11 @@ ComesTo rose known (Ok text) = IfSome known (λ outcome. outcome ≡ Ok text)
 ComesTo rose known (Err cause) = IsCauseIn rose known cause
 
 -- a prepared problem is one that the parts of a run answer for the asked tails
-abbrev pub IsDivided : {V : Type 0} → (V → ConditionalTest) → (V → Tail → Network) → Option Tails
-    → Result V PrepareFault → Type 0
-IsDivided test_of runs_of asked prepared =
+abbrev pub IsDivided : {V : Type 0} → (V → ConditionalTest) → (V → Tail → Network)
+    → (V → Tail → Network) → Option Tails → Result V PrepareFault → Type 0
+IsDivided test_of network_of runs_of asked prepared =
     IfSome asked (λ tails. IfOk prepared (λ problem.
-    IsDivisible (test_of problem) (runs_of problem) tails))
+    IsDivisible (test_of problem) (runs_of problem) (network_of problem) tails))
 
 -- what a prepared problem, or why it is not prepared, comes to
 abbrev pub prepared_outcome : {V : Type 0} → (V → ConditionalTest) → (V → Tail → Network)

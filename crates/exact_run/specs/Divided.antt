@@ -10,6 +10,7 @@ use Rattle.stage_network.specs.Asked.{asks}
 use Rattle.stage_network.specs.Follows.{Follows}
 use Rattle.stage_network.specs.Laws.{IsLawful}
 use Rattle.stage_network.specs.Network.{Network}
+use Rattle.stage_network.specs.Written.{RunsFor}
 use Rattle.record_reader.specs.Records.{records_of}
 use Rattle.settings.specs.WholeRuns.{IsAskedAlone, whole}
 use Rattle.settings.specs.declared.pieces.PieceOf.{PieceOf}
@@ -23,20 +24,22 @@ use Rattle.exact_run.specs.Questions.{question_for}
 
 -- ---- the question of a divided run
 
--- a network of which the parts of a run are cut
-pub record Serves (test : ConditionalTest) (tail : Tail) (n : Network) : Type 0 where
+-- n is cut into the parts of a run, for the network q that is written down
+pub record Serves (test : ConditionalTest) (tail : Tail) (n q : Network) : Type 0 where
   pub lawful : IsLawful n
   pub follows : Follows test tail n
+  pub written : RunsFor n q tail
 
 -- a test that the parts of a run answer for these tails: it has a tail, its total is at least 1,
--- nothing of it is too wide, and the network that runs for each of the tails is lawful and follows
--- it
-pub record IsDivisible (test : ConditionalTest) (runs : Tail → Network) (tails : Tails)
+-- nothing of it is too wide, and what runs for the network of each of the tails is lawful and
+-- follows it
+pub record IsDivisible (test : ConditionalTest) (runs network : Tail → Network) (tails : Tails)
     : Type 0 where
   pub some_tail : test.has_tail (first_tail test) ≡ true
   pub some_total : 1 ≤ total test
   pub fits : too_wide test ≡ None
-  pub networks : (tail : Tail) → asks tails tail ≡ true → Serves test tail (runs tail)
+  pub networks : (tail : Tail) → asks tails tail ≡ true
+      → Serves test tail (runs tail) (network tail)
 
 -- the question is there, and the parts of a run answer it for the tails that are asked
 pub record IsAnswerable (choice : TailChoice) (wanted : Result Question Refusal) : Type 0 where
@@ -44,7 +47,7 @@ pub record IsAnswerable (choice : TailChoice) (wanted : Result Question Refusal)
   pub tails : Tails
   pub is_wanted : wanted ≡ Ok question
   pub are_asked : asked choice (tails_in question.test) ≡ Some tails
-  pub divisible : IsDivisible question.test question.runs tails
+  pub divisible : IsDivisible question.test question.runs question.network tails
 
 -- that of the question that settings ask of a file
 abbrev pub AsksAnswerable : Settings → List ℕ → Type 0

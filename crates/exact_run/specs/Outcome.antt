@@ -137,8 +137,8 @@ head_for asking question =
 
 -- what a cut of the network of a tail closes, and what a part of its open keys comes to
 abbrev pub tail_piece : PartOf → (Tail → Network) → Tail → Bool → Option PieceSum
-tail_piece part runs tail is_asked =
-    if is_asked then Some (piece_sum (runs tail) tail part.at part.parts part.part) else None
+tail_piece part network tail is_asked =
+    if is_asked then Some (piece_sum (network tail) tail part.at part.parts part.part) else None
 
 -- the piece of a part of a divided run
 abbrev pub piece_for : PartOf → Asking → Tails → Question → Piece
@@ -148,9 +148,9 @@ piece_for part asking tails question = record {
   part = part.part;
   head = head_for asking question;
   total = total question.test;
-  less = tail_piece part question.runs tail.Less tails.less;
-  greater = tail_piece part question.runs tail.Greater tails.greater;
-  two = tail_piece part question.runs tail.Two tails.two;
+  less = tail_piece part question.network tail.Less tails.less;
+  greater = tail_piece part question.network tail.Greater tails.greater;
+  two = tail_piece part question.network tail.Two tails.two;
 }
 
 -- the report, or the text of the part that is asked

@@ -50,10 +50,10 @@ fn tail_piece<P: Prepared>(
 ) -> Result<Option<PieceSum>, NoMemory>
     requires parts { 1 ≤ part.parts }
     requires has { is_asked ≡ true → (P.test problem.now).has_tail tail ≡ true }
-    ensures sums { let runs = P.runs problem.now in
-        IfOk result (λ found. found ≡ tail_piece part runs tail is_asked) }
+    ensures sums { let network = P.network problem.now in
+        IfOk result (λ found. found ≡ tail_piece part network tail is_asked) }
     ensures serves { let serves = Serves (P.test problem.now) tail (P.runs problem.now tail) in
-        is_asked ≡ true → OnOk result serves }
+        is_asked ≡ true → OnOk result (serves (P.network problem.now tail)) }
 {
     if !is_asked {
         return Ok(None);
@@ -86,7 +86,8 @@ pub(crate) fn piece_for<P: Prepared>(
     ensures text { let about = question_about P.test P.network P.runs problem.now in
         let question = about heading.now.sizes heading.now.dropped heading.now.extra in
         IfOk result (λ text. text ≡ piece_text (piece_for part asking tails question)) }
-    ensures divisible { OnOk result (IsDivisible (P.test problem.now) (P.runs problem.now) tails) }
+    ensures divisible { let divisible = IsDivisible (P.test problem.now) (P.runs problem.now) in
+        OnOk result (divisible (P.network problem.now) tails) }
 {
     let _shown = problem.has_tail(Tail::Less);
     let frame = problem.frame();

@@ -200,7 +200,7 @@ fn text_for<P: Prepared>(
         let question = about heading.now.sizes heading.now.dropped heading.now.extra in
         IfOk result (λ text. text ≡ text_for asking tails question) }
     ensures divisible { let divisible = IsDivisible (P.test problem.now) (P.runs problem.now) in
-        OnOk result (IfSome asking.piece (λ part. divisible tails)) }
+        OnOk result (IfSome asking.piece (λ part. divisible (P.network problem.now) tails)) }
 {
     match asking.piece {
         None => report_for(alloc, asking, heading, tails, problem),
@@ -223,7 +223,8 @@ pub(crate) fn report_on<P: Prepared + Drop>(
     ensures { let tails = asked asking.tail has in
         let outcome = prepared_outcome P.test P.network P.runs asking in
         let told = outcome heading.now.sizes heading.now.dropped heading.now.extra in
-        let divided = IfSome asking.piece (λ part. IsDivided P.test P.runs tails prepared) in
+        let divides = IsDivided P.test P.network P.runs tails prepared in
+        let divided = IfSome asking.piece (λ part. divides) in
         MeetsAnd divided (told tails prepared) result }
 {
     let Some(tails) = asked(asking.tail, has) else {

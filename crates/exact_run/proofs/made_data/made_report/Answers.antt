@@ -20,7 +20,7 @@ returns c =
     let samples : TwoSamples = record { kind = Wilcoxon; groups = groups } in
     let sizes = c.sizes_of.ensures ∙ ap group_rows c.in-Ok.ensures.groups in
     let tails = asked asking.tail (tails_in (two_sample_test samples)) in
-    let divided = IfSome asking.piece (λ part. IsDivided two_sample_test two_sample_network tails c.prepare-problem.result) in
+    let divided = IfSome asking.piece (λ part. IsDivided two_sample_test two_sample_network two_sample_network tails c.prepare-problem.result) in
     meets _ _ c.report_on.result
     (asked_outcome two_sample_test two_sample_network two_sample_network asking (group_rows groups) None extra.None
     samples _ _ (rw c.in-Ok.ensures.groups at c.prepare-problem.ensures)
