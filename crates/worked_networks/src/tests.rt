@@ -4,9 +4,8 @@ use crate::{
 };
 use distribution::{above, below, far};
 use stage_network::{
-    AdditiveStages, Line, OneOf, Prepared, Roomed, Spread, Stages, TailSum, TailSums, Way,
-    answer, distribution, plain_spread, row_sums, spread, spread_by_rooms, tail_sum,
-    tail_sum_by_rooms,
+    AdditiveStages, Line, OneOf, Prepared, Roomed, Spread, Stages, TailSum, TailSums, Way, answer,
+    distribution, plain_spread, row_sums, spread, spread_by_rooms, tail_sum, tail_sum_by_rooms,
 };
 use std::test::Fail;
 use weights::{Tail, Tails, Wide};
