@@ -1,5 +1,5 @@
-"""Makes problems of one and two samples and of strata from a seed, and compares a program's ways to the report of each;
-`agree` runs it.
+"""Makes problems of one and two samples, of strata and of tables from a seed, and compares a program's ways to the report
+of each; `agree` runs it.
 
 A line for each problem: 0 where both reports are the same, else 1, and what was tried. Where they differ, the file and
 both reports are shown on standard error.
@@ -13,6 +13,7 @@ from concurrent.futures import ThreadPoolExecutor
 ONE_SAMPLE = ("rawsigned", "signedrank", "sign")
 TWO_SAMPLES = ("savage", "raw", "ranksum", "ansari", "mood", "median")
 STRATA = ("stratranksum", "strata")
+TABLES = ("linear",)
 # what a problem has at most, so that the slower way takes about a hundredth of a second
 MOST = 30_000
 
@@ -64,7 +65,18 @@ def strata_of_tables(dice):
     return [[f"s{stratum}", *(dice.randint(0, 6) for _ in range(4))] for stratum in range(dice.randint(1, 6))]
 
 
-LAYOUTS = {one_sample: ONE_SAMPLE, two_samples: TWO_SAMPLES, strata_of_samples: STRATA[:1], strata_of_tables: STRATA[1:]}
+def table(dice):
+    width = dice.randint(2, 6)
+    return [[dice.choice([0, 0, 0, 1, 1, 2, 3]) for _ in range(width)] for _ in range(dice.randint(2, 5))]
+
+
+LAYOUTS = {
+    one_sample: ONE_SAMPLE,
+    two_samples: TWO_SAMPLES,
+    strata_of_samples: STRATA[:1],
+    strata_of_tables: STRATA[1:],
+    table: TABLES,
+}
 
 
 def report(*words):
@@ -78,7 +90,7 @@ def tell(place):
     """What came of the problem at a place, and what is shown of it."""
     # a seed for each, so that a problem is the same whatever was made before
     dice = random.Random(f"{SEED} {place}")
-    test = (*ONE_SAMPLE, *TWO_SAMPLES, *STRATA)[place % 11]
+    test = (*ONE_SAMPLE, *TWO_SAMPLES, *STRATA, *TABLES)[place % 12]
     rows = next(layout for layout, tests in LAYOUTS.items() if test in tests)(dice)
     text = "".join(",".join(map(str, row)) + "\n" for row in [[f"c{i}" for i in range(len(rows[0]))], *rows])
     name = f"{place}.csv"
