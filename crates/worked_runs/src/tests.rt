@@ -104,6 +104,17 @@ fn tells_read_faults(rt: HostRuntime) -> Result<(), AllocError> {
     expect_of_reads(&rt, alloc, 1, 38, Status::Done, done)
 }
 
+#[test]
+fn tells_faults_between_reads(rt: HostRuntime) -> Result<(), AllocError> {
+    let alloc = rt.alloc();
+    let fault = Status::ReadFault;
+    let refused = ["", "refused: read fault\n"];
+    for call in 2u64..6 {
+        expect_of_reads(&rt, alloc, 8, call, fault, refused)?;
+    }
+    Ok(())
+}
+
 // A run over sinks, of which the first fails at its write of this number.
 fn expect_of_writes(
     rt: &impl Abort,
@@ -129,6 +140,32 @@ fn tells_write_faults(rt: HostRuntime) -> Result<(), AllocError> {
     expect_of_writes(&rt, alloc, 2, fault, ["test ranksum\ngro", line])?;
     expect_of_writes(&rt, alloc, 8, fault, [last, line])?;
     expect_of_writes(&rt, alloc, 9, Status::Done, [REPORT, ""])
+}
+
+#[test]
+fn tells_faults_between_writes(rt: HostRuntime) -> Result<(), AllocError> {
+    let alloc = rt.alloc();
+    let fault = Status::WriteFault;
+    let line = "refused: write fault\n";
+    let third = "test ranksum\ngroup 3 x\ngroup 3 y";
+    let fourth = "test ranksum\ngroup 3 x\ngroup 3 y\nstatistic 30/2\n";
+    let fifth = "test ranksum\ngroup 3 x\ngroup 3 y\nstatistic 30/2\ntotal 20\nless 20";
+    expect_of_writes(&rt, alloc, 3, fault, [third, line])?;
+    expect_of_writes(&rt, alloc, 4, fault, [fourth, line])?;
+    expect_of_writes(&rt, alloc, 5, fault, [fifth, line])
+}
+
+#[test]
+fn tells_faults_of_late_writes(rt: HostRuntime) -> Result<(), AllocError> {
+    let alloc = rt.alloc();
+    let fault = Status::WriteFault;
+    let line = "refused: write fault\n";
+    let sixth = "test ranksum\ngroup 3 x\ngroup 3 y\nstatistic 30/2\ntotal 20\n\
+        less 20/20 1.000000\ngre";
+    let seventh = "test ranksum\ngroup 3 x\ngroup 3 y\nstatistic 30/2\ntotal 20\n\
+        less 20/20 1.000000\ngreater 1/20 0.0500";
+    expect_of_writes(&rt, alloc, 6, fault, [sixth, line])?;
+    expect_of_writes(&rt, alloc, 7, fault, [seventh, line])
 }
 
 // What fails on `err` changes no status.
