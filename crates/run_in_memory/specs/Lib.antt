@@ -1,0 +1,4 @@
+pub mod Answers
+pub mod Places
+pub mod Runs
+pub mod Sinks
