@@ -196,6 +196,12 @@ fn many(alloc: Global, number: usize) -> Result<Ints, NoMemory> {
 }
 
 #[test]
+fn place_of_a_group(rt: HostRuntime) -> Result<(), Fail> {
+    assert_eq!(rt; group_of(&[tie(-1, 1), tie(5, 4)], 5), 1);
+    Ok(())
+}
+
+#[test]
 fn ranks_and_groups(rt: HostRuntime) -> Result<(), Fail> {
     let six = doubled(rt.alloc(), &[1, 2, 2, 2, 3, 3])?;
     assert_eq!(rt; six.as_slice(), [2, 6, 6, 6, 11, 11].as_slice());
@@ -204,7 +210,6 @@ fn ranks_and_groups(rt: HostRuntime) -> Result<(), Fail> {
         groups.as_slice(),
         [tie(1, 1), tie(2, 3), tie(3, 2)].as_slice()
     );
-    assert_eq!(rt; group_of(&[tie(-1, 1), tie(5, 4)], 5), 1);
     let values = many(rt.alloc(), MOST_VALUES)?;
     assert!(rt; values.len() <= MOST_VALUES);
     let ranks = doubled(rt.alloc(), values.as_slice())?;
