@@ -92,7 +92,7 @@ exact_here <- function(program, command, text, options, room = 0) {
   packed <- unlist(lapply(words, function(word) c(charToRaw(word), as.raw(0))))
   answer <- .Call(program$answer, packed, charToRaw(text), room)
   if (answer$status == 6) return(exact_here(program, command, text, options, max(2^18, 16 * room)))
-  list(status = answer$status, report = strsplit(answer$report, "\n", fixed = TRUE)[[1]], line = trimws(answer$line))
+  list(status = answer$status, report = strsplit(answer$report, "\n", fixed = TRUE)[[1]], line = sub("\n", "", answer$line, fixed = TRUE))
 }
 
 # the text of the file: a header, and fields between quotes, of which those that are missing are empty
@@ -133,8 +133,8 @@ exact_numbers <- function(x) {
   x <- as.numeric(x)
   text <- sprintf("%.15g", x)
   small <- grep("e-", text, fixed = TRUE)
-  parts <- strsplit(sub("^-?[0-9]*[.]?", "", text[small]), "e-", fixed = TRUE)
-  long <- small[vapply(parts, function(p) nchar(p[1]) + as.numeric(p[2]) > 18, NA)]
+  decimals <- function(parts) nchar(sub("^-?[0-9]*[.]?", "", parts[1])) + as.numeric(parts[2])
+  long <- small[vapply(strsplit(text[small], "e-", fixed = TRUE), decimals, 0) > 18]
   if (length(long) > 0) {
     warning("rounded to 18 decimals: ", paste(text[long], collapse = ", "), call. = FALSE)
     text[long] <- sprintf("%.18f", x[long])
