@@ -22,6 +22,9 @@
 # alone, and `status` the program's status. `program` is its path; else that in the environment variable EXACT, else the
 # one of the installed package exact, else the one on the path.
 #
+# Each run is a process of its own, which may be interrupted, and whose end ends nothing else. For many small runs
+# exact_library() asks for the same in this process, by rexact.so: the same calls, the same answers (docs/LIBRARY.md).
+#
 # Numbers are written with 15 digits, as R shows them, and rounded to 18 decimals where they have more, with a warning.
 
 exact_test <- function(test, x, y = NULL, data = NULL, paired = FALSE, ...,
@@ -37,25 +40,77 @@ exact_shift <- function(x, y = NULL, data = NULL, ..., program = exact_program()
   exact_limits(exact_lines("shift", exact_rows(x, y, data, FALSE), list(...), program, call), name)
 }
 
+# Loads rexact.so: from now on runs that name no program go by it, in this process, and so do those with what this answers
+# as `program`. It costs no process and no file. But a run cannot be interrupted, and where the stack does not do, the
+# session ends: what takes long is better left to the program. `folder` is where rexact.so is; else the one in the
+# environment variable EXACT_LIBRARY, else that of this file, else ../lib of the program on the PATH.
+exact_library <- function(folder = Sys.getenv("EXACT_LIBRARY", NA)) {
+  beside <- file.path(dirname(normalizePath(Sys.which(exact_path()), mustWork = FALSE)), "..", "lib")
+  places <- if (is.na(folder)) c(exact_state$folder, beside) else folder
+  path <- file.path(places, "rexact.so")
+  library <- dyn.load(c(path[file.exists(path)], path)[1])
+  exact_state$library <- structure(list(answer = getNativeSymbolInfo("rexact_answer", library)), class = "exact_library")
+  invisible(exact_state$library)
+}
+
+# the folder of this file, and the library where it was asked for
+exact_state <- new.env()
+exact_state$folder <- local({
+  sourced <- Filter(Negate(is.null), lapply(sys.frames(), function(frame) frame$ofile))
+  if (length(sourced) > 0) dirname(normalizePath(sourced[[length(sourced)]])) else "."
+})
+
+# what runs the program
+exact_program <- function() {
+  if (is.null(exact_state$library)) exact_path() else exact_state$library
+}
+
 # the lines that the program prints; a refusal is an error
 exact_lines <- function(command, rows, options, program, call) {
+  run <- if (inherits(program, "exact_library")) exact_here else exact_process
+  answer <- run(program, command, exact_text(rows), exact_words(options))
+  if (answer$status != 0) {
+    message <- paste0(answer$line, "\n", exact_help(answer$line))
+    stop(structure(list(message = message, call = call, line = answer$line, status = answer$status),
+                   class = c("exact_refused", "error", "condition")))
+  }
+  answer$report
+}
+
+# a run in a process
+exact_process <- function(program, command, text, options) {
   file <- tempfile(fileext = ".csv")
   said <- tempfile()
   on.exit(unlink(c(file, said)))
-  write.table(rows, file, sep = ",", row.names = FALSE, qmethod = "double", na = "", fileEncoding = "UTF-8")
-  words <- c(command, file, exact_words(options))
-  report <- suppressWarnings(system2(program, shQuote(words), stdout = TRUE, stderr = said))
+  writeBin(charToRaw(text), file)
+  report <- suppressWarnings(system2(program, shQuote(c(command, file, options)), stdout = TRUE, stderr = said))
   status <- attr(report, "status")
-  if (!is.null(status) && status != 0) {
-    line <- paste(readLines(said, warn = FALSE), collapse = "\n")
-    stop(structure(list(message = paste0(line, "\n", exact_help(line)), call = call, line = line, status = status),
-                   class = c("exact_refused", "error", "condition")))
-  }
-  report
+  if (is.null(status)) status <- 0
+  list(status = status, report = report, line = paste(readLines(said, warn = FALSE), collapse = "\n"))
 }
 
-# the program that is run
-exact_program <- function() {
+# a run in this process
+exact_here <- function(program, command, text, options, room = 0) {
+  words <- enc2utf8(c(command, "data.csv", options))
+  packed <- unlist(lapply(words, function(word) c(charToRaw(word), as.raw(0))))
+  answer <- .Call(program$answer, packed, charToRaw(text), room)
+  if (answer$status == 6) return(exact_here(program, command, text, options, max(2^18, 16 * room)))
+  list(status = answer$status, report = strsplit(answer$report, "\n", fixed = TRUE)[[1]], line = sub("\n", "", answer$line, fixed = TRUE))
+}
+
+# the text of the file: a header, and fields between quotes, of which those that are missing are empty
+exact_text <- function(rows) {
+  fields <- function(texts) {
+    quoted <- paste0("\"", gsub("\"", "\"\"", enc2utf8(texts), fixed = TRUE), "\"")
+    quoted[is.na(texts)] <- ""
+    quoted
+  }
+  lines <- do.call(paste, c(lapply(unname(rows), fields), sep = ","))
+  paste0(c(paste(fields(names(rows)), collapse = ","), lines, ""), collapse = "\n")
+}
+
+# the path of the program: that in the environment, else the one of the installed package, else the one on the path
+exact_path <- function() {
   own <- system.file("bin", "exact", package = "exact")
   Sys.getenv("EXACT", if (nzchar(own)) own else "exact")
 }
@@ -88,34 +143,34 @@ exact_help <- function(line) {
 
 # what the file holds, a column a field
 exact_rows <- function(x, y, data, paired) {
+  texts <- function(column) if (is.numeric(column)) exact_numbers(column) else as.character(column)
   if (inherits(x, "formula")) {
     frame <- model.frame(x, data, na.action = NULL)
     group <- as.factor(frame[[2]])
     frame <- frame[order(as.integer(group)), ]
-    rows <- data.frame(label = as.character(frame[[2]]), value = exact_numbers(frame[[1]]))
+    list(label = as.character(frame[[2]]), value = exact_numbers(frame[[1]]))
   } else if (is.data.frame(x)) {
-    rows <- as.data.frame(lapply(x, function(column) if (is.numeric(column)) exact_numbers(column) else as.character(column)))
+    lapply(x, texts)
   } else if (is.matrix(x)) {
-    rows <- as.data.frame(lapply(seq_len(ncol(x)), function(column) exact_numbers(x[, column])),
-                          col.names = paste0("column", seq_len(ncol(x))))
+    columns <- lapply(seq_len(ncol(x)), function(column) exact_numbers(x[, column]))
+    structure(columns, names = paste0("column", seq_len(ncol(x))))
   } else if (is.null(y)) {
-    rows <- data.frame(value = if (is.character(x) || is.factor(x)) as.character(x) else exact_numbers(x))
+    list(value = if (is.character(x) || is.factor(x)) as.character(x) else exact_numbers(x))
   } else if (paired) {
-    rows <- data.frame(first = exact_numbers(x), second = exact_numbers(y))
+    list(first = exact_numbers(x), second = exact_numbers(y))
   } else {
-    rows <- data.frame(label = rep(c("x", "y"), c(length(x), length(y))), value = exact_numbers(c(x, y)))
+    list(label = rep(c("x", "y"), c(length(x), length(y))), value = exact_numbers(c(x, y)))
   }
-  rows
 }
 
 # numbers as texts
 exact_numbers <- function(x) {
   x <- as.numeric(x)
-  text <- vapply(x, format, "", digits = 15, trim = TRUE)
-  parts <- regmatches(text, regexec("^-?[0-9]*[.]?([0-9]*)(?:e([-+][0-9]+))?$", text))
-  decimals <- vapply(parts, function(p) if (length(p) < 3) 0 else nchar(p[2]) - if (p[3] == "") 0 else as.numeric(p[3]), 0)
-  long <- !is.na(x) & decimals > 18
-  if (any(long)) {
+  text <- sprintf("%.15g", x)
+  small <- grep("e-", text, fixed = TRUE)
+  decimals <- function(parts) nchar(sub("^-?[0-9]*[.]?", "", parts[1])) + as.numeric(parts[2])
+  long <- small[vapply(strsplit(text[small], "e-", fixed = TRUE), decimals, 0) > 18]
+  if (length(long) > 0) {
     warning("rounded to 18 decimals: ", paste(text[long], collapse = ", "), call. = FALSE)
     text[long] <- sprintf("%.18f", x[long])
   }
@@ -137,16 +192,16 @@ exact_words <- function(options) {
 
 # the report as an htest
 exact_report <- function(report, name) {
-  lines <- strsplit(report, " ")
+  lines <- strsplit(report, " ", fixed = TRUE)
   first <- vapply(lines, `[`, "", 1)
-  ratio <- function(text) strsplit(text, "/")[[1]]
+  ratio <- function(text) strsplit(text, "/", fixed = TRUE)[[1]]
   told <- lines[first %in% c("less", "greater", "two")]
-  tails <- data.frame(tail = vapply(told, `[`, "", 1),
-                      numerator = vapply(told, function(l) ratio(l[2])[1], ""),
-                      denominator = vapply(told, function(l) ratio(l[2])[2], ""))
-  tails$p.value <- as.numeric(tails$numerator) / as.numeric(tails$denominator)
+  parts <- vapply(told, function(line) ratio(line[2]), c("", ""))
+  tails <- list(tail = vapply(told, `[`, "", 1), numerator = parts[1, ], denominator = parts[2, ],
+                p.value = as.numeric(parts[1, ]) / as.numeric(parts[2, ]))
+  tails <- structure(tails, class = "data.frame", row.names = seq_along(told))
   shown <- if ("two" %in% tails$tail) "two" else tails$tail[1]
-  one <- tails[tails$tail == shown, ]
+  one <- lapply(tails, `[`, match(shown, tails$tail))
   statistic <- as.numeric(ratio(lines[first == "statistic"][[1]][2]))
   answer <- list(statistic = c(T = statistic[1] / statistic[2]), p.value = one$p.value,
                  alternative = c(less = "less", greater = "greater", two = "two.sided")[[shown]],

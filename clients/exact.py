@@ -23,6 +23,9 @@
     >>> found.estimate, found.lower, found.upper, found.miss
     (Fraction(3, 1), Fraction(2, 1), Fraction(4, 1), Fraction(1, 5))
 
+Each run is a process of its own, which may be interrupted, and whose end ends nothing else. For many small runs
+`exact.library()` asks for the same in this process, by libexact.so: the same calls, the same answers (docs/LIBRARY.md).
+
 One file, no dependency. Nothing is rounded: a number is written as Python shows it (`repr`), a text or a Decimal as it
 is; None and NaN are written as an empty field, which is missing. A number that has more than 18 decimals, such as
 3.3333333333333335e-06, is refused as out of range: round it first.
@@ -31,9 +34,11 @@ from __future__ import annotations
 
 import csv
 import dataclasses
+import io
 import math
 import os
 import re
+import shutil
 import subprocess
 import sys
 import tempfile
@@ -88,6 +93,7 @@ class NoMemory(Refused):
 
 
 REFUSALS = {kind.status: kind for kind in Refused.__subclasses__()}
+_LONGEST_FILE = 1_048_576
 
 # what helps, by the end of the program's line
 HELPS = {
@@ -157,7 +163,7 @@ class Shift:
     """The report as it was printed."""
 
 
-def run(test: str, data: object = None, *, program: str | None = None, **options: object) -> Report:
+def run(test: str, data: object = None, *, program: str | Library | None = None, **options: object) -> Report:
     """The report of a test.
 
     data: a mapping from labels to samples (a label and a value in each row), or rows: a list of lists or tuples, a zip
@@ -165,13 +171,14 @@ def run(test: str, data: object = None, *, program: str | None = None, **options
     field a row. A text or a path names a file that stands. Without data no file is named, as `drill` wants it.
     options: as the program has them, with `_` for the dash: tail="less", order=["x", "y"], columns=[2, 3], nodes=True,
     odds=Fraction(3, 2) or "3/2".
-    program: its path; else that in the environment variable EXACT, else the one that was installed with this module,
+    program: its path; else the library, where `library` asked for it, else the path in the environment variable EXACT,
+    else the one that was installed with this module,
     else the one on the PATH.
     """
     return read(_text(test, data, program, options))
 
 
-def shift(data: object, *, program: str | None = None, **options: object) -> Shift:
+def shift(data: object, *, program: str | Library | None = None, **options: object) -> Shift:
     """The shift of the second sample against the first, with exact limits.
 
     data: a mapping from two labels to samples, or rows of a label and a value, or a file, as for `run`.
@@ -181,21 +188,96 @@ def shift(data: object, *, program: str | None = None, **options: object) -> Shi
     return read_shift(_text("shift", data, program, options))
 
 
-def _text(command: str, data: object, program: str | None, options: Mapping[str, object]) -> str:
+def library(folder: str | os.PathLike[str] | None = None) -> Library:
+    """Loads libexact.so. From now on runs that name no program go by it, in this process.
+
+    It costs no process and no file, and threads run side by side. But a run cannot be interrupted, and where the stack
+    does not do, the process ends: what takes long is better left to the program.
+    folder: where libexact.so is; else the one in the environment variable EXACT_LIBRARY, else that of this file, else
+    `../lib` of the program on the PATH, else where the system looks.
+    """
+    global _library
+    program = shutil.which(os.environ.get("EXACT") or _own_program() or "exact")
+    beside = os.path.join(os.path.dirname(os.path.realpath(program)), "..", "lib") if program else None
+    asked = folder or os.environ.get("EXACT_LIBRARY")
+    places = [asked] if asked else [os.path.dirname(os.path.realpath(__file__)), beside]
+    paths = [os.path.join(place, "libexact.so") for place in places if place]
+    _library = Library(next(filter(os.path.exists, paths), "libexact.so" if not asked else paths[0]))
+    return _library
+
+
+class Library:
+    """The program in this process, by libexact.so: `program` of a run, or what `library` made of it for all."""
+
+    def __init__(self, path: str | os.PathLike[str]) -> None:
+        import ctypes  # which not every Python has
+
+        self._types = ctypes
+        self._answer = ctypes.CDLL(os.fspath(path)).exact_answer
+        piece = [ctypes.c_char_p, ctypes.c_size_t]
+        self._answer.argtypes = [*piece, *piece, *piece, *piece, ctypes.POINTER(ctypes.c_size_t)]
+        self._answer.restype = ctypes.c_uint8
+
+    def answer(self, words: Iterable[str], data: bytes) -> tuple[int, str, str]:
+        """The status, the report and the line of refusal of one run; the file that the words name has these bytes."""
+        types = self._types
+        packed = [os.fsencode(word) for word in words]
+        if any(b"\0" in word for word in packed):
+            raise ValueError("embedded null byte")
+        packed = b"".join(word + b"\0" for word in packed)
+        room, told, counts = 1 << 14, types.create_string_buffer(96), (types.c_size_t * 2)()
+        while True:
+            out = types.create_string_buffer(room)
+            status = self._answer(packed, len(packed), data, len(data), out, room, told, len(told), counts)
+            if status != WriteFault.status:
+                texts = types.string_at(out, counts[0]), types.string_at(told, counts[1])
+                return status, *(text.decode(errors="replace") for text in texts)
+            room *= 16
+
+
+_library: Library | None = None
+
+
+def _text(command: str, data: object, program: str | Library | None, options: Mapping[str, object]) -> str:
     """What the program prints; a refusal is raised."""
-    words = [program or os.environ.get("EXACT") or _own_program() or "exact", command]
+    program = program or _library or os.environ.get("EXACT") or _own_program() or "exact"
+    flags = [_word(name, value) for name, value in options.items() if value is not None and value is not False]
+    run_by = _here if isinstance(program, Library) else _process
+    status, report, line = run_by(program, command, data, flags)
+    if status:
+        raise REFUSALS[status](line.rstrip("\n"))
+    return report
+
+
+def _process(program: str, command: str, data: object, flags: list[str]) -> tuple[int, str, str]:
+    """A run in a process."""
     with tempfile.TemporaryDirectory() as folder:
+        words = [program, command]
         if isinstance(data, (str, os.PathLike)):
             words.append(os.fspath(data))
         elif data is not None:
             words.append(os.path.join(folder, "data.csv"))
-            _write(words[-1], _rows(data))
-        words += [_word(name, value) for name, value in options.items() if value is not None and value is not False]
-        done = subprocess.run(words, stdin=subprocess.DEVNULL, capture_output=True, check=False)
-    if done.returncode in REFUSALS:
-        raise REFUSALS[done.returncode](done.stderr.decode(errors="replace").rstrip("\n"))
-    done.check_returncode()
-    return done.stdout.decode(errors="replace")
+            with open(words[-1], "wb") as file:
+                file.write(_file(data))
+        done = subprocess.run(words + flags, stdin=subprocess.DEVNULL, capture_output=True, check=False)
+    if done.returncode not in REFUSALS:
+        done.check_returncode()
+    return done.returncode, done.stdout.decode(errors="replace"), done.stderr.decode(errors="replace")
+
+
+def _here(program: Library, command: str, data: object, flags: list[str]) -> tuple[int, str, str]:
+    """A run in this process. A file that cannot be read is refused where its words are not."""
+    if data is None:
+        return program.answer([command, *flags], b"")
+    if not isinstance(data, (str, os.PathLike)):
+        return program.answer([command, "data.csv", *flags], _file(data))
+    words = [command, os.fspath(data), *flags]
+    try:
+        with open(data, "rb") as file:
+            return program.answer(words, file.read(_LONGEST_FILE + 1))
+    except OSError:
+        status, report, line = program.answer(words, b"")
+        return (ReadFault.status, "", "refused: read fault") if status == BadData.status else (status, report, line)
 
 
 def _own_program() -> str | None:
@@ -274,12 +356,14 @@ def _rows(data: object) -> tuple[list[str], list[list[object]]]:
     return [f"field{i}" for i in range(1, len(rows[0]) + 1)] if rows else ["field1"], rows
 
 
-def _write(path: str, table: tuple[list[str], list[list[object]]]) -> None:
-    header, rows = table
-    with open(path, "w", newline="", encoding="utf-8") as file:
-        out = csv.writer(file)
-        out.writerow(header)
-        out.writerows([_field(value) for value in row] for row in rows)
+def _file(data: object) -> bytes:
+    """The bytes of a file that has the rows."""
+    header, rows = _rows(data)
+    file = io.StringIO(newline="")
+    out = csv.writer(file)
+    out.writerow(header)
+    out.writerows([_field(value) for value in row] for row in rows)
+    return file.getvalue().encode("utf-8")
 
 
 def _field(value: object) -> str:

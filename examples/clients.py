@@ -1,4 +1,7 @@
-"""Tries the Python client on examples; a line for each: 0 where it came right, else 1, and what was tried."""
+"""Tries the Python client on examples; a line for each: 0 where it came right, else 1, and what was tried.
+
+With the word `library` behind the examples it goes by the library, in this process.
+"""
 import csv
 import decimal
 import os
@@ -9,6 +12,9 @@ from fractions import Fraction
 EXAMPLES = pathlib.Path(sys.argv[1])
 sys.path.insert(0, str(EXAMPLES.parent / "clients"))
 import exact  # noqa: E402
+
+if sys.argv[2:] == ["library"]:
+    exact.library()
 
 
 def rows_of(name):
@@ -99,7 +105,7 @@ try:
     tell(False, "Python: a decimal miss")
 except exact.Usage as fault:
     tell(fault.line == "refused: value of --miss" and has_place(str(fault)), "Python: a decimal miss")
-for status, kind in exact.REFUSALS.items():
+for status, kind in exact.REFUSALS.items() if "FAKE" in os.environ else ():
     told = refused(kind, "ranksum", [status], program=os.environ["FAKE"])
     tell(told and 2 <= status <= 7, f"Python: status {status}")
 tell(refused(exact.Usage, "ranksum", six, tail="left"), "Python: refused words")

@@ -835,12 +835,17 @@ def tell(place, problem, check, dice):
                 print(f"{written}-- status {run.returncode}", file=sys.stderr)
 
 
-PROGRAM, COUNT, SEED = sys.argv[1], int(sys.argv[2]), sys.argv[3]
-for place in range(COUNT):
-    test = (*TESTS, "shift")[place % (len(TESTS) + 1)]
-    # a seed for each, so that a problem is the same whatever was made before
-    problem = make(test, random.Random(f"{SEED} {place}"))
-    known.clear()
-    for tests, when, check in CHECKS:
-        if test in tests and when(problem):
-            tell(place, problem, check, random.Random(f"{SEED} {place} {check.__name__}"))
+def problems(count, seed):
+    """Problems of all tests and of the shift in turn; each has a seed of its own, whatever was made before."""
+    for place in range(count):
+        test = (*TESTS, "shift")[place % (len(TESTS) + 1)]
+        yield place, make(test, random.Random(f"{seed} {place}"))
+
+
+if __name__ == "__main__":
+    PROGRAM, SEED = sys.argv[1], sys.argv[3]
+    for place, problem in problems(int(sys.argv[2]), SEED):
+        known.clear()
+        for tests, when, check in CHECKS:
+            if problem.test in tests and when(problem):
+                tell(place, problem, check, random.Random(f"{SEED} {place} {check.__name__}"))

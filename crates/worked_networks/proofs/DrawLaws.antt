@@ -18,7 +18,7 @@ use Rattle.room_network.specs.Meanings.{AreReached, IsMeasure, IsMove, Meaning}
 use Rattle.room_network.specs.Numbers.{Fits, IsNumber, IsOutcome, number_meaning, so_far}
 use Rattle.room_network.specs.Plans.{IsPlan, alone}
 use Rattle.room_network.specs.declared.numbers.Operation.TheVariants.{Sum}
-use Rattle.room_network.proofs.Items.{one_item}
+use Rattle.weights.proofs.Items.{one_item}
 use mir.Syntax.{w128}
 use mir.Val.{to_z, of_z}
 use Rattle.worked_networks.specs.Draws.{after_draw, balls, box, colours, first_colour, some_white, white_choice, white_numbers}

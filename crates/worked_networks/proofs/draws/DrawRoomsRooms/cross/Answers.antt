@@ -1,6 +1,6 @@
 use Rattle.std.proofs.Common.{◌∙◌, arith}
 use Rattle.std.proofs.lemmas.Int.{ints}
-use Rattle.room_network.proofs.Items.{two_items}
+use Rattle.weights.proofs.Items.{two_items}
 use Rattle.worked_networks.proofs.DrawLaws.{black-written, draw, found, white-written, whites-few}
 use Rattle.worked_networks.proofs.draws.DrawRoomsRooms.cross.Goals as goal
 

@@ -1,5 +1,5 @@
 use Rattle.std.specs.Prelude.{pos}
-use Rattle.room_network.proofs.Items.{two_items}
+use Rattle.weights.proofs.Items.{two_items}
 use Rattle.worked_networks.proofs.draws.DrawRoomsRooms.first.Goals as goal
 
 pub returns : goal.returns
