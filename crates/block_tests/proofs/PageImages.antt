@@ -11,7 +11,7 @@ use Rattle.stage_network.specs.Completions.{over_arcs}
 use Rattle.stage_network.specs.Judged.{judge_of}
 use Rattle.stage_network.specs.Network.{Network, IsReached}
 use Rattle.stage_network.specs.PartialSums.{plus}
-use Rattle.stage_network.specs.Written.{AreWritten, RunsFor, Writes}
+use Rattle.stage_network.specs.Written.{AreWritten, RunsFor, StandsFor}
 use Rattle.stage_network.specs.declared.verdicts.Judge.{Judge}
 use Rattle.stage_network.proofs.Bridge.{choices-before}
 use Rattle.block_tests.specs.BlockNetworks.{addends_of, block_at, block_network, line_addends, line_of, page_addends, page_lines, running_addends, running_network}
@@ -38,7 +38,7 @@ module _ (k : ℕ) (blocks : List (List ℕ)) (judge : Judge) (t : Tail) where
       ∙ sym (over-places (λ (l : Line). l.weight * to l.value) (page_lines counts))
       ∙ sym (ap (sum_by (λ c. (line_of counts c).weight * to (line_of counts c).value)) (choices-before (line_addends blocks judge) g key before))
 
-  page-writes : Writes n q t
+  page-writes : StandsFor n q t
   page-writes = record {
     count = refl;
     written = λ key. key;

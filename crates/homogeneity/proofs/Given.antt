@@ -7,8 +7,8 @@ use Rattle.std.proofs.lemmas.List.Sums.{sum_by-cons}
 use Rattle.weights.proofs.CellSums.{divided, same-within}
 use Rattle.weights.proofs.Sums.{sum_by-fronts, sum_by-same, sum_by-scaled, sum_by-zero}
 use Rattle.strata_cells.specs.declared.stratum.Stratum.{Stratum}
-use Rattle.strata_cells.specs.Strata.{cell_lists, cell_weight, cells_in, cells_of, cells_weight, greatest_cell, least_cell, strata_labellings}
-use Rattle.strata_cells.proofs.CellLaws.{by-cells}
+use Rattle.strata_cells.specs.Strata.{cell_weight, cells_in, cells_of, cells_weight, greatest_cell, least_cell, strata_labellings}
+use Rattle.strata_cells.proofs.CellLaws.{by-cells, cell_lists}
 use Rattle.strata_cells.proofs.FirstCells.{cells-meet, cells-sum}
 use Rattle.homogeneity.specs.Zelen.{has_sum}
 use Rattle.homogeneity.specs.ZelenSteps.{CanHave}

@@ -10,9 +10,9 @@ use Rattle.weights.proofs.Ranges.{range-none, range-one}
 use Rattle.weights.proofs.Sums.{sum_by-filter, sum_by-same, sum_by-zero}
 use Rattle.enumerate.proofs.JoinedMembers.{parts-of}
 use Rattle.strata_cells.specs.declared.stratum.Stratum.{Stratum}
-use Rattle.strata_cells.specs.Strata.{cell_lists, cell_weight, cells_in, cells_of, cells_weight, stratum_cell, first_cells, first_column, greatest_cell, least_cell, row_counts, row_labellings, size, strata_labellings}
-use Rattle.strata_cells.proofs.CellLaws.{by-cells}
-use Rattle.strata_cells.proofs.FirstCells.{cells-meet, cells-same, cells-sum, rows-sum}
+use Rattle.strata_cells.specs.Strata.{cell_weight, cells_in, cells_of, cells_weight, stratum_cell, first_cells, first_column, greatest_cell, least_cell, row_counts, size, strata_labellings}
+use Rattle.strata_cells.proofs.CellLaws.{by-cells, cell_lists}
+use Rattle.strata_cells.proofs.FirstCells.{cells-meet, cells-same, cells-sum, rows-sum, row_labellings}
 use Rattle.stage_network.proofs.Bounds.{term-le-sum_by}
 use Rattle.homogeneity.specs.Zelen.{has_sum, observed_labels, rarity}
 use Rattle.homogeneity.proofs.Given.{over-none, over-step, over_cells}

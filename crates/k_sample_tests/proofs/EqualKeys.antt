@@ -30,7 +30,8 @@ use Rattle.label_network.proofs.LabelPlans.{label_width}
 use Rattle.label_network.proofs.Narrowing.{chosen}
 use Rattle.label_network.proofs.OverRooms.{over_measure, over_place}
 use Rattle.label_network.proofs.Rows.{length-pos}
-use Rattle.k_sample_tests.specs.EqualGroups.{equal_groups_network, groups_in_order, in_order, lefts, places_of, sums}
+use Rattle.weights.specs.InOrder.{in_order}
+use Rattle.k_sample_tests.specs.EqualGroups.{equal_groups_network, groups_in_order, lefts, may_precede, places_of, sums}
 use Rattle.k_sample_tests.specs.declared.places.Place.{Place}
 use Rattle.k_sample_tests.specs.RankSums.{plus_each, score_parts, squares_meaning}
 use Rattle.k_sample_tests.specs.RankSumSteps.{IsSquaring}
@@ -324,8 +325,8 @@ module _ (factors : List ℕ) (bound : ℕ) (scores : List ℤ) (columns rows : 
   -- the room of a key in order
   pub equal-room : (g : ℕ) (k : List ℤ) → IsReached n g k → room (groups_in_order rows k) ≡ room_in_order rows (room k)
   equal-room g k r =
-      let ps : List Place = in_order true (in_order false (places_of rows (room k) (partial k))) in
-      let long : length (lefts ps) ≡ length rows = length-map ps (λ (p : Place). p.left) ∙ length-order true (in_order false (places_of rows (room k) (partial k))) ∙ length-order false (places_of rows (room k) (partial k)) ∙ length-places rows (room k) (partial k) (room-long g k r) (partial-long g k r) in
+      let ps : List Place = in_order (may_precede true) (in_order (may_precede false) (places_of rows (room k) (partial k))) in
+      let long : length (lefts ps) ≡ length rows = length-map ps (λ (p : Place). p.left) ∙ length-order true (in_order (may_precede false) (places_of rows (room k) (partial k))) ∙ length-order false (places_of rows (room k) (partial k)) ∙ length-places rows (room k) (partial k) (room-long g k r) (partial-long g k r) in
       front-key (length rows) (lefts ps) (sums ps) long ∙ order-room rows (room k) (partial k) (partial-long g k r)
 
   pub equal-roomed : IsLawful n → IsRoomed n (length rows) → IsRoomed (equal_groups_network m) (length rows)

@@ -34,7 +34,7 @@ use Rattle.stage_network.specs.declared.verdicts.Judge.{Judge}
 use Rattle.stage_network.specs.Judged.{judge_of}
 use Rattle.stage_network.proofs.Following.{judge-fits}
 use Rattle.stage_network.specs.Follows.{Follows}
-use Rattle.label_network.specs.Endings.{labelling_value}
+use Rattle.label_network.proofs.Endings.{labelling_value}
 use Rattle.label_network.specs.LabelRooms.{IsLabelled}
 use Rattle.label_network.specs.LabelNetwork.{IsMargin, label_network, over_rooms}
 use Rattle.label_network.specs.LaterSums.{subjects}

@@ -8,7 +8,7 @@ use Rattle.weights.specs.Labellings.{counts_of, labels}
 use Rattle.weights.specs.Grouped.{columns_of, minus}
 use Rattle.weights.proofs.Counted.{count_of}
 use Rattle.weights.proofs.Sized.{length-counts_of}
-use Rattle.label_network.specs.Endings.{partial_after, labelling_value}
+use Rattle.label_network.proofs.Endings.{partial_after, labelling_value}
 use Rattle.label_network.specs.LaterSums.{subjects}
 use Rattle.weights.specs.Numbers.{absolute_sum}
 use Rattle.label_network.specs.Linear.{score_of}

@@ -20,7 +20,7 @@ use Rattle.midranks.specs.declared.ties.Tie.{Tie}
 use Rattle.midranks.proofs.TieLemmas.{test-less, test-not_less, test-other, test-same}
 use Rattle.sample_reader.specs.PooledSample.{paired_subjects}
 use Rattle.sample_reader.specs.declared.subjects.Subject.{Subject}
-use Rattle.label_network.specs.Endings.{labelling_value, partial_after}
+use Rattle.label_network.proofs.Endings.{labelling_value, partial_after}
 use Rattle.label_network.specs.LaterSums.{subjects}
 use Rattle.room_network.specs.Numbers.{so_far}
 use Rattle.label_network.proofs.Narrowing.{minus-within}

@@ -12,7 +12,7 @@ use Rattle.weights.specs.Grouped.{columns_of, minus}
 use Rattle.weights.proofs.Counted.{count_of}
 use Rattle.weights.proofs.Sized.{length-counts_of}
 use Rattle.completion_bounds.specs.Boxes.{factored_squares}
-use Rattle.label_network.specs.Endings.{partial_after, labelling_value}
+use Rattle.label_network.proofs.Endings.{partial_after, labelling_value}
 use Rattle.label_network.specs.LaterSums.{subjects}
 use Rattle.label_network.specs.Linear.{score_of}
 use Rattle.label_network.proofs.LaterArcs.{more-times}

@@ -6,10 +6,25 @@ use Rattle.std.proofs.lemmas.List.{get_or-append_right, length-replicate}
 use Rattle.std.proofs.lemmas.Bool.Decides.{eqb_tells}
 use Rattle.std.proofs.Math.Nat.{mul-le-mul}
 use Rattle.label_network.specs.LaterSums.{total_score, part_sum, later_scores}
-use Rattle.label_network.specs.LaterSteps.{IsRow, IsBuilt}
-use Rattle.label_network.specs.LaterTables.{IsTable, IsTotals, IsCounted}
+use Rattle.label_network.specs.LaterSteps.{IsRow}
+use Rattle.label_network.specs.LaterTables.{IsPartTable, IsTable, IsTotals, IsCounted}
 use Rattle.label_network.proofs.Later.{later-end}
 use Rattle.label_network.proofs.LinearArcs.{part-none}
+
+-- the tables from stage g on, and the rows, total and number of stage g
+pub record IsBuilt (scores : List ℤ) (columns : List ℕ) (width g : ℕ) (low high : List ℤ)
+    (before : ℕ) (total : ℤ) (least greatest totals : List ℤ) (counts : List ℕ) : Type 0 where
+  pub stage : g ≤ length columns
+  pub low_long : length low ≡ width
+  pub high_long : length high ≡ width
+  pub low_row : IsRow int_min (later_scores scores columns g) low
+  pub high_row : IsRow int_max (later_scores scores columns g) high
+  pub count : before ≡ length (later_scores scores columns g)
+  pub whole : total ≡ total_score (later_scores scores columns g)
+  pub least_table : IsPartTable int_min scores columns width g least
+  pub greatest_table : IsPartTable int_max scores columns width g greatest
+  pub all_totals : IsTotals scores columns g totals
+  pub all_counts : IsCounted scores columns g counts
 
 front : {X : Type 0} (xs ys : List X) (i : ℕ) (d : X) → i < length xs → get_or (xs ++ ys) i d ≡ get_or xs i d
 front [] ys i d h = absurd (omega (arith, h))

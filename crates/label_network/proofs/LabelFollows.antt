@@ -12,7 +12,7 @@ use Rattle.stage_network.specs.Follows.{Follows}
 use Rattle.room_network.specs.Meanings.{way_value}
 use Rattle.room_network.specs.Plans.{Gives}
 use Rattle.room_network.proofs.RoomFollows.{room_follows}
-use Rattle.label_network.specs.Endings.{labelling_value}
+use Rattle.label_network.proofs.Endings.{labelling_value}
 use Rattle.label_network.specs.LabelNetwork.{label_network, over_rooms}
 use Rattle.label_network.specs.LabelRooms.{label_plan, label_weight}
 use Rattle.label_network.specs.Meanings.{Meaning, IsMeasure}

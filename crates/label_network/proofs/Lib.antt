@@ -1,4 +1,5 @@
 pub mod BinomialTable
+pub mod Endings
 pub mod ChoiceMoves
 pub mod ChoiceSteps
 pub mod ChoiceSwaps

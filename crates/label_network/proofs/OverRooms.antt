@@ -6,8 +6,8 @@ use Rattle.weights.specs.Grouped.{minus}
 use Rattle.room_network.specs.Meanings.{Meaning as RoomMeaning}
 use Rattle.room_network.specs.Meanings.{AreReached, IsMeasure, IsMove, partial_after, way_value}
 use Rattle.room_network.specs.Numbers.{Fits, IsNumber, IsOutcome, Numbers, so_far}
-use Rattle.label_network.specs.Endings.{table_value}
-use Rattle.label_network.specs.Endings.{partial_after as label_after}
+use Rattle.label_network.proofs.Endings.{table_value}
+use Rattle.label_network.proofs.Endings.{partial_after as label_after}
 use Rattle.label_network.specs.LabelNetwork.{over_rooms, over_sizes}
 use Rattle.label_network.specs.LabelRooms.{label_floor}
 use Rattle.label_network.specs.Meanings.{Meaning, IsPlace, numbered, sizes_in}

@@ -1,10 +1,9 @@
--- Rows of the sums of the j least or of the j greatest scores, from j 0 on, while they are built.
+-- Rows of the sums of the j least or of the j greatest scores, from j 0 on.
 use Rattle.std.specs.Prelude.{◌≡◌, ℕ, ◌<◌, ◌≤◌, ℤ, pos, List, ◌∷◌, length, get_or}
 use Rattle.std.specs.Int.{int_min, int_max}
 use Rattle.label_network.specs.declared.ends.End.{End}
 use Rattle.label_network.specs.declared.ends.End.TheVariants.{Least, Greatest}
-use Rattle.label_network.specs.LaterSums.{total_score, later_scores, part_sum}
-use Rattle.label_network.specs.LaterTables.{IsPartTable, IsTotals, IsCounted}
+use Rattle.label_network.specs.LaterSums.{part_sum}
 
 -- of two sums the one that is nearer to an end
 abbrev pub better_of : End → ℤ → ℤ → ℤ
@@ -25,18 +24,3 @@ pub record IsHalf (better : ℤ → ℤ → ℤ) (x : ℤ) (scores row : List �
   pub before : (i : ℕ) → i < j → get_or row i (pos 0) ≡ part_sum better i scores
   pub after : (i : ℕ) → j ≤ i → i < length row
       → get_or row i (pos 0) ≡ part_sum better i (x ∷ scores)
-
--- the tables from stage g on, and the rows, total and number of stage g
-pub record IsBuilt (scores : List ℤ) (columns : List ℕ) (width g : ℕ) (low high : List ℤ)
-    (before : ℕ) (total : ℤ) (least greatest totals : List ℤ) (counts : List ℕ) : Type 0 where
-  pub stage : g ≤ length columns
-  pub low_long : length low ≡ width
-  pub high_long : length high ≡ width
-  pub low_row : IsRow int_min (later_scores scores columns g) low
-  pub high_row : IsRow int_max (later_scores scores columns g) high
-  pub count : before ≡ length (later_scores scores columns g)
-  pub whole : total ≡ total_score (later_scores scores columns g)
-  pub least_table : IsPartTable int_min scores columns width g least
-  pub greatest_table : IsPartTable int_max scores columns width g greatest
-  pub all_totals : IsTotals scores columns g totals
-  pub all_counts : IsCounted scores columns g counts

@@ -2,7 +2,6 @@ pub mod Meanings
 pub mod ChoiceOrder
 pub mod LabelRooms
 pub mod LabelNetwork
-pub mod Endings
 pub mod LaterSums
 pub mod LaterTables
 pub mod Linear

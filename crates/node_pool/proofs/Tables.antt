@@ -1,5 +1,5 @@
 -- A table, one key at a time.
-use Rattle.std.proofs.Common.{◌≡◌, ◌≢◌, ℕ, ◌+◌, ◌-◌, ◌<◌, ◌≤◌, List, length, get_or, set, arith, sym, ◌∙◌, ap, subst, inl, inr, ◌⊎◌}
+use Rattle.std.proofs.Common.{◌≡◌, ◌≢◌, ℕ, ◌+◌, ◌-◌, ◌<◌, ◌≤◌, List, length, get_or, set, arith, sym, ◌∙◌, ap, inl, inr, ◌⊎◌}
 use Rattle.std.specs.Prelude.{ℤ}
 use Rattle.std.proofs.lemmas.Bool.{cases_eq}
 use Rattle.std.proofs.lemmas.List.{length-set, get_or-set_same, get_or-set_other}
@@ -93,22 +93,3 @@ table-none width keys slots buckets empty = record {
   walk = λ i h. absurd (omega (arith, h));
   counted = omega (arith, count-empty buckets empty);
 }
-
--- a key that no slot up to an empty one holds is held nowhere
-pub not_held : (width n : ℕ) (keys : List ℤ) (slots buckets : List ℕ) (key : List ℤ) (d : ℕ) → IsTable width n keys slots buckets → get_or buckets (spot (length buckets) (home_of (length buckets) key) d) 0 ≡ 0 → ((e : ℕ) → e < d → key_at width keys (get_or buckets (spot (length buckets) (home_of (length buckets) key) e) 0 - 1) ≢ key) → (i : ℕ) → i < n → key_at width keys i ≢ key
-not_held width n keys slots buckets key d table free missed i low same =
-    let w : IsWalk buckets (home_of (length buckets) key) (get_or slots i 0) = subst (λ k. IsWalk buckets (home_of (length buckets) k) (get_or slots i 0)) same (table.walk i low) in
-    let here : get_or buckets (spot (length buckets) (home_of (length buckets) key) w.far) 0 ≡ i + 1 = ap (λ s. get_or buckets s 0) (sym w.ends) ∙ table.held i low in
-    elim (three w.far d) [
-      | inl before ↦ missed w.far before (ap (λ b. key_at width keys (b - 1)) here ∙ ap (key_at width keys) (one_less i) ∙ same)
-      | inr rest ↦ elim rest [
-        | inl at ↦ omega (arith, here, free, ap (λ f. get_or buckets (spot (length buckets) (home_of (length buckets) key) f) 0) at)
-        | inr behind ↦ omega (arith, w.full d behind, free)
-      ]
-    ]
-  where
-    one_less : (i : ℕ) → (i + 1) - 1 ≡ i
-    one_less i = omega arith
-
-    three : (a b : ℕ) → (a < b) ⊎ ((a ≡ b) ⊎ (b < a))
-    three a b = grind arith

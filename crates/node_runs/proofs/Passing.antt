@@ -1,5 +1,5 @@
 -- Nodes in two lists, one behind another: a node that is passed on, put between them, or raised.
-use Rattle.std.proofs.Common.{◌≡◌, ◌≢◌, true, ℕ, ◌+◌, ◌*◌, ◌<◌, ◌≤◌, ◌-◌, List, [], ◌∷◌, ◌++◌, length, take, drop, get_or, sym, subst, ◌∙◌, ap, arith, refl, append_assoc, append-nil}
+use Rattle.std.proofs.Common.{◌≡◌, ◌≢◌, true, ℕ, ◌+◌, ◌*◌, ◌<◌, ◌≤◌, ◌-◌, List, [], ◌∷◌, ◌++◌, length, take, drop, get_or, sym, subst, ◌∙◌, ap, arith, refl, append_assoc}
 use Rattle.std.specs.Prelude.{ℤ, ◌<ℤ◌, ◌≤ℤ◌, pos}
 use Rattle.std.specs.Int.Signed.{lt_z}
 use Rattle.std.specs.List.{AllByRecursion}
@@ -102,10 +102,6 @@ one-number (x ∷ []) (y ∷ []) e h same = ap (λ z. z ∷ []) same
 one-number (x ∷ []) (y ∷ z ∷ k) e h same = absurd (omega (arith, h))
 one-number (x ∷ y ∷ j) k e h same = absurd (omega (arith, e))
 
--- lists that were passed on twice
-pub passed-more : (from : List Node) (at : ℕ) (into : NodeRow) (at' : ℕ) (into' : NodeRow) (at'' : ℕ) (into'' : NodeRow) → IsPassed from at into at' into' → IsPassed from at' into' at'' into'' → IsPassed from at into at'' into''
-passed-more from at into at' into' at'' into'' p q = record { wide = q.wide ∙ p.wide; within = q.within; same = q.same ∙ p.same }
-
 pub merger-passed : (into from : NodeRow) (at count at' : ℕ) (into' : NodeRow) → IsMerger into from at count → IsPassed from.nodes at into at' into' → IsMerger into' from at' count
 merger-passed into from at count at' into' m p = record {
   done = p.wide ∙ m.done;
@@ -115,20 +111,9 @@ merger-passed into from at count at' into' m p = record {
   ascending = subst (λ ns. IsAscending (leads ns)) (sym p.same) m.ascending;
 }
 
--- all have been passed on: the run stands at its end
-pub all-passed : (xs from : List Node) (at : ℕ) → at ≡ length from → xs ++ drop at from ≡ xs
-all-passed xs from at e = rw e (ap (λ ns. xs ++ ns) (none from) ∙ append-nil xs)
-  where
-    none : (ns : List Node) → drop (length ns) ns ≡ []
-    none [] = refl
-    none (a ∷ ns) = none ns
-
 -- a node that lies behind the first list
 pub in-rest : (xs from : List Node) (at i done : ℕ) (d : Node) → done ≡ length xs → done ≤ i → get_or (xs ++ drop at from) i d ≡ get_or from (at + (i - done)) d
 in-rest xs from at i done d e h = get_or-append_right xs (drop at from) done i d (sym e) h ∙ get_or-drop at from (i - done) d
-
-pub rest-low : (xs from : List Node) (at i done : ℕ) → done ≡ length xs → i < length (xs ++ drop at from) → at ≤ length from → done ≤ i → at + (i - done) < length from
-rest-low xs from at i done e h within far = omega (arith, e, h, within, far, length-append xs (drop at from), length-drop at from)
 
 -- the last one's number
 pub last-lead : (nodes : List Node) (last : ℕ) (d : Node) → last ≡ length nodes - 1 → 0 < length nodes → lead (get_or nodes last d) ≡ get_or (leads nodes) (length (leads nodes) - 1) (pos 0)

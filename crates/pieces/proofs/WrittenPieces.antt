@@ -12,7 +12,7 @@ use Rattle.stage_network.specs.Completions.{extreme_weight, is_extreme, is_insid
 use Rattle.stage_network.specs.Laws.{IsLawful}
 use Rattle.stage_network.specs.Network.{Network, IsReached}
 use Rattle.stage_network.specs.Opened.{is_open, is_undecided, reached_openly}
-use Rattle.stage_network.specs.Written.{RunsFor, Writes}
+use Rattle.stage_network.specs.Written.{RunsFor, StandsFor}
 use Rattle.stage_network.proofs.Folding.{over_allowed}
 use Rattle.stage_network.proofs.Images.{filtered_from, images_counted, of_images, openly_reached, to_images}
 use Rattle.stage_network.proofs.Steps.{extreme_weight-step, reached-next}
@@ -54,7 +54,7 @@ by_bool : (P : Type 0) (b : Bool) → (b ≡ true → P) → (b ≡ false → P)
 by_bool P true there other = there refl
 by_bool P false there other = other refl
 
-module _ (n q : Network) (t : Tail) (w : Writes n q t) where
+module _ (n q : Network) (t : Tail) (w : StandsFor n q t) where
   -- over the arcs of a key and of its written one
   arcs-same : (h f : List ℤ → ℕ) (g : ℕ) (k : List ℤ) → IsReached n g k → g < n.count → ((j : List ℤ) → IsReached n (g + 1) j → h (w.written j) ≡ f j) → over_arcs q h g (w.written k) ≡ over_arcs n f g k
   arcs-same h f g k r before same =

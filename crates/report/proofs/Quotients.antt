@@ -1,15 +1,11 @@
 -- Quotients in millionths, digit by digit.
 use Rattle.std.proofs.Common.{◌≡◌, ◌≤◌, ◌<◌, ◌+◌, ◌-◌, ◌*◌, ◌/◌, ◌^◌, ℕ, sym, ◌∙◌, ap, arith, add-one}
-use Rattle.std.proofs.Math.Nat.{le_of_mul-le-mul_right, lt_of_mul-lt-mul_right, mul-le-mul_left, pow-succ'}
+use Rattle.std.proofs.Math.Nat.{le_of_mul-le-mul_right, mul-le-mul_left, pow-succ'}
 use Rattle.std.proofs.lemmas.Nat.{div-mul-add}
 use Rattle.report.specs.Decimals.{millionths}
 
 pub ten-more : (turn : ℕ) → 10 ^ (turn + 1) ≡ 10 * 10 ^ turn
 ten-more turn = rw add-one (pow-succ' 10 turn)
-
--- a digit is below ten, for ten remainders are below ten denominators
-pub digit-below : (rest denominator digit left : ℕ) → rest < denominator → 10 * rest ≡ digit * denominator + left → digit < 10
-digit-below rest denominator digit left below is = lt_of_mul-lt-mul_right denominator (omega arith)
 
 -- one more digit of a quotient
 pub digit-more : (turn numerator denominator whole rest digit left : ℕ) → 10 ^ turn * numerator ≡ whole * denominator + rest → 10 * rest ≡ digit * denominator + left
@@ -27,11 +23,6 @@ whole-le power numerator denominator whole rest part some is =
 
 whole-is : (numerator denominator whole rest : ℕ) → 1000000 * numerator ≡ whole * denominator + rest → 2000000 * numerator + denominator ≡ whole * (2 * denominator) + (2 * rest + denominator)
 whole-is numerator denominator whole rest is = omega (arith, is)
-
--- the rest is less than half a denominator
-pub rounded-down : (numerator denominator whole rest : ℕ) → 1000000 * numerator ≡ whole * denominator + rest → 2 * rest < denominator → whole ≡ millionths numerator denominator
-rounded-down numerator denominator whole rest is small =
-    sym (ap (λ n. n / (2 * denominator)) (whole-is numerator denominator whole rest is) ∙ div-mul-add whole (2 * denominator) (2 * rest + denominator) (omega arith))
 
 -- the rest is half a denominator or more
 pub rounded-up : (numerator denominator whole rest : ℕ) → 1000000 * numerator ≡ whole * denominator + rest → rest < denominator → denominator ≤ 2 * rest → whole + 1 ≡ millionths numerator denominator

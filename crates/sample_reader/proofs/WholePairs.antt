@@ -114,6 +114,3 @@ pub length-second_less_first : (first second : List ℤ) → length first ≡ le
 length-second_less_first [] second e = refl
 length-second_less_first (x ∷ first) [] e = absurd (omega arith)
 length-second_less_first (x ∷ first) (y ∷ second) e = let rest = length-second_less_first first second (omega arith) in omega (arith, rest)
-
-pub values-below : (values : List ℤ) → AreInRange values → AreDifferences values
-values-below values below k d within = let small = below k d within in omega (arith, small)

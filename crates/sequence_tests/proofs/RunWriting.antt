@@ -18,7 +18,7 @@ use Rattle.stage_network.specs.declared.verdicts.Judge.{Judge}
 use Rattle.stage_network.specs.Completions.{over_arcs}
 use Rattle.stage_network.specs.Judged.{judge_of}
 use Rattle.stage_network.specs.Network.{Network, IsReached}
-use Rattle.stage_network.specs.Written.{AreWritten, Writes}
+use Rattle.stage_network.specs.Written.{AreWritten, StandsFor}
 use Rattle.label_network.specs.LabelNetwork.{label_network}
 use Rattle.label_network.proofs.Narrowing.{chosen}
 use Rattle.sequence_tests.specs.RunCounts.{begins_run, labels_for, runs_meaning, runs_network, running_runs, written_runs}
@@ -136,7 +136,7 @@ module _ (a b : ℕ) (judge : Judge) where
       ∙ both-ways number_of_labellings F G refl refl refl (ap (λ m. f (pos m ∷ pos 1 ∷ (s +ℤ pos (begins_run l 1)) ∷ [])) (sym all)) x y
       ∙ sym (ap (sum_by (λ c. number_of_labellings c * F c)) (row-choices g x y l s before ∙ one-row x y))
 
-  runs-writes : (t : Tail) → Writes n q t
+  runs-writes : (t : Tail) → StandsFor n q t
   unfolding without_second
   runs-writes t = record {
     count = all-rows;

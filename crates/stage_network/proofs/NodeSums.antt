@@ -8,7 +8,7 @@ use Rattle.weights.specs.declared.tails.Tail.TheVariants.{Less, Greater, Two}
 use Rattle.node_pool.specs.Nodes.{Node, weighted}
 use Rattle.stage_network.specs.Completions.{total_weight}
 use Rattle.stage_network.specs.Network.{Network}
-use Rattle.stage_network.specs.NodeSteps.{successors, closes_inside, closed_part, closed_weight, inside_weight}
+use Rattle.stage_network.specs.NodeSteps.{successors, closes_inside, closed_part, closed_weight}
 use Rattle.stage_network.specs.Opened.{is_open, is_open_for_some}
 
 pub or_true : (b : Bool) → (b || true) ≡ true
@@ -53,7 +53,10 @@ open-for n Less g k e = rw e refl
 open-for n Greater g k e = rw e (or_true (is_open n Less g k))
 open-for n Two g k e = rw e (ap (λ b. is_open n Less g k || b) (or_true (is_open n Greater g k)) ∙ or_true (is_open n Less g k))
 
--- one inside node more
+-- the weight of the nodes that close with all extreme
+abbrev pub inside_weight : Network → Tail → ℕ → List Node → ℕ
+inside_weight n t g nodes = sum_by (λ a. cond (closes_inside n t g a.key) a.weight 0) nodes
+
 pub inside-le : (n : Network) (t : Tail) (g : ℕ) (nodes : List Node) → inside_weight n t g nodes ≤ weighted (λ k. 1) nodes
 inside-le n t g nodes = sum_by-le-sum_by (λ a. cond (closes_inside n t g a.key) a.weight 0) (λ a. a.weight * 1) (λ a. once (closes_inside n t g a.key) a.weight) nodes
   where

@@ -9,10 +9,10 @@ use Rattle.node_pool.specs.Nodes.{Node}
 use Rattle.stage_network.specs.Network.{Network, IsReached}
 use Rattle.stage_network.specs.Completions.{total_weight}
 use Rattle.stage_network.specs.Rooms.{AreRoommates, IsRoomed}
-use Rattle.stage_network.specs.NodeSteps.{AllReached, closed_weight, inside_weight}
+use Rattle.stage_network.specs.NodeSteps.{AllReached, closed_weight}
 use Rattle.stage_network.proofs.Steps.{all_paths, all-step, reached-next}
 use Rattle.stage_network.proofs.Conserved.{all_weaker}
-use Rattle.stage_network.proofs.NodeSums.{closed-together}
+use Rattle.stage_network.proofs.NodeSums.{closed-together, inside_weight}
 
 sum_by-same-in : {X : Type 0} (f h : X → ℕ) (xs : List X) → AllByRecursion (λ x. f x ≡ h x) xs → sum_by f xs ≡ sum_by h xs
 sum_by-same-in f h [] a = refl

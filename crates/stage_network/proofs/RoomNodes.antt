@@ -11,10 +11,10 @@ use Rattle.stage_network.specs.Completions.{total_weight}
 use Rattle.stage_network.specs.Laws.{IsLawful}
 use Rattle.stage_network.specs.Opened.{is_open, is_open_for_some}
 use Rattle.stage_network.specs.Rooms.{IsPlace, IsRoomed}
-use Rattle.stage_network.specs.NodeSteps.{AllReached, closes_inside, closed_weight, inside_weight, open_nodes, opened_in}
+use Rattle.stage_network.specs.NodeSteps.{AllReached, closes_inside, closed_weight, open_nodes, opened_in}
 use Rattle.stage_network.specs.ArcSteps.{lift}
 use Rattle.stage_network.proofs.Bounds.{weights-le-weighted}
-use Rattle.stage_network.proofs.NodeSums.{inside-more, inside-fits, closed-le-weighted, length-filter-le, filter-both, open-for}
+use Rattle.stage_network.proofs.NodeSums.{inside-more, inside-fits, closed-le-weighted, length-filter-le, filter-both, open-for, inside_weight}
 use Rattle.stage_network.proofs.Rests.{settled}
 use Rattle.stage_network.proofs.Roomwise.{kept-next, take-next, lift-length, lift-at, lift-rooms, front-room}
 use Rattle.stage_network.proofs.Stepping.{is_node, reached_at}

@@ -18,7 +18,6 @@ use Rattle.stage_network.specs.declared.verdicts.Judge.{Judge}
 use Rattle.stage_network.specs.Network.{Network, IsReached}
 use Rattle.stage_network.specs.Opened.{is_undecided, is_open, reached_openly, opened_below, is_open_for_some, reached_by_some, opened_by_some}
 use Rattle.stage_network.specs.Judged.{offset, far_verdict, rule_in, verdict_of, HasIntervals, IsJudged}
-use Rattle.stage_network.specs.Steady.{IsSteady}
 use Rattle.stage_network.specs.Asked.{asked, asks}
 use Rattle.stage_network.proofs.Asked.{asked-below, asked-else, asked-own}
 use Rattle.stage_network.proofs.Steps.{filter_none, filter-map, filter-flat_map, reached-next}
@@ -76,6 +75,12 @@ some_reached n (suc g) l =
     (recursion_from_All _ _ (All-contains_itself (n.choices g k)))))
     (filter (is_open_for_some n g) (reached_by_some n g))
     (all_filter (IsReached n g) (is_open_for_some n g) (reached_by_some n g) (some_reached n g (omega (arith, l)))))
+
+-- where an arc leads from a key that is open for some tail to one that is open for t, the first is open for t too
+abbrev pub IsSteady : Network → Tail → Type 0
+IsSteady n t =
+    (g : ℕ) (k : List ℤ) (c : List ℕ) → IsReached n g k → g < n.count → Contains (n.choices g k) c → is_open_for_some n g k ≡ true
+    → is_open n t (g + 1) (n.next g k c) ≡ true → is_open n t g k ≡ true
 
 module _ (n : Network) (t : Tail) (steady : IsSteady n t) where
   -- a key that is shut for the tail leads to no key that is open for it

@@ -16,9 +16,10 @@ use Rattle.stage_network.specs.declared.tail_sums.Verdicts.{Verdicts}
 use Rattle.stage_network.specs.Network.{Network, IsReached}
 use Rattle.stage_network.specs.Completions.{is_inside}
 use Rattle.stage_network.specs.Opened.{is_undecided, is_open, is_open_for_some}
-use Rattle.stage_network.specs.NodeSteps.{AllReached, closes_inside, inside_weight, open_nodes, opened_in}
+use Rattle.stage_network.specs.NodeSteps.{AllReached, closes_inside, open_nodes, opened_in}
 use Rattle.stage_network.specs.ArcSteps.{lift}
 use Rattle.stage_network.specs.SweepSteps.{some_undecided, verdict_for}
+use Rattle.stage_network.proofs.NodeSums.{inside_weight}
 use Rattle.stage_network.proofs.OpenKeys.{map-append}
 
 -- all keys of these nodes have these verdicts

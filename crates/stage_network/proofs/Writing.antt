@@ -12,7 +12,7 @@ use Rattle.node_pool.proofs.Puts.{alike, same_key}
 use Rattle.stage_network.specs.Network.{Network, IsReached}
 use Rattle.stage_network.specs.Follows.{OpenAlike}
 use Rattle.stage_network.specs.Opened.{opened_below}
-use Rattle.stage_network.specs.Written.{AreWritten, Writes}
+use Rattle.stage_network.specs.Written.{AreWritten, StandsFor}
 use Rattle.stage_network.proofs.Bounds.{term-le-sum_by}
 use Rattle.stage_network.proofs.Images.{OpensImages, opened-images}
 
@@ -46,7 +46,7 @@ led w j k most = by (key_eq j k) refl most
 
 -- ---- the written keys as images
 
-module _ (n q : Network) (t : Tail) (w : Writes n q t) where
+module _ (n q : Network) (t : Tail) (w : StandsFor n q t) where
   pub one_to_one : (g : ℕ) (j k : List ℤ) → IsReached n g j → IsReached n g k → w.written j ≡ w.written k → j ≡ k
   one_to_one g j k a b e = same_key j k (sym (ap is_eq (w.order g j k a b)) ∙ alike (w.written j) (w.written k) e)
 

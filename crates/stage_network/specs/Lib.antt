@@ -2,7 +2,6 @@ pub mod Network
 pub mod Completions
 pub mod Laws
 pub mod Opened
-pub mod Steady
 pub mod Asked
 pub mod Rooms
 pub mod Shifts

@@ -39,10 +39,6 @@ closed_part n t g a = cond (closes_inside n t g a.key) (a.weight * total_weight 
 abbrev pub closed_weight : Network → Tail → ℕ → List Node → ℕ
 closed_weight n t g nodes = sum_by (closed_part n t g) nodes
 
--- the weight of the nodes that close so
-abbrev pub inside_weight : Network → Tail → ℕ → List Node → ℕ
-inside_weight n t g nodes = sum_by (λ a. cond (closes_inside n t g a.key) a.weight 0) nodes
-
 -- each node's key is reached at stage g
 abbrev pub AllReached : Network → ℕ → List Node → Type 0
 AllReached n g nodes = AllByRecursion (λ a. IsReached n g a.key) nodes

@@ -10,7 +10,7 @@ use Rattle.stage_network.specs.Completions.{over_arcs}
 -- Each key of n stands for one of q. The same is known of both for the tail, and the arcs of both
 -- lead to the same written keys, with as much weight to each: so the one is open where the other
 -- is, is met with the same weight, and is completed to what is extreme with the same weight.
-pub record Writes (n q : Network) (t : Tail) : Type 0 where
+pub record StandsFor (n q : Network) (t : Tail) : Type 0 where
   pub count : n.count ≡ q.count
   -- the written key that a running one stands for
   pub written : List ℤ → List ℤ
@@ -30,7 +30,7 @@ pub record Writes (n q : Network) (t : Tail) : Type 0 where
 
 -- n runs for q: it is q, or its keys stand for those of q
 abbrev pub RunsFor : Network → Network → Tail → Type 0
-RunsFor n q t = (n ≡ q) ⊎ Writes n q t
+RunsFor n q t = (n ≡ q) ⊎ StandsFor n q t
 
 -- of each tail that a test has, one network runs for the other
 abbrev pub AreWritten : ConditionalTest → (Tail → Network) → (Tail → Network) → Type 0

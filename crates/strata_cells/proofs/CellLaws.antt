@@ -4,11 +4,16 @@ use Rattle.std.specs.List.{sum_by}
 use Rattle.std.proofs.Math.Seq.{drop-append_seam}
 use Rattle.std.proofs.lemmas.List.{take-append-le}
 use Rattle.std.proofs.lemmas.List.Sums.{sum_by-cons}
+use Rattle.weights.specs.Labellings.{product}
 use Rattle.weights.proofs.Sums.{sum_by-flat_map, sum_by-fronts, sum_by-map, sum_by-same, sum_by-same_where, sum_by-scaled}
 use Rattle.enumerate.proofs.JoinedMembers.{joined-front}
 use Rattle.strata_cells.specs.declared.stratum.Stratum.{Stratum}
-use Rattle.strata_cells.specs.Strata.{cell_lists, cell_weight, cells_in, cells_of, cells_weight, stratum_cell, first_column, row_counts, row_labellings, size, strata_labellings}
-use Rattle.strata_cells.proofs.FirstCells.{IsRowed, cells-same, each-rowed}
+use Rattle.strata_cells.specs.Strata.{cell_weight, cells_in, cells_of, cells_weight, stratum_cell, first_column, row_counts, size, strata_labellings}
+use Rattle.strata_cells.proofs.FirstCells.{IsRowed, cells-same, each-rowed, row_labellings}
+
+-- the lists of one first cell for each stratum
+abbrev pub cell_lists : List Stratum → List (List ℕ)
+cell_lists strata = product (map cells_in strata)
 
 -- the first cells of a stratum's labels, and those of the next
 pub cells_of-joined : (s : Stratum) (strata : List Stratum) (x ys : List ℕ) → length x ≡ size s → cells_of (s ∷ strata) (x ++ ys) ≡ stratum_cell s x ∷ cells_of strata ys

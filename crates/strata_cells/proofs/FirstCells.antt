@@ -6,6 +6,7 @@ use Rattle.std.proofs.Math.Nat.{mul-le-mul, mul-le-mul_left, mul-le-mul_right}
 use Rattle.std.proofs.Math.Seq.{drop-append_seam, take-append_seam}
 use Rattle.std.proofs.lemmas.List.{length-replicate, take-append-le}
 use Rattle.std.proofs.lemmas.List.Sums.{count_by-le-length, sum_by-append, sum_by-cons, sum_by-take-drop, sum_by-take-le}
+use Rattle.weights.specs.Labellings.{labellings}
 use Rattle.weights.specs.Numbers.{binomial}
 use Rattle.weights.proofs.Binomials.{binomial-positive}
 use Rattle.weights.proofs.CellSums.{allowed_cells, by_cells, divided, zeros_in}
@@ -14,11 +15,15 @@ use Rattle.weights.proofs.Members.{labelling_from}
 use Rattle.weights.proofs.Sums.{sum_by-one, sum_by-same}
 use Rattle.enumerate.proofs.JoinedMembers.{none-joined, own, parts-of}
 use Rattle.strata_cells.specs.declared.stratum.Stratum.{Stratum}
-use Rattle.strata_cells.specs.Strata.{cell_weight, cells_in, cells_of, stratum_cell, first_cells, first_column, first_row, greatest_cell, least_cell, own_labels, row_counts, row_labellings, second_row, size, strata_labellings, stratum_at}
+use Rattle.strata_cells.specs.Strata.{cell_weight, cells_in, cells_of, stratum_cell, first_cells, first_column, first_row, greatest_cell, least_cell, own_labels, row_counts, second_row, size, strata_labellings, stratum_at}
 use Rattle.strata_cells.specs.StrataLimits.{labelled}
 use Rattle.strata_cells.proofs.StrataSums.{next-drop}
 
 -- ---- one stratum
+
+-- all ways to label a stratum's subjects, in the order of its columns, by its rows
+abbrev pub row_labellings : Stratum → List (List ℕ)
+row_labellings s = labellings (row_counts s)
 
 pub cells-meet : (s : Stratum) → least_cell s ≤ greatest_cell s
 cells-meet s = omega arith

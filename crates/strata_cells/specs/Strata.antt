@@ -2,7 +2,6 @@
 use Rattle.std.specs.Prelude.{ℕ, zero, suc, ◌+◌, ◌-◌, ◌*◌, ◌/◌, List, [], ◌∷◌, ◌++◌, length, map}
 use Rattle.std.specs.Prelude.{take, drop, min, nat_eq, replicate, slice_index, slice_index_or}
 use Rattle.std.specs.List.{count_by, range_with_len}
-use Rattle.weights.specs.Labellings.{labellings, product}
 use Rattle.weights.specs.Numbers.{binomial}
 use Rattle.enumerate.specs.Joined.{joined_labellings}
 use Rattle.strata_cells.specs.declared.stratum.Stratum.{Stratum}
@@ -54,11 +53,8 @@ stratum_at strata place = slice_index_or strata place (record { a = 0; b = 0; c 
 abbrev pub row_counts : Stratum → List ℕ
 row_counts s = first_row s ∷ second_row s ∷ []
 
--- all ways to label a stratum's subjects, in the order of its columns, by its rows
-abbrev pub row_labellings : Stratum → List (List ℕ)
-row_labellings s = labellings (row_counts s)
-
--- those of all strata, each followed by those of the next
+-- all ways to label the subjects of strata, in the order of their columns, by their rows: those of
+-- each, followed by those of the next
 abbrev pub strata_labellings : List Stratum → List (List ℕ)
 strata_labellings strata = joined_labellings (map row_counts strata)
 
@@ -89,12 +85,9 @@ abbrev pub cell_weight : Stratum → ℕ → ℕ
 cell_weight s x =
     binomial (first_column s) x * binomial (size s - first_column s) (first_row s - x)
 
--- the first cells that a stratum's labellings give, and the lists of one for each stratum
+-- the first cells that a stratum's labellings give
 abbrev pub cells_in : Stratum → List ℕ
 cells_in s = range_with_len (least_cell s) (greatest_cell s + 1 - least_cell s)
-
-abbrev pub cell_lists : List Stratum → List (List ℕ)
-cell_lists strata = product (map cells_in strata)
 
 -- how many labellings of the strata give these first cells
 abbrev pub cells_weight : List Stratum → List ℕ → ℕ

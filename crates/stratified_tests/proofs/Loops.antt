@@ -60,9 +60,6 @@ pub record IsMultiple (strata : List Stratum) (done multiple : ℕ) : Type 0 whe
   pub fits : multiple ≤ MAX
 
 module _ (strata : List Stratum) where
-  pub multiple-first : IsMultiple strata 0 1
-  multiple-first = record { last = ap multiple_of (sym (past-drop strata (length strata - 0) (omega arith))); fits = omega arith }
-
   module _ (done multiple : ℕ) (h : done < length strata) (s : IsMultiple strata done multiple) where
     abbrev one : Stratum
     one = stratum_at strata (length strata - done - 1)
@@ -76,6 +73,3 @@ module _ (strata : List Stratum) where
 
     pub multiple-within : cond (nat_eq (size one) 0) multiple (lcm (size one) multiple) ≤ multiple_of strata
     multiple-within = omega (arith, multiple-more, last-within (length strata - (done + 1)) strata)
-
-  pub multiple-whole : (done multiple : ℕ) → length strata ≤ done → IsMultiple strata done multiple → multiple ≡ multiple_of strata
-  multiple-whole done multiple h s = s.last ∙ ap (λ n. multiple_of (drop n strata)) (let e : length strata - done ≡ 0 = omega (arith, h) in e)

@@ -27,8 +27,8 @@ use Rattle.stage_network.proofs.AdditiveLaws.{additive_intervals, value_even}
 use Rattle.stage_network.proofs.Flat.{AllAt, AllParts, IsJoined, ends_flat, total_flat}
 use Rattle.stage_network.proofs.Parts.{AreStages as AreParts, IsStage, Pieces, product_weight, summed}
 use Rattle.strata_cells.specs.declared.stratum.Stratum.{Stratum}
-use Rattle.strata_cells.specs.Strata.{cell_weight, cells_in, stratum_cell, first_cells, first_row, greatest_cell, least_cell, row_counts, row_labellings, size, strata_labellings, stratum_at}
-use Rattle.strata_cells.proofs.FirstCells.{IsRowed, cell-zeros, cells-joined, cells-meet, cells-same, cells-total, each-rowed, left-within, member-zeros, no-labels, right-within, term-within, weight-some, zeros-joined}
+use Rattle.strata_cells.specs.Strata.{cell_weight, cells_in, stratum_cell, first_cells, first_row, greatest_cell, least_cell, row_counts, size, strata_labellings, stratum_at}
+use Rattle.strata_cells.proofs.FirstCells.{IsRowed, cell-zeros, cells-joined, cells-meet, cells-same, cells-total, each-rowed, left-within, member-zeros, no-labels, right-within, term-within, weight-some, zeros-joined, row_labellings}
 use Rattle.strata_cells.proofs.StrataSums.{drop-head, past-end}
 use Rattle.stratified_tests.specs.StrataTests.{stratified_test, weight_by}
 use Rattle.stratified_tests.specs.StrataNetwork.{cell_choices, cells_from, strata_addends, stratified_network, weighed_cell}

@@ -30,7 +30,7 @@ use Rattle.stage_network.specs.Judged.{JudgeFits, judge_of}
 use Rattle.stage_network.proofs.Following.{judge-fits}
 use Rattle.label_network.specs.LabelNetwork.{IsMargin, label_network, over_rooms}
 use Rattle.stage_network.specs.Follows.{Follows}
-use Rattle.label_network.specs.Endings.{labelling_value, partial_after}
+use Rattle.label_network.proofs.Endings.{labelling_value, partial_after}
 use Rattle.label_network.specs.Linear.{IsLinear, linear_meaning, row_sum}
 use Rattle.room_network.specs.Numbers.{so_far}
 use Rattle.label_network.proofs.LabelFollows.{label_follows}

@@ -12,7 +12,7 @@ use Rattle.weights.specs.Grouped.{columns_of, minus}
 use Rattle.weights.specs.Labellings.{counts_of}
 use Rattle.completion_bounds.specs.Pairings.{greatest_score}
 use Rattle.completion_bounds.proofs.Products.{distribute}
-use Rattle.label_network.specs.Endings.{labelling_value, partial_after}
+use Rattle.label_network.proofs.Endings.{labelling_value, partial_after}
 use Rattle.label_network.specs.LaterSums.{subjects}
 use Rattle.weights.specs.Numbers.{absolute_sum}
 use Rattle.label_network.specs.Linear.{column_sum, linear_meaning, row_sum, score_of}

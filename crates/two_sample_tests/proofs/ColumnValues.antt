@@ -8,7 +8,7 @@ use Rattle.std.proofs.lemmas.List.Sums.{sum_by-cons}
 use Rattle.stage_network.specs.declared.verdicts.Judge.{Judge}
 use Rattle.weights.specs.Labellings.{counts_of}
 use Rattle.weights.specs.Grouped.{columns_of, minus}
-use Rattle.label_network.specs.Endings.{partial_after, labelling_value}
+use Rattle.label_network.proofs.Endings.{partial_after, labelling_value}
 use Rattle.label_network.specs.LaterSums.{subjects}
 use Rattle.label_network.specs.Linear.{row_sum, score_of, column_sum, linear_meaning}
 use Rattle.room_network.specs.Numbers.{so_far}

@@ -12,9 +12,10 @@ use Rattle.stage_network.specs.declared.tail_sums.Verdicts.{Verdicts}
 use Rattle.stage_network.specs.Asked.{asked}
 use Rattle.stage_network.specs.Network.{Network, IsReached}
 use Rattle.stage_network.specs.Completions.{total_weight}
-use Rattle.stage_network.specs.NodeSteps.{AllReached, inside_weight, opened_in, closed_weight}
+use Rattle.stage_network.specs.NodeSteps.{AllReached, opened_in, closed_weight}
 use Rattle.stage_network.specs.SweepSteps.{sum_for, some_undecided}
 use Rattle.stage_network.specs.ArcSteps.{lift}
+use Rattle.stage_network.proofs.NodeSums.{inside_weight}
 use Rattle.stage_network.proofs.Asked.{asked-roomed, asked-total}
 use Rattle.stage_network.proofs.Rests.{settled}
 use Rattle.stage_network.proofs.Roomwise.{front-room, lift-rooms, lift-weighted, lift-length}

@@ -5,9 +5,10 @@ use Rattle.node_pool.specs.Nodes.{Node}
 use Rattle.dense_rows.specs.Rows.{row_nodes}
 use Rattle.stage_network.specs.Asked.{asked}
 use Rattle.stage_network.specs.Network.{Network}
-use Rattle.stage_network.specs.NodeSteps.{inside_weight, open_nodes, opened_in}
+use Rattle.stage_network.specs.NodeSteps.{open_nodes, opened_in}
 use Rattle.stage_network.specs.SweepSteps.{sum_for}
 use Rattle.stage_network.specs.ArcSteps.{lift}
+use Rattle.stage_network.proofs.NodeSums.{inside_weight}
 use Rattle.stage_network.proofs.row_settling.settle_open.Given as goal
 
 -- the cells before this one are settled, and from here on nothing has changed

@@ -1,10 +1,11 @@
 use Rattle.std.proofs.Common.{◌≡◌, ◌≤◌, ◌++◌, length, take}
 use Rattle.stage_network.specs.Asked.{asked}
 use Rattle.stage_network.specs.Network.{Network}
-use Rattle.stage_network.specs.NodeSteps.{inside_weight, open_nodes, opened_in}
+use Rattle.stage_network.specs.NodeSteps.{open_nodes, opened_in}
 use Rattle.stage_network.specs.SweepSteps.{sum_for}
 use Rattle.weights.specs.declared.tails.Tail.{Tail}
 use Rattle.stage_network.specs.ArcSteps.{lift}
+use Rattle.stage_network.proofs.NodeSums.{inside_weight}
 use Rattle.stage_network.proofs.settling.settle_room.Given as goal
 
 -- the open nodes and the inside weight are those of the nodes before this one

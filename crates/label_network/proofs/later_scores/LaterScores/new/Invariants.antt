@@ -1,6 +1,6 @@
 use Rattle.std.proofs.Common.{◌+◌}
 use Rattle.label_network.specs.LaterSums.{later_scores}
-use Rattle.label_network.specs.LaterSteps.{IsBuilt}
+use Rattle.label_network.proofs.Building.{IsBuilt}
 use Rattle.label_network.proofs.later_scores.LaterScores.new.Given as goal
 
 abbrev pub ghost-add_stage : goal.ghost-add_stage
