@@ -99,8 +99,8 @@ exact_process <- function(program, command, rows, options) {
 exact_here <- function(program, command, rows, options, room = 0) {
   answer <- .Call(program$answer, enc2utf8(c(command, "data.csv", options)), rows, room)
   if (answer$status == 6) return(exact_here(program, command, rows, options, max(2^18, 16 * room)))
-  answer$report <- strsplit(answer$report, "\n", fixed = TRUE)[[1]]
-  answer$line <- sub("\n", "", answer$line, fixed = TRUE)
+  if (answer$status == 0) answer$report <- strsplit(answer$report, "\n", fixed = TRUE)[[1]]
+  else answer$line <- sub("\n", "", answer$line, fixed = TRUE)
   answer
 }
 
@@ -209,13 +209,12 @@ exact_report <- function(report, name) {
   words <- unlist(words)
   first <- words[starts]
   second <- words[starts + 1]
-  ratios <- function(lines) vapply(strsplit(second[lines], "/", fixed = TRUE), identity, c("", ""))
-  statistic <- as.numeric(ratios(first == "statistic"))
-  told <- first %in% c("less", "greater", "two")
-  tail <- first[told]
-  parts <- ratios(told)
-  numerator <- parts[1, ]
-  denominator <- parts[2, ]
+  tail <- first[first %in% c("less", "greater", "two")]
+  told <- second[match(c("statistic", tail), first)]
+  ratios <- vapply(strsplit(told, "/", fixed = TRUE), identity, c("", ""))
+  statistic <- as.numeric(ratios[, 1])
+  numerator <- ratios[1, -1]
+  denominator <- ratios[2, -1]
   p.value <- as.numeric(numerator) / as.numeric(denominator)
   tails <- list(tail = tail, numerator = numerator, denominator = denominator, p.value = p.value)
   attributes(tails) <- list(names = names(tails), class = "data.frame", row.names = seq_along(tail))
@@ -224,11 +223,12 @@ exact_report <- function(report, name) {
                  alternative = if (tail[shown] == "two") "two.sided" else tail[shown],
                  method = paste("Exact test", second[1]), data.name = name,
                  numerator = numerator[shown], denominator = denominator[shown],
-                 total = second[first == "total"], tails = tails, report = as.vector(report))
-  if ("dropped" %in% first) answer$dropped <- as.integer(second[first == "dropped"])
-  at <- first == "at"
-  if (any(at)) {
-    answer$distribution <- data.frame(value = as.numeric(second[at]) / statistic[2], weight = words[starts[at] + 2])
+                 total = second[match("total", first)], tails = tails, report = as.vector(report))
+  dropped <- match("dropped", first)
+  if (!is.na(dropped)) answer$dropped <- as.integer(second[dropped])
+  at <- starts[first == "at"]
+  if (length(at) > 0) {
+    answer$distribution <- data.frame(value = as.numeric(words[at + 1]) / statistic[2], weight = words[at + 2])
   }
   class(answer) <- "htest"
   answer
