@@ -86,7 +86,8 @@ SEXP rexact_answer(SEXP words, SEXP file, SEXP room) {
         size = sizeof here;
     else
         out = (uint8_t *)R_alloc(size, 1);
-    int status = exact_answer((uint8_t *)packed, words_length, (uint8_t *)bytes, length, out, size, told, sizeof told, &counts);
+    int status = exact_answer((uint8_t *)packed, words_length, (uint8_t *)bytes, length, out, size, told, sizeof told,
+                              &counts);
     const char *names[] = {"status", "report", "line", ""};
     SEXP answer = PROTECT(Rf_mkNamed(VECSXP, names));
     SET_VECTOR_ELT(answer, 0, Rf_ScalarInteger(status));
