@@ -29,13 +29,13 @@
 
 exact_test <- function(test, x, y = NULL, data = NULL, paired = FALSE, ...,
                        program = exact_program()) {
-  name <- paste(c(deparse1(substitute(x)), if (!is.null(y)) deparse1(substitute(y))), collapse = " and ")
+  name <- exact_name(substitute(x), if (!is.null(y)) substitute(y))
   call <- sys.call()
   exact_report(exact_lines(test, exact_rows(x, y, data, paired), list(...), program, call), name)
 }
 
 exact_shift <- function(x, y = NULL, data = NULL, ..., program = exact_program()) {
-  name <- paste(c(deparse1(substitute(x)), if (!is.null(y)) deparse1(substitute(y))), collapse = " and ")
+  name <- exact_name(substitute(x), if (!is.null(y)) substitute(y))
   call <- sys.call()
   exact_limits(exact_lines("shift", exact_rows(x, y, data, FALSE), list(...), program, call), name)
 }
@@ -65,10 +65,16 @@ exact_program <- function() {
   if (is.null(exact_state$library)) exact_path() else exact_state$library
 }
 
+# what the data are called; that a call is one deparse1 finds out by deparsing it, so it is told
+exact_name <- function(x, y) {
+  text <- function(part) if (is.symbol(part)) as.character(part) else deparse1(part, backtick = is.call(part))
+  if (is.null(y)) text(x) else paste(text(x), "and", text(y))
+}
+
 # the lines that the program prints; a refusal is an error
 exact_lines <- function(command, rows, options, program, call) {
   run <- if (inherits(program, "exact_library")) exact_here else exact_process
-  answer <- run(program, command, exact_text(rows), exact_words(options))
+  answer <- run(program, command, rows, exact_words(options))
   if (answer$status != 0) {
     message <- paste0(answer$line, "\n", exact_help(answer$line))
     stop(structure(list(message = message, call = call, line = answer$line, status = answer$status),
@@ -78,11 +84,11 @@ exact_lines <- function(command, rows, options, program, call) {
 }
 
 # a run in a process
-exact_process <- function(program, command, text, options) {
+exact_process <- function(program, command, rows, options) {
   file <- tempfile(fileext = ".csv")
   said <- tempfile()
   on.exit(unlink(c(file, said)))
-  writeBin(charToRaw(text), file)
+  writeBin(charToRaw(exact_text(rows)), file)
   report <- suppressWarnings(system2(program, shQuote(c(command, file, options)), stdout = TRUE, stderr = said))
   status <- attr(report, "status")
   if (is.null(status)) status <- 0
@@ -90,23 +96,20 @@ exact_process <- function(program, command, text, options) {
 }
 
 # a run in this process
-exact_here <- function(program, command, text, options, room = 0) {
-  words <- enc2utf8(c(command, "data.csv", options))
-  packed <- unlist(lapply(words, function(word) c(charToRaw(word), as.raw(0))))
-  answer <- .Call(program$answer, packed, charToRaw(text), room)
-  if (answer$status == 6) return(exact_here(program, command, text, options, max(2^18, 16 * room)))
-  list(status = answer$status, report = strsplit(answer$report, "\n", fixed = TRUE)[[1]], line = sub("\n", "", answer$line, fixed = TRUE))
+exact_here <- function(program, command, rows, options, room = 0) {
+  answer <- .Call(program$answer, enc2utf8(c(command, "data.csv", options)), rows, room)
+  if (answer$status == 6) return(exact_here(program, command, rows, options, max(2^18, 16 * room)))
+  if (answer$status == 0) answer$report <- strsplit(answer$report, "\n", fixed = TRUE)[[1]]
+  else answer$line <- sub("\n", "", answer$line, fixed = TRUE)
+  answer
 }
 
-# the text of the file: a header, and fields between quotes, of which those that are missing are empty
+# the text of the file: a header and rows, each field between quotes (rexact.so makes the same)
 exact_text <- function(rows) {
-  fields <- function(texts) {
-    quoted <- paste0("\"", gsub("\"", "\"\"", enc2utf8(texts), fixed = TRUE), "\"")
-    quoted[is.na(texts)] <- ""
-    quoted
-  }
-  lines <- do.call(paste, c(lapply(unname(rows), fields), sep = ","))
-  paste0(c(paste(fields(names(rows)), collapse = ","), lines, ""), collapse = "\n")
+  between <- "\",\""
+  texts <- lapply(unname(rows), function(column) if (is.double(column)) sprintf("%.15g", column) else column)
+  lines <- c(paste(names(rows), collapse = between), do.call(paste, c(texts, sep = between)))
+  paste0("\"", lines, "\"\n", collapse = "")
 }
 
 # the path of the program: that in the environment, else the one of the installed package, else the one on the path
@@ -141,21 +144,21 @@ exact_help <- function(line) {
   paste0(said, " (docs/REFUSALS.md#", link, ")")
 }
 
-# what the file holds, a column a field
+# what the file holds, a column a field, of texts or of numbers; what is missing is an empty text
 exact_rows <- function(x, y, data, paired) {
-  texts <- function(column) if (is.numeric(column)) exact_numbers(column) else as.character(column)
   if (inherits(x, "formula")) {
     frame <- model.frame(x, data, na.action = NULL)
     group <- as.factor(frame[[2]])
     frame <- frame[order(as.integer(group)), ]
-    list(label = as.character(frame[[2]]), value = exact_numbers(frame[[1]]))
+    list(label = exact_labels(frame[[2]]), value = exact_numbers(frame[[1]]))
   } else if (is.data.frame(x)) {
-    lapply(x, texts)
+    columns <- lapply(x, function(column) if (is.numeric(column)) exact_numbers(column) else exact_labels(column))
+    structure(columns, names = exact_labels(names(x)))
   } else if (is.matrix(x)) {
     columns <- lapply(seq_len(ncol(x)), function(column) exact_numbers(x[, column]))
     structure(columns, names = paste0("column", seq_len(ncol(x))))
   } else if (is.null(y)) {
-    list(value = if (is.character(x) || is.factor(x)) as.character(x) else exact_numbers(x))
+    list(value = if (is.character(x) || is.factor(x)) exact_labels(x) else exact_numbers(x))
   } else if (paired) {
     list(first = exact_numbers(x), second = exact_numbers(y))
   } else {
@@ -163,9 +166,18 @@ exact_rows <- function(x, y, data, paired) {
   }
 }
 
-# numbers as texts
+# labels as texts to stand between quotes
+exact_labels <- function(x) {
+  text <- gsub("\"", "\"\"", enc2utf8(as.character(x)), fixed = TRUE)
+  text[is.na(text)] <- ""
+  text
+}
+
+# numbers, where 15 digits show each of them without a negative exponent; else their texts
 exact_numbers <- function(x) {
   x <- as.numeric(x)
+  size <- abs(x)
+  if (isTRUE(all(size == 0 | size >= 1e-4 & size < Inf))) return(x)
   text <- sprintf("%.15g", x)
   small <- grep("e-", text, fixed = TRUE)
   decimals <- function(parts) nchar(sub("^-?[0-9]*[.]?", "", parts[1])) + as.numeric(parts[2])
@@ -174,7 +186,7 @@ exact_numbers <- function(x) {
     warning("rounded to 18 decimals: ", paste(text[long], collapse = ", "), call. = FALSE)
     text[long] <- sprintf("%.18f", x[long])
   }
-  text[is.na(x)] <- NA
+  text[is.na(x)] <- ""
   text
 }
 
@@ -183,7 +195,7 @@ exact_words <- function(options) {
   words <- character()
   for (name in names(options)) {
     value <- options[[name]]
-    flag <- paste0("--", gsub("_", "-", name))
+    flag <- paste0("--", chartr("_", "-", name))
     if (isTRUE(value)) words <- c(words, flag)
     else if (!is.null(value) && !identical(value, FALSE)) words <- c(words, paste0(flag, "=", paste(value, collapse = ",")))
   }
@@ -192,29 +204,34 @@ exact_words <- function(options) {
 
 # the report as an htest
 exact_report <- function(report, name) {
-  lines <- strsplit(report, " ", fixed = TRUE)
-  first <- vapply(lines, `[`, "", 1)
-  ratio <- function(text) strsplit(text, "/", fixed = TRUE)[[1]]
-  told <- lines[first %in% c("less", "greater", "two")]
-  parts <- vapply(told, function(line) ratio(line[2]), c("", ""))
-  tails <- list(tail = vapply(told, `[`, "", 1), numerator = parts[1, ], denominator = parts[2, ],
-                p.value = as.numeric(parts[1, ]) / as.numeric(parts[2, ]))
-  tails <- structure(tails, class = "data.frame", row.names = seq_along(told))
-  shown <- if ("two" %in% tails$tail) "two" else tails$tail[1]
-  one <- lapply(tails, `[`, match(shown, tails$tail))
-  statistic <- as.numeric(ratio(lines[first == "statistic"][[1]][2]))
-  answer <- list(statistic = c(T = statistic[1] / statistic[2]), p.value = one$p.value,
-                 alternative = c(less = "less", greater = "greater", two = "two.sided")[[shown]],
-                 method = paste("Exact test", lines[[1]][2]), data.name = name,
-                 numerator = one$numerator, denominator = one$denominator,
-                 total = lines[first == "total"][[1]][2], tails = tails, report = as.vector(report))
-  answer$dropped <- if ("dropped" %in% first) as.integer(lines[first == "dropped"][[1]][2])
-  at <- lines[first == "at"]
+  words <- strsplit(report, " ", fixed = TRUE)
+  starts <- cumsum(c(1, lengths(words)))[seq_along(words)]
+  words <- unlist(words)
+  first <- words[starts]
+  second <- words[starts + 1]
+  tail <- first[first %in% c("less", "greater", "two")]
+  told <- second[match(c("statistic", tail), first)]
+  ratios <- vapply(strsplit(told, "/", fixed = TRUE), identity, c("", ""))
+  statistic <- as.numeric(ratios[, 1])
+  numerator <- ratios[1, -1]
+  denominator <- ratios[2, -1]
+  p.value <- as.numeric(numerator) / as.numeric(denominator)
+  tails <- list(tail = tail, numerator = numerator, denominator = denominator, p.value = p.value)
+  attributes(tails) <- list(names = names(tails), class = "data.frame", row.names = seq_along(tail))
+  shown <- match("two", tail, 1)
+  answer <- list(statistic = c(T = statistic[1] / statistic[2]), p.value = p.value[shown],
+                 alternative = if (tail[shown] == "two") "two.sided" else tail[shown],
+                 method = paste("Exact test", second[1]), data.name = name,
+                 numerator = numerator[shown], denominator = denominator[shown],
+                 total = second[match("total", first)], tails = tails, report = as.vector(report))
+  dropped <- match("dropped", first)
+  if (!is.na(dropped)) answer$dropped <- as.integer(second[dropped])
+  at <- starts[first == "at"]
   if (length(at) > 0) {
-    answer$distribution <- data.frame(value = as.numeric(vapply(at, `[`, "", 2)) / statistic[2],
-                                      weight = vapply(at, `[`, "", 3))
+    answer$distribution <- data.frame(value = as.numeric(words[at + 1]) / statistic[2], weight = words[at + 2])
   }
-  structure(answer, class = "htest")
+  class(answer) <- "htest"
+  answer
 }
 
 # the report of a shift as an htest
