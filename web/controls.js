@@ -1,0 +1,304 @@
+'use strict';
+// The controls of the page: the table, the question, the columns and the options, and the words that they come to.
+
+const byId = id => document.getElementById(id);
+
+// An element with its properties and what stands in it.
+function made(name, properties = {}, ...inside) {
+  const element = document.createElement(name);
+  for (const [property, value] of Object.entries(properties)) {
+    if (property in element) element[property] = value;
+    else element.setAttribute(property, value);
+  }
+  element.append(...inside);
+  return element;
+}
+
+// A control with its label, and the option of the program that it stands for.
+function labelled(label, control, option) {
+  return made('label', {}, label, ' ', control, ...(option ? [' ', made('code', {}, option)] : []));
+}
+
+function selectOf(id, choices, value) {
+  const select = made('select', { id }, ...choices.map(([word, text]) => new Option(text ?? word, word)));
+  select.value = value;
+  return select;
+}
+
+// ---- the table
+
+// A file that was dropped or chosen, its bytes as they are, until the text is edited.
+let chosen = null;
+let table = [];
+
+const separatorWord = () => byId('separator').value || separatorOf(byId('data').value);
+const headers = () => (table[0]?.cells ?? []).map((name, place) => name.trim() || `column ${place + 1}`);
+
+const LONGEST_FILE = 1048576;
+
+// A file that is too long is read so far that the program says so.
+async function takeFile(file) {
+  chosen = { name: file.name, bytes: new Uint8Array(await file.slice(0, LONGEST_FILE + 1).arrayBuffer()) };
+  byId('data').value = new TextDecoder().decode(chosen.bytes);
+  readAgain();
+}
+
+function readAgain() {
+  const before = JSON.stringify(table[0]?.cells);
+  table = rowsOf(byId('data').value, SEPARATORS[separatorWord()]);
+  const rows = Math.max(table.length - 1, 0);
+  byId('found').textContent = table.length === 0 ? 'no row yet'
+    : `${chosen ? `${chosen.name}: ` : ''}${rows} ${rows === 1 ? 'row' : 'rows'} below the header, ${headers().length} `
+      + `${headers().length === 1 ? 'column' : 'columns'}, ${separatorWord()} between fields${headerDoubt()}`;
+  if (JSON.stringify(table[0]?.cells) !== before) showColumns();
+  else showOptions();
+  showPreview();
+}
+
+// A first row of numbers may be no header.
+function headerDoubt() {
+  const hasNumbers = table.length > 1 && table[0].cells.some(cell => NUMBER.test(cell));
+  return hasNumbers ? '. The first row has numbers: is it a header?' : '';
+}
+
+const marks = isMarked => ({ className: isMarked ? 'marked' : '' });
+
+// The first rows, or those about a marked one, of which a field may be marked too. Rows and fields count from 1.
+function showPreview(marked) {
+  if (table.length === 0) return byId('preview').replaceChildren();
+  const roles = pickedColumns();
+  const head = headers().map((name, place) => made('th', { scope: 'col' }, name, ...roleOf(roles, place)));
+  const from = marked ? Math.max(marked.row - 3, 1) : 1;
+  const body = table.slice(from, from + 5).map(({ cells }, i) => {
+    const isMarked = marked?.row === from + i + 1;
+    const shown = cells.map((cell, place) => made('td', marks(isMarked && marked.field === place + 1), cell));
+    return made('tr', marks(isMarked), made('th', { scope: 'row' }, String(from + i + 1)), ...shown);
+  });
+  const first = made('tr', marks(marked?.row === 1), made('th', { scope: 'col' }, '1'), ...head);
+  const more = table.length > from + 5 ? [made('caption', {}, `rows ${from + 1} to ${from + 5} of ${table.length}`)] : [];
+  byId('preview').replaceChildren(made('table', {}, ...more, made('thead', {}, first), made('tbody', {}, ...body)));
+}
+
+function roleOf(roles, place) {
+  const names = roles.map((column, i) => column === place ? fieldNames()[i] : '').filter(name => name !== '');
+  return names.length > 0 ? [made('span', {}, names.join(', '))] : [];
+}
+
+// Marks the row in the text, too.
+function markRow(place) {
+  showPreview(place);
+  const row = table[place.row - 1];
+  if (row) byId('data').setSelectionRange(row.from, row.to);
+}
+
+// ---- the question
+
+const namesElsewhere = () => JSON.parse(byId('names').textContent);
+
+function showChoices() {
+  const elsewhere = namesElsewhere(), groups = new Map();
+  for (const test of Object.values(TESTS)) {
+    const names = Object.entries(elsewhere[test.name] ?? {}).map(([where, name]) => `${where} ${name}`);
+    const id = `test-${test.name}`;
+    const choice = made('div', { className: 'choice' },
+      made('input', { type: 'radio', name: 'test', id, value: test.name, checked: test.name === 'ranksum' }),
+      made('label', { htmlFor: id }, test.question,
+        made('span', { className: 'names' }, made('code', {}, test.name), ` ${[test.title, ...names].join(' · ')}`)));
+    if (!groups.has(test.group)) groups.set(test.group, made('div', {}, made('h3', {}, test.group)));
+    groups.get(test.group).append(choice);
+  }
+  byId('choices').replaceChildren(...groups.values());
+}
+
+// Shows the choices that have each of the words, and their headings.
+function findChoices() {
+  const words = byId('find').value.toLowerCase().split(/\s+/);
+  for (const group of byId('choices').children) {
+    for (const choice of group.querySelectorAll('.choice')) {
+      const text = `${group.firstChild.textContent} ${choice.textContent}`.toLowerCase();
+      choice.hidden = !words.every(word => text.includes(word));
+    }
+    group.hidden = group.querySelector('.choice:not([hidden])') === null;
+  }
+}
+
+// Scrolls the list, and not the page, to the test that is chosen.
+function showChosen() {
+  const choice = document.querySelector('.choice:has(:checked)');
+  byId('choices').scrollTop = choice.offsetTop - 40;
+}
+
+const testNow = () => TESTS[document.querySelector('[name=test]:checked').value];
+
+// ---- the columns
+
+function fieldNames() {
+  const layout = LAYOUTS[testNow().layout];
+  const numbered = (_, i) => layout.most > 8 ? layout.of : `${layout.of} ${i + 1}`;
+  return layout.fields ?? headers().slice(0, layout.most).map(numbered);
+}
+
+// A choice of columns for each field of the layout, or a box for each column of a table of counts.
+function showColumns() {
+  const test = testNow(), layout = LAYOUTS[test.layout], likely = likelyColumns(layout, table);
+  byId('layout').textContent = `${test.title}: each row has ${layout.row}.`;
+  const columns = headers().map((name, place) => [String(place), `${place + 1}: ${name}`]);
+  byId('columns').replaceChildren(...(layout.most > 8 ? boxesOf(columns, likely) : selectsOf(layout, columns, likely)));
+  showOptions();
+}
+
+function selectsOf(layout, columns, likely) {
+  const least = layout.least ?? layout.fields.length - (layout.optional ?? 0);
+  return fieldNames().map((name, i) => {
+    const choices = i >= least ? [['', '–'], ...columns] : columns;
+    return labelled(name, selectOf(`column-${i}`, choices, String(likely[i] ?? '')));
+  });
+}
+
+function boxesOf(columns, likely) {
+  const boxes = columns.map(([place, name]) => labelled(name,
+    made('input', { type: 'checkbox', value: place, checked: likely.includes(Number(place)) })));
+  return [made('fieldset', { className: 'row' }, made('legend', {}, 'Columns of counts'), ...boxes)];
+}
+
+// The places of the chosen columns, counted from 0.
+function pickedColumns() {
+  const picked = byId('columns').querySelectorAll('select, input:checked');
+  return [...picked].map(it => it.value).filter(value => value !== '').map(Number);
+}
+
+// ---- the options
+
+function asText(id, placeholder, value = '') {
+  return made('input', { id, placeholder, value, size: Math.max(value.length, 12), autocomplete: 'off' });
+}
+
+// The column of the labels, and its labels.
+const labelColumn = () => pickedColumns()[testNow().layout === 'stratified' ? 1 : 0];
+const labelsNow = () => labelsOf(table, labelColumn());
+
+const SCORES = [['', 'wilcoxon'], ['ansari'], ['mood'], ['savage'], ['median'], ['raw']];
+const MISSING = [['', 'are refused'], ['drop', 'are left out']];
+
+// Of each option: its control, and its value where it is one that is not the program's own.
+const OPTIONS = {
+  tail: {
+    control: () => labelled('Tail', selectOf('tail', [['', 'all'], ...testNow().tails.map(tail => [tail])], ''), '--tail'),
+    value: () => byId('tail').value,
+  },
+  tested: {
+    control: () => labelled('Tested is', selectOf('tested', ...testedChoices()), '--order'),
+    value: () => byId('tested').value,
+  },
+  order: {
+    control: () => labelled('Order of the groups', asText('order', 'A,B,C', labelsNow().join(',')), '--order'),
+    value: () => byId('order').value === labelsNow().join(',') ? '' : byId('order').value,
+  },
+  scores: {
+    control: () => labelled('Scores', selectOf('scores', SCORES, ''), '--scores'),
+    value: () => byId('scores').value,
+  },
+  peak: {
+    control: () => labelled('Peak', selectOf('peak', peakChoices(labelsNow()), ''), '--peak'),
+    value: () => byId('peak').value,
+  },
+  'row-scores': {
+    control: () => labelled('Scores of the rows', asText('row-scores', '1,2,3'), '--row-scores'),
+    value: () => byId('row-scores').value,
+  },
+  'column-scores': {
+    control: () => labelled('Scores of the columns', asText('column-scores', '1,2,3'), '--column-scores'),
+    value: () => byId('column-scores').value,
+  },
+  odds: {
+    control: () => labelled('Odds ratio', asText('odds', '1/1'), '--odds'),
+    value: () => byId('odds').value,
+  },
+  miss: {
+    control: () => labelled('The limits may miss', asText('miss', '1/20'), '--miss'),
+    value: () => byId('miss').value,
+  },
+  missing: {
+    control: () => labelled('Rows with a missing field', selectOf('missing', MISSING, ''), '--missing'),
+    value: () => byId('missing').value,
+  },
+};
+
+// Which of two groups is tested: the second one, or the first if the order is turned round. Reports of strata do not
+// name the groups, so there the order is always said. A label with a comma cannot be listed.
+function testedChoices() {
+  const [first, second, ...more] = labelsNow();
+  const canBeListed = second !== undefined && more.length === 0 && !`${first}${second}`.includes(',');
+  if (!canBeListed) return [[['', 'the second label']], ''];
+  const asItStands = testNow().layout === 'stratified' ? `${first},${second}` : '';
+  return [[[asItStands, second], [`${second},${first}`, first]], asItStands];
+}
+
+function peakChoices(order) {
+  return [['', 'choose it'], ...order.map((label, i) => [String(i + 1), `${i + 1}: ${label.trim()}`])];
+}
+
+// The peak is a group of the order that is wanted.
+function showPeaks() {
+  const peak = byId('peak');
+  if (peak !== null) peak.replaceWith(selectOf('peak', peakChoices(byId('order').value.split(',')), peak.value));
+}
+
+// The names of the options that go with the test.
+function optionsOf(test) {
+  const tail = test.tails.length > 1 ? ['tail'] : [];
+  const missing = LAYOUTS[test.layout].missing ? ['missing'] : [];
+  return [...tail, ...test.options, ...missing];
+}
+
+// The controls of the test's options. What was chosen before stays where it is still a choice.
+function showOptions() {
+  const before = new Map([...byId('options').querySelectorAll('select, input')].map(it => [it.id, it.value]));
+  const labels = JSON.stringify([testNow().name, labelsNow()]);
+  const keeps = byId('options').dataset.labels === labels;
+  byId('options').dataset.labels = labels;
+  byId('options').replaceChildren();
+  for (const option of optionsOf(testNow())) byId('options').append(OPTIONS[option].control());
+  for (const control of byId('options').querySelectorAll('select, input')) {
+    if (keeps) control.value = before.get(control.id) ?? control.value;
+  }
+  showPeaks();
+}
+
+// ---- the words
+
+// What is asked now: the words of the program, and what the reading of its report needs.
+function askedNow() {
+  const test = testNow(), picked = pickedColumns(), names = headers();
+  const words = [test.name, fileName()];
+  if (picked.length !== names.length || picked.some((column, i) => column !== i)) {
+    words.push(`--columns=${picked.map(column => column + 1).join(',')}`);
+  }
+  if (separatorWord() !== 'comma') words.push(`--separator=${separatorWord()}`);
+  for (const option of optionsOf(test)) {
+    const value = OPTIONS[option].value().trim();
+    if (value !== '') words.push(`--${option === 'tested' ? 'order' : option}=${value}`);
+  }
+  return {
+    test: test.name,
+    words,
+    bytes: bytesNow(),
+    headers: picked.map(column => names[column]),
+    labels: test.layout === 'stratified' ? groupsOfStrata() : undefined,
+    odds: (test.options.includes('odds') && byId('odds').value.trim()) || undefined,
+  };
+}
+
+function groupsOfStrata() {
+  const order = byId('tested').value;
+  return order === '' ? ['the first label', 'the second label'] : order.split(',');
+}
+
+const fileName = () => chosen === null ? 'data.csv' : chosen.name.replace(/^-/, './-');
+const bytesNow = () => chosen?.bytes ?? new TextEncoder().encode(byId('data').value);
+
+// Words as a shell reads them.
+function commandOf(words) {
+  const isPlain = word => /^[\w@%+=:,./-]+$/.test(word);
+  return ['exact', ...words].map(word => isPlain(word) ? word : `'${word.replaceAll("'", "'\\''")}'`).join(' ');
+}

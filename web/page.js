@@ -1,0 +1,236 @@
+'use strict';
+// The page: asks the worker, shows its answer, and stops it.
+
+// ---- the worker
+
+// whether there are 64-bit memories: a module that has one, of no page
+const HAS_WIDE_MEMORY = globalThis.WebAssembly?.validate(Uint8Array.of(0, 97, 115, 109, 1, 0, 0, 0, 5, 3, 1, 4, 0));
+const WORKER = URL.createObjectURL(new Blob([byId('worker').textContent], { type: 'text/javascript' }));
+let worker = null;
+let waiting = null;
+
+function startWorker() {
+  worker = new Worker(WORKER);
+  worker.onmessage = ({ data }) => waiting?.(data);
+  worker.onerror = event => waiting?.({ fault: event.message ?? 'the worker does not start' });
+  worker.postMessage({ packed: byId('module').textContent.trim() });
+}
+
+// The answer of one run, or a fault, or that it was stopped.
+function ask(words, bytes) {
+  if (waiting !== null) stop();
+  return new Promise(resolve => {
+    waiting = data => {
+      waiting = null;
+      resolve(data);
+    };
+    worker.postMessage({ words, bytes });
+  });
+}
+
+// Ends a run: the worker with it, and a new one stands ready for the next.
+function stop() {
+  worker.terminate();
+  waiting?.({ stopped: true });
+  startWorker();
+}
+
+// ---- the clock
+
+let ticking;
+
+function seconds(from) {
+  const passed = (performance.now() - from) / 1000;
+  return `${passed.toFixed(passed < 1 ? 2 : 1)} s`;
+}
+
+function startClock(what) {
+  const from = performance.now();
+  byId('state').textContent = what;
+  byId('stop').disabled = false;
+  clearInterval(ticking);
+  ticking = setInterval(() => { byId('clock').textContent = seconds(from); }, 100);
+  byId('clock').textContent = '';
+  return from;
+}
+
+function stopClock(said) {
+  clearInterval(ticking);
+  byId('clock').textContent = '';
+  byId('state').textContent = said;
+  byId('stop').disabled = true;
+}
+
+// ---- a run
+
+// A run that a later one has replaced shows nothing any more.
+let runs = 0;
+
+async function run(event) {
+  event.preventDefault();
+  if (worker === null) return;
+  readAgain();
+  runs += 1;
+  const number = runs, asked = askedNow();
+  clearAnswer();
+  const from = startClock('Running …');
+  const data = await ask(asked.words, asked.bytes), took = seconds(from);
+  const protocol = await protocolOf(asked);
+  if (number !== runs) return;
+  if (data.stopped) return stopClock(`Stopped after ${took}: there is no answer.`);
+  const isAnswered = data.answer?.status === 0;
+  stopClock(data.fault ? 'Ended by a fault.' : isAnswered ? `Answered in ${took}.` : 'Refused.');
+  showAnswer(asked, data, protocol);
+  byId('answer').scrollIntoView({ block: 'nearest' });
+  if (isAnswered && asked.test !== 'shift') await runForPicture(asked, number, took);
+}
+
+const SHOWN = ['asked', 'protocol', 'refusal', 'reading', 'tails', 'drawing', 'caption', 'report', 'command'];
+
+function clearAnswer() {
+  byId('answer').hidden = true;
+  byId('picture').hidden = true;
+  SHOWN.forEach(id => byId(id).replaceChildren());
+}
+
+function showAnswer(asked, { answer, fault }, protocol) {
+  byId('answer').hidden = false;
+  byId('asked').textContent = `${TESTS[asked.test].question} ${TESTS[asked.test].title}.`;
+  byId('command').textContent = commandOf(asked.words);
+  byId('copy').textContent = 'Copy';
+  byId('protocol').textContent = protocol;
+  byId('whole').hidden = answer?.status !== 0;
+  if (fault) return showRefusal(`No answer: ${fault}`, 'The program on the command line may have one.');
+  if (answer.status === 0) return showReading(asked, answer.report);
+  showRefusal(answer.line.trim(), helpOf(answer.line));
+  const place = placeOf(answer.line);
+  if (place) markRow(place);
+}
+
+function showRefusal(line, help) {
+  byId('refusal').replaceChildren(made('p', {}, made('strong', {}, line)), made('p', {}, help));
+}
+
+function showReading(asked, text) {
+  byId('report').textContent = text;
+  const { sentences, tails } = readingOf(readReport(text), asked);
+  const lines = sentences.map(sentence => made('p', {}, sentence));
+  byId('reading').replaceChildren(...lines, ...(tails.length > 0 ? [tableOf(tails)] : []));
+}
+
+// A row for each tail: what it says, and p.
+function tableOf(tails) {
+  const head = ['Tail', 'p-value', 'What it says'].map(name => made('th', { scope: 'col' }, name));
+  const rows = tails.map(({ name, said, decimals, fraction }) => {
+    const p = made('div', { className: 'p' }, `p = ${decimals}`), exact = made('div', { className: 'fraction' }, fraction);
+    return made('tr', {}, made('th', { scope: 'row' }, name), made('td', {}, p, exact), made('td', {}, said));
+  });
+  return made('table', {}, made('thead', {}, made('tr', {}, ...head)), made('tbody', {}, ...rows));
+}
+
+// What a protocol owes: when, of which bytes.
+async function protocolOf(asked) {
+  const digest = await crypto.subtle?.digest('SHA-256', asked.bytes);
+  const sum = digest && [...new Uint8Array(digest)].map(byte => byte.toString(16).padStart(2, '0')).join('');
+  const name = chosen === null ? 'The table that was pasted' : chosen.name;
+  return `${name}: ${asked.bytes.length} bytes${sum ? `, SHA-256 ${sum}` : ''}. ${new Date().toLocaleString('en-GB')}.`;
+}
+
+// ---- the picture
+
+// The distribution comes from a run of its own, so that the answer need not wait for it.
+async function runForPicture(asked, number, took) {
+  const from = startClock('Drawing its distribution …');
+  const data = await ask([...asked.words, '--distribution'], asked.bytes);
+  if (number !== runs) return;
+  const isThere = data.answer?.status === 0;
+  const picture = data.stopped ? `; the picture was stopped after ${seconds(from)}` : '; there is no picture of it';
+  stopClock(`Answered in ${took}${isThere ? '' : picture}.`);
+  if (isThere) showPicture(readReport(data.answer.report), asked);
+}
+
+function showPicture(report, asked) {
+  const tails = report.tails.map(tail => tail.name);
+  const choices = tails.map(name => labelled(made('input', { type: 'radio', name: 'marked', value: name }), name));
+  byId('tails').replaceChildren(...choices);
+  byId('picture').hidden = false;
+  const draw = tail => {
+    const { svg, caption } = pictureOf(report, tail, asked.test, Math.max(byId('drawing').clientWidth, 300));
+    byId('drawing').replaceChildren(svg);
+    byId('caption').textContent = caption;
+  };
+  const first = tails.includes('two') ? 'two' : tails[0];
+  byId('tails').onchange = event => draw(event.target.value);
+  byId('tails').querySelector(`[value=${first}]`).checked = true;
+  draw(first);
+}
+
+// ---- what the controls do
+
+function listen() {
+  byId('form').onsubmit = run;
+  byId('stop').onclick = stop;
+  byId('print').onclick = () => window.print();
+  byId('copy').onclick = copyCommand;
+  byId('find').oninput = findChoices;
+  byId('find').onkeydown = chooseFirst;
+  byId('choices').onchange = () => {
+    showColumns();
+    showPreview();
+  };
+  byId('columns').onchange = () => {
+    showOptions();
+    showPreview();
+  };
+  byId('options').onchange = showPeaks;
+  byId('separator').onchange = readAgain;
+  byId('file').onchange = () => byId('file').files[0] && takeFile(byId('file').files[0]);
+  byId('data').oninput = () => {
+    chosen = null;
+    byId('file').value = '';
+    readAgain();
+  };
+  listenToDrops();
+  document.onkeydown = event => {
+    if (event.key === 'Enter' && (event.ctrlKey || event.metaKey)) byId('form').requestSubmit();
+    if (event.key === 'Escape' && !byId('stop').disabled) stop();
+  };
+}
+
+function copyCommand() {
+  getSelection().selectAllChildren(byId('command'));
+  byId('copy').textContent = document.execCommand('copy') ? 'Copied' : 'It is marked: copy it';
+}
+
+// Enter takes the first test that was found, and runs nothing.
+function chooseFirst(event) {
+  if (event.key !== 'Enter' || event.ctrlKey || event.metaKey) return;
+  event.preventDefault();
+  byId('choices').querySelector('.choice:not([hidden]) input')?.click();
+}
+
+// A file that is dropped anywhere on the page is taken as the table.
+function listenToDrops() {
+  const over = isOver => event => {
+    event.preventDefault();
+    byId('data').classList.toggle('over', isOver);
+  };
+  document.ondragover = over(true);
+  document.ondragleave = over(false);
+  document.ondrop = event => {
+    over(false)(event);
+    if (event.dataTransfer.files.length > 0) takeFile(event.dataTransfer.files[0]);
+  };
+}
+
+showChoices();
+readAgain();
+showChosen();
+listen();
+if (HAS_WIDE_MEMORY) {
+  startWorker();
+} else {
+  byId('run').disabled = true;
+  byId('state').textContent = 'This browser has no 64-bit memories for WebAssembly, which the proved program needs. '
+    + 'Take a newer browser, or the program on the command line.';
+}

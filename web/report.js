@@ -1,0 +1,177 @@
+'use strict';
+// Reads a report of the program, and says it in plain words. Numbers stay whole: they are BigInt.
+
+const TAILS = ['less', 'greater', 'two'];
+const QUOTIENTS = ['statistic', 'estimate', 'lower', 'upper', 'miss'];
+const NUMBERS = ['total', 'dropped', 'differences'];
+
+// The report by its lines, each a word and what belongs to it.
+function readReport(text) {
+  const report = { sizes: [], groups: [], tails: [], values: [] };
+  for (const line of text.split('\n').slice(1, -1)) {
+    const [word, ...rest] = line.split(' ');
+    if (word === 'group') report.groups.push({ size: rest[0], label: rest.slice(1).join(' ') });
+    else if (TAILS.includes(word)) report.tails.push({ name: word, ...readPart(rest) });
+    else if (word === 'at') report.values.push(rest.map(BigInt));
+    else if (QUOTIENTS.includes(word)) report[word] = rest[0] === 'none' ? null : readPart(rest);
+    else if (NUMBERS.includes(word)) report[word] = BigInt(rest[0]);
+    else report.sizes.push(line);
+  }
+  return report;
+}
+
+// A quotient `over/under`, with the decimals behind it where they stand there.
+function readPart([quotient, decimals]) {
+  const [over, under] = quotient.split('/').map(BigInt);
+  return { over, under, decimals };
+}
+
+const grouped = number => number.toLocaleString('en');
+const magnitude = number => number < 0n ? -number : number;
+
+function greatestDivisor(a, b) {
+  while (b !== 0n) [a, b] = [b, a % b];
+  return magnitude(a);
+}
+
+// A quotient as a reader wants it: a whole number, a decimal that is exact, or a fraction with a decimal beside it.
+function quotientText({ over, under }) {
+  const divisor = greatestDivisor(over, under) || 1n;
+  const [a, b] = [over / divisor, under / divisor];
+  let rest = b, places = 0;
+  for (const prime of [2n, 5n]) {
+    let times = 0;
+    for (; rest % prime === 0n; times += 1) rest /= prime;
+    places = Math.max(places, times);
+  }
+  if (rest === 1n && places <= 18) return decimalText(a, b, places);
+  return `${a}/${b}, about ${roundedText(a, b)}`;
+}
+
+// A quotient whose decimals end after so many places.
+function decimalText(over, under, places) {
+  const digits = String(magnitude(over) * 10n ** BigInt(places) / under).padStart(places + 1, '0');
+  const whole = grouped(BigInt(digits.slice(0, digits.length - places)));
+  return (over < 0n ? '−' : '') + whole + (places > 0 ? `.${digits.slice(-places)}` : '');
+}
+
+// A quotient to five digits.
+function roundedText(over, under) {
+  if (over === 0n) return '0';
+  const size = magnitude(over), sign = over < 0n ? '−' : '';
+  const scaled = (number, power) => power > 0 ? number * 10n ** BigInt(power) : number;
+  let power = String(size).length - String(under).length;
+  if (scaled(size, -power) < scaled(under, power)) power -= 1;
+  const [top, bottom] = [scaled(size, 4 - power), scaled(under, power - 4)];
+  let digits = String((2n * top + bottom) / (2n * bottom));
+  if (digits.length > 5) [digits, power] = [digits.slice(0, 5), power + 1];
+  if (power >= -4 && power <= 8) {
+    return sign + Number(`${digits}e${power - 4}`).toLocaleString('en', { maximumSignificantDigits: 5 });
+  }
+  return `${sign}${digits[0]}.${digits.slice(1)} × 10${raised(power)}`;
+}
+
+const raised = power => String(power).replace(/./g, digit => digit === '-' ? '⁻' : '⁰¹²³⁴⁵⁶⁷⁸⁹'[digit]);
+
+const quoted = label => `“${label}”`;
+
+const isTwoByTwo = report => report.sizes.some(line => line.startsWith('table 2 by 2 '));
+
+// The words by which a test's sentences name the samples: labels, or headers of the columns.
+function namesOf(report, asked) {
+  const labels = report.groups.length > 0 ? report.groups.map(it => it.label) : asked.labels ?? asked.headers;
+  const peak = report.sizes.find(line => line.startsWith('peak '));
+  return {
+    first: quoted(labels[0]),
+    second: labels.length > 1 ? quoted(labels[1]) : undefined,
+    order: labels.map(quoted).join(', '),
+    peak: peak && quoted(labels[Number(peak.slice(5)) - 1]),
+    odds: asked.odds,
+    isTwoByTwo: isTwoByTwo(report),
+  };
+}
+
+// Which data the answer is of: the lines between the test and the statistic.
+function sizesSaid(report, test, names) {
+  const said = report.sizes.map(line => sizeSaid(line, test, names));
+  const sizes = report.groups.map(it => `${quoted(it.label)} (${it.size})`);
+  if (report.groups.length === 2 && test.options.includes('tested')) {
+    said.unshift(`Tested is the second sample, ${sizes[1]}, against the first, ${sizes[0]}.`);
+  } else if (report.groups.length > 0) {
+    const what = test.layout === 'sequence' ? 'The labels are' : 'The groups are, in this order,';
+    said.unshift(`${what} ${sizes.join(', ')}.`);
+  }
+  if (report.dropped !== undefined) said.push(`Rows with a missing field that were left out: ${report.dropped}.`);
+  return said;
+}
+
+function sizeSaid(line, test, names) {
+  const [word, ...rest] = line.split(' ');
+  const differences = isOneColumn(names) ? `${names.first}, taken as differences` : `${names.second} less ${names.first}`;
+  const said = {
+    table: () => `The table has ${rest[0]} rows and ${rest[2]} columns, and ${rest[4]} subjects in it.`,
+    blocks: () => `There are ${rest[0]} blocks with ${rest[2]} treatments each: ${names.order}.`,
+    strata: () => `There are ${rest[0]} strata with ${rest[2]} subjects in all.`,
+    scores: () => `The scores are of the kind ${rest[0]}.`,
+    peak: () => `The peak is ${names.peak}.`,
+    rows: () => test.layout === 'pairs'
+      ? `Tested are the values of ${differences}: ${rest[0]} rows, of which ${rest[2]} are not 0 and count.`
+      : `There are ${rest[0]} subjects; ${names.first} is the first value, ${names.second} the second.`,
+  }[word];
+  return said ? said() : line;
+}
+
+// What a tail counts, and what a small p-value of it speaks for.
+function tailSaid(tail, report, test, names) {
+  const value = quotientText(report.statistic);
+  const byLikelihood = test.name === 'fisher' || test.name === 'zelen';
+  const extreme = {
+    less: `a statistic of at most ${value}`,
+    greater: `a statistic of at least ${value}`,
+    two: byLikelihood ? `tables that are at most as likely as ${test.name === 'zelen' ? 'those' : 'the one'} observed`
+      : 'a statistic at least as far from its mean as the observed one, on either side',
+  }[tail.name];
+  const counted = `${grouped(tail.over)} of ${names.odds ? 'this weight' : 'them'} ${tail.over === 1n ? 'has' : 'have'}`;
+  return `${counted} ${extreme}. ${speaksFor(tail.name, report, test, names)}`;
+}
+
+function speaksFor(name, report, test, names) {
+  const what = test[name](names);
+  if (what !== 'either') return `A small p-value speaks for ${what}.`;
+  return report.tails.length > 1 ? 'A small p-value speaks for either of these.'
+    : `A small p-value speaks for either ${test.less(names)}, or ${test.greater(names)}.`;
+}
+
+// p as it is printed, and to five digits where the decimals that are printed do not tell it.
+function partText({ over, under, decimals }) {
+  const tiny = over > 0n && over * 1000n < under ? `, about ${roundedText(over, under)}` : '';
+  return { fraction: `${over}/${under}`, decimals: `${decimals}${tiny}` };
+}
+
+// A whole reading: sentences on the data, the statistic, and a row for each tail.
+function readingOf(report, asked) {
+  const test = TESTS[asked.test], names = namesOf(report, asked);
+  if (asked.test === 'shift') return shiftReading(report, names);
+  const sentences = sizesSaid(report, test, names);
+  sentences.push(`The statistic is ${test.statistic(names)}: ${quotientText(report.statistic)}.`);
+  const total = grouped(report.total);
+  sentences.push(names.odds ? `Where the odds ratio is ${names.odds}, the ${test.rearrangements} weigh ${total} in all.`
+    : `Where there is no effect, each of the ${total} ${test.rearrangements} is as likely as any other.`);
+  const tails = report.tails.map(tail => ({ ...tail, ...partText(tail), said: tailSaid(tail, report, test, names) }));
+  return { sentences, tails };
+}
+
+function shiftReading(report, names) {
+  const sentences = sizesSaid(report, TESTS.shift, names);
+  const { miss } = report;
+  sentences.push(`The values of ${names.second} lie above those of ${names.first} by ${quotientText(report.estimate)}, the `
+    + `median of ${grouped(report.differences)} differences; a number below 0 says that they lie below.`);
+  if (report.lower === null) {
+    sentences.push('No limits miss so little: there are too few values, or too little may be missed.');
+    return { sentences, tails: [] };
+  }
+  sentences.push(`The exact limits are ${quotientText(report.lower)} and ${quotientText(report.upper)}.`);
+  sentences.push(`They miss the shift in ${miss.over}/${miss.under} = ${miss.decimals} of all cases, so the confidence is `
+    + `${miss.under - miss.over}/${miss.under}, about ${roundedText(miss.under - miss.over, miss.under)}.`);
+  return { sentences, tails: [] };
+}
