@@ -11,7 +11,7 @@ use Rattle.stage_network.specs.Completions.{total_weight}
 use Rattle.stage_network.specs.Network.{IsReached}
 use Rattle.room_network.specs.Plans.{alone}
 use Rattle.homogeneity.specs.RankRooms.{column_at, counts_from, left, rank_floor, rank_plan, remaining, ways_of}
-use Rattle.homogeneity.specs.RankSteps.{AreColumns, AreFitColumns, AreLaterWays, IsOneCount, later_ways}
+use Rattle.homogeneity.specs.RankSteps.{AreColumns, AreFitColumns, AreLaterWays, RankChoice, RankSeat, later_ways}
 use Rattle.homogeneity.specs.declared.rank_columns.Column.{Column}
 use Rattle.homogeneity.proofs.RankPlans.{IsChoiceAt, IsRoomAt, Weighs, choice_at, columns-from, later-least, room_at, rest_at, stage-split, stage_at, weighs_at, weight_at}
 use Rattle.homogeneity.proofs.RankSums.{columns-sound_at}
@@ -21,46 +21,39 @@ pub left-few : (columns : List Column) → AreColumns columns → left columns �
 left-few [] s = omega arith
 left-few (c ∷ columns) s = s.0.small
 
-pub record Seat (columns : List Column) (second g : ℕ) (room : List ℤ) : Type 0 where
-  pub one : IsOneCount room
-  pub within : remaining room ≤ left (drop g columns)
-  pub sound : AreColumns (drop g columns)
-  pub stage : g ≤ length columns
-  pub few : left (drop g columns) ≤ 10000
-  pub weighs : Weighs columns g (remaining room)
-  pub total : total_weight (alone (rank_plan columns second)) g room ≡ ways_of (left (drop g columns)) (remaining room) * later_ways (drop g columns)
-
-pub record ChoiceSeat (columns : List Column) (g : ℕ) (room : List ℤ) (x : List ℕ) : Type 0 where
-  pub within : slice_index x 0 ≤ (column_at columns g).size
-  pub most : slice_index x 0 ≤ remaining room
-  pub fits : ways_of (column_at columns g).size (slice_index x 0) ≤ MAX
-  pub few : (column_at columns g).size ≤ 10000
+pub table-read : (columns : List Column) (ways : List ℕ) (g : ℕ) → AreLaterWays columns (length columns) ways → g ≤ length columns → get_or ways (length columns - g) 0 ≡ later_ways (drop g columns)
+table-read columns ways g a h =
+    let back : length columns - (length columns - g) ≡ g = omega (arith, h) in
+    a.each (length columns - g) (omega arith) ∙ ap (λ i. later_ways (drop i columns)) back
 
 module _ (columns : List Column) (second : ℕ) (f : AreFitColumns columns second) where
   s : AreColumns columns
   s = columns-sound_at columns f.sound
 
-  pub seat : (g : ℕ) (room : List ℤ) → IsReached (alone (rank_plan columns second)) g room → Seat columns second g room
-  seat g room a =
+  pub seat : (ways : List ℕ) → AreLaterWays columns (length columns) ways → (g : ℕ) (room : List ℤ) → IsReached (alone (rank_plan columns second)) g room → RankSeat columns second ways g room
+  seat ways w g room a =
       let at : IsRoomAt columns g room = room_at columns second s f.within g room a in
       let same : remaining room ≡ at.count = ap remaining at.is in
       let is : room ≡ pos (remaining room) ∷ [] = at.is ∙ ap (λ n. pos n ∷ []) (sym same) in
       let within : remaining room ≤ left (drop g columns) = omega (arith, same, at.within) in
       let few : left (drop g columns) ≤ 10000 = left-few (drop g columns) (columns-from columns g s) in
       let stage : g ≤ length columns = stage_at columns second s f.within g room a in
+      let weighs : Weighs columns g (remaining room) = weighs_at columns second f g room (remaining room) a is within in
       record {
         one = record { is = is; small = omega (arith, within, few) };
         within = within;
         sound = columns-from columns g s;
         stage = stage;
         few = few;
-        weighs = weighs_at columns second f g room (remaining room) a is within;
+        own = weighs.own;
+        behind = table-read columns ways g w stage;
+        both = weighs.rest;
         total = ap (total_weight (alone (rank_plan columns second)) g) is ∙ rest_at columns second s f.within g (remaining room) stage within;
       }
 
-  pub choice-seat : (g : ℕ) (room : List ℤ) (x : List ℕ) → IsReached (alone (rank_plan columns second)) g room → g < length columns → Contains ((rank_floor columns second).choices g room) x → ChoiceSeat columns g room x
-  choice-seat g room x a before o =
-      let here : Seat columns second g room = seat g room a in
+  pub choice-seat : (ways : List ℕ) → AreLaterWays columns (length columns) ways → (g : ℕ) (room : List ℤ) (x : List ℕ) → IsReached (alone (rank_plan columns second)) g room → g < length columns → Contains ((rank_floor columns second).choices g room) x → RankChoice (column_at columns g) room x
+  choice-seat ways w g room x a before o =
+      let here : RankSeat columns second ways g room = seat ways w g room a in
       let choice : IsChoiceAt columns g (remaining room) x = choice_at columns second s g (remaining room) x before here.within (subst (λ k. Contains ((rank_floor columns second).choices g k) x) here.one.is o) in
       let same : slice_index x 0 ≡ choice.count = ap (λ xs. slice_index xs 0) choice.is in
       record {
@@ -73,9 +66,9 @@ module _ (columns : List Column) (second : ℕ) (f : AreFitColumns columns secon
   least-meets : (g r : ℕ) → g < length columns → r ≤ left (drop g columns) → r - (column_at columns g).later ≤ min (column_at columns g).size r
   least-meets g r before h = omega (arith, subst (λ n. r ≤ n) (ap left (stage-split columns g before)) h)
 
-  pub first-counts : (g : ℕ) (room : List ℤ) → IsReached (alone (rank_plan columns second)) g room → g < length columns → let x = (remaining room - (column_at columns g).later) ∷ [] in (rank_floor columns second).choices g room ≡ x ∷ (rank_floor columns second).later g room x
-  first-counts g room a before =
-      let h = least-meets g (remaining room) before (seat g room a).within in
+  pub first-counts : (g : ℕ) (room : List ℤ) → remaining room ≤ left (drop g columns) → g < length columns → let x = (remaining room - (column_at columns g).later) ∷ [] in (rank_floor columns second).choices g room ≡ x ∷ (rank_floor columns second).later g room x
+  first-counts g room within before =
+      let h = least-meets g (remaining room) before within in
       let e : min (column_at columns g).size (remaining room) + 1 - (remaining room - (column_at columns g).later) ≡ suc (min (column_at columns g).size (remaining room) - (remaining room - (column_at columns g).later)) = omega (arith, h) in
       ap (counts_from (remaining room - (column_at columns g).later)) e
 
@@ -107,11 +100,6 @@ own-fits c columns b e same h =
   where
     first-within : (a b : ℕ) → 1 ≤ b → a * b ≤ MAX → a ≤ MAX
     first-within a b h l = grind arith
-
-pub table-read : (columns : List Column) (ways : List ℕ) (g : ℕ) → AreLaterWays columns (length columns) ways → g ≤ length columns → get_or ways (length columns - g) 0 ≡ later_ways (drop g columns)
-table-read columns ways g a h =
-    let back : length columns - (length columns - g) ≡ g = omega (arith, h) in
-    a.each (length columns - g) (omega arith) ∙ ap (λ i. later_ways (drop i columns)) back
 
 -- a place past the others of a list
 pub table-more : (columns : List Column) (done : ℕ) (ways : List ℕ) (w : ℕ) → AreLaterWays columns done ways → done < length columns → w ≡ later_ways (column_at columns (length columns - done - 1) ∷ drop (length columns - done - 1 + 1) columns) → AreLaterWays columns (done + 1) (ways ++ w ∷ [])

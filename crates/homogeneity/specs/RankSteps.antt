@@ -1,11 +1,13 @@
 -- Words for the bodies: what columns owe each other, and what is kept of each stage.
-use Rattle.std.specs.Prelude.{◌≡◌, ⊤, ℕ, ℤ, pos, ◌+◌, ◌-◌, ◌*◌, ◌<◌, ◌≤◌, List, [], ◌∷◌, drop, get_or, length, nat_eq, unsigned_abs, if◌then◌else◌}
+use Rattle.std.specs.Prelude.{◌≡◌, ⊤, ℕ, ℤ, pos, ◌+◌, ◌-◌, ◌*◌, ◌<◌, ◌≤◌, List, [], ◌∷◌, drop, get_or, length, slice_index, nat_eq, unsigned_abs, if◌then◌else◌}
 use Rattle.std.specs.List.{sum}
 use Rattle.weights.specs.declared.TheConstants.{MAX}
 use Rattle.midranks.specs.declared.TheConstants.{MOST_VALUES}
+use Rattle.stage_network.specs.Completions.{total_weight}
 use Rattle.stage_network.specs.Judged.{JudgeFits}
 use Rattle.stage_network.specs.declared.verdicts.Judge.{Judge}
-use Rattle.homogeneity.specs.RankRooms.{column_at, column_ranks, left, remaining, ways_of}
+use Rattle.room_network.specs.Plans.{alone}
+use Rattle.homogeneity.specs.RankRooms.{column_at, column_ranks, left, rank_plan, remaining, ways_of}
 use Rattle.homogeneity.specs.declared.rank_columns.Column.{Column}
 
 -- the rank of the first column, 0 where there is none
@@ -57,6 +59,28 @@ pub record AreRankRooms (columns : List Column) (second : ℕ) (ways : List ℕ)
 pub record IsOneCount (room : List ℤ) : Type 0 where
   pub is : room ≡ pos (remaining room) ∷ []
   pub small : remaining room ≤ MOST_VALUES
+
+-- what is known of a room that is reached: how many are left from its stage on, and how many
+-- labellings they and those behind them have, of which none passes the limit
+pub record RankSeat (columns : List Column) (second : ℕ) (ways : List ℕ) (g : ℕ) (room : List ℤ)
+    : Type 0 where
+  pub one : IsOneCount room
+  pub stage : g ≤ length columns
+  pub sound : AreColumns (drop g columns)
+  pub few : left (drop g columns) ≤ MOST_VALUES
+  pub within : remaining room ≤ left (drop g columns)
+  pub own : ways_of (left (drop g columns)) (remaining room) ≤ MAX
+  pub behind : get_or ways (length columns - g) 0 ≡ later_ways (drop g columns)
+  pub both : ways_of (left (drop g columns)) (remaining room) * later_ways (drop g columns) ≤ MAX
+  pub total : total_weight (alone (rank_plan columns second)) g room
+      ≡ ways_of (left (drop g columns)) (remaining room) * later_ways (drop g columns)
+
+-- and of a choice there
+pub record RankChoice (column : Column) (room : List ℤ) (x : List ℕ) : Type 0 where
+  pub within : slice_index x 0 ≤ column.size
+  pub most : slice_index x 0 ≤ remaining room
+  pub fits : ways_of column.size (slice_index x 0) ≤ MAX
+  pub few : column.size ≤ MOST_VALUES
 
 -- and rules that compute no great number of a sum of ranks
 pub record AreRankSums (columns : List Column) (second : ℕ) (judge : Judge) : Type 0 where
