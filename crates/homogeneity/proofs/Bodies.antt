@@ -7,10 +7,10 @@ use mir.Val.{to_z}
 use Rattle.weights.proofs.Items.{one_item}
 use Rattle.strata_cells.specs.declared.stratum.Stratum.{Stratum}
 use Rattle.strata_cells.specs.Strata.{stratum_at}
-use Rattle.homogeneity.specs.ZelenNetwork.{choices_between, chosen, even_plan, greatest_choice, least_choice, sum_left}
+use Rattle.homogeneity.specs.ZelenNetwork.{choices_between, chosen, greatest_choice, least_choice, sum_left, zelen_plan}
 use Rattle.homogeneity.specs.ZelenSteps.{AreSummed}
-use Rattle.homogeneity.proofs.EvenMeasures.{RoomParts}
-use Rattle.homogeneity.proofs.EvenWays.{first-choice, here-can}
+use Rattle.homogeneity.proofs.ZelenMeasures.{RoomParts}
+use Rattle.homogeneity.proofs.ZelenPlans.{first-choice, here-can}
 use Rattle.homogeneity.proofs.Given.{choice-range}
 use Rattle.homogeneity.proofs.Windows.{most-few}
 
@@ -26,7 +26,7 @@ module _ (strata : List Stratum) (sum : ℕ) (d : AreSummed strata sum) where
   left-small g room r = omega (arith, r.left.most, most-few strata sum d g)
 
   pub room-first : (g : ℕ) (room : List ℤ) (choice : List ℕ) (x : ℕ) → RoomParts strata sum d.can g room → g < length strata → length choice ≡ 1 → x ≡ least_choice (stratum_at strata g) (drop (g + 1) strata) (sum_left room)
-      → (even_plan strata sum).floor.choices g room ≡ set choice 0 x ∷ (even_plan strata sum).floor.later g room (set choice 0 x)
+      → (zelen_plan strata sum).floor.choices g room ≡ set choice 0 x ∷ (zelen_plan strata sum).floor.later g room (set choice 0 x)
   room-first g room choice x r before long e =
       let s = stratum_at strata g in
       let later = drop (g + 1) strata in

@@ -7,7 +7,7 @@ use Rattle.strata_cells.specs.Strata.{cell_weight, cells_of, cells_weight, strat
 use Rattle.strata_cells.proofs.FirstCells.{left-within, right-within, weight-some}
 use Rattle.strata_cells.proofs.StrataSums.{next-drop, past-drop}
 use Rattle.homogeneity.specs.ZelenMade.{own_cells}
-use Rattle.homogeneity.proofs.EvenTests.{cells-some}
+use Rattle.homogeneity.proofs.ZelenTests.{cells-some}
 use Rattle.homogeneity.proofs.Rarities.{AreCells}
 
 product-some : (a b : ℕ) → 1 ≤ a → 1 ≤ b → 1 ≤ a * b

@@ -13,7 +13,7 @@ use Rattle.room_network.specs.Plans.{alone}
 use Rattle.homogeneity.specs.RankRooms.{column_at, counts_from, left, rank_floor, rank_plan, remaining, ways_of}
 use Rattle.homogeneity.specs.RankSteps.{AreColumns, AreFitColumns, AreLaterWays, RankChoice, RankSeat, later_ways}
 use Rattle.homogeneity.specs.declared.rank_columns.Column.{Column}
-use Rattle.homogeneity.proofs.RankPlans.{IsChoiceAt, IsRoomAt, Weighs, choice_at, columns-from, later-least, room_at, rest_at, stage-split, stage_at, weighs_at, weight_at}
+use Rattle.homogeneity.proofs.RankPlans.{IsChoiceAt, IsRoomAt, Weighs, choice_at, columns-from, later-least, rest_at, room_at, stage-split, stage_at, weighs_at, weight_at}
 use Rattle.homogeneity.proofs.RankSums.{columns-sound_at}
 use Rattle.homogeneity.proofs.TwoParts.{halves}
 

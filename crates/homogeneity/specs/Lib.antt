@@ -4,7 +4,7 @@ pub mod ZelenNetwork
 pub mod RankRooms
 pub mod RankNetworks
 pub mod Homogeneities
-pub mod EvenSteps
+pub mod SumSteps
 pub mod ZelenSteps
 pub mod ZelenMade
 pub mod RankSteps

@@ -68,7 +68,7 @@ pub record AreLesser (strata : List Stratum) (g : ℕ) (lesser : List ℕ) : Typ
       → slice_index lesser i ≡ lesser_weights (drop (length strata - i) strata)
 
 -- what a measure keeps: these products, and rules that compute no number past a limit
-pub record IsEvenMeasure (strata : List Stratum) (lesser : List ℕ) (judge : Judge) : Type 0 where
+pub record IsZelenMeasure (strata : List Stratum) (lesser : List ℕ) (judge : Judge) : Type 0 where
   pub lesser_are : AreLesser strata 0 lesser
   pub rules_fit : (v : ℤ) → JudgeFits judge v
 

@@ -6,7 +6,7 @@ ghost use Rattle.stage_network.specs.Network.{IsReached};
 ghost use Rattle.room_network.specs.Plans.{alone};
 ghost use Rattle.homogeneity.specs.RankRooms.{column_at, left, rank_plan, remaining, remaining_after, ways_of};
 ghost use Rattle.homogeneity.specs.RankSteps.{AreColumns, AreFitColumns, AreLaterWays};
-ghost use Rattle.homogeneity.specs.RankSteps.{AreRankRooms, RankChoice, IsOneCount, RankSeat, later_ways};
+ghost use Rattle.homogeneity.specs.RankSteps.{AreRankRooms, IsOneCount, RankChoice, RankSeat, later_ways};
 
 use crate::rank_columns::Column;
 use room_network::Rooms;

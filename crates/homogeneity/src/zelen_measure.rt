@@ -5,7 +5,7 @@ ghost use Rattle.stage_network.specs.Judged.{JudgeFits};
 ghost use Rattle.strata_cells.specs.Strata.{cell_weight, greatest_cell, least_cell};
 ghost use Rattle.strata_cells.specs.StrataLimits.{IsSmall};
 ghost use Rattle.homogeneity.specs.ZelenNetwork.{lesser_weight, lesser_weights};
-ghost use Rattle.homogeneity.specs.ZelenSteps.{AreLesser, AreRests, IsEvenMeasure};
+ghost use Rattle.homogeneity.specs.ZelenSteps.{AreLesser, AreRests, IsZelenMeasure};
 
 use crate::rests::{Rests, left_in};
 use room_network::{NumberMeasure, Operation};
@@ -26,7 +26,7 @@ pub struct ZelenMeasure {
     // The products of the lesser weights of the later strata, the last stage first.
     lesser: List<u128>,
     judge: Judge,
-    ghost right: { IsEvenMeasure rests.strata lesser judge },
+    ghost right: { IsZelenMeasure rests.strata lesser judge },
 }
 
 // The lesser of what the least and the greatest first cell weigh. One of them may pass the greatest
@@ -95,11 +95,11 @@ impl ZelenMeasure {
 }
 
 impl NumberMeasure for ZelenMeasure {
-    ghost use Rattle.homogeneity.specs.ZelenNetwork.{even_floor, even_numbers};
+    ghost use Rattle.homogeneity.specs.ZelenNetwork.{zelen_floor, zelen_numbers};
 
-    ghost floor = { λ m. even_floor m.rests.strata m.rests.sum };
+    ghost floor = { λ m. zelen_floor m.rests.strata m.rests.sum };
 
-    ghost numbers = { λ m. even_numbers m.rests.strata m.judge };
+    ghost numbers = { λ m. zelen_numbers m.rests.strata m.judge };
 
     #[inline(always)]
     fn judge(&self) -> &Judge {

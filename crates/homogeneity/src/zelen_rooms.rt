@@ -20,9 +20,9 @@ impl ZelenRooms {
 }
 
 impl Rooms for ZelenRooms {
-    ghost use Rattle.homogeneity.specs.ZelenNetwork.{even_plan};
+    ghost use Rattle.homogeneity.specs.ZelenNetwork.{zelen_plan};
 
-    ghost plan = { λ s. even_plan s.rests.strata s.rests.sum };
+    ghost plan = { λ s. zelen_plan s.rests.strata s.rests.sum };
 
     fn stages(&self) -> usize {
         self.rests.strata.len()

@@ -3,7 +3,7 @@ use Rattle.strata_cells.specs.declared.stratum.Stratum.{Stratum}
 use Rattle.strata_cells.specs.Strata.{cells_weight, stratum_at}
 use Rattle.homogeneity.specs.ZelenMade.{own_cells}
 use Rattle.homogeneity.proofs.CellProducts.{IsWeighing, own-step, weigh-cell, weigh-first, weigh-next, weigh-product}
-use Rattle.homogeneity.proofs.EvenTests.{own-cells_are}
+use Rattle.homogeneity.proofs.ZelenTests.{own-cells_are}
 use Rattle.homogeneity.proofs.cell_weights.own_weight.Goals as goal
 
 pub loop-stratum-init : goal.loop-stratum-init

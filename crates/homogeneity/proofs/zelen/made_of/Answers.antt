@@ -5,7 +5,7 @@ use Rattle.weights.specs.Frames.{IsFrameOf}
 use Rattle.strata_cells.specs.declared.stratum.Stratum.{Stratum}
 use Rattle.strata_cells.specs.Strata.{row_counts, strata_of}
 use Rattle.strata_cells.proofs.StrataReads.{strata-few, strata-small}
-use Rattle.homogeneity.specs.Zelen.{even_test}
+use Rattle.homogeneity.specs.Zelen.{observed_sum_test}
 use Rattle.homogeneity.specs.ZelenNetwork.{number_with, own_sum}
 use Rattle.homogeneity.proofs.ZelenWays.{summed}
 use Rattle.homogeneity.proofs.zelen.made_of.Goals as goal
@@ -44,6 +44,6 @@ returns c =
         few = strata-few cells c.args.strata.now.few_enough;
         sizes_are = ap (λ (ts : List Stratum). map sum (map row_counts ts)) (sym (c.as_slice-4.ensures ∙ tables)) ∙ c.in_ok-sizes.ensures;
       };
-      frame_is = subst (λ (ts : List Stratum). IsFrameOf (even_test ts) c.frame_of-frame.result) (c.as_slice-3.ensures ∙ tables) c.frame_of-frame.ensures;
+      frame_is = subst (λ (ts : List Stratum). IsFrameOf (observed_sum_test ts) c.frame_of-frame.result) (c.as_slice-3.ensures ∙ tables) c.frame_of-frame.ensures;
       fits = subst (λ n. number_with ss n ≤ MAX) summed_is (subst (λ (ts : List Stratum). number_with ts c.own_sum-sum.result ≤ MAX) tables fits);
     }

@@ -1,6 +1,6 @@
 use Rattle.std.proofs.Common.{arith}
 use Rattle.homogeneity.proofs.Bodies.{left-small}
-use Rattle.homogeneity.proofs.EvenMeasures.{place-of}
+use Rattle.homogeneity.proofs.ZelenMeasures.{place-of}
 use Rattle.homogeneity.proofs.Remaining.{number-within}
 use Rattle.homogeneity.proofs.Windows.{lesser-within}
 use Rattle.homogeneity.proofs.zelen_measure.ZelenMeasureNumberMeasure.later.Goals as goal

@@ -1,6 +1,6 @@
 use Rattle.std.proofs.Common.{arith}
 use Rattle.homogeneity.proofs.Bodies.{one-number}
-use Rattle.homogeneity.proofs.EvenMeasures.{choice, place-of, weight-within}
+use Rattle.homogeneity.proofs.ZelenMeasures.{choice, place-of, weight-within}
 use Rattle.homogeneity.proofs.zelen_measure.ZelenMeasureNumberMeasure.number.Goals as goal
 
 pub bounds-choice-0 : goal.bounds-choice-0

@@ -1,7 +1,7 @@
 use Rattle.std.proofs.Common.{◌∙◌, ap, set, arith}
 use Rattle.weights.proofs.Items.{one_item}
 use Rattle.homogeneity.proofs.Bodies.{left-small, signed}
-use Rattle.homogeneity.proofs.EvenMeasures.{choice, room-parts, weight-within}
+use Rattle.homogeneity.proofs.ZelenMeasures.{choice, room-parts, weight-within}
 use Rattle.homogeneity.proofs.zelen_rooms.ZelenRoomsRooms.cross.Goals as goal
 
 pub left_in-requires-clause-few : goal.left_in-requires-clause-few

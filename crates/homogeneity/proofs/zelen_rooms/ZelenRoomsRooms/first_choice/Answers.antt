@@ -2,7 +2,7 @@ use Rattle.std.proofs.Common.{◌∙◌, ◌+◌, ap, drop}
 use Rattle.strata_cells.specs.Strata.{stratum_at}
 use Rattle.homogeneity.specs.ZelenNetwork.{least_choice}
 use Rattle.homogeneity.proofs.Bodies.{left-small, room-first}
-use Rattle.homogeneity.proofs.EvenMeasures.{room-parts}
+use Rattle.homogeneity.proofs.ZelenMeasures.{room-parts}
 use Rattle.homogeneity.proofs.zelen_rooms.ZelenRoomsRooms.first_choice.Goals as goal
 
 pub left_in-requires-clause-few : goal.left_in-requires-clause-few

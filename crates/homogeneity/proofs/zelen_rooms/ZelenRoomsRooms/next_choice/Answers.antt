@@ -2,7 +2,7 @@ use Rattle.std.proofs.Common.{◌≡◌, ◌∙◌, ◌+◌, ap, drop}
 use Rattle.strata_cells.specs.Strata.{stratum_at}
 use Rattle.homogeneity.specs.ZelenNetwork.{greatest_choice, sum_left}
 use Rattle.homogeneity.proofs.Bodies.{left-small, room-next}
-use Rattle.homogeneity.proofs.EvenMeasures.{room-parts}
+use Rattle.homogeneity.proofs.ZelenMeasures.{room-parts}
 use Rattle.homogeneity.proofs.zelen_rooms.ZelenRoomsRooms.next_choice.Goals as goal
 
 pub left_in-requires-clause-few : goal.left_in-requires-clause-few

@@ -1,8 +1,8 @@
 use Rattle.std.proofs.Common.{◌∙◌, ap, sym, drop}
 use Rattle.homogeneity.specs.ZelenNetwork.{number_with}
 use Rattle.homogeneity.proofs.Bodies.{left-small}
-use Rattle.homogeneity.proofs.EvenMeasures.{room-parts}
-use Rattle.homogeneity.proofs.EvenWays.{rest-is}
+use Rattle.homogeneity.proofs.ZelenMeasures.{room-parts}
+use Rattle.homogeneity.proofs.ZelenPlans.{rest-is}
 use Rattle.homogeneity.proofs.zelen_rooms.ZelenRoomsRooms.rest.Goals as goal
 
 pub left_in-requires-clause-few : goal.left_in-requires-clause-few

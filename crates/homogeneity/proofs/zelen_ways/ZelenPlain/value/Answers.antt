@@ -5,7 +5,7 @@ use Rattle.std.proofs.lemmas.Int.{to_z-of_z}
 use Rattle.weights.specs.declared.TheConstants.{MAX}
 use Rattle.strata_cells.specs.declared.stratum.Stratum.{Stratum}
 use Rattle.strata_cells.specs.Strata.{cells_of, cells_weight, strata_labellings, strata_of}
-use Rattle.homogeneity.proofs.EvenTests.{member-weight, rarity-member}
+use Rattle.homogeneity.proofs.ZelenTests.{member-weight, rarity-member}
 use Rattle.homogeneity.proofs.ZelenWays.{member-labels}
 use Rattle.homogeneity.proofs.zelen_ways.ZelenPlain.value.Goals as goal
 

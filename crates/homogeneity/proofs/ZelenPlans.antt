@@ -19,8 +19,8 @@ use Rattle.strata_cells.specs.Strata.{cell_weight, cells_of, first_cells, greate
 use Rattle.strata_cells.proofs.CellLaws.{by-cells}
 use Rattle.strata_cells.proofs.FirstCells.{cells-sum, own-cells, weight-some}
 use Rattle.strata_cells.proofs.StrataSums.{drop-head, next-drop}
-use Rattle.homogeneity.specs.Zelen.{even_labellings, has_sum, observed_labels}
-use Rattle.homogeneity.specs.ZelenNetwork.{choices_between, chosen, even_floor, even_plan, even_weights, greatest_choice, least_choice, number_with, own_sum, sum_left}
+use Rattle.homogeneity.specs.Zelen.{has_sum, observed_labels, observed_sum_labellings}
+use Rattle.homogeneity.specs.ZelenNetwork.{choices_between, chosen, greatest_choice, least_choice, number_with, own_sum, sum_left, zelen_floor, zelen_plan, zelen_weights}
 use Rattle.homogeneity.specs.ZelenSteps.{CanHave}
 use Rattle.homogeneity.proofs.Given.{can-next, choice-range, number-is, over-none, with-choices, with_cell, with_sum}
 use Rattle.homogeneity.proofs.WaySums.{gather, gather-none, gather-step}
@@ -67,7 +67,7 @@ once n = omega arith
 
 module _ (strata : List Stratum) (total : ℕ) where
   abbrev plan : Plan
-  plan = even_plan strata total
+  plan = zelen_plan strata total
 
   -- the ways of a room are the labellings of the later strata that have its sum
   module _ (t : Stratum) (ts : List Stratum) (g left : ℕ) (f : List (List ℕ) → ℕ) where
@@ -77,7 +77,7 @@ module _ (strata : List Stratum) (total : ℕ) where
     room-step : drop g strata ≡ t ∷ ts → g < length strata → gather (alone plan) (suc (length ts)) g (pos left ∷ []) f ≡ sum_by with_choice (range_with_len (least_choice t ts left) (greatest_choice t ts left + 1 - least_choice t ts left))
     room-step d before =
         let here = drop-head g strata t ts d in
-        let term : List ℕ → ℕ = λ c. even_weights strata g (pos left ∷ []) c * gather (alone plan) (length ts) (g + 1) (plan.floor.next g (pos left ∷ []) c) (λ w. f (c ∷ w)) in
+        let term : List ℕ → ℕ = λ c. zelen_weights strata g (pos left ∷ []) c * gather (alone plan) (length ts) (g + 1) (plan.floor.next g (pos left ∷ []) c) (λ w. f (c ∷ w)) in
         gather-step (alone plan) (length ts) g (pos left ∷ []) f
         ∙ ap (sum_by term) (choices_before plan g (pos left ∷ []) before)
         ∙ ap (λ (s : Stratum). sum_by term (choices_between (least_choice s (drop (g + 1) strata) left) (greatest_choice s (drop (g + 1) strata) left))) here.0
@@ -101,31 +101,31 @@ module _ (strata : List Stratum) (total : ℕ) where
       ap (λ n. cell_weight t x * n) (ways-from ts (g + 1) (left - x) (done + x) all (λ w. f ((x ∷ []) ∷ w)) here.1 (omega (arith, e)) (omega (arith, sums, most, r.within)) (can-next t ts left can x l most))))
       ∙ sym (with-choices t ts left can done all (λ cells. f (cut cells)) sums)
 
-  pub even_width : KeepsWidth (even_floor strata total)
-  even_width = record { first_long = refl; next_long = λ g room c e. refl }
+  pub zelen_width : KeepsWidth (zelen_floor strata total)
+  zelen_width = record { first_long = refl; next_long = λ g room c e. refl }
 
   module _ (start : CanHave strata total) where
     -- what a reached room has
-    pub record IsEvenRoom (g : ℕ) (room : List ℤ) : Type 0 where
+    pub record IsZelenRoom (g : ℕ) (room : List ℤ) : Type 0 where
       pub held : room ≡ pos (sum_left room) ∷ []
       pub stage : g ≤ length strata
       pub can : CanHave (drop g strata) (sum_left room)
 
-    room-of : (g : ℕ) (room : List ℤ) (left : ℕ) → room ≡ pos left ∷ [] → g ≤ length strata → CanHave (drop g strata) left → IsEvenRoom g room
+    room-of : (g : ℕ) (room : List ℤ) (left : ℕ) → room ≡ pos left ∷ [] → g ≤ length strata → CanHave (drop g strata) left → IsZelenRoom g room
     room-of g room left e h can = rw e (record { held = refl; stage = h; can = can })
 
     -- what is allowed there
-    pub record IsEvenChoice (g : ℕ) (room : List ℤ) (c : List ℕ) : Type 0 where
+    pub record IsZelenChoice (g : ℕ) (room : List ℤ) (c : List ℕ) : Type 0 where
       pub between : IsBetween (least_choice (stratum_at strata g) (drop (g + 1) strata) (sum_left room)) (greatest_choice (stratum_at strata g) (drop (g + 1) strata) (sum_left room)) c
       pub can : CanHave (drop (g + 1) strata) (sum_left room - chosen c)
       pub least : least_cell (stratum_at strata g) ≤ chosen c
       pub most : chosen c ≤ greatest_cell (stratum_at strata g)
       pub left : chosen c ≤ sum_left room
 
-    pub here-can : (g : ℕ) (room : List ℤ) → IsEvenRoom g room → g < length strata → CanHave (stratum_at strata g ∷ drop (g + 1) strata) (sum_left room)
+    pub here-can : (g : ℕ) (room : List ℤ) → IsZelenRoom g room → g < length strata → CanHave (stratum_at strata g ∷ drop (g + 1) strata) (sum_left room)
     here-can g room r before = subst (λ ts. CanHave ts (sum_left room)) (next-drop strata g before) r.can
 
-    pub choice-of : (g : ℕ) (room : List ℤ) (c : List ℕ) → IsEvenRoom g room → g < length strata → Contains (plan.floor.choices g room) c → IsEvenChoice g room c
+    pub choice-of : (g : ℕ) (room : List ℤ) (c : List ℕ) → IsZelenRoom g room → g < length strata → Contains (plan.floor.choices g room) c → IsZelenChoice g room c
     choice-of g room c r before m =
         let can = here-can g room r before in
         let range = choice-range (stratum_at strata g) (drop (g + 1) strata) (sum_left room) can in
@@ -138,14 +138,14 @@ module _ (strata : List Stratum) (total : ℕ) where
           left = omega (arith, range.within, b.most);
         }
 
-    pub even-room : (g : ℕ) (room : List ℤ) → IsReached (alone plan) g room → IsEvenRoom g room
-    even-room zero room r = room-of 0 room total r (omega arith) start
-    even-room (suc g) room (j, c, r, before, o, e) =
-        let past = even-room g j r in
+    pub zelen-room : (g : ℕ) (room : List ℤ) → IsReached (alone plan) g room → IsZelenRoom g room
+    zelen-room zero room r = room-of 0 room total r (omega arith) start
+    zelen-room (suc g) room (j, c, r, before, o, e) =
+        let past = zelen-room g j r in
         let choice = choice-of g j c past before (is_allowed plan g j c before o) in
         room-of (suc g) room (sum_left j - chosen c) e (omega (arith, before)) (subst (λ n. CanHave (drop n strata) (sum_left j - chosen c)) (add-one g) choice.can)
 
-    pub rest-is : (g : ℕ) (room : List ℤ) → IsEvenRoom g room → total_weight (alone plan) g room ≡ number_with (drop g strata) (sum_left room)
+    pub rest-is : (g : ℕ) (room : List ℤ) → IsZelenRoom g room → total_weight (alone plan) g room ≡ number_with (drop g strata) (sum_left room)
     unfolding total_weight
     rest-is g room r =
         let left : ℕ = sum_left room in
@@ -156,28 +156,28 @@ module _ (strata : List Stratum) (total : ℕ) where
         ∙ ways-from (drop g strata) g left 0 left (λ w. 1) refl (omega (arith, stages, r.stage)) (omega arith) r.can
         ∙ sym (number-is (drop g strata) left)
 
-    first-room : IsEvenRoom 0 (pos total ∷ [])
-    first-room = even-room 0 (pos total ∷ []) refl
+    first-room : IsZelenRoom 0 (pos total ∷ [])
+    first-room = zelen-room 0 (pos total ∷ []) refl
 
-    pub even_sound : number_with strata total ≤ MAX → IsPlan plan
-    even_sound fits = record {
-      first_long = even_width.first_long;
-      next_long = even_width.next_long;
-      some_choice = λ g room r before e. (let range = choice-range (stratum_at strata g) (drop (g + 1) strata) (sum_left room) (here-can g room (even-room g room r) before) in
+    pub zelen_sound : number_with strata total ≤ MAX → IsPlan plan
+    zelen_sound fits = record {
+      first_long = zelen_width.first_long;
+      next_long = zelen_width.next_long;
+      some_choice = λ g room r before e. (let range = choice-range (stratum_at strata g) (drop (g + 1) strata) (sum_left room) (here-can g room (zelen-room g room r) before) in
           let first = first-choice (least_choice (stratum_at strata g) (drop (g + 1) strata) (sum_left room)) (greatest_choice (stratum_at strata g) (drop (g + 1) strata) (sum_left room)) range.some in
           absurd (cc (first, e)));
       different = λ g room r before. different (least_choice (stratum_at strata g) (drop (g + 1) strata) (sum_left room)) (greatest_choice (stratum_at strata g) (drop (g + 1) strata) (sum_left room));
-      weighty = λ g room c r before o. (let choice = choice-of g room c (even-room g room r) before o in weight-some (stratum_at strata g) (chosen c) choice.least choice.most);
+      weighty = λ g room c r before o. (let choice = choice-of g room c (zelen-room g room r) before o in weight-some (stratum_at strata g) (chosen c) choice.least choice.most);
       fits = omega (arith, rest-is 0 (pos total ∷ []) first-room, fits);
     }
 
 -- the law
 module _ (strata : List Stratum) (can : CanHave strata (own_sum strata)) where
-  pub even_gives : Gives (even_plan strata (own_sum strata)) (even_labellings strata) unit_weight (λ xs. cut (cells_of strata xs))
-  even_gives = record {
+  pub zelen_gives : Gives (zelen_plan strata (own_sum strata)) (observed_sum_labellings strata) unit_weight (λ xs. cut (cells_of strata xs))
+  zelen_gives = record {
     law = λ f. (let all : ℕ = own_sum strata in
         let given : ℕ = first_cells strata (observed_labels strata) in
-        ap (λ m. gather (alone (even_plan strata all)) m 0 (pos all ∷ []) f) (let e : length strata - 0 ≡ length strata = omega arith in e)
+        ap (λ m. gather (alone (zelen_plan strata all)) m 0 (pos all ∷ []) f) (let e : length strata - 0 ≡ length strata = omega arith in e)
         ∙ ways-from strata all strata 0 all 0 all f refl (omega arith) (omega arith) can
         ∙ sym (by-cells strata (λ cells. cond (nat_eq (0 + sum cells) all) (f (cut cells)) 0))
         ∙ sum_by-same (λ xs. cond (nat_eq (0 + sum (cells_of strata xs)) all) (f (cut (cells_of strata xs))) 0) (λ xs. cond (has_sum strata given xs) (1 * f (cut (cells_of strata xs))) 0) (λ xs.

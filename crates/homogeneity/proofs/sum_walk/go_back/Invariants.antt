@@ -1,5 +1,5 @@
-use Rattle.homogeneity.proofs.EvenWalk.{IsCounting}
-use Rattle.homogeneity.proofs.even_walk.go_back.Given as goal
+use Rattle.homogeneity.proofs.SumWalk.{IsCounting}
+use Rattle.homogeneity.proofs.sum_walk.go_back.Given as goal
 
 abbrev pub invariant-loop-left : goal.invariant-loop-left
 invariant-loop-left l = IsCounting l.fn.strata l.fn.sum l.fn.total l.left l.labels

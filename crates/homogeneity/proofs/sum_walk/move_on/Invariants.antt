@@ -1,8 +1,8 @@
 use Rattle.std.proofs.Common.{length}
 use Rattle.enumerate.specs.Walk.{members_after}
 use Rattle.strata_cells.specs.Strata.{strata_labellings}
-use Rattle.homogeneity.proofs.EvenWalk.{IsPassing}
-use Rattle.homogeneity.proofs.even_walk.move_on.Given as goal
+use Rattle.homogeneity.proofs.SumWalk.{IsPassing}
+use Rattle.homogeneity.proofs.sum_walk.move_on.Given as goal
 
 abbrev pub invariant-loop-labels : goal.invariant-loop-labels
 invariant-loop-labels l = IsPassing l.fn.strata l.fn.sum l.fn.labels l.labels

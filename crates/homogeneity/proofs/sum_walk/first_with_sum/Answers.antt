@@ -4,10 +4,10 @@ use Rattle.weights.proofs.Writes.{written_over-all}
 use Rattle.enumerate.specs.Walk.{BeginsWith}
 use Rattle.strata_cells.specs.Strata.{first_cells, strata_labellings}
 use Rattle.homogeneity.specs.Zelen.{has_sum}
-use Rattle.homogeneity.specs.EvenSteps.{IsOnward}
-use Rattle.homogeneity.proofs.EvenWalk.{begins-here, begins-later}
-use Rattle.homogeneity.proofs.even_walk.first_even.Goals as goal
-use Rattle.homogeneity.proofs.even_walk.first_even.Goals.{then-first_cells-sum, else-first_cells-sum}
+use Rattle.homogeneity.specs.SumSteps.{IsOnward}
+use Rattle.homogeneity.proofs.SumWalk.{begins-here, begins-later}
+use Rattle.homogeneity.proofs.sum_walk.first_with_sum.Goals as goal
+use Rattle.homogeneity.proofs.sum_walk.first_with_sum.Goals.{else-first_cells-sum, then-first_cells-sum}
 
 pub returns : goal.returns
 returns c =

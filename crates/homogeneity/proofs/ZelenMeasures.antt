@@ -16,9 +16,9 @@ use Rattle.strata_cells.specs.declared.stratum.Stratum.{Stratum}
 use Rattle.strata_cells.specs.Strata.{cell_weight, cells_weight, stratum_at}
 use Rattle.strata_cells.proofs.FirstCells.{left-within}
 use Rattle.strata_cells.proofs.StrataSums.{drop-head, next-drop}
-use Rattle.homogeneity.specs.ZelenNetwork.{chosen, even_floor, even_meaning, even_numbers, even_plan, even_weights, lesser_weight, lesser_weights, number_with, sum_left}
+use Rattle.homogeneity.specs.ZelenNetwork.{chosen, lesser_weight, lesser_weights, number_with, sum_left, zelen_floor, zelen_meaning, zelen_numbers, zelen_plan, zelen_weights}
 use Rattle.homogeneity.specs.ZelenSteps.{CanHave, IsLeft}
-use Rattle.homogeneity.proofs.EvenWays.{IsEvenChoice, IsEvenRoom, choice-of, cut, even-room, here-can}
+use Rattle.homogeneity.proofs.ZelenPlans.{IsZelenChoice, IsZelenRoom, choice-of, cut, here-can, zelen-room}
 use Rattle.homogeneity.proofs.Given.{number_by}
 use Rattle.homogeneity.proofs.Remaining.{left-can, left-first, left-next, lesser-number, number-some, number-term, number-within}
 use Rattle.homogeneity.proofs.Unimodal.{lesser-least}
@@ -38,27 +38,27 @@ times-one a = omega arith
 
 module _ (strata : List Stratum) (sum : ℕ) (can : CanHave strata sum) where
   abbrev plan : Plan
-  plan = even_plan strata sum
+  plan = zelen_plan strata sum
 
   -- a reached room has what can be left
   pub room-left : (g : ℕ) (room : List ℤ) → IsReached (alone plan) g room → IsLeft strata sum g (sum_left room)
   room-left zero room r = rw r (left-first strata sum can)
   room-left (suc g) room (j, c, r, before, o, e) =
-      let past = even-room strata sum can g j r in
+      let past = zelen-room strata sum can g j r in
       let choice = choice-of strata sum can g j c past before (is_allowed plan g j c before o) in
       rw (e, ← add-one g) (left-next strata sum can g before (sum_left j) (chosen c) (room-left g j r) choice.between.least choice.between.most)
 
   -- what the bodies read of a reached room
   pub record RoomParts (g : ℕ) (room : List ℤ) : Type 0 where
-    pub room_is : IsEvenRoom strata sum can g room
+    pub room_is : IsZelenRoom strata sum can g room
     pub left : IsLeft strata sum g (sum_left room)
 
   pub room-parts : (g : ℕ) (room : List ℤ) → IsReached (alone plan) g room → RoomParts g room
-  room-parts g room r = record { room_is = even-room strata sum can g room r; left = room-left g room r }
+  room-parts g room r = record { room_is = zelen-room strata sum can g room r; left = room-left g room r }
 
   -- a choice weighs no more than what remains of its room, with what remains after it
   module _ (g : ℕ) (room : List ℤ) (c : List ℕ) (r : RoomParts g room) (before : g < length strata) (m : Contains (plan.floor.choices g room) c) where
-    pub choice : IsEvenChoice strata sum can g room c
+    pub choice : IsZelenChoice strata sum can g room c
     choice = choice-of strata sum can g room c r.room_is before m
 
     pub weight-times : cell_weight (stratum_at strata g) (chosen c) * number_with (drop (g + 1) strata) (sum_left room - chosen c) ≤ number_with (drop g strata) (sum_left room)
@@ -75,27 +75,27 @@ module _ (strata : List Stratum) (sum : ℕ) (can : CanHave strata sum) where
 
   module _ (judge : Judge) where
     abbrev m : Meaning
-    m = even_meaning strata sum judge
+    m = zelen_meaning strata sum judge
 
     pub reached-room : (g : ℕ) (r p : List ℤ) → AreReached m g r p → IsReached (alone plan) g r
     reached-room zero r p a = a.0
     reached-room (suc g) r p (s, q, c, a, before, o, e, f) = (s, c, reached-room g s q a, before, subst (λ cs. Contains cs c) (sym (choices_before plan g s before)) o, e)
 
     -- what a reached room and partial have
-    pub record IsEvenPlace (g : ℕ) (r p : List ℤ) : Type 0 where
+    pub record IsZelenPlace (g : ℕ) (r p : List ℤ) : Type 0 where
       pub parts : RoomParts g r
       pub held : p ≡ pos (product_of p) ∷ []
       pub small : product_of p * number_with (drop g strata) (sum_left r) ≤ number_with strata sum
 
     small-next : (g : ℕ) (r : List ℤ) (c : List ℕ) (n : ℕ) → RoomParts g r → (before : g < length strata) → Contains (plan.floor.choices g r) c → n * number_with (drop g strata) (sum_left r) ≤ number_with strata sum
-        → (n * even_weights strata g r c) * number_with (drop (g + 1) strata) (sum_left r - chosen c) ≤ number_with strata sum
+        → (n * zelen_weights strata g r c) * number_with (drop (g + 1) strata) (sum_left r - chosen c) ≤ number_with strata sum
     small-next g r c n parts before o small =
-        let w : ℕ = even_weights strata g r c in
+        let w : ℕ = zelen_weights strata g r c in
         let rest : ℕ = number_with (drop (g + 1) strata) (sum_left r - chosen c) in
         let more : n * (w * rest) ≤ n * number_with (drop g strata) (sum_left r) = mul-le-mul_left n (weight-times g r c parts before o) in
         omega (arith, grouped n w rest, more, small)
 
-    pub place-of : (g : ℕ) (r p : List ℤ) → AreReached m g r p → IsEvenPlace g r p
+    pub place-of : (g : ℕ) (r p : List ℤ) → AreReached m g r p → IsZelenPlace g r p
     place-of zero r p a = record {
       parts = room-parts 0 r a.0;
       held = rw a.1 refl;
@@ -123,10 +123,10 @@ module _ (strata : List Stratum) (sum : ℕ) (can : CanHave strata sum) where
     value-is : (p : List ℤ) → p ≡ pos (product_of p) ∷ [] → pos (product_of p) ≡ m.value p
     value-is p e = sym (ap (λ (q : List ℤ). slice_index_or q 0 (pos 0)) e)
 
-    rising : (g : ℕ) (r : List ℤ) (c : List ℕ) (n : ℕ) → RoomParts g r → (before : g < length strata) → Contains (plan.floor.choices g r) c → n * lesser_weights (drop g strata) ≤ (n * even_weights strata g r c) * lesser_weights (drop (g + 1) strata)
+    rising : (g : ℕ) (r : List ℤ) (c : List ℕ) (n : ℕ) → RoomParts g r → (before : g < length strata) → Contains (plan.floor.choices g r) c → n * lesser_weights (drop g strata) ≤ (n * zelen_weights strata g r c) * lesser_weights (drop (g + 1) strata)
     rising g r c n parts before o =
         let s = stratum_at strata g in
-        let w : ℕ = even_weights strata g r c in
+        let w : ℕ = zelen_weights strata g r c in
         let rest : ℕ = lesser_weights (drop (g + 1) strata) in
         let i = choice g r c parts before o in
         let on : lesser_weights (drop g strata) ≡ lesser_weight s * rest = ap lesser_weights (next-drop strata g before) in
@@ -134,12 +134,12 @@ module _ (strata : List Stratum) (sum : ℕ) (can : CanHave strata sum) where
         let all : n * (lesser_weight s * rest) ≤ n * (w * rest) = mul-le-mul_left n step in
         rw on (omega (arith, all, grouped n w rest))
 
-    pub even_measure : IsMeasure m
-    even_measure = record {
+    pub zelen_measure : IsMeasure m
+    zelen_measure = record {
       wide = λ g r p a. ap length (place-of g r p a).held;
       low_rises = λ g r p c a before o. risen _ _ (rising g r c (product_of p) (place-of g r p a).parts before o);
       high_falls = λ g r p c a before o. (let place = place-of g r p a in
-          let w : ℕ = even_weights strata g r c in
+          let w : ℕ = zelen_weights strata g r c in
           let rest : ℕ = number_with (drop (g + 1) strata) (sum_left r - chosen c) in
           let more : product_of p * (w * rest) ≤ product_of p * number_with (drop g strata) (sum_left r) = mul-le-mul_left (product_of p) (weight-times g r c place.parts before o) in
           risen _ _ (omega (arith, grouped (product_of p) w rest, more)));
@@ -155,11 +155,11 @@ module _ (strata : List Stratum) (sum : ℕ) (can : CanHave strata sum) where
         let more : product_of p * lesser_weights (drop g strata) ≤ product_of p * number_with (drop g strata) (sum_left r) = mul-le-mul_left (product_of p) (lesser-number (drop g strata) (sum_left r) (left-can strata sum can g (sum_left r) place.parts.left)) in
         omega (arith, more, place.small)
 
-    next-within : (g : ℕ) (r p : List ℤ) (c : List ℕ) → AreReached m g r p → g < length strata → Contains (plan.floor.choices g r) c → product_of p * even_weights strata g r c ≤ number_with strata sum
+    next-within : (g : ℕ) (r p : List ℤ) (c : List ℕ) → AreReached m g r p → g < length strata → Contains (plan.floor.choices g r) c → product_of p * zelen_weights strata g r c ≤ number_with strata sum
     next-within g r p c a before o =
         let place = place-of g r p a in
         let i = choice g r c place.parts before o in
-        let n : ℕ = product_of p * even_weights strata g r c in
+        let n : ℕ = product_of p * zelen_weights strata g r c in
         let some : 1 ≤ number_with (drop (g + 1) strata) (sum_left r - chosen c) = number-some (drop (g + 1) strata) (sum_left r - chosen c) i.can in
         omega (arith, small-next g r c (product_of p) place.parts before o place.small, left-within n (number_with (drop (g + 1) strata) (sum_left r - chosen c)) some)
 
@@ -167,9 +167,9 @@ module _ (strata : List Stratum) (sum : ℕ) (can : CanHave strata sum) where
       weighing : (g : ℕ) (r p : List ℤ) (n : ℕ) → AreReached m g r p → product_of p * n ≤ number_with strata sum → AreWeights (so_far p) (pos n)
       weighing g r p n a h = weights-of (so_far p) (product_of p) n (ap so_far (place-of g r p a).held) (omega (arith, h, fits))
 
-      pub even_number : IsNumber (even_floor strata sum) (even_numbers strata judge)
-      even_number = record {
-        narrows = even_measure;
+      pub zelen_number : IsNumber (zelen_floor strata sum) (zelen_numbers strata judge)
+      zelen_number = record {
+        narrows = zelen_measure;
         steps = λ g r c p v. weighing g r p _ v.reached (next-within g r p c v.reached v.before v.allowed);
         lows = λ g r p a. record { fits = weighing g r p _ a (low-within g r p a); ruled = ruled _ };
         highs = λ g r p a. record { fits = weighing g r p _ a (place-of g r p a).small; ruled = ruled _ };

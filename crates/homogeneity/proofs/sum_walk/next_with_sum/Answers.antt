@@ -1,5 +1,5 @@
-use Rattle.homogeneity.proofs.EvenWalk.{old-in, step-found, step-none}
-use Rattle.homogeneity.proofs.even_walk.next_even.Goals as goal
+use Rattle.homogeneity.proofs.SumWalk.{old-in, step-found, step-none}
+use Rattle.homogeneity.proofs.sum_walk.next_with_sum.Goals as goal
 
 pub move_on-requires-clause-member : goal.move_on-requires-clause-member
 move_on-requires-clause-member c = old-in c.args.strata.now c.args.sum c.args.labels.now c.requires.member

@@ -5,7 +5,7 @@ ghost use Rattle.enumerate.specs.Walk.{BeginsWith, StepsThrough, members_after};
 ghost use Rattle.strata_cells.specs.Strata.{row_counts, strata_labellings};
 ghost use Rattle.strata_cells.specs.StrataLimits.{AreSmall};
 ghost use Rattle.homogeneity.specs.Zelen.{has_sum};
-ghost use Rattle.homogeneity.specs.EvenSteps.{AreSized, IsLastWith, IsOnward};
+ghost use Rattle.homogeneity.specs.SumSteps.{AreSized, IsLastWith, IsOnward};
 
 use enumerate::{begin_anew, next_joined};
 use std::alloc::Global;
@@ -51,7 +51,7 @@ fn go_back(strata: &[Stratum], sizes: &[u64], sum: u64, total: u128, labels: &mu
 
 /// Moves to the next labelling whose first cells have the sum, of which there are so many. False
 /// comes exactly at the last one, which stays.
-pub(crate) fn next_even(
+pub(crate) fn next_with_sum(
     strata: &[Stratum],
     sizes: &[u64],
     sum: u64,
@@ -74,7 +74,7 @@ pub(crate) fn next_even(
 }
 
 /// The first labelling whose first cells have the sum.
-pub(crate) fn first_even(
+pub(crate) fn first_with_sum(
     alloc: Global,
     strata: &[Stratum],
     sizes: &[u64],

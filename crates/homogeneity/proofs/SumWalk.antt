@@ -9,7 +9,7 @@ use Rattle.enumerate.proofs.Walking.{Contains-first, Contains-next}
 use Rattle.strata_cells.specs.declared.stratum.Stratum.{Stratum}
 use Rattle.strata_cells.specs.Strata.{strata_labellings}
 use Rattle.homogeneity.specs.Zelen.{has_sum}
-use Rattle.homogeneity.specs.EvenSteps.{IsLastWith, IsOnward}
+use Rattle.homogeneity.specs.SumSteps.{IsLastWith, IsOnward}
 
 -- ---- members of a part
 

@@ -1,6 +1,6 @@
 use Rattle.std.proofs.Common.{◌≡◌, subst, arith}
-use Rattle.homogeneity.proofs.EvenWalk.{IsCounting, counted-last}
-use Rattle.homogeneity.proofs.even_walk.go_back.Goals as goal
+use Rattle.homogeneity.proofs.SumWalk.{IsCounting, counted-last}
+use Rattle.homogeneity.proofs.sum_walk.go_back.Goals as goal
 
 pub returns : goal.returns
 returns c =

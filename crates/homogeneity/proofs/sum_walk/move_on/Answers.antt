@@ -1,7 +1,7 @@
 use Rattle.std.proofs.Common.{◌∙◌, map, sym, eq-eqb, ne_eqb}
 use Rattle.strata_cells.specs.Strata.{first_cells, row_counts}
-use Rattle.homogeneity.proofs.EvenWalk.{onward-found, passing-next}
-use Rattle.homogeneity.proofs.even_walk.move_on.Goals as goal
+use Rattle.homogeneity.proofs.SumWalk.{onward-found, passing-next}
+use Rattle.homogeneity.proofs.sum_walk.move_on.Goals as goal
 
 pub returns-then-first_cells-sum : goal.returns-then-first_cells-sum
 returns-then-first_cells-sum c =
