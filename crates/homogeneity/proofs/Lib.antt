@@ -1,5 +1,7 @@
+mod Products
 mod TwoParts
 pub mod WaySums
+mod OneCounts
 mod RankLaw
 mod RankSums
 mod RankPlans
@@ -20,8 +22,8 @@ pub mod ZelenPlans
 pub mod Growing
 pub mod Remaining
 pub mod Windows
-pub mod Bodies
 pub mod ZelenMeasures
+pub mod ZelenSeats
 pub mod Rarities
 pub mod SumWalk
 pub mod ZelenTests

@@ -1,5 +1,5 @@
 -- What the bodies of the rooms read of a reached room and of a choice there.
-use Rattle.std.proofs.Common.{◌≡◌, ℕ, zero, suc, ◌+◌, ◌-◌, ◌*◌, ◌<◌, ◌≤◌, min, List, [], ◌∷◌, ◌++◌, drop, length, get_or, set, cond, nat_eq, Bool, true, false, refl, sym, ◌∙◌, ap, subst, arith, drop_of_length-le, length-append, eq-eqb, inl, inr}
+use Rattle.std.proofs.Common.{◌≡◌, ℕ, zero, suc, ◌+◌, ◌-◌, ◌*◌, ◌<◌, ◌≤◌, List, [], ◌∷◌, ◌++◌, drop, length, get_or, cond, nat_eq, Bool, true, false, refl, sym, ◌∙◌, ap, subst, arith, length-append, eq-eqb, inl, inr}
 use Rattle.std.proofs.lemmas.Bool.{cases_lt}
 use Rattle.std.proofs.lemmas.List.{get_or_append_left}
 use Rattle.std.specs.Prelude.{ℤ, pos, slice_index}
@@ -10,9 +10,11 @@ use Rattle.weights.proofs.FirstLabel.{number_of_labellings-positive}
 use Rattle.stage_network.specs.Completions.{total_weight}
 use Rattle.stage_network.specs.Network.{IsReached}
 use Rattle.room_network.specs.Plans.{alone}
-use Rattle.homogeneity.specs.RankRooms.{column_at, counts_from, left, rank_floor, rank_plan, remaining, ways_of}
+use Rattle.homogeneity.specs.OneCount.{remaining}
+use Rattle.homogeneity.specs.RankRooms.{column_at, left, rank_floor, rank_plan, ways_of}
 use Rattle.homogeneity.specs.RankSteps.{AreColumns, AreFitColumns, AreLaterWays, RankChoice, RankSeat, later_ways}
 use Rattle.homogeneity.specs.declared.rank_columns.Column.{Column}
+use Rattle.homogeneity.proofs.Products.{left-factor, right-factor}
 use Rattle.homogeneity.proofs.RankPlans.{IsChoiceAt, IsRoomAt, Weighs, choice_at, columns-from, later-least, rest_at, room_at, stage-split, stage_at, weighs_at, weight_at}
 use Rattle.homogeneity.proofs.RankSums.{columns-sound_at}
 use Rattle.homogeneity.proofs.TwoParts.{halves}
@@ -48,13 +50,14 @@ module _ (columns : List Column) (second : ℕ) (f : AreFitColumns columns secon
         own = weighs.own;
         behind = table-read columns ways g w stage;
         both = weighs.rest;
+        meets = λ before. omega (arith, subst (λ n. remaining room ≤ n) (ap left (stage-split columns g before)) within);
         total = ap (total_weight (alone (rank_plan columns second)) g) is ∙ rest_at columns second s f.within g (remaining room) stage within;
       }
 
   pub choice-seat : (ways : List ℕ) → AreLaterWays columns (length columns) ways → (g : ℕ) (room : List ℤ) (x : List ℕ) → IsReached (alone (rank_plan columns second)) g room → g < length columns → Contains ((rank_floor columns second).choices g room) x → RankChoice (column_at columns g) room x
   choice-seat ways w g room x a before o =
       let here : RankSeat columns second ways g room = seat ways w g room a in
-      let choice : IsChoiceAt columns g (remaining room) x = choice_at columns second s g (remaining room) x before here.within (subst (λ k. Contains ((rank_floor columns second).choices g k) x) here.one.is o) in
+      let choice : IsChoiceAt columns g (remaining room) x = choice_at columns second g (remaining room) x (subst (λ k. Contains ((rank_floor columns second).choices g k) x) here.one.is o) in
       let same : slice_index x 0 ≡ choice.count = ap (λ xs. slice_index xs 0) choice.is in
       record {
         within = omega (arith, same, choice.here);
@@ -62,21 +65,6 @@ module _ (columns : List Column) (second : ℕ) (f : AreFitColumns columns secon
         fits = weight_at columns second f g room x a before o;
         few = omega (arith, (f.sound.each g before).small);
       }
-
-  least-meets : (g r : ℕ) → g < length columns → r ≤ left (drop g columns) → r - (column_at columns g).later ≤ min (column_at columns g).size r
-  least-meets g r before h = omega (arith, subst (λ n. r ≤ n) (ap left (stage-split columns g before)) h)
-
-  pub first-counts : (g : ℕ) (room : List ℤ) → remaining room ≤ left (drop g columns) → g < length columns → let x = (remaining room - (column_at columns g).later) ∷ [] in (rank_floor columns second).choices g room ≡ x ∷ (rank_floor columns second).later g room x
-  first-counts g room within before =
-      let h = least-meets g (remaining room) before within in
-      let e : min (column_at columns g).size (remaining room) + 1 - (remaining room - (column_at columns g).later) ≡ suc (min (column_at columns g).size (remaining room) - (remaining room - (column_at columns g).later)) = omega (arith, h) in
-      ap (counts_from (remaining room - (column_at columns g).later)) e
-
-pub next-counts : (n : ℕ) (choice : List ℕ) → length choice ≡ 1 → get_or choice 0 0 < n
-    → let next = set choice 0 (get_or choice 0 0 + 1) in counts_from (get_or choice 0 0 + 1) (n - get_or choice 0 0) ≡ next ∷ counts_from (slice_index next 0 + 1) (n - slice_index next 0)
-next-counts n [] long h = absurd (omega arith)
-next-counts n (j ∷ k ∷ choice) long h = absurd (omega arith)
-next-counts n (j ∷ []) long h = let e : n - j ≡ suc (n - (j + 1)) = omega (arith, h) in rw e refl
 
 -- ---- the table of later labellings
 
@@ -96,10 +84,7 @@ pub own-fits : (c : Column) (columns : List Column) (b : ℕ) → c.later ≡ 0 
 own-fits c columns b e same h =
     let last : nat_eq c.later 0 ≡ true = eq-eqb c.later 0 e in
     let all : ways_of (left columns) c.ahead * later_ways columns ≤ MAX = rw last at h in
-    (first-within _ _ (later-least columns) all, rw same all)
-  where
-    first-within : (a b : ℕ) → 1 ≤ b → a * b ≤ MAX → a ≤ MAX
-    first-within a b h l = grind arith
+    (left-factor _ _ MAX (later-least columns) all, rw same all)
 
 -- a place past the others of a list
 pub table-more : (columns : List Column) (done : ℕ) (ways : List ℕ) (w : ℕ) → AreLaterWays columns done ways → done < length columns → w ≡ later_ways (column_at columns (length columns - done - 1) ∷ drop (length columns - done - 1 + 1) columns) → AreLaterWays columns (done + 1) (ways ++ w ∷ [])
@@ -122,7 +107,4 @@ pub suffix-fits : (columns : List Column) (g : ℕ) → g < length columns → l
 suffix-fits columns g before h = subst (λ cs. later_ways cs ≤ MAX) (stage-split columns g before) (omega (arith, later-fewer columns g, h))
 
 pub total-later : (columns : List Column) (second : ℕ) → AreFitColumns columns second → later_ways columns ≤ MAX
-total-later columns second f = second-within _ _ (number_of_labellings-positive (halves (left columns) second)) f.total_fits
-  where
-    second-within : (a b : ℕ) → 1 ≤ a → a * b ≤ MAX → b ≤ MAX
-    second-within a b h l = grind arith
+total-later columns second f = right-factor _ _ MAX (number_of_labellings-positive (halves (left columns) second)) f.total_fits

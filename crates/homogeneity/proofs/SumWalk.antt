@@ -1,11 +1,11 @@
 -- The walk through the labellings with a given sum, as a part of the walk through all.
-use Rattle.std.proofs.Common.{◌≡◌, ℕ, suc, ◌-◌, ◌<◌, ◌≤◌, cond, List, [], ◌∷◌, length, Bool, true, false, nat_eq, inl, inr, refl, sym, ◌∙◌, ap, subst, arith}
+use Rattle.std.proofs.Common.{◌≡◌, ℕ, ◌<◌, ◌≤◌, cond, List, [], ◌∷◌, length, Bool, true, false, nat_eq, inl, inr, refl, sym, ◌∙◌, ap, subst, arith}
 use Rattle.std.specs.Prelude.{Contains}
 use Rattle.std.specs.Cmp.Lexicographic.{pointwise, same_text}
 use Rattle.std.specs.List.{filter}
 use Rattle.weights.proofs.Members.{Contains-cons, Contains-filter, Contains-here, Contains-later, same_refl}
 use Rattle.enumerate.specs.Walk.{BeginsWith, StepsThrough, members_after}
-use Rattle.enumerate.proofs.Walking.{Contains-first, Contains-next}
+use Rattle.enumerate.proofs.Walking.{Contains-next}
 use Rattle.strata_cells.specs.declared.stratum.Stratum.{Stratum}
 use Rattle.strata_cells.specs.Strata.{strata_labellings}
 use Rattle.homogeneity.specs.Zelen.{has_sum}

@@ -16,8 +16,10 @@ use Rattle.strata_cells.specs.declared.stratum.Stratum.{Stratum}
 use Rattle.strata_cells.specs.Strata.{cell_weight, cells_weight, stratum_at}
 use Rattle.strata_cells.proofs.FirstCells.{left-within}
 use Rattle.strata_cells.proofs.StrataSums.{drop-head, next-drop}
-use Rattle.homogeneity.specs.ZelenNetwork.{chosen, lesser_weight, lesser_weights, number_with, sum_left, zelen_floor, zelen_meaning, zelen_numbers, zelen_plan, zelen_weights}
+use Rattle.homogeneity.specs.OneCount.{chosen, remaining}
+use Rattle.homogeneity.specs.ZelenNetwork.{lesser_weight, lesser_weights, number_with, zelen_floor, zelen_meaning, zelen_numbers, zelen_plan, zelen_weights}
 use Rattle.homogeneity.specs.ZelenSteps.{CanHave, IsLeft}
+use Rattle.homogeneity.proofs.Products.{grouped}
 use Rattle.homogeneity.proofs.ZelenPlans.{IsZelenChoice, IsZelenRoom, choice-of, cut, here-can, zelen-room}
 use Rattle.homogeneity.proofs.Given.{number_by}
 use Rattle.homogeneity.proofs.Remaining.{left-can, left-first, left-next, lesser-number, number-some, number-term, number-within}
@@ -30,9 +32,6 @@ product_of p = nat_abs (so_far p)
 risen : (a b : ℕ) → a ≤ b → pos a ≤ℤ pos b
 risen a b h = omega (arith, ints, h)
 
-grouped : (a b c : ℕ) → (a * b) * c ≡ a * (b * c)
-grouped a b c = grind arith
-
 times-one : (a : ℕ) → a * 1 ≡ a
 times-one a = omega arith
 
@@ -41,17 +40,17 @@ module _ (strata : List Stratum) (sum : ℕ) (can : CanHave strata sum) where
   plan = zelen_plan strata sum
 
   -- a reached room has what can be left
-  pub room-left : (g : ℕ) (room : List ℤ) → IsReached (alone plan) g room → IsLeft strata sum g (sum_left room)
+  pub room-left : (g : ℕ) (room : List ℤ) → IsReached (alone plan) g room → IsLeft strata sum g (remaining room)
   room-left zero room r = rw r (left-first strata sum can)
   room-left (suc g) room (j, c, r, before, o, e) =
       let past = zelen-room strata sum can g j r in
       let choice = choice-of strata sum can g j c past before (is_allowed plan g j c before o) in
-      rw (e, ← add-one g) (left-next strata sum can g before (sum_left j) (chosen c) (room-left g j r) choice.between.least choice.between.most)
+      rw (e, ← add-one g) (left-next strata sum can g before (remaining j) (chosen c) (room-left g j r) choice.between.least choice.between.most)
 
   -- what the bodies read of a reached room
   pub record RoomParts (g : ℕ) (room : List ℤ) : Type 0 where
     pub room_is : IsZelenRoom strata sum can g room
-    pub left : IsLeft strata sum g (sum_left room)
+    pub left : IsLeft strata sum g (remaining room)
 
   pub room-parts : (g : ℕ) (room : List ℤ) → IsReached (alone plan) g room → RoomParts g room
   room-parts g room r = record { room_is = zelen-room strata sum can g room r; left = room-left g room r }
@@ -61,17 +60,17 @@ module _ (strata : List Stratum) (sum : ℕ) (can : CanHave strata sum) where
     pub choice : IsZelenChoice strata sum can g room c
     choice = choice-of strata sum can g room c r.room_is before m
 
-    pub weight-times : cell_weight (stratum_at strata g) (chosen c) * number_with (drop (g + 1) strata) (sum_left room - chosen c) ≤ number_with (drop g strata) (sum_left room)
+    pub weight-times : cell_weight (stratum_at strata g) (chosen c) * number_with (drop (g + 1) strata) (remaining room - chosen c) ≤ number_with (drop g strata) (remaining room)
     weight-times =
         let s = stratum_at strata g in
         let later = drop (g + 1) strata in
-        let term = number-term s later (sum_left room) (here-can strata sum can g room r.room_is before) (chosen c) choice.between.least choice.between.most in
-        subst (λ ts. number_by s later (sum_left room) (chosen c) ≤ number_with ts (sum_left room)) (sym (next-drop strata g before)) term
+        let term = number-term s later (remaining room) (here-can strata sum can g room r.room_is before) (chosen c) choice.between.least choice.between.most in
+        subst (λ ts. number_by s later (remaining room) (chosen c) ≤ number_with ts (remaining room)) (sym (next-drop strata g before)) term
 
     pub weight-within : cell_weight (stratum_at strata g) (chosen c) ≤ number_with strata sum
     weight-within =
-        let some : 1 ≤ number_with (drop (g + 1) strata) (sum_left room - chosen c) = number-some (drop (g + 1) strata) (sum_left room - chosen c) choice.can in
-        omega (arith, weight-times, left-within (cell_weight (stratum_at strata g) (chosen c)) (number_with (drop (g + 1) strata) (sum_left room - chosen c)) some, number-within strata sum can g (sum_left room) r.room_is.stage r.left)
+        let some : 1 ≤ number_with (drop (g + 1) strata) (remaining room - chosen c) = number-some (drop (g + 1) strata) (remaining room - chosen c) choice.can in
+        omega (arith, weight-times, left-within (cell_weight (stratum_at strata g) (chosen c)) (number_with (drop (g + 1) strata) (remaining room - chosen c)) some, number-within strata sum can g (remaining room) r.room_is.stage r.left)
 
   module _ (judge : Judge) where
     abbrev m : Meaning
@@ -85,14 +84,14 @@ module _ (strata : List Stratum) (sum : ℕ) (can : CanHave strata sum) where
     pub record IsZelenPlace (g : ℕ) (r p : List ℤ) : Type 0 where
       pub parts : RoomParts g r
       pub held : p ≡ pos (product_of p) ∷ []
-      pub small : product_of p * number_with (drop g strata) (sum_left r) ≤ number_with strata sum
+      pub small : product_of p * number_with (drop g strata) (remaining r) ≤ number_with strata sum
 
-    small-next : (g : ℕ) (r : List ℤ) (c : List ℕ) (n : ℕ) → RoomParts g r → (before : g < length strata) → Contains (plan.floor.choices g r) c → n * number_with (drop g strata) (sum_left r) ≤ number_with strata sum
-        → (n * zelen_weights strata g r c) * number_with (drop (g + 1) strata) (sum_left r - chosen c) ≤ number_with strata sum
+    small-next : (g : ℕ) (r : List ℤ) (c : List ℕ) (n : ℕ) → RoomParts g r → (before : g < length strata) → Contains (plan.floor.choices g r) c → n * number_with (drop g strata) (remaining r) ≤ number_with strata sum
+        → (n * zelen_weights strata g r c) * number_with (drop (g + 1) strata) (remaining r - chosen c) ≤ number_with strata sum
     small-next g r c n parts before o small =
         let w : ℕ = zelen_weights strata g r c in
-        let rest : ℕ = number_with (drop (g + 1) strata) (sum_left r - chosen c) in
-        let more : n * (w * rest) ≤ n * number_with (drop g strata) (sum_left r) = mul-le-mul_left n (weight-times g r c parts before o) in
+        let rest : ℕ = number_with (drop (g + 1) strata) (remaining r - chosen c) in
+        let more : n * (w * rest) ≤ n * number_with (drop g strata) (remaining r) = mul-le-mul_left n (weight-times g r c parts before o) in
         omega (arith, grouped n w rest, more, small)
 
     pub place-of : (g : ℕ) (r p : List ℤ) → AreReached m g r p → IsZelenPlace g r p
@@ -115,10 +114,10 @@ module _ (strata : List Stratum) (sum : ℕ) (can : CanHave strata sum) where
     last-number : (left : ℕ) → CanHave [] left → number_with [] left ≡ 1
     last-number left can' = (let none : left ≡ 0 = omega (arith, can'.most) in rw none refl)
 
-    last-one : (r p : List ℤ) → AreReached m (length strata) r p → number_with (drop (length strata) strata) (sum_left r) ≡ 1
+    last-one : (r p : List ℤ) → AreReached m (length strata) r p → number_with (drop (length strata) strata) (remaining r) ≡ 1
     last-one r p a =
         let place = place-of (length strata) r p a in
-        ap (λ ts. number_with ts (sum_left r)) none-left ∙ last-number (sum_left r) (subst (λ ts. CanHave ts (sum_left r)) none-left place.parts.room_is.can)
+        ap (λ ts. number_with ts (remaining r)) none-left ∙ last-number (remaining r) (subst (λ ts. CanHave ts (remaining r)) none-left place.parts.room_is.can)
 
     value-is : (p : List ℤ) → p ≡ pos (product_of p) ∷ [] → pos (product_of p) ≡ m.value p
     value-is p e = sym (ap (λ (q : List ℤ). slice_index_or q 0 (pos 0)) e)
@@ -140,8 +139,8 @@ module _ (strata : List Stratum) (sum : ℕ) (can : CanHave strata sum) where
       low_rises = λ g r p c a before o. risen _ _ (rising g r c (product_of p) (place-of g r p a).parts before o);
       high_falls = λ g r p c a before o. (let place = place-of g r p a in
           let w : ℕ = zelen_weights strata g r c in
-          let rest : ℕ = number_with (drop (g + 1) strata) (sum_left r - chosen c) in
-          let more : product_of p * (w * rest) ≤ product_of p * number_with (drop g strata) (sum_left r) = mul-le-mul_left (product_of p) (weight-times g r c place.parts before o) in
+          let rest : ℕ = number_with (drop (g + 1) strata) (remaining r - chosen c) in
+          let more : product_of p * (w * rest) ≤ product_of p * number_with (drop g strata) (remaining r) = mul-le-mul_left (product_of p) (weight-times g r c place.parts before o) in
           risen _ _ (omega (arith, grouped (product_of p) w rest, more)));
       low_ends = λ r p a. ap (λ ts. pos (product_of p * lesser_weights ts)) none-left ∙ ap pos (times-one (product_of p)) ∙ value-is p (place-of (length strata) r p a).held;
       high_ends = λ r p a. ap (λ n. pos (product_of p * n)) (last-one r p a) ∙ ap pos (times-one (product_of p)) ∙ value-is p (place-of (length strata) r p a).held;
@@ -152,7 +151,7 @@ module _ (strata : List Stratum) (sum : ℕ) (can : CanHave strata sum) where
     low-within : (g : ℕ) (r p : List ℤ) → AreReached m g r p → product_of p * lesser_weights (drop g strata) ≤ number_with strata sum
     low-within g r p a =
         let place = place-of g r p a in
-        let more : product_of p * lesser_weights (drop g strata) ≤ product_of p * number_with (drop g strata) (sum_left r) = mul-le-mul_left (product_of p) (lesser-number (drop g strata) (sum_left r) (left-can strata sum can g (sum_left r) place.parts.left)) in
+        let more : product_of p * lesser_weights (drop g strata) ≤ product_of p * number_with (drop g strata) (remaining r) = mul-le-mul_left (product_of p) (lesser-number (drop g strata) (remaining r) (left-can strata sum can g (remaining r) place.parts.left)) in
         omega (arith, more, place.small)
 
     next-within : (g : ℕ) (r p : List ℤ) (c : List ℕ) → AreReached m g r p → g < length strata → Contains (plan.floor.choices g r) c → product_of p * zelen_weights strata g r c ≤ number_with strata sum
@@ -160,8 +159,8 @@ module _ (strata : List Stratum) (sum : ℕ) (can : CanHave strata sum) where
         let place = place-of g r p a in
         let i = choice g r c place.parts before o in
         let n : ℕ = product_of p * zelen_weights strata g r c in
-        let some : 1 ≤ number_with (drop (g + 1) strata) (sum_left r - chosen c) = number-some (drop (g + 1) strata) (sum_left r - chosen c) i.can in
-        omega (arith, small-next g r c (product_of p) place.parts before o place.small, left-within n (number_with (drop (g + 1) strata) (sum_left r - chosen c)) some)
+        let some : 1 ≤ number_with (drop (g + 1) strata) (remaining r - chosen c) = number-some (drop (g + 1) strata) (remaining r - chosen c) i.can in
+        omega (arith, small-next g r c (product_of p) place.parts before o place.small, left-within n (number_with (drop (g + 1) strata) (remaining r - chosen c)) some)
 
     module _ (fits : number_with strata sum ≤ MAX) (ruled : (v : ℤ) → JudgeFits judge v) where
       weighing : (g : ℕ) (r p : List ℤ) (n : ℕ) → AreReached m g r p → product_of p * n ≤ number_with strata sum → AreWeights (so_far p) (pos n)

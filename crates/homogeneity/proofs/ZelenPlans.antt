@@ -1,14 +1,10 @@
 -- The rooms of Zelen's test: their ways give the labellings with the observed sum, and what a reached room has.
-use Rattle.std.proofs.Common.{◌≡◌, ◌≢◌, ℕ, zero, suc, ◌+◌, ◌-◌, ◌*◌, ◌<◌, ◌≤◌, cond, List, [], ◌∷◌, length, drop, map, nat_eq, AllPairs, get_or, eq-eqb, refl, sym, ◌∙◌, ap, subst, arith, add-one, mul-one, length-drop}
+use Rattle.std.proofs.Common.{◌≡◌, ℕ, zero, suc, ◌+◌, ◌-◌, ◌*◌, ◌<◌, ◌≤◌, cond, List, [], ◌∷◌, length, drop, map, nat_eq, eq-eqb, refl, sym, ◌∙◌, ap, subst, arith, add-one, mul-one, length-drop}
 use Rattle.std.specs.Prelude.{ℤ, pos, Contains}
-use Rattle.std.specs.List.{AllByRecursion, range_with_len, sum, sum_by}
-use Rattle.std.proofs.lemmas.List.Elements.{All-contains, All-from_recursion}
-use Rattle.std.proofs.lemmas.List.FromFn.{get_or-map-range_with_len, length-map-range_with_len}
+use Rattle.std.specs.List.{range_with_len, sum, sum_by}
 use Rattle.weights.specs.declared.TheConstants.{MAX}
 use Rattle.weights.specs.Conditional.{unit_weight}
 use Rattle.weights.proofs.CellSums.{same-within}
-use Rattle.weights.proofs.Filters.{all_map, range-from}
-use Rattle.weights.proofs.Members.{range-below}
 use Rattle.weights.proofs.Sums.{sum_by-filter, sum_by-map, sum_by-same}
 use Rattle.stage_network.specs.Completions.{path_weight, paths, total_weight}
 use Rattle.stage_network.specs.Network.{IsReached}
@@ -19,44 +15,13 @@ use Rattle.strata_cells.specs.Strata.{cell_weight, cells_of, first_cells, greate
 use Rattle.strata_cells.proofs.CellLaws.{by-cells}
 use Rattle.strata_cells.proofs.FirstCells.{cells-sum, own-cells, weight-some}
 use Rattle.strata_cells.proofs.StrataSums.{drop-head, next-drop}
+use Rattle.homogeneity.specs.OneCount.{choices_between, chosen, remaining}
 use Rattle.homogeneity.specs.Zelen.{has_sum, observed_labels, observed_sum_labellings}
-use Rattle.homogeneity.specs.ZelenNetwork.{choices_between, chosen, greatest_choice, least_choice, number_with, own_sum, sum_left, zelen_floor, zelen_plan, zelen_weights}
+use Rattle.homogeneity.specs.ZelenNetwork.{greatest_choice, least_choice, number_with, own_sum, zelen_floor, zelen_plan, zelen_weights}
 use Rattle.homogeneity.specs.ZelenSteps.{CanHave}
 use Rattle.homogeneity.proofs.Given.{can-next, choice-range, number-is, over-none, with-choices, with_cell, with_sum}
+use Rattle.homogeneity.proofs.OneCounts.{IsBetween, between, different, some-choice}
 use Rattle.homogeneity.proofs.WaySums.{gather, gather-none, gather-step}
-
--- ---- choices
-
--- a choice between two first cells
-pub record IsBetween (low high : ℕ) (c : List ℕ) : Type 0 where
-  pub one : c ≡ chosen c ∷ []
-  pub least : low ≤ chosen c
-  pub most : chosen c ≤ high
-
-between : (low high : ℕ) (c : List ℕ) → Contains (choices_between low high) c → IsBetween low high c
-between low high c m =
-    All-contains (IsBetween low high) (choices_between low high) c
-    (All-from_recursion (IsBetween low high) (choices_between low high) (all_map (IsBetween low high) (λ x. x ∷ []) (range_with_len low (high + 1 - low)) (both (range_with_len low (high + 1 - low)) (range-from low (high + 1 - low)) (range-below low (high + 1 - low))))) m
-  where
-    both : (xs : List ℕ) → AllByRecursion (λ i. low ≤ i) xs → AllByRecursion (λ i. i < low + (high + 1 - low)) xs → AllByRecursion (λ x. IsBetween low high (x ∷ [])) xs
-    both [] l h = tt
-    both (x ∷ xs) l h = (record { one = refl; least = l.0; most = omega (arith, l.0, h.0) }, both xs l.1 h.1)
-
-pub first-choice : (low high : ℕ) → low ≤ high → choices_between low high ≡ (low ∷ []) ∷ choices_between (low + 1) high
-first-choice low high h =
-    ap (λ n. map (λ x. x ∷ []) (range_with_len low n)) (let e : high + 1 - low ≡ suc (high - low) = omega (arith, h) in e)
-    ∙ ap (λ n. (low ∷ []) ∷ map (λ x. x ∷ []) (range_with_len (low + 1) n)) (let e : high - low ≡ high + 1 - (low + 1) = omega arith in e)
-
-ones-apart : (x y : ℕ) → x < y → x ∷ [] ≢ y ∷ []
-ones-apart x y l e = let same : x ≡ y = cc in omega arith
-
-different : (low high : ℕ) → AllPairs ◌≢◌ (choices_between low high)
-different low high i j d below inside e =
-    let n : ℕ = high + 1 - low in
-    let within : j < n = omega (arith, length-map-range_with_len (λ x. x ∷ []) low n) in
-    let first : get_or (choices_between low high) i d ≡ (low + i) ∷ [] = get_or-map-range_with_len (λ x. x ∷ []) low n i (low + i) d (omega arith) refl in
-    let second : get_or (choices_between low high) j d ≡ (low + j) ∷ [] = get_or-map-range_with_len (λ x. x ∷ []) low n j (low + j) d within refl in
-    ones-apart (low + i) (low + j) (omega arith) (sym first ∙ e ∙ second)
 
 -- the choices of a way that has these first cells
 abbrev pub cut : List ℕ → List (List ℕ)
@@ -107,32 +72,32 @@ module _ (strata : List Stratum) (total : ℕ) where
   module _ (start : CanHave strata total) where
     -- what a reached room has
     pub record IsZelenRoom (g : ℕ) (room : List ℤ) : Type 0 where
-      pub held : room ≡ pos (sum_left room) ∷ []
+      pub held : room ≡ pos (remaining room) ∷ []
       pub stage : g ≤ length strata
-      pub can : CanHave (drop g strata) (sum_left room)
+      pub can : CanHave (drop g strata) (remaining room)
 
     room-of : (g : ℕ) (room : List ℤ) (left : ℕ) → room ≡ pos left ∷ [] → g ≤ length strata → CanHave (drop g strata) left → IsZelenRoom g room
     room-of g room left e h can = rw e (record { held = refl; stage = h; can = can })
 
     -- what is allowed there
     pub record IsZelenChoice (g : ℕ) (room : List ℤ) (c : List ℕ) : Type 0 where
-      pub between : IsBetween (least_choice (stratum_at strata g) (drop (g + 1) strata) (sum_left room)) (greatest_choice (stratum_at strata g) (drop (g + 1) strata) (sum_left room)) c
-      pub can : CanHave (drop (g + 1) strata) (sum_left room - chosen c)
+      pub between : IsBetween (least_choice (stratum_at strata g) (drop (g + 1) strata) (remaining room)) (greatest_choice (stratum_at strata g) (drop (g + 1) strata) (remaining room)) c
+      pub can : CanHave (drop (g + 1) strata) (remaining room - chosen c)
       pub least : least_cell (stratum_at strata g) ≤ chosen c
       pub most : chosen c ≤ greatest_cell (stratum_at strata g)
-      pub left : chosen c ≤ sum_left room
+      pub left : chosen c ≤ remaining room
 
-    pub here-can : (g : ℕ) (room : List ℤ) → IsZelenRoom g room → g < length strata → CanHave (stratum_at strata g ∷ drop (g + 1) strata) (sum_left room)
-    here-can g room r before = subst (λ ts. CanHave ts (sum_left room)) (next-drop strata g before) r.can
+    pub here-can : (g : ℕ) (room : List ℤ) → IsZelenRoom g room → g < length strata → CanHave (stratum_at strata g ∷ drop (g + 1) strata) (remaining room)
+    here-can g room r before = subst (λ ts. CanHave ts (remaining room)) (next-drop strata g before) r.can
 
     pub choice-of : (g : ℕ) (room : List ℤ) (c : List ℕ) → IsZelenRoom g room → g < length strata → Contains (plan.floor.choices g room) c → IsZelenChoice g room c
     choice-of g room c r before m =
         let can = here-can g room r before in
-        let range = choice-range (stratum_at strata g) (drop (g + 1) strata) (sum_left room) can in
-        let b = between (least_choice (stratum_at strata g) (drop (g + 1) strata) (sum_left room)) (greatest_choice (stratum_at strata g) (drop (g + 1) strata) (sum_left room)) c m in
+        let range = choice-range (stratum_at strata g) (drop (g + 1) strata) (remaining room) can in
+        let b = between (least_choice (stratum_at strata g) (drop (g + 1) strata) (remaining room)) (greatest_choice (stratum_at strata g) (drop (g + 1) strata) (remaining room)) c m in
         record {
           between = b;
-          can = can-next (stratum_at strata g) (drop (g + 1) strata) (sum_left room) can (chosen c) b.least b.most;
+          can = can-next (stratum_at strata g) (drop (g + 1) strata) (remaining room) can (chosen c) b.least b.most;
           least = omega (arith, range.low, b.least);
           most = omega (arith, range.high, b.most);
           left = omega (arith, range.within, b.most);
@@ -143,12 +108,12 @@ module _ (strata : List Stratum) (total : ℕ) where
     zelen-room (suc g) room (j, c, r, before, o, e) =
         let past = zelen-room g j r in
         let choice = choice-of g j c past before (is_allowed plan g j c before o) in
-        room-of (suc g) room (sum_left j - chosen c) e (omega (arith, before)) (subst (λ n. CanHave (drop n strata) (sum_left j - chosen c)) (add-one g) choice.can)
+        room-of (suc g) room (remaining j - chosen c) e (omega (arith, before)) (subst (λ n. CanHave (drop n strata) (remaining j - chosen c)) (add-one g) choice.can)
 
-    pub rest-is : (g : ℕ) (room : List ℤ) → IsZelenRoom g room → total_weight (alone plan) g room ≡ number_with (drop g strata) (sum_left room)
+    pub rest-is : (g : ℕ) (room : List ℤ) → IsZelenRoom g room → total_weight (alone plan) g room ≡ number_with (drop g strata) (remaining room)
     unfolding total_weight
     rest-is g room r =
-        let left : ℕ = sum_left room in
+        let left : ℕ = remaining room in
         let stages : length strata - g ≡ length (drop g strata) = sym (length-drop g strata) in
         ap (λ (k : List ℤ). sum_by (path_weight (alone plan) g k) (paths (alone plan) (length strata - g) g k)) r.held
         ∙ ap (λ n. sum_by (path_weight (alone plan) g (pos left ∷ [])) (paths (alone plan) n g (pos left ∷ []))) stages
@@ -163,10 +128,8 @@ module _ (strata : List Stratum) (total : ℕ) where
     zelen_sound fits = record {
       first_long = zelen_width.first_long;
       next_long = zelen_width.next_long;
-      some_choice = λ g room r before e. (let range = choice-range (stratum_at strata g) (drop (g + 1) strata) (sum_left room) (here-can g room (zelen-room g room r) before) in
-          let first = first-choice (least_choice (stratum_at strata g) (drop (g + 1) strata) (sum_left room)) (greatest_choice (stratum_at strata g) (drop (g + 1) strata) (sum_left room)) range.some in
-          absurd (cc (first, e)));
-      different = λ g room r before. different (least_choice (stratum_at strata g) (drop (g + 1) strata) (sum_left room)) (greatest_choice (stratum_at strata g) (drop (g + 1) strata) (sum_left room));
+      some_choice = λ g room r before. some-choice (least_choice (stratum_at strata g) (drop (g + 1) strata) (remaining room)) (greatest_choice (stratum_at strata g) (drop (g + 1) strata) (remaining room)) (choice-range (stratum_at strata g) (drop (g + 1) strata) (remaining room) (here-can g room (zelen-room g room r) before)).some;
+      different = λ g room r before. different (least_choice (stratum_at strata g) (drop (g + 1) strata) (remaining room)) (greatest_choice (stratum_at strata g) (drop (g + 1) strata) (remaining room));
       weighty = λ g room c r before o. (let choice = choice-of g room c (zelen-room g room r) before o in weight-some (stratum_at strata g) (chosen c) choice.least choice.most);
       fits = omega (arith, rest-is 0 (pos total ∷ []) first-room, fits);
     }

@@ -1,5 +1,5 @@
 -- What holds of Zelen's test.
-use Rattle.std.proofs.Common.{◌≡◌, ℕ, ◌*◌, nat_eq, ◌<◌, ◌≤◌, cond, List, [], ◌∷◌, Some, None, length, map, refl, sym, ◌∙◌, ap, subst, arith}
+use Rattle.std.proofs.Common.{◌≡◌, ℕ, nat_eq, ◌<◌, ◌≤◌, cond, List, [], ◌∷◌, Some, None, length, map, refl, sym, ◌∙◌, ap, subst, arith}
 use Rattle.std.specs.Prelude.{ℤ, pos, Contains}
 use Rattle.std.specs.Cmp.Lexicographic.{pointwise}
 use Rattle.std.specs.List.{sum_by}
@@ -10,10 +10,9 @@ use Rattle.weights.specs.declared.tails.Tail.TheVariants.{Less, Greater, Two}
 use Rattle.weights.specs.declared.TheConstants.{MAX}
 use Rattle.weights.specs.declared.wide.WideOf.TheVariants.{Total}
 use Rattle.weights.specs.Conditional.{observed_statistic, total}
-use Rattle.weights.specs.Frames.{IsShown, RulesFit}
-use Rattle.weights.specs.Rules.{RuleFits, measured, rule_of}
+use Rattle.weights.specs.Rules.{RuleFits, rule_of}
 use Rattle.weights.specs.Wide.{too_wide}
-use Rattle.weights.proofs.Centred.{all-weigh, at_least-fits, at_most-fits}
+use Rattle.weights.proofs.Centred.{at_least-fits, at_most-fits}
 use Rattle.weights.proofs.Sums.{sum_by-filter, sum_by-one}
 use Rattle.stage_network.specs.Follows.{AllFollow, Follows}
 use Rattle.stage_network.specs.Judged.{JudgeFits, judge_of, rule_in}
@@ -26,6 +25,7 @@ use Rattle.strata_cells.proofs.StrataSums.{sums-within}
 use Rattle.homogeneity.specs.Zelen.{has_sum, observed_labels, observed_sum_labellings, observed_sum_test, rarity}
 use Rattle.homogeneity.specs.ZelenNetwork.{number_with, observed_sum_network, own_sum, zelen_meaning, zelen_weights}
 use Rattle.homogeneity.specs.ZelenSteps.{CanHave}
+use Rattle.homogeneity.proofs.Products.{product-some}
 use Rattle.homogeneity.proofs.ZelenMeasures.{value-of, zelen_measure}
 use Rattle.homogeneity.proofs.SumWalk.{filter-in}
 use Rattle.homogeneity.proofs.ZelenPlans.{cut, zelen_gives, zelen_width}
@@ -127,9 +127,6 @@ module _ (strata : List Stratum) where
   follows Two has = follows-two
 
 -- ---- products of weights
-
-product-some : (a b : ℕ) → 1 ≤ a → 1 ≤ b → 1 ≤ a * b
-product-some a b h j = grind arith
 
 pub cells-some : (strata : List Stratum) (cells : List ℕ) → AreCells strata cells → 1 ≤ cells_weight strata cells
 cells-some [] [] a = omega arith

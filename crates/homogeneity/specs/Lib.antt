@@ -1,5 +1,6 @@
 pub mod Zelen
 pub mod StratifiedRanks
+pub mod OneCount
 pub mod ZelenNetwork
 pub mod RankRooms
 pub mod RankNetworks

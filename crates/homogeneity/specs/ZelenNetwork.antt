@@ -1,7 +1,7 @@
 -- The network of Zelen's test: a stage is a stratum, in the order of the file, and its choice is
 -- the first cell. A room has what is left of the sum of the first cells.
-use Rattle.std.specs.Prelude.{ℕ, ◌+◌, ◌-◌, ◌*◌, ℤ, pos, nat_abs, List, [], ◌∷◌, length, map, drop, max, min, slice_index, slice_index_or}
-use Rattle.std.specs.List.{count_by, range_with_len, sum_by}
+use Rattle.std.specs.Prelude.{ℕ, ◌+◌, ◌-◌, ◌*◌, ℤ, pos, List, [], ◌∷◌, length, drop, max, min}
+use Rattle.std.specs.List.{count_by, sum_by}
 use Rattle.weights.specs.declared.tails.Tail.{Tail}
 use Rattle.stage_network.specs.Judged.{judge_of}
 use Rattle.stage_network.specs.Network.{Network}
@@ -13,6 +13,7 @@ use Rattle.room_network.specs.RoomNetworks.{room_network}
 use Rattle.room_network.specs.declared.numbers.Operation.TheVariants.{Product}
 use Rattle.strata_cells.specs.declared.stratum.Stratum.{Stratum}
 use Rattle.strata_cells.specs.Strata.{cell_weight, greatest_cell, least_cell, stratum_at, strata_labellings, strata_of}
+use Rattle.homogeneity.specs.OneCount.{choices_between, chosen, remaining}
 use Rattle.homogeneity.specs.Zelen.{has_sum, observed_sum_test}
 
 -- the sum of the first cells as they are, and the least and the greatest that labels can give
@@ -32,17 +33,6 @@ least_choice s later sum = max (least_cell s) (sum - greatest_sum later)
 abbrev pub greatest_choice : Stratum → List Stratum → ℕ → ℕ
 greatest_choice s later sum = min (greatest_cell s) (sum - least_sum later)
 
--- the choices from one first cell to another
-abbrev pub choices_between : ℕ → ℕ → List (List ℕ)
-choices_between least greatest = map (λ x. x ∷ []) (range_with_len least (greatest + 1 - least))
-
--- the one number of a room, and of a choice
-abbrev pub sum_left : List ℤ → ℕ
-sum_left room = nat_abs (slice_index_or room 0 (pos 0))
-
-abbrev pub chosen : List ℕ → ℕ
-chosen choice = slice_index choice 0
-
 abbrev pub zelen_floor : List Stratum → ℕ → Floor
 zelen_floor strata sum = record {
   count = length strata;
@@ -50,11 +40,11 @@ zelen_floor strata sum = record {
   choice_width = 1;
   first = pos sum ∷ [];
   choices = λ g room. let s = stratum_at strata g in let later = drop (g + 1) strata in
-      choices_between (least_choice s later (sum_left room))
-      (greatest_choice s later (sum_left room));
+      choices_between (least_choice s later (remaining room))
+      (greatest_choice s later (remaining room));
   later = λ g room c. let s = stratum_at strata g in let later = drop (g + 1) strata in
-      choices_between (chosen c + 1) (greatest_choice s later (sum_left room));
-  next = λ g room c. pos (sum_left room - chosen c) ∷ [];
+      choices_between (chosen c + 1) (greatest_choice s later (remaining room));
+  next = λ g room c. pos (remaining room - chosen c) ∷ [];
 }
 
 -- a first cell weighs as many labellings as give it
@@ -83,7 +73,7 @@ zelen_numbers strata judge = record {
   operation = Product;
   step = λ g room c. pos (zelen_weights strata g room c);
   least = λ g room. pos (lesser_weights (drop g strata));
-  greatest = λ g room. pos (number_with (drop g strata) (sum_left room));
+  greatest = λ g room. pos (number_with (drop g strata) (remaining room));
   judge = judge;
 }
 

@@ -11,6 +11,7 @@ ghost use Rattle.homogeneity.specs.Homogeneities.{homogeneity_network, homogenei
 mod cell_weights;
 mod homogeneity_test;
 mod laters;
+mod one_count;
 mod rank_columns;
 mod rank_made;
 mod rank_measure;

@@ -1,13 +1,16 @@
 // The rooms of the stratified rank sum test.
-ghost use Rattle.std.specs.Prelude.{◌≡◌, ◌≤◌, ◌<◌, ◌+◌, ◌-◌, ◌*◌, [], ◌∷◌, length, drop, get_or, min, pos, Contains, IfOk};
+ghost use Rattle.std.specs.Prelude.{◌≡◌, ◌≤◌, ◌<◌, ◌+◌, ◌-◌, ◌*◌, ◌∷◌, length, drop, get_or};
+ghost use Rattle.std.specs.Prelude.{min, Contains, IfOk};
 ghost use Rattle.weights.specs.declared.TheConstants.{MAX};
 ghost use Rattle.midranks.specs.declared.TheConstants.{MOST_VALUES};
 ghost use Rattle.stage_network.specs.Network.{IsReached};
 ghost use Rattle.room_network.specs.Plans.{alone};
-ghost use Rattle.homogeneity.specs.RankRooms.{column_at, left, rank_plan, remaining, remaining_after, ways_of};
+ghost use Rattle.homogeneity.specs.OneCount.{IsOneCount, remaining};
+ghost use Rattle.homogeneity.specs.RankRooms.{column_at, left, rank_plan, remaining_after, ways_of};
 ghost use Rattle.homogeneity.specs.RankSteps.{AreColumns, AreFitColumns, AreLaterWays};
-ghost use Rattle.homogeneity.specs.RankSteps.{AreRankRooms, IsOneCount, RankChoice, RankSeat, later_ways};
+ghost use Rattle.homogeneity.specs.RankSteps.{AreRankRooms, RankChoice, RankSeat, later_ways};
 
+use crate::one_count::{count_in, write_count, write_remaining};
 use crate::rank_columns::Column;
 use room_network::Rooms;
 use std::alloc::Global;
@@ -23,15 +26,6 @@ pub struct RankRooms {
     // How many labellings the strata have that are behind the last stages.
     ways: List<u128>,
     ghost right: { AreRankRooms columns second ways },
-}
-
-// The one number of a room.
-#[inline(always)]
-pub(crate) fn count_in(room: &[i128]) -> u64
-    requires { IsOneCount room.now }
-    ensures { result ≡ remaining room.now }
-{
-    room[0] as u64
 }
 
 // How many labellings some subjects have, so many of whom are of the second group.
@@ -101,20 +95,6 @@ fn most_count(column: Column, room: &[i128]) -> u64
     ensures { result ≡ min column.size (remaining room.now) }
 {
     column.size.min(count_in(room))
-}
-
-fn write_count(choice: &mut [u64], count: u64)
-    requires { length choice.old ≡ 1 }
-    ensures { choice.new ≡ count ∷ [] }
-{
-    choice[0] = count;
-}
-
-fn write_remaining(room: &mut [i128], count: u64)
-    requires { length room.old ≡ 1 }
-    ensures { room.new ≡ pos count ∷ [] }
-{
-    room[0] = count as i128;
 }
 
 fn product(a: u128, b: u128) -> u128
@@ -205,8 +185,6 @@ impl RankRooms {
 }
 
 impl Rooms for RankRooms {
-    ghost use Rattle.homogeneity.specs.RankRooms.{rank_plan};
-
     ghost plan = { λ s. rank_plan s.columns s.second };
 
     fn stages(&self) -> usize {

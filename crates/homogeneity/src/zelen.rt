@@ -1,12 +1,13 @@
 // Strata that are prepared for Zelen's test.
-ghost use Rattle.std.specs.Prelude.{◌≡◌, ◌<◌, ◌≤◌, IfOk, MatchOption, SomeIff};
+ghost use Rattle.std.specs.Prelude.{◌≡◌, ◌<◌, ◌≤◌, length, Contains, IfOk, MatchOption, SomeIff};
 ghost use Rattle.weights.specs.Frames.{IsFrameOf};
 ghost use Rattle.weights.specs.Wide.{Prepares};
 ghost use Rattle.weights.specs.declared.TheConstants.{MAX};
+ghost use Rattle.record_reader.specs.declared.TheConstants.{MOST_ROWS};
 ghost use Rattle.strata_cells.specs.Strata.{strata_of};
 ghost use Rattle.strata_cells.specs.StrataLimits.{AreSmall};
-ghost use Rattle.homogeneity.specs.Zelen.{observed_sum_test, zelen_test};
-ghost use Rattle.homogeneity.specs.ZelenMade.{AreObserved};
+ghost use Rattle.homogeneity.specs.Zelen.{observed_sum_labellings, observed_sum_test, zelen_test};
+ghost use Rattle.homogeneity.specs.ZelenMade.{AreObserved, IsMember, ObservedFacts};
 ghost use Rattle.homogeneity.specs.ZelenNetwork.{number_with, own_sum};
 ghost use Rattle.homogeneity.specs.ZelenSteps.{AreSummed};
 
@@ -79,6 +80,14 @@ fn frame_of(strata: &[Stratum], total: u128) -> Frame
     }
 }
 
+// What is known of the strata of a file. It does nothing.
+#[inline(always)]
+fn tables_fit(_strata: &Strata)
+    ensures small { AreSmall (strata_of _strata.now.cells) }
+    ensures few { length (strata_of _strata.now.cells) ≤ MOST_ROWS }
+    ensures can { let tables = strata_of _strata.now.cells in AreSummed tables (own_sum tables) }
+{}
+
 // What is made of strata, or None exactly where the labellings with their sum pass the greatest
 // weight.
 fn made_of(alloc: Global, strata: &Strata) -> Result<Option<ObservedStrata>, NoMemory>
@@ -86,6 +95,7 @@ fn made_of(alloc: Global, strata: &Strata) -> Result<Option<ObservedStrata>, NoM
         IfOk result (λ found. MatchOption found (MAX < number_with tables (own_sum tables))
         (AreObserved tables)) }
 {
+    tables_fit(strata);
     let strata = strata_of(alloc, strata.cells.as_slice())?;
     let sum = own_sum(strata.as_slice());
     let Some(total) = total_of(alloc, &strata, sum)? else {
@@ -120,8 +130,17 @@ impl Zelen {
 
     /// What was made of the strata.
     pub(crate) fn made(&self) -> &ObservedStrata
-        ensures { AreObserved (strata_of self.now) result.now }
+        ensures { ObservedFacts (strata_of self.now) result.now }
     {
         &self.made
+    }
+
+    /// What is known of a member. It does nothing but see what was made.
+    #[inline(always)]
+    pub(crate) fn member(&self, _labels: &[u8])
+        requires { Contains (observed_sum_labellings (strata_of self.now)) _labels.now }
+        ensures { IsMember (strata_of self.now) _labels.now }
+    {
+        let _made = self.made();
     }
 }

@@ -63,6 +63,7 @@ impl Plain for Zelen {
     }
 
     fn value(&self, labels: &[u8]) -> i128 {
+        self.member(labels);
         held(labels_weight(self.made().strata.as_slice(), labels))
     }
 

@@ -9,29 +9,14 @@ use Rattle.homogeneity.specs.ZelenNetwork.{zelen_meaning, zelen_weights}
 use Rattle.homogeneity.specs.declared.rests.Rests.{Rests}
 use Rattle.homogeneity.specs.declared.zelen_measure.ZelenMeasure.{ZelenMeasure}
 use Rattle.homogeneity.specs.declared.zelen_rooms.ZelenRooms.{ZelenRooms}
-use Rattle.homogeneity.proofs.ZelenTests.{follows, judges-fit}
-use Rattle.homogeneity.proofs.ZelenWays.{network-same, summed}
+use Rattle.homogeneity.proofs.ZelenWays.{network-same}
 use Rattle.homogeneity.proofs.zelen_ways.ZelenPrepared.stages_of.Goals as goal
-
-pub rests_of-requires-clause-summed : goal.rests_of-requires-clause-summed
-rests_of-requires-clause-summed c =
-    let made = c.made-made.ensures in
-    summed (strata_of c.args.self.now) c.made-made.result.now.strata c.made-made.result.now.sum made.tables made.sum_is made.sized.small made.sized.few
-
-pub returns-in_err-rests_of-clause-follows : goal.returns-in_err-rests_of-clause-follows
-returns-in_err-rests_of-clause-follows c t has = follows (strata_of c.args.self.now) t has
-
-pub returns-in_err-rests-clause-follows : goal.returns-in_err-rests-clause-follows
-returns-in_err-rests-clause-follows c t has = follows (strata_of c.args.self.now) t has
 
 pub new-requires : goal.new-requires
 new-requires c v =
     let strata : List Stratum = strata_of c.args.self.now in
     let judge : c.of.result ≡ judge_of (observed_sum_test strata) = c.of.ensures (observed_sum_test strata) c.made-made.ensures.frame_is in
-    subst (λ (j : Judge). JudgeFits j v) (sym judge) (judges-fit strata v)
-
-pub returns-in_err-measure-clause-follows : goal.returns-in_err-measure-clause-follows
-returns-in_err-measure-clause-follows c t has = follows (strata_of c.args.self.now) t has
+    subst (λ (j : Judge). JudgeFits j v) (sym judge) (c.made-made.ensures.judged v)
 
 pub returns-clause-built : goal.returns-clause-built
 returns-clause-built c =
@@ -46,6 +31,3 @@ returns-clause-built c =
     (ap (λ (r : Rests). r.strata) measure.rests ∙ c.in_ok-rests.ensures.strata ∙ made.tables)
     (ap (λ (r : Rests). r.sum) measure.rests ∙ c.in_ok-rests.ensures.sum ∙ made.sum_is)
     (measure.judge ∙ judge)
-
-pub returns-clause-follows : goal.returns-clause-follows
-returns-clause-follows c t has = follows (strata_of c.args.self.now) t has
