@@ -13,14 +13,12 @@ use Rattle.strata_cells.proofs.FirstCells.{cells-meet, cells-sum}
 use Rattle.homogeneity.specs.Zelen.{has_sum}
 use Rattle.homogeneity.specs.ZelenSteps.{CanHave}
 use Rattle.homogeneity.specs.ZelenNetwork.{greatest_choice, greatest_sum, least_choice, least_sum, number_with}
+use Rattle.homogeneity.proofs.Products.{grouped}
 
 -- ---- over lists of first cells
 
 abbrev pub over_cells : List Stratum → (List ℕ → ℕ) → ℕ
 over_cells strata f = sum_by (λ cells. cells_weight strata cells * f cells) (cell_lists strata)
-
-grouped : (a b c : ℕ) → a * b * c ≡ a * (b * c)
-grouped a b c = grind arith
 
 pub over-step : (s : Stratum) (strata : List Stratum) (f : List ℕ → ℕ) → over_cells (s ∷ strata) f ≡ sum_by (λ x. cell_weight s x * over_cells strata (λ cells. f (x ∷ cells))) (cells_in s)
 over-step s strata f =

@@ -1,5 +1,7 @@
+mod Products
 mod TwoParts
 pub mod WaySums
+mod OneCounts
 mod RankLaw
 mod RankSums
 mod RankPlans
@@ -16,15 +18,15 @@ mod StrataTotals
 pub mod Vectors
 pub mod Unimodal
 pub mod Given
-pub mod EvenWays
+pub mod ZelenPlans
 pub mod Growing
 pub mod Remaining
 pub mod Windows
-pub mod Bodies
-pub mod EvenMeasures
+pub mod ZelenMeasures
+pub mod ZelenSeats
 pub mod Rarities
-pub mod EvenWalk
-pub mod EvenTests
+pub mod SumWalk
+pub mod ZelenTests
 pub mod CellProducts
 pub mod ZelenWays
 mod RankWays

@@ -33,9 +33,10 @@ use Rattle.homogeneity.specs.RankNetworks.{AreUsable, ranked_strata_network}
 use Rattle.homogeneity.specs.RankRooms.{column_ranks, columns_of, first_second, left, rank_meaning, rank_plan, rank_weight, ways_of}
 use Rattle.homogeneity.specs.RankSteps.{AreFitColumns, AreRankSums, later_ways}
 use Rattle.homogeneity.specs.StratifiedRanks.{at_place, ranked_strata_test, ranks_in, second_size, strata_subjects, stratum_subjects, two_sizes}
+use Rattle.homogeneity.proofs.Products.{product-some}
 use Rattle.homogeneity.proofs.RankData.{IsStratum, columns-ranks, columns-sizes, columns-sound, ranks-total, second-within}
 use Rattle.homogeneity.proofs.RankLaw.{later-ways, later_sizes, none-behind, number-more, number_joined, second_counts}
-use Rattle.homogeneity.proofs.RankPlans.{both-least, later-least, measure_sound, plan_sound-at}
+use Rattle.homogeneity.proofs.RankPlans.{later-least, measure_sound, plan_sound-at}
 use Rattle.homogeneity.proofs.RankSums.{sound-columns}
 use Rattle.homogeneity.proofs.RankValues.{gives, statistic-is}
 use Rattle.homogeneity.proofs.TwoParts.{halves}
@@ -219,4 +220,4 @@ module _ (strata : List (List Subject)) (f : AreFitStrata strata) where
       (record { judge_is = refl; gives = gives strata f.each; values = λ xs m. measured-is test refl tail xs ∙ statistic-is strata f.each (judge_of test) xs })
 
   pub total-some : 1 ≤ total test
-  total-some = omega (arith, total-is, both-least _ _ (number_of_labellings-positive (halves (left (columns_of strata)) (first_second strata))) (later-least (columns_of strata)))
+  total-some = omega (arith, total-is, product-some _ _ (number_of_labellings-positive (halves (left (columns_of strata)) (first_second strata))) (later-least (columns_of strata)))

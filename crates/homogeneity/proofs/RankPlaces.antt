@@ -5,10 +5,11 @@ use Rattle.std.specs.List.{Contains, sum}
 use Rattle.weights.specs.declared.TheConstants.{MAX}
 use Rattle.stage_network.specs.declared.verdicts.Judge.{Judge}
 use Rattle.room_network.specs.Meanings.{AreReached, IsMove}
-use Rattle.homogeneity.specs.RankRooms.{column_at, column_ranks, greatest_added, least_added, left, rank_floor, rank_meaning, rank_numbers, remaining}
+use Rattle.homogeneity.specs.OneCount.{IsOneCount, remaining}
+use Rattle.homogeneity.specs.RankRooms.{column_at, column_ranks, greatest_added, least_added, left, rank_floor, rank_meaning, rank_numbers}
 use Rattle.room_network.specs.Numbers.{IsNumber, IsOutcome, so_far}
 use Rattle.room_network.specs.declared.numbers.Operation.TheVariants.{Sum}
-use Rattle.homogeneity.specs.RankSteps.{AreColumns, AreFitColumns, AreRankSums, IsOneCount}
+use Rattle.homogeneity.specs.RankSteps.{AreColumns, AreFitColumns, AreRankSums, RankMove, RankPlace}
 use Rattle.homogeneity.specs.declared.rank_columns.Column.{Column}
 use Rattle.homogeneity.proofs.RankPlans.{IsChoiceAt, IsPlaceAt, choice_at, columns-from, measure_sound, place_at}
 use Rattle.homogeneity.proofs.RankSeats.{left-few}
@@ -58,12 +59,31 @@ module _ (columns : List Column) (second : ℕ) (f : AreFitColumns columns secon
   moves g room x p v =
       let here : IsPlaceAt columns second s f.within judge g room p = place_at columns second s f.within judge g room p v.reached in
       let next : IsPlaceAt columns second s f.within judge (suc g) ((rank_floor columns second).next g room x) ((rank_meaning columns second judge).advance g room x p) = place_at columns second s f.within judge (suc g) _ _ (room, p, x, v.reached, v.before, v.allowed, refl, refl) in
-      let choice : IsChoiceAt columns g here.lies.count x = choice_at columns second s g here.lies.count x v.before here.lies.within (subst (λ k. Contains ((rank_floor columns second).choices g k) x) here.lies.is v.allowed) in
+      let choice : IsChoiceAt columns g here.lies.count x = choice_at columns second g here.lies.count x (subst (λ k. Contains ((rank_floor columns second).choices g k) x) here.lies.is v.allowed) in
       let long : length x ≡ 1 = ap length choice.is in
       let sum_same : remaining p ≡ here.sum_so_far = ap remaining here.partial_is in
       let told : remaining ((rank_meaning columns second judge).advance g room x p) ≡ here.sum_so_far + slice_index x 0 * (column_at columns g).rank = ap (λ q. remaining ((rank_meaning columns second judge).advance g room x q)) here.partial_is in
       let next_same : remaining ((rank_meaning columns second judge).advance g room x p) ≡ next.sum_so_far = ap remaining next.partial_is in
       record { long = omega (arith, long); fits = omega (arith, sum_same, told, next_same, next.within) }
+
+  -- what the bodies know
+  pub rank-place : (g : ℕ) (room p : List ℤ) → AreReached (rank_meaning columns second judge) g room p → RankPlace columns g room
+  rank-place g room p r =
+      let here = place g room p r in
+      record {
+        one = here.one;
+        stage = here.stage;
+        sound = here.sound;
+        within = here.within;
+        ranks = omega (arith, here.ranks, f.ranks_fit);
+        least = omega (arith, here.least, f.ranks_fit);
+        greatest = omega (arith, here.greatest, f.ranks_fit);
+      }
+
+  pub rank-move : (g : ℕ) (room : List ℤ) (x : List ℕ) (p : List ℤ) → IsMove (rank_meaning columns second judge) g room x p → RankMove (column_at columns g) x
+  rank-move g room x p v =
+      let here = moves g room x p v in
+      record { some = here.long; fits = omega (arith, here.fits, f.ranks_fit) }
 
 -- what a partial and what is added come to
 module _ (columns : List Column) (second : ℕ) (judge : Judge) (h : AreRankSums columns second judge) where

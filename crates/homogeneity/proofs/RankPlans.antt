@@ -1,13 +1,10 @@
 -- What a reached room of ranks has, that its plan is sound, and that its measure narrows.
-use Rattle.std.proofs.Common.{◌≡◌, ◌≢◌, ℕ, zero, suc, ◌+◌, ◌-◌, ◌*◌, ◌<◌, ◌≤◌, mul-one, min, Bool, true, false, cond, nat_eq, List, [], ◌∷◌, AllPairs, drop, length, get_or, refl, sym, ◌∙◌, ap, subst, arith, add-one, drop-cons, drop_of_length-le, length-drop}
+use Rattle.std.proofs.Common.{◌≡◌, ℕ, zero, suc, ◌+◌, ◌-◌, ◌*◌, ◌<◌, ◌≤◌, mul-one, min, Bool, true, false, cond, nat_eq, List, [], ◌∷◌, drop, length, refl, sym, ◌∙◌, ap, subst, arith, add-one, drop-cons, drop_of_length-le, length-drop}
 use Rattle.std.specs.Prelude.{ℤ, pos, ◌+ℤ◌, ◌≤ℤ◌, slice_index}
-use Rattle.std.specs.List.{AllByRecursion, Contains, sum}
+use Rattle.std.specs.List.{Contains, sum}
 use Rattle.std.proofs.lemmas.Int.{ints}
-use Rattle.std.proofs.lemmas.List.Elements.{All-contains, All-from_recursion}
-use Rattle.std.proofs.lemmas.List.FromFn.{get_or-map-range_with_len, length-map-range_with_len}
 use Rattle.weights.specs.declared.TheConstants.{MAX}
 use Rattle.stage_network.specs.declared.verdicts.Judge.{Judge}
-use Rattle.weights.proofs.Filters.{all_weaker}
 use Rattle.weights.proofs.FirstLabel.{number_of_labellings-positive}
 use Rattle.weights.proofs.Sums.{sum_by-same}
 use Rattle.stage_network.specs.Completions.{completions, path_weight, total_weight}
@@ -17,56 +14,16 @@ use Rattle.stage_network.proofs.Steps.{reached-next, total_weight-step}
 use Rattle.room_network.specs.Meanings.{AreReached, IsMeasure}
 use Rattle.room_network.specs.Plans.{IsPlan, alone}
 use Rattle.room_network.proofs.RoomKeys.{choices_before, is_allowed}
-use Rattle.homogeneity.specs.RankRooms.{added_by, column_at, column_ranks, counts_from, left, rank_floor, rank_meaning, rank_plan, remaining, remaining_after, ways_of}
+use Rattle.homogeneity.specs.OneCount.{chosen, remaining}
+use Rattle.homogeneity.specs.RankRooms.{added_by, column_at, column_ranks, left, rank_floor, rank_meaning, rank_plan, remaining_after, ways_of}
 use Rattle.room_network.specs.Numbers.{so_far}
 use Rattle.homogeneity.specs.RankSteps.{AreColumns, AreFitColumns, later_ways}
 use Rattle.homogeneity.specs.declared.rank_columns.Column.{Column}
+use Rattle.homogeneity.proofs.OneCounts.{between, different, some-choice}
+use Rattle.homogeneity.proofs.Products.{left-factor, product-some, right-factor}
 use Rattle.homogeneity.proofs.RankLaw.{later-ways, later_sizes, number-more, ways_give}
 use Rattle.homogeneity.proofs.RankSums.{column_total, columns-sound_at, high-falls, low-rises, remaining-within}
 use Rattle.homogeneity.proofs.TwoParts.{halves}
-
-pub both-least : (a b : ℕ) → 1 ≤ a → 1 ≤ b → 1 ≤ a * b
-both-least a b h l = grind arith
-
-left-within : (a b m : ℕ) → 1 ≤ b → a * b ≤ m → a ≤ m
-left-within a b m h l = grind arith
-
-right-within : (a b m : ℕ) → 1 ≤ a → a * b ≤ m → b ≤ m
-right-within a b m h l = grind arith
-
--- ---- lists of counts
-
-pub record IsCount (low high : ℕ) (x : List ℕ) : Type 0 where
-  pub count : ℕ
-  pub is : x ≡ count ∷ []
-  pub least : low ≤ count
-  pub below : count < high
-
-later-count : (low high : ℕ) (x : List ℕ) → IsCount (low + 1) high x → IsCount low high x
-later-count low high x i = record { count = i.count; is = i.is; least = omega (arith, i.least); below = i.below }
-
-counts-each : (s n : ℕ) → AllByRecursion (IsCount s (s + n)) (counts_from s n)
-counts-each s zero = tt
-counts-each s (suc n) =
-    let e : s + 1 + n ≡ s + suc n = omega arith in
-    (record { count = s; is = refl; least = omega arith; below = omega arith }, all_weaker (IsCount (s + 1) (s + suc n)) (IsCount s (s + suc n)) (later-count s (s + suc n)) (counts_from (s + 1) n) (rw e at (counts-each (s + 1) n)))
-
-pub one-count : (s n : ℕ) (x : List ℕ) → Contains (counts_from s n) x → IsCount s (s + n) x
-one-count s n x a = All-contains (IsCount s (s + n)) (counts_from s n) x (All-from_recursion _ _ (counts-each s n)) a
-
-ones-apart : (x y : ℕ) → x < y → x ∷ [] ≢ y ∷ []
-ones-apart x y l e = let same : x ≡ y = cc in omega arith
-
-counts-different : (s n : ℕ) → AllPairs ◌≢◌ (counts_from s n)
-counts-different s n i j d below inside e =
-    let within : j < n = omega (arith, length-map-range_with_len (λ x. x ∷ []) s n) in
-    let first : get_or (counts_from s n) i d ≡ (s + i) ∷ [] = get_or-map-range_with_len (λ x. x ∷ []) s n i (s + i) d (omega arith) refl in
-    let second : get_or (counts_from s n) j d ≡ (s + j) ∷ [] = get_or-map-range_with_len (λ x. x ∷ []) s n j (s + j) d within refl in
-    ones-apart (s + i) (s + j) (omega arith) (sym first ∙ e ∙ second)
-
-counts-some : (s n : ℕ) → 1 ≤ n → counts_from s n ≢ []
-counts-some s zero h e = absurd (omega (arith, h))
-counts-some s (suc n) h e = cc
 
 -- ---- columns from a stage on
 
@@ -100,6 +57,12 @@ pub record IsChoiceAt (columns : List Column) (g r : ℕ) (x : List ℕ) : Type 
   pub here : count ≤ (column_at columns g).size
   pub most : count ≤ r
 
+pub choice_at : (columns : List Column) (second g r : ℕ) (x : List ℕ) → Contains ((rank_floor columns second).choices g (pos r ∷ [])) x → IsChoiceAt columns g r x
+choice_at columns second g r x a =
+    let c : Column = column_at columns g in
+    let b = between (r - c.later) (min c.size r) x a in
+    record { count = chosen x; is = b.one; least = omega (arith, b.least); here = omega (arith, b.most); most = omega (arith, b.most) }
+
 next-is : (columns : List Column) (second g : ℕ) (room : List ℤ) (r : ℕ) (x : List ℕ) (n : ℕ) → room ≡ pos r ∷ [] → x ≡ n ∷ [] → (rank_floor columns second).next g room x ≡ pos (remaining_after (column_at columns g) r n) ∷ []
 next-is columns second g room r x n e f = rw (e, f) refl
 
@@ -107,13 +70,6 @@ added-is : (columns : List Column) (g : ℕ) (p : List ℤ) (a : ℕ) (x : List 
 added-is columns g p a x n e f = rw (e, f) refl
 
 module _ (columns : List Column) (second : ℕ) (s : AreColumns columns) where
-  pub choice_at : (g r : ℕ) (x : List ℕ) → g < length columns → r ≤ left (drop g columns) → Contains ((rank_floor columns second).choices g (pos r ∷ [])) x → IsChoiceAt columns g r x
-  choice_at g r x h within a =
-      let c : Column = column_at columns g in
-      let all : r ≤ c.size + c.later = subst (λ n. r ≤ n) (left-here columns s g h) within in
-      let one : IsCount (r - c.later) (r - c.later + (min c.size r + 1 - (r - c.later))) x = one-count (r - c.later) (min c.size r + 1 - (r - c.later)) x a in
-      record { count = one.count; is = one.is; least = omega (arith, one.least); here = omega (arith, one.below, one.least, all); most = omega (arith, one.below, one.least, all) }
-
   pub next_within : (g r x : ℕ) → g < length columns → r ≤ left (drop g columns) → r ≤ x + (column_at columns g).later → x ≤ r → remaining_after (column_at columns g) r x ≤ left (drop (g + 1) columns)
   next_within g r x h within least most =
       remaining-within (column_at columns g) (drop (g + 1) columns) (here columns s g h).0 r x (subst (λ n. r ≤ n) (left-here columns s g h) within) least most
@@ -124,7 +80,7 @@ module _ (columns : List Column) (second : ℕ) (s : AreColumns columns) where
     room_at (suc g) room (j, x, r, before, o, e) =
         let past : IsRoomAt columns g j = room_at g j r in
         let allowed : Contains ((rank_floor columns second).choices g (pos past.count ∷ [])) x = subst (λ k. Contains ((rank_floor columns second).choices g k) x) past.is (is_allowed (rank_plan columns second) g j x before o) in
-        let choice : IsChoiceAt columns g past.count x = choice_at g past.count x before past.within allowed in
+        let choice : IsChoiceAt columns g past.count x = choice_at columns second g past.count x allowed in
         record {
           count = remaining_after (column_at columns g) past.count choice.count;
           is = e ∙ next-is columns second g j past.count x choice.count past.is choice.is;
@@ -151,8 +107,8 @@ module _ (columns : List Column) (second : ℕ) (s : AreColumns columns) where
       next_long = λ g room x e. refl;
       some_choice = λ g room r before. (let p : IsRoomAt columns g room = room_at g room r in
           let all : p.count ≤ (column_at columns g).size + (column_at columns g).later = subst (λ n. p.count ≤ n) (left-here columns s g before) p.within in
-          rw (p.is) (counts-some (p.count - (column_at columns g).later) (min (column_at columns g).size p.count + 1 - (p.count - (column_at columns g).later)) (omega (arith, all))));
-      different = λ g room r before. counts-different (remaining room - (column_at columns g).later) (min (column_at columns g).size (remaining room) + 1 - (remaining room - (column_at columns g).later));
+          rw (p.is) (some-choice (p.count - (column_at columns g).later) (min (column_at columns g).size p.count) (omega (arith, all))));
+      different = λ g room r before. different (remaining room - (column_at columns g).later) (min (column_at columns g).size (remaining room));
       weighty = λ g room x r before o. number_of_labellings-positive (((column_at columns g).size - slice_index x 0) ∷ slice_index x 0 ∷ []);
       fits = subst (λ n. n ≤ MAX) (sym (rest_at 0 second (omega arith) fits)) total;
     }
@@ -173,7 +129,7 @@ module _ (columns : List Column) (second : ℕ) (s : AreColumns columns) where
           let past : IsPlaceAt g j q = place_at g j q r in
           let c : Column = column_at columns g in
           let allowed : Contains ((rank_floor columns second).choices g (pos past.lies.count ∷ [])) x = subst (λ k. Contains ((rank_floor columns second).choices g k) x) past.lies.is o in
-          let choice : IsChoiceAt columns g past.lies.count x = choice_at g past.lies.count x before past.lies.within allowed in
+          let choice : IsChoiceAt columns g past.lies.count x = choice_at columns second g past.lies.count x allowed in
           let sums : sum (column_ranks (drop g columns)) ≡ c.size * c.rank + sum (column_ranks (drop (g + 1) columns)) = ap (λ cs. sum (column_ranks cs)) (stage-split columns g before) ∙ column_total c (drop (g + 1) columns) in
           record {
             lies = record {
@@ -210,7 +166,7 @@ module _ (columns : List Column) (second : ℕ) (s : AreColumns columns) where
               let past : IsPlaceAt g room p = place_at g room p r in
               let c : Column = column_at columns g in
               let n : ℕ = past.lies.count in
-              let choice : IsChoiceAt columns g n x = choice_at g n x before past.lies.within (subst (λ k. Contains ((rank_floor columns second).choices g k) x) past.lies.is o) in
+              let choice : IsChoiceAt columns g n x = choice_at columns second g n x (subst (λ k. Contains ((rank_floor columns second).choices g k) x) past.lies.is o) in
               rw (past.lies.is, choice.is, stage-split columns g before) (up (so_far p) _ _ _ (low-rises c (drop (g + 1) columns) (here columns s g before) n choice.count (subst (λ m. n ≤ m) (left-here columns s g before) past.lies.within) choice.least choice.here choice.most))
 
           high_falls : (g : ℕ) (room p : List ℤ) (x : List ℕ) → AreReached (rank_meaning columns second judge) g room p → g < length columns → Contains ((rank_floor columns second).choices g room) x
@@ -219,7 +175,7 @@ module _ (columns : List Column) (second : ℕ) (s : AreColumns columns) where
               let past : IsPlaceAt g room p = place_at g room p r in
               let c : Column = column_at columns g in
               let n : ℕ = past.lies.count in
-              let choice : IsChoiceAt columns g n x = choice_at g n x before past.lies.within (subst (λ k. Contains ((rank_floor columns second).choices g k) x) past.lies.is o) in
+              let choice : IsChoiceAt columns g n x = choice_at columns second g n x (subst (λ k. Contains ((rank_floor columns second).choices g k) x) past.lies.is o) in
               rw (past.lies.is, choice.is, stage-split columns g before) (down (so_far p) _ _ _ (high-falls c (drop (g + 1) columns) (here columns s g before) n choice.count (subst (λ m. n ≤ m) (left-here columns s g before) past.lies.within) choice.least choice.here choice.most))
 
           none-added : (z : ℤ) (a : ℕ) → a ≡ 0 → z +ℤ pos a ≡ z
@@ -246,7 +202,7 @@ later-least [] = omega arith
 later-least (c ∷ columns) = by (nat_eq c.later 0) (later-least columns)
   where
     by : (b : Bool) → 1 ≤ later_ways columns → 1 ≤ cond b (ways_of (left columns) c.ahead) 1 * later_ways columns
-    by true h = both-least _ _ (number_of_labellings-positive (halves (left columns) c.ahead)) h
+    by true h = product-some _ _ (number_of_labellings-positive (halves (left columns) c.ahead)) h
     by false h = omega (arith, h)
 
 -- of a reached room
@@ -264,7 +220,7 @@ module _ (columns : List Column) (second : ℕ) (f : AreFitColumns columns secon
   fits_at (suc g) room (j, x, r, before, o, e) =
       let n = alone (rank_plan columns second) in
       let arc = term-le-sum_by (λ c. n.weight g j c * total_weight n (g + 1) (n.next g j c)) (n.choices g j) x o in
-      let next : total_weight n (g + 1) (n.next g j x) ≤ MAX = right-within (n.weight g j x) _ MAX (number_of_labellings-positive (halves (column_at columns g).size (slice_index x 0))) (omega (arith, arc, total_weight-step n g j before, fits_at g j r)) in
+      let next : total_weight n (g + 1) (n.next g j x) ≤ MAX = right-factor (n.weight g j x) _ MAX (number_of_labellings-positive (halves (column_at columns g).size (slice_index x 0))) (omega (arith, arc, total_weight-step n g j before, fits_at g j r)) in
       subst (λ i. total_weight n i room ≤ MAX) (add-one g) (subst (λ k. total_weight n (g + 1) k ≤ MAX) (sym e) next)
 
   pub weighs_at : (g : ℕ) (room : List ℤ) (r : ℕ) → IsReached (alone (rank_plan columns second)) g room → room ≡ pos r ∷ [] → r ≤ left (drop g columns) → Weighs columns g r
@@ -273,8 +229,8 @@ module _ (columns : List Column) (second : ℕ) (f : AreFitColumns columns secon
       let all : ways_of (left (drop g columns)) r * later_ways (drop g columns) ≤ MAX = subst (λ n. n ≤ MAX) (rest_at columns second (columns-sound_at columns f.sound) f.within g r (stage_at columns second (columns-sound_at columns f.sound) f.within g room a) within) rest in
       record {
         rest = all;
-        own = left-within _ _ MAX (later-least (drop g columns)) all;
-        later = right-within _ _ MAX (number_of_labellings-positive (halves (left (drop g columns)) r)) all;
+        own = left-factor _ _ MAX (later-least (drop g columns)) all;
+        later = right-factor _ _ MAX (number_of_labellings-positive (halves (left (drop g columns)) r)) all;
       }
 
   pub weight_at : (g : ℕ) (room : List ℤ) (x : List ℕ) → IsReached (alone (rank_plan columns second)) g room → g < length columns → Contains ((rank_floor columns second).choices g room) x → ways_of (column_at columns g).size (slice_index x 0) ≤ MAX
@@ -284,5 +240,5 @@ module _ (columns : List Column) (second : ℕ) (f : AreFitColumns columns secon
       let arc = term-le-sum_by (λ c. n.weight g room c * total_weight n (g + 1) (n.next g room c)) (n.choices g room) x allowed in
       let reached : IsReached n (g + 1) (n.next g room x) = reached-next n g room x a before allowed in
       let there : IsRoomAt columns (g + 1) (n.next g room x) = room_at columns second (columns-sound_at columns f.sound) f.within (g + 1) (n.next g room x) reached in
-      let total : 1 ≤ total_weight n (g + 1) (n.next g room x) = rw (there.is, rest_at columns second (columns-sound_at columns f.sound) f.within (g + 1) there.count (omega (arith, before)) there.within) (both-least _ _ (number_of_labellings-positive (halves (left (drop (g + 1) columns)) there.count)) (later-least (drop (g + 1) columns))) in
-      left-within _ _ MAX total (omega (arith, arc, total_weight-step n g room before, fits_at g room a))
+      let total : 1 ≤ total_weight n (g + 1) (n.next g room x) = rw (there.is, rest_at columns second (columns-sound_at columns f.sound) f.within (g + 1) there.count (omega (arith, before)) there.within) (product-some _ _ (number_of_labellings-positive (halves (left (drop (g + 1) columns)) there.count)) (later-least (drop (g + 1) columns))) in
+      left-factor _ _ MAX total (omega (arith, arc, total_weight-step n g room before, fits_at g room a))

@@ -1,5 +1,5 @@
 -- What the bodies of the rooms read of a reached room and of a choice there.
-use Rattle.std.proofs.Common.{◌≡◌, ℕ, zero, suc, ◌+◌, ◌-◌, ◌*◌, ◌<◌, ◌≤◌, min, List, [], ◌∷◌, ◌++◌, drop, length, get_or, set, cond, nat_eq, Bool, true, false, refl, sym, ◌∙◌, ap, subst, arith, drop_of_length-le, length-append, eq-eqb, inl, inr}
+use Rattle.std.proofs.Common.{◌≡◌, ℕ, zero, suc, ◌+◌, ◌-◌, ◌*◌, ◌<◌, ◌≤◌, List, [], ◌∷◌, ◌++◌, drop, length, get_or, cond, nat_eq, Bool, true, false, refl, sym, ◌∙◌, ap, subst, arith, length-append, eq-eqb, inl, inr}
 use Rattle.std.proofs.lemmas.Bool.{cases_lt}
 use Rattle.std.proofs.lemmas.List.{get_or_append_left}
 use Rattle.std.specs.Prelude.{ℤ, pos, slice_index}
@@ -10,10 +10,12 @@ use Rattle.weights.proofs.FirstLabel.{number_of_labellings-positive}
 use Rattle.stage_network.specs.Completions.{total_weight}
 use Rattle.stage_network.specs.Network.{IsReached}
 use Rattle.room_network.specs.Plans.{alone}
-use Rattle.homogeneity.specs.RankRooms.{column_at, counts_from, left, rank_floor, rank_plan, remaining, ways_of}
-use Rattle.homogeneity.specs.RankSteps.{AreColumns, AreFitColumns, AreLaterWays, IsOneCount, later_ways}
+use Rattle.homogeneity.specs.OneCount.{remaining}
+use Rattle.homogeneity.specs.RankRooms.{column_at, left, rank_floor, rank_plan, ways_of}
+use Rattle.homogeneity.specs.RankSteps.{AreColumns, AreFitColumns, AreLaterWays, RankChoice, RankSeat, later_ways}
 use Rattle.homogeneity.specs.declared.rank_columns.Column.{Column}
-use Rattle.homogeneity.proofs.RankPlans.{IsChoiceAt, IsRoomAt, Weighs, choice_at, columns-from, later-least, room_at, rest_at, stage-split, stage_at, weighs_at, weight_at}
+use Rattle.homogeneity.proofs.Products.{left-factor, right-factor}
+use Rattle.homogeneity.proofs.RankPlans.{IsChoiceAt, IsRoomAt, Weighs, choice_at, columns-from, later-least, rest_at, room_at, stage-split, stage_at, weighs_at, weight_at}
 use Rattle.homogeneity.proofs.RankSums.{columns-sound_at}
 use Rattle.homogeneity.proofs.TwoParts.{halves}
 
@@ -21,47 +23,41 @@ pub left-few : (columns : List Column) → AreColumns columns → left columns �
 left-few [] s = omega arith
 left-few (c ∷ columns) s = s.0.small
 
-pub record Seat (columns : List Column) (second g : ℕ) (room : List ℤ) : Type 0 where
-  pub one : IsOneCount room
-  pub within : remaining room ≤ left (drop g columns)
-  pub sound : AreColumns (drop g columns)
-  pub stage : g ≤ length columns
-  pub few : left (drop g columns) ≤ 10000
-  pub weighs : Weighs columns g (remaining room)
-  pub total : total_weight (alone (rank_plan columns second)) g room ≡ ways_of (left (drop g columns)) (remaining room) * later_ways (drop g columns)
-
-pub record ChoiceSeat (columns : List Column) (g : ℕ) (room : List ℤ) (x : List ℕ) : Type 0 where
-  pub within : slice_index x 0 ≤ (column_at columns g).size
-  pub most : slice_index x 0 ≤ remaining room
-  pub fits : ways_of (column_at columns g).size (slice_index x 0) ≤ MAX
-  pub few : (column_at columns g).size ≤ 10000
+pub table-read : (columns : List Column) (ways : List ℕ) (g : ℕ) → AreLaterWays columns (length columns) ways → g ≤ length columns → get_or ways (length columns - g) 0 ≡ later_ways (drop g columns)
+table-read columns ways g a h =
+    let back : length columns - (length columns - g) ≡ g = omega (arith, h) in
+    a.each (length columns - g) (omega arith) ∙ ap (λ i. later_ways (drop i columns)) back
 
 module _ (columns : List Column) (second : ℕ) (f : AreFitColumns columns second) where
   s : AreColumns columns
   s = columns-sound_at columns f.sound
 
-  pub seat : (g : ℕ) (room : List ℤ) → IsReached (alone (rank_plan columns second)) g room → Seat columns second g room
-  seat g room a =
+  pub seat : (ways : List ℕ) → AreLaterWays columns (length columns) ways → (g : ℕ) (room : List ℤ) → IsReached (alone (rank_plan columns second)) g room → RankSeat columns second ways g room
+  seat ways w g room a =
       let at : IsRoomAt columns g room = room_at columns second s f.within g room a in
       let same : remaining room ≡ at.count = ap remaining at.is in
       let is : room ≡ pos (remaining room) ∷ [] = at.is ∙ ap (λ n. pos n ∷ []) (sym same) in
       let within : remaining room ≤ left (drop g columns) = omega (arith, same, at.within) in
       let few : left (drop g columns) ≤ 10000 = left-few (drop g columns) (columns-from columns g s) in
       let stage : g ≤ length columns = stage_at columns second s f.within g room a in
+      let weighs : Weighs columns g (remaining room) = weighs_at columns second f g room (remaining room) a is within in
       record {
         one = record { is = is; small = omega (arith, within, few) };
         within = within;
         sound = columns-from columns g s;
         stage = stage;
         few = few;
-        weighs = weighs_at columns second f g room (remaining room) a is within;
+        own = weighs.own;
+        behind = table-read columns ways g w stage;
+        both = weighs.rest;
+        meets = λ before. omega (arith, subst (λ n. remaining room ≤ n) (ap left (stage-split columns g before)) within);
         total = ap (total_weight (alone (rank_plan columns second)) g) is ∙ rest_at columns second s f.within g (remaining room) stage within;
       }
 
-  pub choice-seat : (g : ℕ) (room : List ℤ) (x : List ℕ) → IsReached (alone (rank_plan columns second)) g room → g < length columns → Contains ((rank_floor columns second).choices g room) x → ChoiceSeat columns g room x
-  choice-seat g room x a before o =
-      let here : Seat columns second g room = seat g room a in
-      let choice : IsChoiceAt columns g (remaining room) x = choice_at columns second s g (remaining room) x before here.within (subst (λ k. Contains ((rank_floor columns second).choices g k) x) here.one.is o) in
+  pub choice-seat : (ways : List ℕ) → AreLaterWays columns (length columns) ways → (g : ℕ) (room : List ℤ) (x : List ℕ) → IsReached (alone (rank_plan columns second)) g room → g < length columns → Contains ((rank_floor columns second).choices g room) x → RankChoice (column_at columns g) room x
+  choice-seat ways w g room x a before o =
+      let here : RankSeat columns second ways g room = seat ways w g room a in
+      let choice : IsChoiceAt columns g (remaining room) x = choice_at columns second g (remaining room) x (subst (λ k. Contains ((rank_floor columns second).choices g k) x) here.one.is o) in
       let same : slice_index x 0 ≡ choice.count = ap (λ xs. slice_index xs 0) choice.is in
       record {
         within = omega (arith, same, choice.here);
@@ -69,21 +65,6 @@ module _ (columns : List Column) (second : ℕ) (f : AreFitColumns columns secon
         fits = weight_at columns second f g room x a before o;
         few = omega (arith, (f.sound.each g before).small);
       }
-
-  least-meets : (g r : ℕ) → g < length columns → r ≤ left (drop g columns) → r - (column_at columns g).later ≤ min (column_at columns g).size r
-  least-meets g r before h = omega (arith, subst (λ n. r ≤ n) (ap left (stage-split columns g before)) h)
-
-  pub first-counts : (g : ℕ) (room : List ℤ) → IsReached (alone (rank_plan columns second)) g room → g < length columns → let x = (remaining room - (column_at columns g).later) ∷ [] in (rank_floor columns second).choices g room ≡ x ∷ (rank_floor columns second).later g room x
-  first-counts g room a before =
-      let h = least-meets g (remaining room) before (seat g room a).within in
-      let e : min (column_at columns g).size (remaining room) + 1 - (remaining room - (column_at columns g).later) ≡ suc (min (column_at columns g).size (remaining room) - (remaining room - (column_at columns g).later)) = omega (arith, h) in
-      ap (counts_from (remaining room - (column_at columns g).later)) e
-
-pub next-counts : (n : ℕ) (choice : List ℕ) → length choice ≡ 1 → get_or choice 0 0 < n
-    → let next = set choice 0 (get_or choice 0 0 + 1) in counts_from (get_or choice 0 0 + 1) (n - get_or choice 0 0) ≡ next ∷ counts_from (slice_index next 0 + 1) (n - slice_index next 0)
-next-counts n [] long h = absurd (omega arith)
-next-counts n (j ∷ k ∷ choice) long h = absurd (omega arith)
-next-counts n (j ∷ []) long h = let e : n - j ≡ suc (n - (j + 1)) = omega (arith, h) in rw e refl
 
 -- ---- the table of later labellings
 
@@ -103,15 +84,7 @@ pub own-fits : (c : Column) (columns : List Column) (b : ℕ) → c.later ≡ 0 
 own-fits c columns b e same h =
     let last : nat_eq c.later 0 ≡ true = eq-eqb c.later 0 e in
     let all : ways_of (left columns) c.ahead * later_ways columns ≤ MAX = rw last at h in
-    (first-within _ _ (later-least columns) all, rw same all)
-  where
-    first-within : (a b : ℕ) → 1 ≤ b → a * b ≤ MAX → a ≤ MAX
-    first-within a b h l = grind arith
-
-pub table-read : (columns : List Column) (ways : List ℕ) (g : ℕ) → AreLaterWays columns (length columns) ways → g ≤ length columns → get_or ways (length columns - g) 0 ≡ later_ways (drop g columns)
-table-read columns ways g a h =
-    let back : length columns - (length columns - g) ≡ g = omega (arith, h) in
-    a.each (length columns - g) (omega arith) ∙ ap (λ i. later_ways (drop i columns)) back
+    (left-factor _ _ MAX (later-least columns) all, rw same all)
 
 -- a place past the others of a list
 pub table-more : (columns : List Column) (done : ℕ) (ways : List ℕ) (w : ℕ) → AreLaterWays columns done ways → done < length columns → w ≡ later_ways (column_at columns (length columns - done - 1) ∷ drop (length columns - done - 1 + 1) columns) → AreLaterWays columns (done + 1) (ways ++ w ∷ [])
@@ -134,7 +107,4 @@ pub suffix-fits : (columns : List Column) (g : ℕ) → g < length columns → l
 suffix-fits columns g before h = subst (λ cs. later_ways cs ≤ MAX) (stage-split columns g before) (omega (arith, later-fewer columns g, h))
 
 pub total-later : (columns : List Column) (second : ℕ) → AreFitColumns columns second → later_ways columns ≤ MAX
-total-later columns second f = second-within _ _ (number_of_labellings-positive (halves (left columns) second)) f.total_fits
-  where
-    second-within : (a b : ℕ) → 1 ≤ a → a * b ≤ MAX → b ≤ MAX
-    second-within a b h l = grind arith
+total-later columns second f = right-factor _ _ MAX (number_of_labellings-positive (halves (left columns) second)) f.total_fits

@@ -95,22 +95,22 @@ module _ (strata : List Stratum) (labels : List ℕ) where
 
   -- the same first cells have the same sum
   same-sum : first_cells strata labels ≡ given → (other : List ℕ) (b : Bool) → pointwise nat_eq cells (cells_of strata other) ≡ b → cond (has_sum strata given other) (one_if b) 0 ≡ one_if b
-  same-sum even other false e = by (has_sum strata given other)
+  same-sum made other false e = by (has_sum strata given other)
     where
       by : (b : Bool) → ◌≡◌ {A = ℕ} (cond b 0 0) 0
       by true = refl
       by false = refl
-  same-sum even other true e =
+  same-sum made other true e =
       let same : cells ≡ cells_of strata other = same_text cells (cells_of strata other) (sym e) in
-      let summed : first_cells strata other ≡ given = cells-sum strata other ∙ ap sum (sym same) ∙ sym (cells-sum strata labels) ∙ even in
+      let summed : first_cells strata other ≡ given = cells-sum strata other ∙ ap sum (sym same) ∙ sym (cells-sum strata labels) ∙ made in
       ap (λ b. cond b 1 0) (eq-eqb (first_cells strata other) given summed)
 
   pub rarity-by : AreCells strata cells → first_cells strata labels ≡ given → rarity strata labels ≡ cells_weight strata cells
-  rarity-by a even =
+  rarity-by a made =
       sum_by-filter (λ other. one_if (pointwise nat_eq cells (cells_of strata other))) (has_sum strata given) (strata_labellings strata)
-      ∙ sum_by-same (λ other. cond (has_sum strata given other) (one_if (pointwise nat_eq cells (cells_of strata other))) 0) (λ other. one_if (pointwise nat_eq cells (cells_of strata other))) (λ other. same-sum even other (pointwise nat_eq cells (cells_of strata other)) refl) (strata_labellings strata)
+      ∙ sum_by-same (λ other. cond (has_sum strata given other) (one_if (pointwise nat_eq cells (cells_of strata other))) 0) (λ other. one_if (pointwise nat_eq cells (cells_of strata other))) (λ other. same-sum made other (pointwise nat_eq cells (cells_of strata other)) refl) (strata_labellings strata)
       ∙ by-cells strata (λ others. one_if (pointwise nat_eq cells others))
       ∙ over-one strata cells a
 
   pub rarity-is : Contains (strata_labellings strata) labels → first_cells strata labels ≡ given → rarity strata labels ≡ cells_weight strata cells
-  rarity-is m even = rarity-by (member-cells strata labels m) even
+  rarity-is m made = rarity-by (member-cells strata labels m) made

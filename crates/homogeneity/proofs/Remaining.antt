@@ -10,6 +10,7 @@ use Rattle.strata_cells.proofs.StrataSums.{next-drop, sum-step}
 use Rattle.homogeneity.specs.ZelenNetwork.{greatest_choice, greatest_sum, least_choice, least_sum, lesser_weight, lesser_weights, number_with}
 use Rattle.homogeneity.specs.ZelenSteps.{CanHave, IsLeft, least_left, most_left}
 use Rattle.homogeneity.proofs.Given.{can-next, choice-range, number-step, number_by, sums-meet}
+use Rattle.homogeneity.proofs.Products.{product-some}
 use Rattle.homogeneity.proofs.Unimodal.{lesser-least}
 
 -- ---- numbers of labellings
@@ -22,9 +23,6 @@ lesser-some s = both (cell_weight s (least_cell s)) (cell_weight s (greatest_cel
   where
     both : (a b : ℕ) → 1 ≤ a → 1 ≤ b → 1 ≤ min a b
     both a b h k = omega (arith, h, k)
-
-product-some : (a b : ℕ) → 1 ≤ a → 1 ≤ b → 1 ≤ a * b
-product-some a b h j = grind arith
 
 pub lesser-all_some : (strata : List Stratum) → 1 ≤ lesser_weights strata
 lesser-all_some [] = omega arith

@@ -1,5 +1,5 @@
 -- Steps of the loops over strata and their sizes.
-use Rattle.std.proofs.Common.{◌≡◌, ℕ, ℤ, ◌+◌, ◌*◌, ◌<◌, ◌≤◌, List, [], ◌∷◌, ◌++◌, length, drop, get_or, map, refl, ◌∙◌, ap, arith}
+use Rattle.std.proofs.Common.{◌≡◌, ℕ, ℤ, ◌+◌, ◌*◌, ◌<◌, ◌≤◌, List, [], ◌∷◌, ◌++◌, length, drop, get_or, map, refl, ◌∙◌, ap, arith, drop_of_length-le}
 use Rattle.std.specs.Prelude.{pos, slice_index_or}
 use Rattle.std.specs.List.{concat}
 use Rattle.std.proofs.Math.Nat.{mul-le-mul_left, mul-le-mul_right}
@@ -9,10 +9,10 @@ use Rattle.weights.proofs.FirstLabel.{number_of_labellings-positive}
 use Rattle.sample_reader.specs.PooledSample.{labels_of}
 use Rattle.sample_reader.specs.declared.subjects.Subject.{Subject}
 use Rattle.homogeneity.specs.RankRooms.{columns_in, columns_of, first_second}
-use Rattle.homogeneity.specs.StratifiedRanks.{ranks_in, second_size}
+use Rattle.homogeneity.specs.StratifiedRanks.{ranks_in}
 use Rattle.homogeneity.specs.StrataSteps.{part_sizes, part_ways, parts_total}
 use Rattle.homogeneity.specs.declared.ranked.Part.{Part}
-use Rattle.homogeneity.proofs.StrataReads.{past}
+use Rattle.homogeneity.proofs.Products.{product-some}
 
 abbrev pub no_part : Part
 no_part = record { subjects = 0; second = 0 }
@@ -26,9 +26,6 @@ pub record IsTotalled (parts : List Part) (i all : ℕ) : Type 0 where
 
 some-way : (p : Part) → 1 ≤ part_ways p
 some-way p = number_of_labellings-positive (part_sizes p)
-
-product-some : (m n : ℕ) → 1 ≤ m → 1 ≤ n → 1 ≤ m * n
-product-some m n h k = let more : m * 1 ≤ m * n = mul-le-mul_left m k in omega (arith, more, h)
 
 pub all-some : (parts : List Part) → 1 ≤ parts_total parts
 all-some [] = omega arith
@@ -67,7 +64,7 @@ module _ (parts : List Part) where
 
   pub product-whole : (i all : ℕ) → length parts ≤ i → IsTotalled parts i all → all ≡ parts_total parts
   product-whole i all h s =
-      let over : parts_total (drop i parts) ≡ 1 = rw (past parts i h) refl in
+      let over : parts_total (drop i parts) ≡ 1 = rw (drop_of_length-le parts {i = i} h) refl in
       let last : all * 1 ≡ parts_total parts = rw over at s.product in
       omega (arith, last)
 
@@ -77,7 +74,7 @@ pub columns-more : (strata : List (List Subject)) (i : ℕ) → i < length strat
 columns-more strata i h = ap columns_of (drop_more strata i [] h)
 
 pub columns-past : (strata : List (List Subject)) (i : ℕ) → length strata ≤ i → columns_of (drop i strata) ≡ []
-columns-past strata i h = ap columns_of (past strata i h)
+columns-past strata i h = ap columns_of (drop_of_length-le strata {i = i} h)
 
 abbrev pub ranks_from : List (List Subject) → List ℤ
 ranks_from strata = map pos (concat (map ranks_in strata))
@@ -86,7 +83,7 @@ pub ranks-more : (strata : List (List Subject)) (i : ℕ) → i < length strata 
 ranks-more strata i h = ap ranks_from (drop_more strata i [] h) ∙ map-append pos (ranks_in (slice_index_or strata i [])) (concat (map ranks_in (drop (i + 1) strata)))
 
 pub ranks-past : (strata : List (List Subject)) (i : ℕ) → length strata ≤ i → ranks_from (drop i strata) ≡ []
-ranks-past strata i h = ap ranks_from (past strata i h)
+ranks-past strata i h = ap ranks_from (drop_of_length-le strata {i = i} h)
 
 abbrev pub labels_from : List (List Subject) → List ℕ
 labels_from strata = concat (map labels_of strata)
@@ -95,4 +92,4 @@ pub labels-more : (strata : List (List Subject)) (i : ℕ) → i < length strata
 labels-more strata i h = ap labels_from (drop_more strata i [] h)
 
 pub labels-past : (strata : List (List Subject)) (i : ℕ) → length strata ≤ i → labels_from (drop i strata) ≡ []
-labels-past strata i h = ap labels_from (past strata i h)
+labels-past strata i h = ap labels_from (drop_of_length-le strata {i = i} h)

@@ -1,5 +1,5 @@
 -- Steps of the loops that take the subjects of strata out of samples.
-use Rattle.std.proofs.Common.{◌≡◌, ℕ, ℤ, zero, suc, ◌+◌, ◌<◌, ◌≤◌, Bool, true, false, cond, List, [], ◌∷◌, ◌++◌, append_assoc, append-nil, length, drop, get_or, pos, nat_eq, refl, sym, ◌∙◌, ap, arith}
+use Rattle.std.proofs.Common.{◌≡◌, ℕ, ℤ, ◌+◌, ◌<◌, ◌≤◌, Bool, true, false, cond, List, [], ◌∷◌, ◌++◌, append_assoc, append-nil, length, drop, get_or, pos, nat_eq, refl, sym, ◌∙◌, ap, drop_of_length-le}
 use Rattle.std.specs.Ordering.{int_cmp, nat_cmp}
 use Rattle.std.specs.Cmp.{IsTotalOrder, int_cmp_total, nat_cmp_total}
 use Rattle.std.proofs.lemmas.Cmp.{on_total, then_total}
@@ -22,12 +22,6 @@ more done new rest all tail h e = append_assoc done new rest ∙ ap (λ ys. done
 pub whole : {Y : Type 0} (done tail all : List Y) → done ++ tail ≡ all → tail ≡ [] → done ≡ all
 whole done tail all h e = sym (append-nil done) ∙ ap (λ ys. done ++ ys) (sym e) ∙ h
 
-pub past : {X : Type 0} (xs : List X) (i : ℕ) → length xs ≤ i → drop i xs ≡ []
-past [] zero h = refl
-past [] (suc i) h = refl
-past (x ∷ xs) zero h = absurd (omega (arith, h))
-past (x ∷ xs) (suc i) h = past xs i (omega (arith, h))
-
 one-more : {X : Type 0} (b : Bool) (x : X) (xs : List X) → cond b (x ∷ xs) xs ≡ cond b (x ∷ []) [] ++ xs
 one-more true x xs = refl
 one-more false x xs = refl
@@ -43,4 +37,4 @@ at-more k places values members i p v m =
     (one-more (nat_eq (get_or places i 0) k) (record { value = get_or values i (pos 0); label = get_or members i 0 }) (at_place k (drop (i + 1) places) (paired_subjects (drop (i + 1) values) (drop (i + 1) members))))
 
 pub at-end : (k : ℕ) (places : List ℕ) (values : List ℤ) (members : List ℕ) (i : ℕ) → length places ≤ i → left_at k places values members i ≡ []
-at-end k places values members i h = rw (past places i h) refl
+at-end k places values members i h = rw (drop_of_length-le places {i = i} h) refl

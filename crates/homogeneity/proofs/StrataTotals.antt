@@ -11,6 +11,7 @@ use Rattle.weights.specs.Rules.{RuleFits}
 use Rattle.weights.specs.declared.TheConstants.{MAX}
 use Rattle.weights.specs.declared.rules.Rule.TheVariants.{Far}
 use Rattle.weights.proofs.Centred.{far-fits}
+use Rattle.weights.proofs.Filters.{all_weaker}
 use Rattle.weights.proofs.Sums.{sum_by-map}
 use Rattle.scores.specs.Scores.{labelled_sum}
 use Rattle.scores.proofs.LabelledSums.{labelled-within}
@@ -62,10 +63,6 @@ centre-is strata = sum_by-map part_centre part_of strata
 
 -- ---- samples
 
-weaker : {X : Type 0} (P Q : X → Type 0) → ((x : X) → P x → Q x) → (xs : List X) → AllByRecursion P xs → AllByRecursion Q xs
-weaker P Q f [] a = tt
-weaker P Q f (x ∷ xs) a = (f x a.0, weaker P Q f xs a.1)
-
 each-map : {X Y : Type 0} (P : Y → Type 0) (f : X → Y) → ((x : X) → P (f x)) → (xs : List X) → AllByRecursion P (map f xs)
 each-map P f h [] = tt
 each-map P f h (x ∷ xs) = (h x, each-map P f h xs)
@@ -79,7 +76,7 @@ module _ (samples : StrataGroupData) (u : AreUsable samples) where
   groups k = record { labels = []; members = at_place k samples.places samples.members; values = at_place k samples.places samples.values }
 
   members-small : AllByRecursion (λ m. m < 256) samples.members
-  members-small = weaker (λ m. m < 2) (λ m. m < 256) (λ m h. omega (arith, h)) samples.members (recursion_from_All (λ m. m < 2) samples.members u.two_groups)
+  members-small = all_weaker (λ m. m < 2) (λ m. m < 256) (λ m h. omega (arith, h)) samples.members (recursion_from_All (λ m. m < 2) samples.members u.two_groups)
 
   small-at : (k : ℕ) → AllByRecursion (λ (s : Subject). s.label < 256) (stratum_subjects samples k)
   small-at k =
@@ -91,7 +88,7 @@ module _ (samples : StrataGroupData) (u : AreUsable samples) where
 
   pub labelled : AreLabelled (strata_subjects samples)
   labelled = record {
-    few = All-from_recursion (λ (s : List Subject). length s ≤ 10000) (strata_subjects samples) (weaker IsStratum (λ s. length s ≤ 10000) (λ s h. h.few) (strata_subjects samples) (strata-are samples u));
+    few = All-from_recursion (λ (s : List Subject). length s ≤ 10000) (strata_subjects samples) (all_weaker IsStratum (λ s. length s ≤ 10000) (λ s h. h.few) (strata_subjects samples) (strata-are samples u));
     small = All-from_recursion (λ (s : List Subject). All (λ (x : Subject). x.label < 256) s) (strata_subjects samples) (each-map (λ (s : List Subject). All (λ (x : Subject). x.label < 256) s) (stratum_subjects samples) (λ k. All-from_recursion (λ (x : Subject). x.label < 256) (stratum_subjects samples k) (small-at k)) (range_with_len 0 (length samples.strata)));
   }
 

@@ -8,6 +8,7 @@ use Rattle.weights.proofs.Binomials.{binomial-marked, binomial-pascal}
 use Rattle.strata_cells.specs.declared.stratum.Stratum.{Stratum}
 use Rattle.strata_cells.specs.Strata.{cell_weight, first_column, first_row, greatest_cell, least_cell, size}
 use Rattle.homogeneity.specs.ZelenNetwork.{lesser_weight}
+use Rattle.homogeneity.proofs.Products.{product-some}
 
 -- ---- products
 
@@ -32,9 +33,6 @@ crossed a b m n = grind arith
 
 turned : (p a m b : ℕ) → (p * a) * (m * b) ≡ (a * b) * (p * m)
 turned p a m b = grind arith
-
-product-some : (a b : ℕ) → 1 ≤ a → 1 ≤ b → 1 ≤ a * b
-product-some a b h j = grind arith
 
 no-less : (a b m : ℕ) → 1 ≤ m → a * m ≤ b * m → a ≤ b
 no-less a b m one h = elim (cases_lt b a) [

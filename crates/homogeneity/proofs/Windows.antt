@@ -1,6 +1,6 @@
 -- What is kept of the strata from one on, by what is kept of those after it.
 use Rattle.std.proofs.Common.{◌≡◌, ℕ, zero, suc, ◌+◌, ◌-◌, ◌*◌, ◌<◌, ◌≤◌, List, [], ◌∷◌, ◌++◌, length, length-append, drop, inl, inr, refl, sym, ◌∙◌, ap, subst, arith, lit≤, drop_of_length-le}
-use Rattle.std.specs.Prelude.{max, min, slice_index, slice_index_or}
+use Rattle.std.specs.Prelude.{max, min, slice_index_or}
 use Rattle.std.specs.List.{range_with_len, sum_by}
 use Rattle.std.proofs.lemmas.Bool.{cases_lt}
 use Rattle.std.proofs.lemmas.List.Elements.{recursion_from_All}
@@ -14,8 +14,9 @@ use Rattle.strata_cells.specs.StrataLimits.{IsSmall}
 use Rattle.strata_cells.proofs.FirstCells.{left-within}
 use Rattle.strata_cells.proofs.StrataSums.{next-drop, small-at, subjects-few, sum-step, sums-within}
 use Rattle.homogeneity.specs.ZelenNetwork.{greatest_choice, greatest_sum, least_choice, least_sum, lesser_weight, lesser_weights, number_with}
-use Rattle.homogeneity.specs.ZelenSteps.{AreLaters, AreLesser, AreNumbers, AreSummed, CanHave, IsCountable, IsLater, IsLeft, IsPast, choice_from, choice_to, counted, counted_cell, kept_number, least_left, most_left}
+use Rattle.homogeneity.specs.ZelenSteps.{AreLaters, AreLesser, AreNumbers, AreSummed, CanHave, IsCountable, IsLater, IsLeft, IsPast, IsReach, LesserSeat, StratumSeat, choice_from, choice_to, counted, counted_cell, kept_number, least_left, most_left}
 use Rattle.homogeneity.specs.declared.laters.Later.{Later}
+use Rattle.homogeneity.specs.declared.laters.Reach.{Reach}
 use Rattle.homogeneity.proofs.Given.{can-next, choice-left, choice-range, number-step, number_by}
 use Rattle.homogeneity.proofs.Remaining.{can-here, left-can, left-first, left-meet, left-next, lesser-all_some, lesser-number, number-some, number-within}
 
@@ -116,33 +117,45 @@ module _ (strata : List Stratum) (sum : ℕ) (d : AreSummed strata sum) where
     pub most-next : later.most + greatest_cell s ≡ greatest_sum (drop g strata)
     most-next = omega (arith, i.most, sum-step greatest_cell strata g before)
 
-    pub meet-next : least_left strata sum g ≤ most_left strata sum g
-    meet-next = left-meet strata sum d.can g
-
-    pub most-small : most_left strata sum g ≤ 40000000000
-    most-small = omega (arith, most-few g)
-
-    -- what can be left, as it is computed
-    pub first-is : (cell_least cell_most all_most past first : ℕ) → cell_least ≡ least_cell s → cell_most ≡ greatest_cell s → all_most ≡ greatest_sum strata → past ≡ sum + (later.most + cell_most) - all_most → first ≡ max past (later.least + cell_least) → first ≡ least_left strata sum g
-    first-is cell_least cell_most all_most past first a b c e f = omega (arith, a, b, c, e, f, least-next, most-next)
-
-    pub last-is : (cell_least cell_most all_least past last : ℕ) → cell_least ≡ least_cell s → cell_most ≡ greatest_cell s → all_least ≡ least_sum strata → past ≡ sum + (later.least + cell_least) - all_least → last ≡ min past (later.most + cell_most) → last ≡ most_left strata sum g
-    last-is cell_least cell_most all_least past last a b c e f = omega (arith, a, b, c, e, f, least-next, most-next)
-
-    pub later-next : (least most first last : ℕ) (numbers : List ℕ) → least ≡ least_sum (drop g strata) → most ≡ greatest_sum (drop g strata) → first ≡ least_left strata sum g → last ≡ most_left strata sum g → AreNumbers s later first (last + 1) numbers → IsLater strata sum g (record { least = least; most = most; first = first; numbers = numbers })
-    later-next least most first last numbers a b c e n = record {
-      least = a;
-      most = b;
-      first = c;
-      long = omega (arith, n.long, c, e);
-      each = λ left h. n.each left (omega (arith, c, h.least)) (omega (arith, e, h.most)) ∙ counted-is left h;
-      fits = λ left h. omega (arith, n.fits left (omega (arith, c, h.least)) (omega (arith, e, h.most)), counted-is left h);
+    pub stratum-seat : StratumSeat strata sum g later
+    stratum-seat = record {
+      least = least-next;
+      most = most-next;
+      least_small = omega (arith, least-next, least-few g);
+      most_small = omega (arith, most-next, most-few g);
+      sum_small = omega (arith, sum-few);
     }
 
-    pub past-all : (first last : ℕ) → first ≡ least_left strata sum g → last ≡ most_left strata sum g → IsPast s later first last → MAX < number_with strata sum
-    past-all first last c e p =
-        let h : IsLeft strata sum g p.left = record { least = omega (arith, c, p.least); most = omega (arith, e, p.most) } in
-        omega (arith, p.past, counted-is p.left h, number-within strata sum d.can g p.left (omega (arith, before)) h)
+    -- what can be left, as it is computed
+    pub reach-is : (r : Reach) → r.least ≡ later.least + least_cell s → r.most ≡ later.most + greatest_cell s → r.first ≡ max (sum + r.most - greatest_sum strata) r.least → r.last ≡ min (sum + r.least - least_sum strata) r.most → IsReach strata sum g later r
+    reach-is r a b c e =
+        let first : r.first ≡ least_left strata sum g = omega (arith, a, b, c, least-next, most-next) in
+        let last : r.last ≡ most_left strata sum g = omega (arith, a, b, e, least-next, most-next) in
+        record {
+          least = a ∙ least-next;
+          most = b ∙ most-next;
+          first = first;
+          last = last;
+          meet = omega (arith, first, last, left-meet strata sum d.can g);
+          small = omega (arith, last, most-few g);
+          each = λ left l h. countable left (record { least = omega (arith, first, l); most = omega (arith, last, h) });
+        }
+
+    module _ (r : Reach) (h : IsReach strata sum g later r) where
+      pub later-next : (numbers : List ℕ) → AreNumbers s later r.first (r.last + 1) numbers → IsLater strata sum g (record { least = r.least; most = r.most; first = r.first; numbers = numbers })
+      later-next numbers n = record {
+        least = h.least;
+        most = h.most;
+        first = h.first;
+        long = omega (arith, n.long, h.first, h.last);
+        each = λ left i. n.each left (omega (arith, h.first, i.least)) (omega (arith, h.last, i.most)) ∙ counted-is left i;
+        fits = λ left i. omega (arith, n.fits left (omega (arith, h.first, i.least)) (omega (arith, h.last, i.most)), counted-is left i);
+      }
+
+      pub past-all : IsPast s later r.first r.last → MAX < number_with strata sum
+      past-all p =
+          let i : IsLeft strata sum g p.left = record { least = omega (arith, h.first, p.least); most = omega (arith, h.last, p.most) } in
+          omega (arith, p.past, counted-is p.left i, number-within strata sum d.can g p.left (omega (arith, before)) i)
 
   -- ---- all of them
 
@@ -183,9 +196,10 @@ module _ (strata : List Stratum) (sum : ℕ) (d : AreSummed strata sum) where
       let place : length strata - done ≡ length strata - done - 1 + 1 = omega (arith, h) in
       subst (λ n. IsLater strata sum n later) place (subst (IsLater strata sum (length strata - done)) (sym e) (a.each done later long))
 
-  -- ---- lesser weights
+-- ---- lesser weights
 
-  pub lesser-on : (done : ℕ) → done < length strata → lesser_weights (drop (length strata - done - 1) strata) ≡ lesser_weight (stratum_at strata (length strata - done - 1)) * lesser_weights (drop (length strata - done) strata)
+module _ (strata : List Stratum) where
+  lesser-on : (done : ℕ) → done < length strata → lesser_weights (drop (length strata - done - 1) strata) ≡ lesser_weight (stratum_at strata (length strata - done - 1)) * lesser_weights (drop (length strata - done) strata)
   lesser-on done h =
       let place : length strata - done - 1 + 1 ≡ length strata - done = omega (arith, h) in
       ap lesser_weights (next-drop strata (length strata - done - 1) (omega (arith, h)))
@@ -204,18 +218,25 @@ module _ (strata : List Stratum) (sum : ℕ) (d : AreSummed strata sum) where
   }
 
   -- with those of one more stratum
-  pub lesser-product : (done product : ℕ) → done < length strata → product ≡ lesser_weights (drop (length strata - done) strata) → product * lesser_weight (stratum_at strata (length strata - done - 1)) ≡ lesser_weights (drop (length strata - done - 1) strata)
-  lesser-product done product h e = turned product (lesser_weight (stratum_at strata (length strata - done - 1))) ∙ ap (λ n. lesser_weight (stratum_at strata (length strata - done - 1)) * n) e ∙ sym (lesser-on done h)
+  lesser-product : (done : ℕ) → done < length strata → lesser_weights (drop (length strata - done) strata) * lesser_weight (stratum_at strata (length strata - done - 1)) ≡ lesser_weights (drop (length strata - done - 1) strata)
+  lesser-product done h = turned _ (lesser_weight (stratum_at strata (length strata - done - 1))) ∙ sym (lesser-on done h)
     where
       turned : (a b : ℕ) → a * b ≡ b * a
       turned a b = grind arith
 
-  pub lesser-one : (done : ℕ) → done < length strata → lesser_weight (stratum_at strata (length strata - done - 1)) ≤ lesser_weights (drop (length strata - done - 1) strata)
+  lesser-one : (done : ℕ) → done < length strata → lesser_weight (stratum_at strata (length strata - done - 1)) ≤ lesser_weights (drop (length strata - done - 1) strata)
   lesser-one done h = omega (arith, lesser-on done h, left-within (lesser_weight (stratum_at strata (length strata - done - 1))) (lesser_weights (drop (length strata - done) strata)) (lesser-all_some (drop (length strata - done) strata)))
 
+module _ (strata : List Stratum) (sum : ℕ) (d : AreSummed strata sum) where
   -- they are no more than the labellings with the sum
   pub lesser-within : (g : ℕ) → g ≤ length strata → lesser_weights (drop g strata) ≤ number_with strata sum
   lesser-within g h =
       let left : ℕ = least_left strata sum g in
       let i : IsLeft strata sum g left = record { least = omega arith; most = left-meet strata sum d.can g } in
       omega (arith, lesser-number (drop g strata) left (left-can strata sum d.can g left i), number-within strata sum d.can g left h i)
+
+  pub lesser-seat : number_with strata sum ≤ MAX → (done : ℕ) → done < length strata → LesserSeat strata done
+  lesser-seat fits done h =
+      let on = lesser-product strata done h in
+      let all : lesser_weights (drop (length strata - done - 1) strata) ≤ MAX = omega (arith, lesser-within (length strata - done - 1) (omega arith), fits) in
+      record { own = omega (arith, lesser-one strata done h, all); within = omega (arith, on, all); on = on }

@@ -1,10 +1,11 @@
 pub mod Zelen
 pub mod StratifiedRanks
+pub mod OneCount
 pub mod ZelenNetwork
 pub mod RankRooms
 pub mod RankNetworks
 pub mod Homogeneities
-pub mod EvenSteps
+pub mod SumSteps
 pub mod ZelenSteps
 pub mod ZelenMade
 pub mod RankSteps

@@ -1,8 +1,8 @@
 -- The network of the stratified rank sum test: a stage is a distinct value of a stratum, by stratum
 -- and then ascending, with the subjects that have it. A room is how many of the second group remain
 -- in the stratum, and a choice how many of the value's subjects are of that group.
-use Rattle.std.specs.Prelude.{ℕ, ℤ, pos, ◌+◌, ◌-◌, ◌*◌, List, [], ◌∷◌, ◌++◌, length, map, take, drop, min, nat_abs, nat_eq, replicate, slice_index, slice_index_or, if◌then◌else◌}
-use Rattle.std.specs.List.{range_with_len, sum}
+use Rattle.std.specs.Prelude.{ℕ, ℤ, pos, ◌+◌, ◌-◌, ◌*◌, List, [], ◌∷◌, ◌++◌, length, take, drop, min, nat_eq, replicate, slice_index_or, if◌then◌else◌}
+use Rattle.std.specs.List.{sum}
 use Rattle.weights.specs.Labellings.{number_of_labellings}
 use Rattle.midranks.specs.Ties.{tie_groups, values_in}
 use Rattle.midranks.specs.declared.ties.Tie.{Tie}
@@ -13,6 +13,7 @@ use Rattle.room_network.specs.Meanings.{Meaning}
 use Rattle.room_network.specs.Numbers.{Numbers, number_meaning}
 use Rattle.room_network.specs.Plans.{Floor, Plan, Weights}
 use Rattle.room_network.specs.declared.numbers.Operation.TheVariants.{Sum}
+use Rattle.homogeneity.specs.OneCount.{choices_between, chosen, remaining}
 use Rattle.homogeneity.specs.StratifiedRanks.{second_size}
 use Rattle.homogeneity.specs.declared.rank_columns.Column.{Column}
 
@@ -52,14 +53,6 @@ abbrev pub left : List Column → ℕ
 left [] = 0
 left (c ∷ columns) = c.size + c.later
 
--- the one number of a room
-abbrev pub remaining : List ℤ → ℕ
-remaining room = nat_abs (slice_index_or room 0 (pos 0))
-
--- the choices of n counts from one on
-abbrev pub counts_from : ℕ → ℕ → List (List ℕ)
-counts_from least n = map (λ x. x ∷ []) (range_with_len least n)
-
 -- with r to be placed, x of them in a column: as many remain for the stratum's later columns, and
 -- behind its last column stand those of the next stratum
 abbrev pub remaining_after : Column → ℕ → ℕ → ℕ
@@ -72,11 +65,10 @@ rank_floor columns second = record {
   choice_width = 1;
   first = pos second ∷ [];
   choices = λ g room. let c = column_at columns g in let r = remaining room in
-      counts_from (r - c.later) (min c.size r + 1 - (r - c.later));
+      choices_between (r - c.later) (min c.size r);
   later = λ g room x. let c = column_at columns g in
-      counts_from (slice_index x 0 + 1) (min c.size (remaining room) - slice_index x 0);
-  next = λ g room x.
-      pos (remaining_after (column_at columns g) (remaining room) (slice_index x 0)) ∷ [];
+      choices_between (chosen x + 1) (min c.size (remaining room));
+  next = λ g room x. pos (remaining_after (column_at columns g) (remaining room) (chosen x)) ∷ [];
 }
 
 -- the labellings of n subjects with x of the second group
@@ -84,7 +76,7 @@ abbrev pub ways_of : ℕ → ℕ → ℕ
 ways_of n x = number_of_labellings ((n - x) ∷ x ∷ [])
 
 abbrev pub rank_weight : List Column → Weights
-rank_weight columns g room x = ways_of (column_at columns g).size (slice_index x 0)
+rank_weight columns g room x = ways_of (column_at columns g).size (chosen x)
 
 abbrev pub rank_plan : List Column → ℕ → Plan
 rank_plan columns second =
@@ -118,7 +110,7 @@ abbrev pub greatest_added : List Column → ℕ → ℕ
 greatest_added columns r = greatest_sum columns r + of_later greatest_sum columns
 
 abbrev pub added_by : List Column → ℕ → List ℕ → ℤ
-added_by columns g x = pos (slice_index x 0 * (column_at columns g).rank)
+added_by columns g x = pos (chosen x * (column_at columns g).rank)
 
 abbrev pub rank_numbers : List Column → Judge → Numbers (List ℤ)
 rank_numbers columns judge = record {

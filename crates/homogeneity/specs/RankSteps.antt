@@ -1,11 +1,15 @@
 -- Words for the bodies: what columns owe each other, and what is kept of each stage.
-use Rattle.std.specs.Prelude.{◌≡◌, ⊤, ℕ, ℤ, pos, ◌+◌, ◌-◌, ◌*◌, ◌<◌, ◌≤◌, List, [], ◌∷◌, drop, get_or, length, nat_eq, unsigned_abs, if◌then◌else◌}
+use Rattle.std.specs.Prelude.{◌≡◌, ⊤, ℕ, ℤ, ◌+◌, ◌-◌, ◌*◌, ◌<◌, ◌≤◌, List, [], ◌∷◌, drop, get_or, length, min, nat_eq, unsigned_abs, if◌then◌else◌}
 use Rattle.std.specs.List.{sum}
 use Rattle.weights.specs.declared.TheConstants.{MAX}
 use Rattle.midranks.specs.declared.TheConstants.{MOST_VALUES}
+use Rattle.stage_network.specs.Completions.{total_weight}
 use Rattle.stage_network.specs.Judged.{JudgeFits}
 use Rattle.stage_network.specs.declared.verdicts.Judge.{Judge}
-use Rattle.homogeneity.specs.RankRooms.{column_at, column_ranks, left, remaining, ways_of}
+use Rattle.room_network.specs.Plans.{alone}
+use Rattle.homogeneity.specs.OneCount.{IsOneCount, chosen, remaining}
+use Rattle.homogeneity.specs.RankRooms.{column_at, column_ranks, greatest_added, least_added}
+use Rattle.homogeneity.specs.RankRooms.{left, rank_plan, ways_of}
 use Rattle.homogeneity.specs.declared.rank_columns.Column.{Column}
 
 -- the rank of the first column, 0 where there is none
@@ -53,10 +57,44 @@ pub record AreRankRooms (columns : List Column) (second : ℕ) (ways : List ℕ)
   pub fit : AreFitColumns columns second
   pub ways_are : AreLaterWays columns (length columns) ways
 
--- a room of one count
-pub record IsOneCount (room : List ℤ) : Type 0 where
-  pub is : room ≡ pos (remaining room) ∷ []
-  pub small : remaining room ≤ MOST_VALUES
+-- what is known of a room that is reached: how many are left from its stage on, and how many
+-- labellings they and those behind them have, of which none passes the limit; and before the last
+-- stage, that some choice is allowed
+pub record RankSeat (columns : List Column) (second : ℕ) (ways : List ℕ) (g : ℕ) (room : List ℤ)
+    : Type 0 where
+  pub one : IsOneCount room
+  pub stage : g ≤ length columns
+  pub sound : AreColumns (drop g columns)
+  pub few : left (drop g columns) ≤ MOST_VALUES
+  pub within : remaining room ≤ left (drop g columns)
+  pub own : ways_of (left (drop g columns)) (remaining room) ≤ MAX
+  pub behind : get_or ways (length columns - g) 0 ≡ later_ways (drop g columns)
+  pub both : ways_of (left (drop g columns)) (remaining room) * later_ways (drop g columns) ≤ MAX
+  pub meets : g < length columns → let c = column_at columns g in
+      remaining room - c.later ≤ min c.size (remaining room)
+  pub total : total_weight (alone (rank_plan columns second)) g room
+      ≡ ways_of (left (drop g columns)) (remaining room) * later_ways (drop g columns)
+
+-- and of a choice there
+pub record RankChoice (column : Column) (room : List ℤ) (x : List ℕ) : Type 0 where
+  pub within : chosen x ≤ column.size
+  pub most : chosen x ≤ remaining room
+  pub fits : ways_of column.size (chosen x) ≤ MAX
+  pub few : column.size ≤ MOST_VALUES
+
+-- and of both for the sum of ranks: what is still added from a room on, and what a choice adds
+pub record RankPlace (columns : List Column) (g : ℕ) (room : List ℤ) : Type 0 where
+  pub one : IsOneCount room
+  pub stage : g ≤ length columns
+  pub sound : AreColumns (drop g columns)
+  pub within : remaining room ≤ left (drop g columns)
+  pub ranks : sum (column_ranks (drop g columns)) ≤ MAX
+  pub least : least_added (drop g columns) (remaining room) ≤ MAX
+  pub greatest : greatest_added (drop g columns) (remaining room) ≤ MAX
+
+pub record RankMove (column : Column) (x : List ℕ) : Type 0 where
+  pub some : 0 < length x
+  pub fits : chosen x * column.rank ≤ MAX
 
 -- and rules that compute no great number of a sum of ranks
 pub record AreRankSums (columns : List Column) (second : ℕ) (judge : Judge) : Type 0 where

@@ -20,15 +20,15 @@ abbrev pub has_sum : List Stratum → ℕ → List ℕ → Bool
 has_sum strata sum labels = nat_eq (first_cells strata labels) sum
 
 -- the labellings of the strata whose first cells add up to what the observed ones add up to
-abbrev pub even_labellings : List Stratum → List (List ℕ)
-even_labellings strata =
+abbrev pub observed_sum_labellings : List Stratum → List (List ℕ)
+observed_sum_labellings strata =
     filter (has_sum strata (first_cells strata (observed_labels strata))) (strata_labellings strata)
 
 -- how many of them give the same first cell as a labelling in every stratum
 abbrev pub rarity : List Stratum → List ℕ → ℕ
 rarity strata labels =
     count_by (λ other. pointwise nat_eq (cells_of strata labels) (cells_of strata other))
-    (even_labellings strata)
+    (observed_sum_labellings strata)
 
 abbrev pub is_two : Tail → Bool
 is_two Less = false
@@ -36,18 +36,18 @@ is_two Greater = false
 is_two Two = true
 
 -- what is printed is the probability of the tables: how many labellings give them, over all
-abbrev pub even_test : List Stratum → ConditionalTest
-even_test strata = record {
-  reference = even_labellings strata;
+abbrev pub observed_sum_test : List Stratum → ConditionalTest
+observed_sum_test strata = record {
+  reference = observed_sum_labellings strata;
   statistic = λ labels. pos (rarity strata labels);
   observed = observed_labels strata;
   weight = unit_weight;
   has_tail = is_two;
   two_sided = by_rarity (rarity strata);
-  scale = length (even_labellings strata);
+  scale = length (observed_sum_labellings strata);
   bound = 1;
 }
 
 -- the test of strata by their cells, four for each
 abbrev pub zelen_test : List ℕ → ConditionalTest
-zelen_test cells = even_test (strata_of cells)
+zelen_test cells = observed_sum_test (strata_of cells)

@@ -1,21 +1,51 @@
 -- What is kept of strata that are prepared for Zelen's test.
-use Rattle.std.specs.Prelude.{◌≡◌, ◌≤◌, ℕ, List, map}
+use Rattle.std.specs.Prelude.{◌≡◌, ◌≤◌, ℕ, ℤ, List, length, map, Contains}
+use Rattle.std.specs.List.{filter}
+use Rattle.weights.specs.Conditional.{total}
 use Rattle.weights.specs.Frames.{IsFrameOf}
 use Rattle.weights.specs.declared.TheConstants.{MAX}
+use Rattle.stage_network.specs.Follows.{AllFollow}
+use Rattle.stage_network.specs.Judged.{JudgeFits, judge_of}
 use Rattle.strata_cells.specs.declared.stratum.Stratum.{Stratum}
-use Rattle.homogeneity.specs.EvenSteps.{AreSized}
-use Rattle.homogeneity.specs.Zelen.{even_test}
-use Rattle.homogeneity.specs.ZelenNetwork.{number_with, own_sum}
-use Rattle.homogeneity.specs.declared.zelen.EvenStrata.{EvenStrata}
+use Rattle.strata_cells.specs.Strata.{cells_of, cells_weight, strata_labellings}
+use Rattle.homogeneity.specs.SumSteps.{AreSized}
+use Rattle.homogeneity.specs.Zelen.{has_sum, observed_sum_labellings, observed_sum_test, rarity}
+use Rattle.homogeneity.specs.ZelenNetwork.{number_with, observed_sum_network, own_sum}
+use Rattle.homogeneity.specs.ZelenSteps.{AreSummed}
+use Rattle.homogeneity.specs.declared.zelen.ObservedStrata.{ObservedStrata}
 
 -- the first cells as they are
 abbrev pub own_cells : List Stratum → List ℕ
 own_cells strata = map (λ s. s.a) strata
 
 -- what is made of strata whose labellings with the observed sum pass no limit
-pub record AreEven (strata : List Stratum) (made : EvenStrata) : Type 0 where
+pub record AreObserved (strata : List Stratum) (made : ObservedStrata) : Type 0 where
   pub tables : made.strata ≡ strata
   pub sum_is : made.sum ≡ own_sum strata
   pub sized : AreSized strata made.sizes
-  pub frame_is : IsFrameOf (even_test strata) made.frame
+  pub frame_is : IsFrameOf (observed_sum_test strata) made.frame
   pub fits : number_with strata (own_sum strata) ≤ MAX
+
+-- and what is known of it: that the sum that is kept gives the members, of which there is one, that
+-- rules compute no number past a limit, and that the network follows the test
+pub record ObservedFacts (strata : List Stratum) (made : ObservedStrata) : Type 0 where
+  pub tables : made.strata ≡ strata
+  pub sum_is : made.sum ≡ own_sum strata
+  pub sized : AreSized strata made.sizes
+  pub frame_is : IsFrameOf (observed_sum_test strata) made.frame
+  pub fits : number_with strata (own_sum strata) ≤ MAX
+  pub summed : AreSummed made.strata made.sum
+  pub members : filter (has_sum made.strata made.sum) (strata_labellings made.strata)
+      ≡ observed_sum_labellings strata
+  pub some : 1 ≤ length (observed_sum_labellings strata)
+  pub total_is : made.frame.total ≡ length (observed_sum_labellings strata)
+  pub total_some : 1 ≤ total (observed_sum_test strata)
+  pub bounded : total (observed_sum_test strata) ≤ MAX
+  pub judged : (v : ℤ) → JudgeFits (judge_of (observed_sum_test strata)) v
+  pub follows : AllFollow (observed_sum_test strata) (λ tail. observed_sum_network strata)
+
+-- and of a member
+pub record IsMember (strata : List Stratum) (labels : List ℕ) : Type 0 where
+  pub labelled : Contains (strata_labellings strata) labels
+  pub fits : cells_weight strata (cells_of strata labels) ≤ MAX
+  pub rarity_is : cells_weight strata (cells_of strata labels) ≡ rarity strata labels

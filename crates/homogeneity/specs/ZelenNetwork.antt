@@ -1,7 +1,7 @@
 -- The network of Zelen's test: a stage is a stratum, in the order of the file, and its choice is
 -- the first cell. A room has what is left of the sum of the first cells.
-use Rattle.std.specs.Prelude.{ℕ, ◌+◌, ◌-◌, ◌*◌, ℤ, pos, nat_abs, List, [], ◌∷◌, length, map, drop, max, min, slice_index, slice_index_or}
-use Rattle.std.specs.List.{count_by, range_with_len, sum_by}
+use Rattle.std.specs.Prelude.{ℕ, ◌+◌, ◌-◌, ◌*◌, ℤ, pos, List, [], ◌∷◌, length, drop, max, min}
+use Rattle.std.specs.List.{count_by, sum_by}
 use Rattle.weights.specs.declared.tails.Tail.{Tail}
 use Rattle.stage_network.specs.Judged.{judge_of}
 use Rattle.stage_network.specs.Network.{Network}
@@ -13,7 +13,8 @@ use Rattle.room_network.specs.RoomNetworks.{room_network}
 use Rattle.room_network.specs.declared.numbers.Operation.TheVariants.{Product}
 use Rattle.strata_cells.specs.declared.stratum.Stratum.{Stratum}
 use Rattle.strata_cells.specs.Strata.{cell_weight, greatest_cell, least_cell, stratum_at, strata_labellings, strata_of}
-use Rattle.homogeneity.specs.Zelen.{even_test, has_sum}
+use Rattle.homogeneity.specs.OneCount.{choices_between, chosen, remaining}
+use Rattle.homogeneity.specs.Zelen.{has_sum, observed_sum_test}
 
 -- the sum of the first cells as they are, and the least and the greatest that labels can give
 abbrev pub own_sum : List Stratum → ℕ
@@ -32,37 +33,26 @@ least_choice s later sum = max (least_cell s) (sum - greatest_sum later)
 abbrev pub greatest_choice : Stratum → List Stratum → ℕ → ℕ
 greatest_choice s later sum = min (greatest_cell s) (sum - least_sum later)
 
--- the choices from one first cell to another
-abbrev pub choices_between : ℕ → ℕ → List (List ℕ)
-choices_between least greatest = map (λ x. x ∷ []) (range_with_len least (greatest + 1 - least))
-
--- the one number of a room, and of a choice
-abbrev pub sum_left : List ℤ → ℕ
-sum_left room = nat_abs (slice_index_or room 0 (pos 0))
-
-abbrev pub chosen : List ℕ → ℕ
-chosen choice = slice_index choice 0
-
-abbrev pub even_floor : List Stratum → ℕ → Floor
-even_floor strata sum = record {
+abbrev pub zelen_floor : List Stratum → ℕ → Floor
+zelen_floor strata sum = record {
   count = length strata;
   width = 1;
   choice_width = 1;
   first = pos sum ∷ [];
   choices = λ g room. let s = stratum_at strata g in let later = drop (g + 1) strata in
-      choices_between (least_choice s later (sum_left room))
-      (greatest_choice s later (sum_left room));
+      choices_between (least_choice s later (remaining room))
+      (greatest_choice s later (remaining room));
   later = λ g room c. let s = stratum_at strata g in let later = drop (g + 1) strata in
-      choices_between (chosen c + 1) (greatest_choice s later (sum_left room));
-  next = λ g room c. pos (sum_left room - chosen c) ∷ [];
+      choices_between (chosen c + 1) (greatest_choice s later (remaining room));
+  next = λ g room c. pos (remaining room - chosen c) ∷ [];
 }
 
 -- a first cell weighs as many labellings as give it
-abbrev pub even_weights : List Stratum → Weights
-even_weights strata g room c = cell_weight (stratum_at strata g) (chosen c)
+abbrev pub zelen_weights : List Stratum → Weights
+zelen_weights strata g room c = cell_weight (stratum_at strata g) (chosen c)
 
-abbrev pub even_plan : List Stratum → ℕ → Plan
-even_plan strata sum = record { floor = even_floor strata sum; weight = even_weights strata }
+abbrev pub zelen_plan : List Stratum → ℕ → Plan
+zelen_plan strata sum = record { floor = zelen_floor strata sum; weight = zelen_weights strata }
 
 -- the lesser of what the least and the greatest first cell weigh; and the product over strata
 abbrev pub lesser_weight : Stratum → ℕ
@@ -78,23 +68,23 @@ number_with strata sum = count_by (has_sum strata sum) (strata_labellings strata
 
 -- What is measured is the product of the weights. The later strata multiply it at least by their
 -- lesser weights, and at most by the number of their labellings that have the sum that is left.
-abbrev pub even_numbers : List Stratum → Judge → Numbers (List ℤ)
-even_numbers strata judge = record {
+abbrev pub zelen_numbers : List Stratum → Judge → Numbers (List ℤ)
+zelen_numbers strata judge = record {
   operation = Product;
-  step = λ g room c. pos (even_weights strata g room c);
+  step = λ g room c. pos (zelen_weights strata g room c);
   least = λ g room. pos (lesser_weights (drop g strata));
-  greatest = λ g room. pos (number_with (drop g strata) (sum_left room));
+  greatest = λ g room. pos (number_with (drop g strata) (remaining room));
   judge = judge;
 }
 
-abbrev pub even_meaning : List Stratum → ℕ → Judge → Meaning
-even_meaning strata sum judge =
-    number_meaning (even_floor strata sum) (even_numbers strata judge)
+abbrev pub zelen_meaning : List Stratum → ℕ → Judge → Meaning
+zelen_meaning strata sum judge =
+    number_meaning (zelen_floor strata sum) (zelen_numbers strata judge)
 
-abbrev pub even_network : List Stratum → Network
-even_network strata =
-    room_network (even_meaning strata (own_sum strata) (judge_of (even_test strata)))
-    (even_weights strata)
+abbrev pub observed_sum_network : List Stratum → Network
+observed_sum_network strata =
+    room_network (zelen_meaning strata (own_sum strata) (judge_of (observed_sum_test strata)))
+    (zelen_weights strata)
 
 abbrev pub zelen_network : List ℕ → Tail → Network
-zelen_network cells tail = even_network (strata_of cells)
+zelen_network cells tail = observed_sum_network (strata_of cells)

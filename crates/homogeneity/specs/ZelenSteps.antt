@@ -1,16 +1,21 @@
 -- What is kept of strata that are prepared for Zelen's test: for each stratum what can be left of
 -- the sum before it, and how many labellings from it on have each of these sums.
-use Rattle.std.specs.Prelude.{◌≡◌, ℕ, suc, ◌+◌, ◌-◌, ◌*◌, ◌<◌, ◌≤◌, List, length, drop, max, min, slice_index, slice_index_or, ℤ}
+use Rattle.std.specs.Prelude.{◌≡◌, ℕ, suc, ◌+◌, ◌-◌, ◌*◌, ◌<◌, ◌≤◌, ◌^◌, List, length, drop, max, min, slice_index, slice_index_or, ℤ}
 use Rattle.std.specs.List.{range_with_len, sum_by}
 use Rattle.weights.specs.declared.TheConstants.{MAX}
 use Rattle.record_reader.specs.declared.TheConstants.{MOST_ROWS}
+use Rattle.stage_network.specs.Completions.{total_weight}
 use Rattle.stage_network.specs.Judged.{JudgeFits}
 use Rattle.stage_network.specs.declared.verdicts.Judge.{Judge}
+use Rattle.room_network.specs.Plans.{alone}
 use Rattle.strata_cells.specs.declared.stratum.Stratum.{Stratum}
-use Rattle.strata_cells.specs.Strata.{cell_weight, greatest_cell, least_cell}
+use Rattle.strata_cells.specs.Strata.{cell_weight, greatest_cell, least_cell, stratum_at}
 use Rattle.strata_cells.specs.StrataLimits.{AreSmall, IsSmall}
-use Rattle.homogeneity.specs.ZelenNetwork.{greatest_sum, least_sum, lesser_weights, number_with}
+use Rattle.homogeneity.specs.OneCount.{IsOneCount, chosen, remaining}
+use Rattle.homogeneity.specs.ZelenNetwork.{greatest_choice, greatest_sum, least_choice}
+use Rattle.homogeneity.specs.ZelenNetwork.{least_sum, lesser_weight, lesser_weights, number_with, zelen_plan}
 use Rattle.homogeneity.specs.declared.laters.Later.{Later}
+use Rattle.homogeneity.specs.declared.laters.Reach.{Reach}
 
 -- a sum that first cells of strata can have
 pub record CanHave (strata : List Stratum) (sum : ℕ) : Type 0 where
@@ -68,9 +73,52 @@ pub record AreLesser (strata : List Stratum) (g : ℕ) (lesser : List ℕ) : Typ
       → slice_index lesser i ≡ lesser_weights (drop (length strata - i) strata)
 
 -- what a measure keeps: these products, and rules that compute no number past a limit
-pub record IsEvenMeasure (strata : List Stratum) (lesser : List ℕ) (judge : Judge) : Type 0 where
+pub record IsZelenMeasure (strata : List Stratum) (lesser : List ℕ) (judge : Judge) : Type 0 where
   pub lesser_are : AreLesser strata 0 lesser
   pub rules_fit : (v : ℤ) → JudgeFits judge v
+
+-- ---- what is known of a place
+
+-- of a stratum, by what is kept of those after it: their sums and its own are those from it on, and
+-- no sum passes a limit
+pub record StratumSeat (strata : List Stratum) (sum g : ℕ) (later : Later) : Type 0 where
+  pub least : later.least + least_cell (stratum_at strata g) ≡ least_sum (drop g strata)
+  pub most : later.most + greatest_cell (stratum_at strata g) ≡ greatest_sum (drop g strata)
+  pub least_small : later.least + least_cell (stratum_at strata g) < 2 ^ 62
+  pub most_small : later.most + greatest_cell (stratum_at strata g) < 2 ^ 62
+  pub sum_small : sum < 2 ^ 62
+
+-- of a stratum before those that are done, the last first: its lesser weight, and the product with
+-- those of the strata after it, pass no limit
+pub record LesserSeat (strata : List Stratum) (done : ℕ) : Type 0 where
+  pub own : lesser_weight (stratum_at strata (length strata - done - 1)) ≤ MAX
+  pub within : lesser_weights (drop (length strata - done) strata)
+      * lesser_weight (stratum_at strata (length strata - done - 1)) ≤ MAX
+  pub on : lesser_weights (drop (length strata - done) strata)
+      * lesser_weight (stratum_at strata (length strata - done - 1))
+      ≡ lesser_weights (drop (length strata - done - 1) strata)
+
+-- of a room that is reached: what can be left, how many labellings have it, and by what the strata
+-- multiply a product at least, of which none passes the limit; and before the last stratum, that
+-- some first cell can be chosen
+pub record ZelenSeat (strata : List Stratum) (sum g : ℕ) (room : List ℤ) : Type 0 where
+  pub one : IsOneCount room
+  pub stage : g ≤ length strata
+  pub left : IsLeft strata sum g (remaining room)
+  pub number : number_with (drop g strata) (remaining room) ≤ MAX
+  pub lesser : lesser_weights (drop g strata) ≤ MAX
+  pub meets : g < length strata → let s = stratum_at strata g in let later = drop (g + 1) strata in
+      least_choice s later (remaining room) ≤ greatest_choice s later (remaining room)
+  pub total : total_weight (alone (zelen_plan strata sum)) g room
+      ≡ number_with (drop g strata) (remaining room)
+
+-- and of a first cell that is allowed there
+pub record ZelenChoice (strata : List Stratum) (g : ℕ) (room : List ℤ) (c : List ℕ) : Type 0 where
+  pub some : 0 < length c
+  pub least : least_cell (stratum_at strata g) ≤ chosen c
+  pub most : chosen c ≤ greatest_cell (stratum_at strata g)
+  pub left : chosen c ≤ remaining room
+  pub fits : cell_weight (stratum_at strata g) (chosen c) ≤ MAX
 
 -- ---- what the bodies compute
 
@@ -119,3 +167,15 @@ pub record IsPast (s : Stratum) (later : Later) (first last : ℕ) : Type 0 wher
   pub least : first ≤ left
   pub most : left ≤ last
   pub past : MAX < counted s later left
+
+-- what the strata from g on can have, and what can be left for them, each of which is countable
+pub record IsReach (strata : List Stratum) (sum g : ℕ) (later : Later) (reach : Reach)
+    : Type 0 where
+  pub least : reach.least ≡ least_sum (drop g strata)
+  pub most : reach.most ≡ greatest_sum (drop g strata)
+  pub first : reach.first ≡ least_left strata sum g
+  pub last : reach.last ≡ most_left strata sum g
+  pub meet : reach.first ≤ reach.last
+  pub small : reach.last < 2 ^ 63
+  pub each : (left : ℕ) → reach.first ≤ left → left ≤ reach.last
+      → IsCountable (stratum_at strata g) later left

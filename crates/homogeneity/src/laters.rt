@@ -4,9 +4,9 @@ ghost use Rattle.weights.specs.declared.TheConstants.{MAX};
 ghost use Rattle.record_reader.specs.declared.TheConstants.{MOST_ROWS};
 ghost use Rattle.strata_cells.specs.StrataLimits.{AreSmall, IsSmall};
 ghost use Rattle.homogeneity.specs.ZelenNetwork.{greatest_sum, least_sum, number_with};
-ghost use Rattle.homogeneity.specs.ZelenSteps.{AreLaters, AreNumbers, AreSummed, IsCountable, IsKept};
-ghost use Rattle.homogeneity.specs.ZelenSteps.{IsLater, IsPast, choice_from, choice_to};
-ghost use Rattle.homogeneity.specs.ZelenSteps.{counted, counted_cell};
+ghost use Rattle.homogeneity.specs.ZelenSteps.{AreLaters, AreNumbers, AreSummed, IsCountable};
+ghost use Rattle.homogeneity.specs.ZelenSteps.{IsKept, IsLater, IsPast, IsReach, StratumSeat};
+ghost use Rattle.homogeneity.specs.ZelenSteps.{choice_from, choice_to, counted, counted_cell};
 
 use std::alloc::Global;
 use strata_cells::{Stratum, cell_weight};
@@ -22,6 +22,16 @@ pub(crate) struct Later {
     /// can be left, how many of their labellings have it.
     pub first: u64,
     pub numbers: List<u128>,
+}
+
+/// What the first cells of the strata from one on can have as their sum, and what can be left of
+/// the whole sum before them.
+#[derive(Clone, Copy, Debug, PartialEq, Eq)]
+pub(crate) struct Reach {
+    pub least: u64,
+    pub most: u64,
+    pub first: u64,
+    pub last: u64,
 }
 
 // The least sum of the first cells of strata.
@@ -119,6 +129,43 @@ fn numbers_of(
     Ok(Some(numbers))
 }
 
+// What is known of a stratum by what is known of those after it. It does nothing.
+#[inline(always)]
+fn stratum_seat(_strata: &[Stratum], _place: usize, _sum: u64, _later: &Later)
+    requires summed { AreSummed _strata.now _sum }
+    requires place { _place < length _strata.now }
+    requires later { IsLater _strata.now _sum (_place + 1) _later.now }
+    ensures { StratumSeat _strata.now _sum _place _later.now }
+{}
+
+// What the strata from one on can have, and what can be left for them.
+fn reach_of(
+    strata: &[Stratum],
+    place: usize,
+    sum: u64,
+    all_least: u64,
+    all_most: u64,
+    later: &Later,
+) -> Reach
+    requires summed { AreSummed strata.now sum }
+    requires place { place < length strata.now }
+    requires least { all_least ≡ least_sum strata.now }
+    requires most { all_most ≡ greatest_sum strata.now }
+    requires later { IsLater strata.now sum (place + 1) later.now }
+    ensures { IsReach strata.now sum place later.now result }
+{
+    stratum_seat(strata, place, sum, later);
+    let stratum = strata[place];
+    let least = later.least + stratum.least_cell();
+    let most = later.most + stratum.greatest_cell();
+    Reach {
+        least,
+        most,
+        first: (sum + most).saturating_sub(all_most).max(least),
+        last: (sum + least).saturating_sub(all_least).min(most),
+    }
+}
+
 // What is known of the strata from one on, by what is known of those after it; or None where the
 // labellings with the sum pass the greatest weight.
 fn later_of(
@@ -138,18 +185,14 @@ fn later_of(
     ensures { IfOk result (λ found. MatchOption found (MAX < number_with strata.now sum)
         (IsLater strata.now sum place)) }
 {
-    let stratum = strata[place];
-    let least = later.least + stratum.least_cell();
-    let most = later.most + stratum.greatest_cell();
-    let first = (sum + most).saturating_sub(all_most).max(least);
-    let last = (sum + least).saturating_sub(all_least).min(most);
-    let Some(numbers) = numbers_of(alloc, stratum, later, first, last)? else {
+    let reach = reach_of(strata, place, sum, all_least, all_most, later);
+    let Some(numbers) = numbers_of(alloc, strata[place], later, reach.first, reach.last)? else {
         return Ok(None);
     };
     Ok(Some(Later {
-        least,
-        most,
-        first,
+        least: reach.least,
+        most: reach.most,
+        first: reach.first,
         numbers,
     }))
 }

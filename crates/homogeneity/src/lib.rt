@@ -9,9 +9,9 @@ ghost use Rattle.stage_network.specs.Lines.{TailsFit, WeightsFit};
 ghost use Rattle.homogeneity.specs.Homogeneities.{homogeneity_network, homogeneity_test};
 
 mod cell_weights;
-mod even_walk;
 mod homogeneity_test;
 mod laters;
+mod one_count;
 mod rank_columns;
 mod rank_made;
 mod rank_measure;
@@ -22,6 +22,7 @@ mod rank_ways;
 mod ranked;
 mod rests;
 mod stratified_ranks;
+mod sum_walk;
 mod zelen;
 mod zelen_measure;
 mod zelen_rooms;

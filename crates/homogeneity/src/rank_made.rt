@@ -1,12 +1,13 @@
 // What is made of samples in strata for the rank sum test.
-ghost use Rattle.std.specs.Prelude.{◌≡◌, ◌+◌, ◌<◌, ◌≤◌, pos, IfOk, MatchOption};
+ghost use Rattle.std.specs.Prelude.{◌≡◌, ◌+◌, ◌<◌, ◌≤◌, map, pos, IfOk, MatchOption};
 ghost use Rattle.weights.specs.Conditional.{distance, total};
 ghost use Rattle.weights.specs.Numbers.{absolute_sum};
 ghost use Rattle.weights.specs.declared.TheConstants.{MAX};
 ghost use Rattle.scores.specs.Scores.{labelled_sum};
 ghost use Rattle.sample_reader.specs.Data.{strata_data_of};
-ghost use Rattle.homogeneity.specs.RankMade.{AreRanked};
-ghost use Rattle.homogeneity.specs.StratifiedRanks.{stratified_rank_test};
+ghost use Rattle.homogeneity.specs.RankMade.{AreRanked, RanksFit, StrataFacts};
+ghost use Rattle.homogeneity.specs.StrataSteps.{part_of, parts_total};
+ghost use Rattle.homogeneity.specs.StratifiedRanks.{strata_subjects, stratified_rank_test};
 
 use crate::rank_columns::Column;
 use crate::rank_strata::RankStrata;
@@ -54,6 +55,20 @@ fn frame_of(ranks: &[i128], labels: &[u8], centre: u128, total: u128) -> Frame
     }
 }
 
+// What is known of samples that were read. It does nothing.
+#[inline(always)]
+fn strata_fit(_samples: &StrataGroups)
+    ensures { StrataFacts (strata_data_of _samples.now) }
+{}
+
+// And of their ranks, where their labellings pass no limit. It does nothing.
+#[inline(always)]
+fn ranks_fit(_samples: &StrataGroups, _parts: &[Part])
+    requires parts { _parts.now ≡ map part_of (strata_subjects (strata_data_of _samples.now)) }
+    requires fits { parts_total _parts.now ≤ MAX }
+    ensures { RanksFit (strata_data_of _samples.now) _parts.now }
+{}
+
 /// What is made of samples in strata, or None exactly where their labellings pass the greatest
 /// weight.
 pub(crate) fn made_of(
@@ -63,11 +78,13 @@ pub(crate) fn made_of(
     ensures { let given = strata_data_of samples.now in IfOk result (λ found.
         MatchOption found (MAX < total (stratified_rank_test given)) (AreRanked given)) }
 {
+    strata_fit(samples);
     let strata = RankStrata::of(alloc, samples)?;
     let parts = parts_of(alloc, &strata)?;
     let Some(total) = parts_total(parts.as_slice()) else {
         return Ok(None);
     };
+    ranks_fit(samples, parts.as_slice());
     let sizes = sizes_of(alloc, parts.as_slice())?;
     let columns = columns_of(alloc, &strata)?;
     let ranks = ranks_of(alloc, &strata)?;

@@ -1,11 +1,13 @@
 // The sum of ranks along the ways through the rooms of the stratified rank sum test.
 ghost use Rattle.std.specs.Prelude.{◌≡◌, ◌≤◌, pos};
 ghost use Rattle.weights.specs.declared.TheConstants.{MAX};
-ghost use Rattle.homogeneity.specs.RankRooms.{rank_floor, rank_numbers};
-ghost use Rattle.homogeneity.specs.RankSteps.{AreRankSums};
+ghost use Rattle.room_network.specs.Meanings.{IsRoom, IsStep};
+ghost use Rattle.homogeneity.specs.RankRooms.{column_at, rank_floor, rank_meaning, rank_numbers};
+ghost use Rattle.homogeneity.specs.RankSteps.{AreRankSums, RankMove, RankPlace};
 
+use crate::one_count::count_in;
 use crate::rank_columns::Column;
-use crate::rank_rooms::{column_of, count_in, from_stage};
+use crate::rank_rooms::{column_of, from_stage};
 use crate::rank_sums::{greatest_added, least_added, ranks_of};
 use room_network::{NumberMeasure, Operation};
 use stage_network::{Interval, Judge};
@@ -30,6 +32,24 @@ fn signed(sum: u128) -> i128
     sum as i128
 }
 
+impl RankMeasure {
+    // What is known of a room that is reached. It does nothing.
+    #[inline(always)]
+    fn seat(&self, _stage: usize, _room: &[i128])
+        requires { let m = rank_meaning self.now.columns self.now.second self.now.judge in
+            IsRoom m _stage _room.now }
+        ensures { RankPlace self.now.columns _stage _room.now }
+    {}
+
+    // And of a choice there.
+    #[inline(always)]
+    fn choice_seat(&self, _stage: usize, _room: &[i128], _choice: &[u64])
+        requires { let m = rank_meaning self.now.columns self.now.second self.now.judge in
+            IsStep m _stage _room.now _choice.now }
+        ensures { RankMove (column_at self.now.columns _stage) _choice.now }
+    {}
+}
+
 impl NumberMeasure for RankMeasure {
     ghost floor = { λ m. rank_floor m.columns m.second };
 
@@ -46,12 +66,14 @@ impl NumberMeasure for RankMeasure {
     }
 
     #[inline(always)]
-    fn number(&self, stage: usize, _room: &[i128], choice: &[u64]) -> i128 {
+    fn number(&self, stage: usize, room: &[i128], choice: &[u64]) -> i128 {
+        self.choice_seat(stage, room, choice);
         let column = column_of(self.columns.as_slice(), stage);
         signed(ranks_of(choice[0], column))
     }
 
     fn later(&self, stage: usize, room: &[i128]) -> Interval {
+        self.seat(stage, room);
         let columns = from_stage(self.columns.as_slice(), stage);
         let count = count_in(room);
         Interval {

@@ -1,11 +1,16 @@
 // The rooms of the stratified rank sum test.
-ghost use Rattle.std.specs.Prelude.{◌≡◌, ◌≤◌, ◌<◌, ◌+◌, ◌-◌, ◌*◌, [], ◌∷◌, length, drop, get_or, min, pos, IfOk};
+ghost use Rattle.std.specs.Prelude.{◌≡◌, ◌≤◌, ◌<◌, ◌+◌, ◌-◌, ◌*◌, ◌∷◌, length, drop, get_or};
+ghost use Rattle.std.specs.Prelude.{min, Contains, IfOk};
 ghost use Rattle.weights.specs.declared.TheConstants.{MAX};
 ghost use Rattle.midranks.specs.declared.TheConstants.{MOST_VALUES};
-ghost use Rattle.homogeneity.specs.RankRooms.{column_at, left, remaining, remaining_after, ways_of};
+ghost use Rattle.stage_network.specs.Network.{IsReached};
+ghost use Rattle.room_network.specs.Plans.{alone};
+ghost use Rattle.homogeneity.specs.OneCount.{IsOneCount, remaining};
+ghost use Rattle.homogeneity.specs.RankRooms.{column_at, left, rank_plan, remaining_after, ways_of};
 ghost use Rattle.homogeneity.specs.RankSteps.{AreColumns, AreFitColumns, AreLaterWays};
-ghost use Rattle.homogeneity.specs.RankSteps.{AreRankRooms, IsOneCount, later_ways};
+ghost use Rattle.homogeneity.specs.RankSteps.{AreRankRooms, RankChoice, RankSeat, later_ways};
 
+use crate::one_count::{count_in, write_count, write_remaining};
 use crate::rank_columns::Column;
 use room_network::Rooms;
 use std::alloc::Global;
@@ -21,15 +26,6 @@ pub struct RankRooms {
     // How many labellings the strata have that are behind the last stages.
     ways: List<u128>,
     ghost right: { AreRankRooms columns second ways },
-}
-
-// The one number of a room.
-#[inline(always)]
-pub(crate) fn count_in(room: &[i128]) -> u64
-    requires { IsOneCount room.now }
-    ensures { result ≡ remaining room.now }
-{
-    room[0] as u64
 }
 
 // How many labellings some subjects have, so many of whom are of the second group.
@@ -101,20 +97,6 @@ fn most_count(column: Column, room: &[i128]) -> u64
     column.size.min(count_in(room))
 }
 
-fn write_count(choice: &mut [u64], count: u64)
-    requires { length choice.old ≡ 1 }
-    ensures { choice.new ≡ count ∷ [] }
-{
-    choice[0] = count;
-}
-
-fn write_remaining(room: &mut [i128], count: u64)
-    requires { length room.old ≡ 1 }
-    ensures { room.new ≡ pos count ∷ [] }
-{
-    room[0] = count as i128;
-}
-
 fn product(a: u128, b: u128) -> u128
     requires { a * b ≤ MAX }
     ensures { result ≡ a * b }
@@ -181,11 +163,28 @@ impl RankRooms {
             ways,
         })
     }
+
+    // What is known of a room that is reached. It does nothing.
+    #[inline(always)]
+    fn seat(&self, _stage: usize, _room: &[i128])
+        requires { let plan = rank_plan self.now.columns self.now.second in
+            IsReached (alone plan) _stage _room.now }
+        ensures { RankSeat self.now.columns self.now.second self.now.ways _stage _room.now }
+    {}
+
+    // And of a choice there.
+    #[inline(always)]
+    fn choice_seat(&self, _stage: usize, _room: &[i128], _choice: &[u64])
+        requires reached { let plan = rank_plan self.now.columns self.now.second in
+            IsReached (alone plan) _stage _room.now }
+        requires before { _stage < length self.now.columns }
+        requires allowed { let plan = rank_plan self.now.columns self.now.second in
+            Contains (plan.floor.choices _stage _room.now) _choice.now }
+        ensures { RankChoice (column_at self.now.columns _stage) _room.now _choice.now }
+    {}
 }
 
 impl Rooms for RankRooms {
-    ghost use Rattle.homogeneity.specs.RankRooms.{rank_plan};
-
     ghost plan = { λ s. rank_plan s.columns s.second };
 
     fn stages(&self) -> usize {
@@ -205,11 +204,13 @@ impl Rooms for RankRooms {
     }
 
     fn first_choice(&self, stage: usize, room: &[i128], choice: &mut [u64]) {
+        self.seat(stage, room);
         let column = column_of(self.columns.as_slice(), stage);
         write_count(choice, least_count(column, room));
     }
 
     fn next_choice(&self, stage: usize, room: &[i128], choice: &mut [u64]) -> bool {
+        self.seat(stage, room);
         let column = column_of(self.columns.as_slice(), stage);
         if choice[0] < most_count(column, room) {
             choice[0] += 1;
@@ -220,6 +221,8 @@ impl Rooms for RankRooms {
     }
 
     fn cross(&self, stage: usize, room: &[i128], choice: &[u64], next: &mut [i128]) -> u128 {
+        self.seat(stage, room);
+        self.choice_seat(stage, room, choice);
         let column = column_of(self.columns.as_slice(), stage);
         let count = choice[0];
         write_remaining(next, remaining_after(column, count_in(room), count));
@@ -227,6 +230,7 @@ impl Rooms for RankRooms {
     }
 
     fn rest(&self, stage: usize, room: &[i128]) -> u128 {
+        self.seat(stage, room);
         let columns = self.columns.as_slice();
         let behind = ways_behind(self.ways.as_slice(), columns.len(), stage);
         let later = from_stage(columns, stage);

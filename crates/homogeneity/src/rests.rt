@@ -1,8 +1,8 @@
 // Strata, a sum of their first cells, and what is known of the strata from each one on.
-ghost use Rattle.std.specs.Prelude.{◌≡◌, ◌∷◌, [], pos, ◌+◌, ◌<◌, ◌≤◌, ◌^◌, length, drop, IfOk, MatchOption};
+ghost use Rattle.std.specs.Prelude.{◌≡◌, ◌+◌, ◌<◌, ◌≤◌, length, drop, IfOk, MatchOption};
 ghost use Rattle.weights.specs.declared.TheConstants.{MAX};
 ghost use Rattle.strata_cells.specs.Strata.{cell_weight, greatest_cell, least_cell, stratum_at};
-ghost use Rattle.homogeneity.specs.ZelenNetwork.{greatest_choice, least_choice, number_with, sum_left};
+ghost use Rattle.homogeneity.specs.ZelenNetwork.{greatest_choice, least_choice, number_with};
 ghost use Rattle.strata_cells.specs.StrataLimits.{IsSmall};
 ghost use Rattle.homogeneity.specs.ZelenSteps.{AreRests, AreSummed, IsLater, IsLeft};
 
@@ -19,16 +19,6 @@ pub(crate) struct Rests {
     pub sum: u64,
     pub laters: Vec<Later>,
     ghost right: { AreRests strata sum laters.items },
-}
-
-/// What is left of the sum in a room.
-#[inline(always)]
-pub(crate) fn left_in(room: &[i128]) -> u64
-    requires held { room.now ≡ pos (sum_left room.now) ∷ [] }
-    requires few { sum_left room.now < 2 ^ 64 }
-    ensures { result ≡ sum_left room.now }
-{
-    room[0] as u64
 }
 
 /// How many labellings give a first cell.

@@ -1,12 +1,13 @@
 // Strata that are prepared for Zelen's test.
-ghost use Rattle.std.specs.Prelude.{◌≡◌, ◌<◌, ◌≤◌, IfOk, MatchOption, SomeIff};
+ghost use Rattle.std.specs.Prelude.{◌≡◌, ◌<◌, ◌≤◌, length, Contains, IfOk, MatchOption, SomeIff};
 ghost use Rattle.weights.specs.Frames.{IsFrameOf};
 ghost use Rattle.weights.specs.Wide.{Prepares};
 ghost use Rattle.weights.specs.declared.TheConstants.{MAX};
+ghost use Rattle.record_reader.specs.declared.TheConstants.{MOST_ROWS};
 ghost use Rattle.strata_cells.specs.Strata.{strata_of};
 ghost use Rattle.strata_cells.specs.StrataLimits.{AreSmall};
-ghost use Rattle.homogeneity.specs.Zelen.{even_test, zelen_test};
-ghost use Rattle.homogeneity.specs.ZelenMade.{AreEven};
+ghost use Rattle.homogeneity.specs.Zelen.{observed_sum_labellings, observed_sum_test, zelen_test};
+ghost use Rattle.homogeneity.specs.ZelenMade.{AreObserved, IsMember, ObservedFacts};
 ghost use Rattle.homogeneity.specs.ZelenNetwork.{number_with, own_sum};
 ghost use Rattle.homogeneity.specs.ZelenSteps.{AreSummed};
 
@@ -21,7 +22,7 @@ use weights::{Frame, List, NoMemory, Nums, PrepareFault, Rule, WideOf};
 
 /// What is made of strata.
 #[derive(Drop)]
-pub(crate) struct EvenStrata {
+pub(crate) struct ObservedStrata {
     pub strata: List<Stratum>,
     /// Their sizes, for the walk, and the sum of their first cells.
     pub sizes: Nums,
@@ -36,19 +37,19 @@ pub(crate) struct EvenStrata {
 pub struct Zelen {
     // What it was prepared of, by which contracts name it.
     cells: Nums,
-    made: EvenStrata,
+    made: ObservedStrata,
 }
 
 impl Model for Zelen {
     ghost use Rattle.std.specs.Prelude.{ℕ, List};
     ghost use Rattle.strata_cells.specs.Strata.{strata_of};
-    ghost use Rattle.homogeneity.specs.ZelenMade.{AreEven};
+    ghost use Rattle.homogeneity.specs.ZelenMade.{AreObserved};
 
     ghost Value = { List ℕ };
 
     ghost view = { λ t. t.cells };
 
-    ghost invariant = { λ t. AreEven (strata_of t.cells) t.made };
+    ghost invariant = { λ t. AreObserved (strata_of t.cells) t.made };
 }
 
 // How many labellings of strata have the sum, or None exactly where they pass the greatest weight.
@@ -68,7 +69,7 @@ fn frame_of(strata: &[Stratum], total: u128) -> Frame
     requires small { AreSmall strata.now }
     requires total { total ≡ number_with strata.now (own_sum strata.now) }
     requires fits { total ≤ MAX }
-    ensures { IsFrameOf (even_test strata.now) result }
+    ensures { IsFrameOf (observed_sum_test strata.now) result }
 {
     let weight = held(own_weight(strata));
     Frame {
@@ -79,13 +80,22 @@ fn frame_of(strata: &[Stratum], total: u128) -> Frame
     }
 }
 
+// What is known of the strata of a file. It does nothing.
+#[inline(always)]
+fn tables_fit(_strata: &Strata)
+    ensures small { AreSmall (strata_of _strata.now.cells) }
+    ensures few { length (strata_of _strata.now.cells) ≤ MOST_ROWS }
+    ensures can { let tables = strata_of _strata.now.cells in AreSummed tables (own_sum tables) }
+{}
+
 // What is made of strata, or None exactly where the labellings with their sum pass the greatest
 // weight.
-fn made_of(alloc: Global, strata: &Strata) -> Result<Option<EvenStrata>, NoMemory>
+fn made_of(alloc: Global, strata: &Strata) -> Result<Option<ObservedStrata>, NoMemory>
     ensures { let tables = strata_of strata.now.cells in
         IfOk result (λ found. MatchOption found (MAX < number_with tables (own_sum tables))
-        (AreEven tables)) }
+        (AreObserved tables)) }
 {
+    tables_fit(strata);
     let strata = strata_of(alloc, strata.cells.as_slice())?;
     let sum = own_sum(strata.as_slice());
     let Some(total) = total_of(alloc, &strata, sum)? else {
@@ -93,7 +103,7 @@ fn made_of(alloc: Global, strata: &Strata) -> Result<Option<EvenStrata>, NoMemor
     };
     let frame = frame_of(strata.as_slice(), total);
     let sizes = sizes(alloc, strata.as_slice())?;
-    Ok(Some(EvenStrata {
+    Ok(Some(ObservedStrata {
         strata,
         sizes,
         sum,
@@ -119,9 +129,18 @@ impl Zelen {
     }
 
     /// What was made of the strata.
-    pub(crate) fn made(&self) -> &EvenStrata
-        ensures { AreEven (strata_of self.now) result.now }
+    pub(crate) fn made(&self) -> &ObservedStrata
+        ensures { ObservedFacts (strata_of self.now) result.now }
     {
         &self.made
+    }
+
+    /// What is known of a member. It does nothing but see what was made.
+    #[inline(always)]
+    pub(crate) fn member(&self, _labels: &[u8])
+        requires { Contains (observed_sum_labellings (strata_of self.now)) _labels.now }
+        ensures { IsMember (strata_of self.now) _labels.now }
+    {
+        let _made = self.made();
     }
 }

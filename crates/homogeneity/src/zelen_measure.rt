@@ -1,13 +1,16 @@
 // The weight of the tables of strata as a measure of their rooms.
-ghost use Rattle.std.specs.Prelude.{◌≡◌, ◌≤◌, ℤ, length, drop, pos, IfOk};
+ghost use Rattle.std.specs.Prelude.{◌≡◌, ◌<◌, ◌≤◌, ℤ, length, drop, pos, IfOk};
 ghost use Rattle.weights.specs.declared.TheConstants.{MAX};
 ghost use Rattle.stage_network.specs.Judged.{JudgeFits};
+ghost use Rattle.room_network.specs.Meanings.{IsRoom, IsStep};
 ghost use Rattle.strata_cells.specs.Strata.{cell_weight, greatest_cell, least_cell};
 ghost use Rattle.strata_cells.specs.StrataLimits.{IsSmall};
-ghost use Rattle.homogeneity.specs.ZelenNetwork.{lesser_weight, lesser_weights};
-ghost use Rattle.homogeneity.specs.ZelenSteps.{AreLesser, AreRests, IsEvenMeasure};
+ghost use Rattle.homogeneity.specs.ZelenNetwork.{lesser_weight, lesser_weights, zelen_meaning};
+ghost use Rattle.homogeneity.specs.ZelenSteps.{AreLesser, AreRests, IsZelenMeasure, LesserSeat};
+ghost use Rattle.homogeneity.specs.ZelenSteps.{ZelenChoice, ZelenSeat};
 
-use crate::rests::{Rests, left_in};
+use crate::one_count::count_in;
+use crate::rests::Rests;
 use room_network::{NumberMeasure, Operation};
 use stage_network::{Interval, Judge};
 use std::alloc::Global;
@@ -26,7 +29,7 @@ pub struct ZelenMeasure {
     // The products of the lesser weights of the later strata, the last stage first.
     lesser: List<u128>,
     judge: Judge,
-    ghost right: { IsEvenMeasure rests.strata lesser judge },
+    ghost right: { IsZelenMeasure rests.strata lesser judge },
 }
 
 // The lesser of what the least and the greatest first cell weigh. One of them may pass the greatest
@@ -46,6 +49,14 @@ fn lesser_weight(stratum: Stratum) -> u128
     }
 }
 
+// What is known of the stratum before those that are done. It does nothing.
+#[inline(always)]
+fn lesser_seat(_rests: &Rests, _strata: &[Stratum], _done: usize)
+    requires same { _strata.now ≡ _rests.now.strata }
+    requires before { _done < length _strata.now }
+    ensures { LesserSeat _strata.now _done }
+{}
+
 // The products of the lesser weights, from the last stratum back.
 fn lesser_weights(alloc: Global, rests: &Rests) -> Result<List<u128>, NoMemory>
     ensures { IfOk result (AreLesser rests.now.strata 0) }
@@ -55,6 +66,7 @@ fn lesser_weights(alloc: Global, rests: &Rests) -> Result<List<u128>, NoMemory>
     let mut products = List::empty(alloc);
     products.push(product)?;
     for done in 0..strata.len() {
+        lesser_seat(rests, strata, done);
         product *= lesser_weight(strata[strata.len() - done - 1]);
         products.push(product)?;
     }
@@ -92,14 +104,30 @@ impl ZelenMeasure {
     {
         self.lesser.as_slice()[self.rests.strata.len() - stage]
     }
+
+    // What is known of a room that is reached. It does nothing.
+    #[inline(always)]
+    fn seat(&self, _stage: usize, _room: &[i128])
+        requires { let m = zelen_meaning self.now.rests.strata self.now.rests.sum self.now.judge in
+            IsRoom m _stage _room.now }
+        ensures { ZelenSeat self.now.rests.strata self.now.rests.sum _stage _room.now }
+    {}
+
+    // And of a first cell that is allowed there.
+    #[inline(always)]
+    fn choice_seat(&self, _stage: usize, _room: &[i128], _choice: &[u64])
+        requires { let m = zelen_meaning self.now.rests.strata self.now.rests.sum self.now.judge in
+            IsStep m _stage _room.now _choice.now }
+        ensures { ZelenChoice self.now.rests.strata _stage _room.now _choice.now }
+    {}
 }
 
 impl NumberMeasure for ZelenMeasure {
-    ghost use Rattle.homogeneity.specs.ZelenNetwork.{even_floor, even_numbers};
+    ghost use Rattle.homogeneity.specs.ZelenNetwork.{zelen_floor, zelen_numbers};
 
-    ghost floor = { λ m. even_floor m.rests.strata m.rests.sum };
+    ghost floor = { λ m. zelen_floor m.rests.strata m.rests.sum };
 
-    ghost numbers = { λ m. even_numbers m.rests.strata m.judge };
+    ghost numbers = { λ m. zelen_numbers m.rests.strata m.judge };
 
     #[inline(always)]
     fn judge(&self) -> &Judge {
@@ -112,15 +140,17 @@ impl NumberMeasure for ZelenMeasure {
     }
 
     #[inline(always)]
-    fn number(&self, stage: usize, _room: &[i128], choice: &[u64]) -> i128 {
+    fn number(&self, stage: usize, room: &[i128], choice: &[u64]) -> i128 {
+        self.choice_seat(stage, room, choice);
         held(self.rests.weight(stage, choice[0]))
     }
 
     #[inline(always)]
     fn later(&self, stage: usize, room: &[i128]) -> Interval {
+        self.seat(stage, room);
         Interval {
             low: held(self.least_factor(stage)),
-            high: held(self.rests.number(stage, left_in(room))),
+            high: held(self.rests.number(stage, count_in(room))),
         }
     }
 }

@@ -5,8 +5,8 @@ ghost use Rattle.homogeneity.specs.ZelenNetwork.{number_with};
 ghost use Rattle.homogeneity.specs.ZelenSteps.{AreSummed};
 
 use crate::cell_weights::labels_weight;
-use crate::even_walk::{first_even, next_even};
 use crate::rests::Rests;
+use crate::sum_walk::{first_with_sum, next_with_sum};
 use crate::zelen::Zelen;
 use crate::zelen_measure::{ZelenMeasure, held};
 use crate::zelen_rooms::ZelenRooms;
@@ -37,7 +37,7 @@ impl Plain for Zelen {
 
     fn first(&self, alloc: Global) -> Result<Bytes, NoMemory> {
         let made = self.made();
-        first_even(
+        first_with_sum(
             alloc,
             made.strata.as_slice(),
             made.sizes.as_slice(),
@@ -49,7 +49,7 @@ impl Plain for Zelen {
         let made = self.made();
         let strata = made.strata.as_slice();
         let sizes = made.sizes.as_slice();
-        next_even(
+        next_with_sum(
             strata,
             sizes,
             made.sum,
@@ -63,6 +63,7 @@ impl Plain for Zelen {
     }
 
     fn value(&self, labels: &[u8]) -> i128 {
+        self.member(labels);
         held(labels_weight(self.made().strata.as_slice(), labels))
     }
 

@@ -7,7 +7,7 @@ use Rattle.weights.specs.declared.rules.Rule.TheVariants.{AtMost}
 use Rattle.weights.specs.declared.TheConstants.{MAX}
 use Rattle.strata_cells.specs.declared.stratum.Stratum.{Stratum}
 use Rattle.homogeneity.specs.Zelen.{observed_labels, rarity}
-use Rattle.homogeneity.proofs.EvenTests.{members-are, observed-is, observed-weight, total-is}
+use Rattle.homogeneity.proofs.ZelenTests.{members-are, observed-is, observed-weight, total-is}
 use Rattle.homogeneity.proofs.zelen.frame_of.Goals as goal
 
 pub own_weight-requires-clause-fits : goal.own_weight-requires-clause-fits

@@ -1,4 +1,4 @@
-use Rattle.std.proofs.Common.{◌≡◌, refl}
+use Rattle.std.proofs.Common.{refl}
 use Rattle.weights.specs.Conditional.{ConditionalTest}
 use Rattle.weights.specs.declared.tails.Tail.TheVariants.{Less}
 use Rattle.halves.proofs.Numerators.{judged, numerator-is}

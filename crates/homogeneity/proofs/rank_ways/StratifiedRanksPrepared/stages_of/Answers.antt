@@ -4,33 +4,16 @@ use Rattle.stage_network.specs.Judged.{judge_of}
 use Rattle.stage_network.specs.Network.{Network}
 use Rattle.room_network.specs.RoomNetworks.{room_network}
 use Rattle.homogeneity.specs.RankRooms.{rank_meaning, rank_weight}
-use Rattle.homogeneity.specs.StratifiedRanks.{ranked_strata_test, strata_subjects}
+use Rattle.homogeneity.specs.StratifiedRanks.{ranked_strata_test, strata_subjects, stratified_rank_test}
 use Rattle.homogeneity.specs.declared.rank_measure.RankMeasure.{RankMeasure}
 use Rattle.homogeneity.specs.declared.rank_rooms.RankRooms.{RankRooms}
-use Rattle.homogeneity.proofs.RankFitting.{fit, follows, sums-fit}
-use Rattle.homogeneity.proofs.RankWays.{fit-strata, network-same}
+use Rattle.homogeneity.proofs.RankWays.{network-same}
 use Rattle.homogeneity.proofs.rank_ways.StratifiedRanksPrepared.stages_of.Goals as goal
-
-pub returns-in_err-copy-clause-follows : goal.returns-in_err-copy-clause-follows
-returns-in_err-copy-clause-follows c t has = follows (strata_subjects c.args.self.now) (fit-strata c.args.self.now c.made-made.result.now c.made-made.ensures) t
-
-pub new-requires : goal.new-requires
-new-requires c =
-    let made = c.made-made.ensures in
-    rw (c.in_ok-copy.ensures ∙ made.columns, made.second) (fit (strata_subjects c.args.self.now) (fit-strata c.args.self.now c.made-made.result.now made))
-
-pub returns-in_err-rooms-clause-follows : goal.returns-in_err-rooms-clause-follows
-returns-in_err-rooms-clause-follows c t has = follows (strata_subjects c.args.self.now) (fit-strata c.args.self.now c.made-made.result.now c.made-made.ensures) t
-
-pub returns-in_err-copy-2-clause-follows : goal.returns-in_err-copy-2-clause-follows
-returns-in_err-copy-2-clause-follows c t has = follows (strata_subjects c.args.self.now) (fit-strata c.args.self.now c.made-made.result.now c.made-made.ensures) t
 
 pub invariant_of-measure : goal.invariant_of-measure
 invariant_of-measure c =
-    let strata : List (List Subject) = strata_subjects c.args.self.now in
     let made = c.made-made.ensures in
-    let judge : c.of.result ≡ judge_of (ranked_strata_test strata) = c.of.ensures (ranked_strata_test strata) made.frame in
-    record { right = rw (c.in_ok-copy-2.ensures ∙ made.columns, made.second) (sums-fit strata (fit-strata c.args.self.now c.made-made.result.now made) c.of.result judge) }
+    record { right = rw (c.in_ok-copy-2.ensures, c.of.ensures (stratified_rank_test c.args.self.now) made.frame) made.sums_fit }
 
 pub returns-clause-built : goal.returns-clause-built
 returns-clause-built c =
@@ -42,6 +25,3 @@ returns-clause-built c =
     ∙ ap numbers c.new-2.ensures
     ∙ network-same strata c.in_ok-rooms.rooms.columns c.in_ok-copy-2.field-0 c.made-made.result.now.second c.of.result
     (c.in_ok-rooms.ensures.columns ∙ c.in_ok-copy.ensures ∙ made.columns) (c.in_ok-copy-2.ensures ∙ made.columns) made.second judge
-
-pub returns-clause-follows : goal.returns-clause-follows
-returns-clause-follows c t has = follows (strata_subjects c.args.self.now) (fit-strata c.args.self.now c.made-made.result.now c.made-made.ensures) t

@@ -1,5 +1,5 @@
 use Rattle.strata_cells.specs.Strata.{strata_of}
-use Rattle.homogeneity.proofs.EvenTests.{not-wide, total-wide}
+use Rattle.homogeneity.proofs.ZelenTests.{not-wide, total-wide}
 use Rattle.homogeneity.proofs.zelen.Zelen.prepare.Goals as goal
 
 pub returns-in_default : goal.returns-in_default
@@ -7,5 +7,5 @@ returns-in_default c = total-wide (strata_of c.args.strata.now.cells) (rw c.in_d
 
 pub returns : goal.returns
 returns c =
-    let even = rw c.in-Some.is at c.in_ok-made.ensures in
-    (c.in_ok-cells.ensures, not-wide (strata_of c.args.strata.now.cells) even.fits)
+    let made = rw c.in-Some.is at c.in_ok-made.ensures in
+    (c.in_ok-cells.ensures, not-wide (strata_of c.args.strata.now.cells) made.fits)

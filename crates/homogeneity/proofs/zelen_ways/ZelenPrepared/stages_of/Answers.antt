@@ -4,48 +4,30 @@ use Rattle.stage_network.specs.declared.verdicts.Judge.{Judge}
 use Rattle.room_network.specs.RoomNetworks.{room_network}
 use Rattle.strata_cells.specs.declared.stratum.Stratum.{Stratum}
 use Rattle.strata_cells.specs.Strata.{strata_of}
-use Rattle.homogeneity.specs.Zelen.{even_test}
-use Rattle.homogeneity.specs.ZelenNetwork.{even_meaning, even_weights}
+use Rattle.homogeneity.specs.Zelen.{observed_sum_test}
+use Rattle.homogeneity.specs.ZelenNetwork.{zelen_meaning, zelen_weights}
 use Rattle.homogeneity.specs.declared.rests.Rests.{Rests}
 use Rattle.homogeneity.specs.declared.zelen_measure.ZelenMeasure.{ZelenMeasure}
 use Rattle.homogeneity.specs.declared.zelen_rooms.ZelenRooms.{ZelenRooms}
-use Rattle.homogeneity.proofs.EvenTests.{follows, judges-fit}
-use Rattle.homogeneity.proofs.ZelenWays.{network-same, summed}
+use Rattle.homogeneity.proofs.ZelenWays.{network-same}
 use Rattle.homogeneity.proofs.zelen_ways.ZelenPrepared.stages_of.Goals as goal
-
-pub rests_of-requires-clause-summed : goal.rests_of-requires-clause-summed
-rests_of-requires-clause-summed c =
-    let made = c.made-made.ensures in
-    summed (strata_of c.args.self.now) c.made-made.result.now.strata c.made-made.result.now.sum made.tables made.sum_is made.sized.small made.sized.few
-
-pub returns-in_err-rests_of-clause-follows : goal.returns-in_err-rests_of-clause-follows
-returns-in_err-rests_of-clause-follows c t has = follows (strata_of c.args.self.now) t has
-
-pub returns-in_err-rests-clause-follows : goal.returns-in_err-rests-clause-follows
-returns-in_err-rests-clause-follows c t has = follows (strata_of c.args.self.now) t has
 
 pub new-requires : goal.new-requires
 new-requires c v =
     let strata : List Stratum = strata_of c.args.self.now in
-    let judge : c.of.result ≡ judge_of (even_test strata) = c.of.ensures (even_test strata) c.made-made.ensures.frame_is in
-    subst (λ (j : Judge). JudgeFits j v) (sym judge) (judges-fit strata v)
-
-pub returns-in_err-measure-clause-follows : goal.returns-in_err-measure-clause-follows
-returns-in_err-measure-clause-follows c t has = follows (strata_of c.args.self.now) t has
+    let judge : c.of.result ≡ judge_of (observed_sum_test strata) = c.of.ensures (observed_sum_test strata) c.made-made.ensures.frame_is in
+    subst (λ (j : Judge). JudgeFits j v) (sym judge) (c.made-made.ensures.judged v)
 
 pub returns-clause-built : goal.returns-clause-built
 returns-clause-built c =
     let strata : List Stratum = strata_of c.args.self.now in
     let made = c.made-made.ensures in
-    let judge : c.of.result ≡ judge_of (even_test strata) = c.of.ensures (even_test strata) made.frame_is in
+    let judge : c.of.result ≡ judge_of (observed_sum_test strata) = c.of.ensures (observed_sum_test strata) made.frame_is in
     let measure = c.in_ok-measure.ensures in
     let whole : c.new-3.result ≡ (c.new-rooms.result, c.in_ok-measure.measure) = c.new-3.ensures.parts ∙ ap (λ (m : ZelenMeasure). (c.new-rooms.result, m)) c.new-2.ensures in
-    ap (λ (b : ZelenRooms × ZelenMeasure). room_network (even_meaning b.1.rests.strata b.1.rests.sum b.1.judge) (even_weights b.0.rests.strata)) whole
+    ap (λ (b : ZelenRooms × ZelenMeasure). room_network (zelen_meaning b.1.rests.strata b.1.rests.sum b.1.judge) (zelen_weights b.0.rests.strata)) whole
     ∙ network-same strata c.new-rooms.result.rests.strata c.in_ok-measure.measure.rests.strata c.in_ok-measure.measure.rests.sum c.in_ok-measure.measure.judge
     (ap (λ (r : Rests). r.strata) c.new-rooms.ensures ∙ c.in_ok-rests_of.ensures.strata ∙ made.tables)
     (ap (λ (r : Rests). r.strata) measure.rests ∙ c.in_ok-rests.ensures.strata ∙ made.tables)
     (ap (λ (r : Rests). r.sum) measure.rests ∙ c.in_ok-rests.ensures.sum ∙ made.sum_is)
     (measure.judge ∙ judge)
-
-pub returns-clause-follows : goal.returns-clause-follows
-returns-clause-follows c t has = follows (strata_of c.args.self.now) t has
