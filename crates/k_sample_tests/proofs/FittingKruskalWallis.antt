@@ -1,6 +1,6 @@
 -- What holds of a test of Kruskal and Wallis whose total and bound pass no limit.
 use Rattle.std.proofs.Common.{◌≡◌, ℕ, zero, suc, ◌+◌, ◌*◌, ◌/◌, ◌<◌, ◌≤◌, List, [], ◌∷◌, length, map, Err, refl, sym, ◌∙◌, ap, subst, arith}
-use Rattle.std.specs.Prelude.{ℤ, pos, max}
+use Rattle.std.specs.Prelude.{ℤ, max}
 use Rattle.std.specs.List.{All, AllByRecursion}
 use Rattle.std.proofs.Math.Nat.{div-le_self, mul-le-mul, mul-le-mul_left, mul-le-mul_right}
 use Rattle.std.proofs.lemmas.List.{length-map}
@@ -10,13 +10,8 @@ use Rattle.weights.specs.declared.TheConstants.{MAX}
 use Rattle.weights.specs.declared.wide.WideOf.TheVariants.{Total, Statistic}
 use Rattle.weights.specs.declared.wide.PrepareFault.{PrepareFault}
 use Rattle.weights.specs.declared.wide.PrepareFault.TheVariants.{TooWide, NoMemory}
-use Rattle.weights.specs.Conditional.{total}
-use Rattle.weights.specs.Labellings.{labellings, number_of_labellings}
-use Rattle.weights.specs.Rules.{measured}
-use Rattle.weights.specs.Wide.{Prepares}
-use Rattle.weights.proofs.Centred.{IsCentred, bound-wide, measured-is, no_factor-fits, rule-fits}
-use Rattle.weights.proofs.FirstLabel.{number_of_labellings-positive}
-use Rattle.weights.proofs.Sums.{sum_by-one}
+use Rattle.weights.specs.Labellings.{number_of_labellings}
+use Rattle.weights.proofs.Centred.{no_factor-fits}
 use Rattle.midranks.specs.Ties.{tie_groups}
 use Rattle.midranks.specs.declared.ties.Tie.{Tie}
 use Rattle.completion_bounds.specs.Boxes.{factored_squares}
@@ -32,23 +27,23 @@ use Rattle.sample_reader.specs.Groups.{group_sizes}
 use Rattle.sample_reader.specs.declared.samples.Groups.{Groups}
 use Rattle.stage_network.specs.declared.verdicts.Judge.{Judge}
 use Rattle.stage_network.specs.Judged.{judge_of}
-use Rattle.stage_network.proofs.Following.{judge-fits}
 use Rattle.stage_network.specs.Follows.{Follows}
 use Rattle.label_network.proofs.Endings.{labelling_value}
 use Rattle.label_network.specs.LabelRooms.{IsLabelled}
 use Rattle.label_network.specs.LabelNetwork.{IsMargin, label_network, over_rooms}
 use Rattle.label_network.specs.LaterSums.{subjects}
 use Rattle.label_network.specs.Meanings.{IsMeasure, Meaning}
-use Rattle.label_network.proofs.LabelFollows.{label_follows}
+use Rattle.labelled.specs.LabelTests.{IsSound, IsWithin}
+use Rattle.labelled.proofs.LabelLaws.{label-follows, label-judge, label-sound}
 use Rattle.pooled_columns.specs.PooledColumns.{column_scores, column_sizes, pooled_values}
 use Rattle.pooled_columns.proofs.PooledValues.{pooled-rises}
 use Rattle.pooled_columns.proofs.TieColumns.{grouped}
-use Rattle.k_sample_tests.specs.KruskalWallis.{ScoredGroups, group_sums, kruskal_wallis_test, pooled_scores, size_factors, squares_statistic}
+use Rattle.k_sample_tests.specs.KruskalWallis.{ScoredGroups, group_sums, kruskal_wallis_says, kruskal_wallis_test, pooled_scores, size_factors, squares_statistic}
 use Rattle.k_sample_tests.specs.PackedSums.{packed_meaning}
-use Rattle.k_sample_tests.specs.RankSums.{kruskal_wallis_network, unpacked_meaning}
+use Rattle.k_sample_tests.specs.RankSums.{unpacked_meaning}
 use Rattle.k_sample_tests.specs.RankSumSteps.{AreFitting, IsMadeOf, IsScoredBy, IsSquaring}
 use Rattle.k_sample_tests.proofs.FittingUmbrella.{columns-sum}
-use Rattle.k_sample_tests.proofs.GroupFacts.{few_rows, few_subjects, none-empty, sizes-whole, some_rows}
+use Rattle.pooled_columns.proofs.GroupFacts.{few_rows, few_subjects, none-empty, observed-labelling, sizes-whole, some_rows}
 use Rattle.k_sample_tests.proofs.GroupSums.{squares-most, sums-within}
 use Rattle.k_sample_tests.proofs.PackedKeys.{packed_squares}
 use Rattle.k_sample_tests.proofs.PackedValues.{packed-value}
@@ -71,15 +66,6 @@ pub multiple-some : (sizes : List ℕ) → All (λ size. 0 < size) sizes → 1 �
 multiple-some sizes some = omega (arith, (common_multiple-all sizes (recursion_from_All (λ n. 0 < n) sizes some)).some)
 
 -- of several groups
-pub total-of : (samples : ScoredGroups) → total (kruskal_wallis_test samples) ≡ number_of_labellings (group_sizes samples.groups)
-total-of samples = sum_by-one (labellings (group_sizes samples.groups))
-
-pub total-some : (samples : ScoredGroups) → 1 ≤ total (kruskal_wallis_test samples)
-total-some samples = omega (arith, total-of samples, number_of_labellings-positive (group_sizes samples.groups))
-
-pub centred : (samples : ScoredGroups) → IsCentred (kruskal_wallis_test samples) 0 (pos 0)
-centred samples = record { by = refl; observed = no_factor-fits _; each = λ r m. no_factor-fits _ }
-
 pub scores-long : (samples : ScoredGroups) → length (pooled_scores samples) ≡ length (pooled_values samples.groups)
 scores-long samples = length-map (pooled_values samples.groups) (score_of samples.kind (pooled_values samples.groups))
 
@@ -101,6 +87,15 @@ square-most l s t some =
 module _ (samples : ScoredGroups) (f : AreFitting samples) where
   multiple_some : 1 ≤ common_multiple (group_sizes samples.groups)
   multiple_some = multiple-some (group_sizes samples.groups) f.none_empty
+
+  pub within : IsWithin (kruskal_wallis_says samples)
+  within = record {
+    few = omega (arith, f.few_rows);
+    total_fits = f.total_fits;
+    shown = refl;
+    observed = f.observed;
+    fits = λ xs a. no_factor-fits _;
+  }
 
   pub sum-fits : absolute_sum (pooled_scores samples) ≤ MAX
   sum-fits = omega (arith, square-most (common_multiple (group_sizes samples.groups)) (absolute_sum (pooled_scores samples)) (scale_of samples.kind (pooled_values samples.groups)) multiple_some, f.bound_fits)
@@ -126,24 +121,19 @@ module _ (samples : ScoredGroups) (f : AreFitting samples) where
     sums_fit = omega (arith, column-total, sum-fits);
     bound_fits = f.bound_fits;
     bounded = λ p h. squares-bounded (group_sizes samples.groups) (pooled_scores samples) (scale_of samples.kind (pooled_values samples.groups)) p (omega (arith, h, column-total));
-    rules_fit = λ v. judge-fits (kruskal_wallis_test samples) judge e v (λ tail. rule-fits (kruskal_wallis_test samples) (centred samples) tail v (no_factor-fits v));
+    rules_fit = λ v. label-judge (kruskal_wallis_says samples) within judge e v (no_factor-fits v);
   }
 
   unpacked-measure : IsMeasure (unpacked_meaning samples)
   unpacked-measure = squares_measure (size_factors (group_sizes samples.groups)) (kruskal_wallis_test samples).bound (column_scores samples.kind (pooled_values samples.groups)) (column_sizes (pooled_values samples.groups)) (group_sizes samples.groups) (judge_of (kruskal_wallis_test samples)) (is-squaring (judge_of (kruskal_wallis_test samples)) refl)
 
-  unpacked-value : (tail : Tail) (xs : List ℕ) → measured (kruskal_wallis_test samples) tail xs ≡ labelling_value (unpacked_meaning samples) xs
-  unpacked-value tail xs =
-      measured-is (kruskal_wallis_test samples) refl tail xs ∙ ap (λ s. squares_statistic (group_sizes samples.groups) s xs) (sym column-subjects)
+  unpacked-value : (xs : List ℕ) → squares_statistic (group_sizes samples.groups) (pooled_scores samples) xs ≡ labelling_value (unpacked_meaning samples) xs
+  unpacked-value xs =
+      ap (λ s. squares_statistic (group_sizes samples.groups) s xs) (sym column-subjects)
       ∙ sym (value-is (size_factors (group_sizes samples.groups)) (kruskal_wallis_test samples).bound (column_scores samples.kind (pooled_values samples.groups)) (column_sizes (pooled_values samples.groups)) (group_sizes samples.groups) (judge_of (kruskal_wallis_test samples)) columns-level xs)
 
-  pub follows : (tail : Tail) → Follows (kruskal_wallis_test samples) tail (kruskal_wallis_network samples tail)
-  follows tail = label_follows (unpacked_meaning samples) unpacked-measure (kruskal_wallis_test samples) tail (record {
-    judge_is = refl;
-    reference = refl;
-    alike = λ xs. refl;
-    values = λ xs m. unpacked-value tail xs;
-  })
+  pub squares-sound : IsSound (kruskal_wallis_says samples) (label_network (unpacked_meaning samples)) (label_network (unpacked_meaning samples))
+  squares-sound = label-sound (kruskal_wallis_says samples) (unpacked_meaning samples) within unpacked-measure refl refl (λ xs m. unpacked-value xs)
 
   -- what is measured has the groups' columns and sizes
   pub margin : (m : Meaning) (columns rows : List ℕ) → m.columns ≡ column_sizes (pooled_values samples.groups) → m.rows ≡ group_sizes samples.groups → m.slots ≤ 8 → columns ≡ column_sizes (pooled_values samples.groups) → rows ≡ group_sizes samples.groups → IsMargin (over_rooms m) columns rows
@@ -163,14 +153,11 @@ module _ (samples : ScoredGroups) (f : AreFitting samples) where
     small-sums = omega (arith, column-total, e)
 
     pub follows-packed : Follows (kruskal_wallis_test samples) tail (label_network (packed_meaning half (unpacked_meaning samples)))
-    follows-packed = label_follows (packed_meaning half (unpacked_meaning samples)) (packed_squares (size_factors (group_sizes samples.groups)) (kruskal_wallis_test samples).bound (column_scores samples.kind (pooled_values samples.groups)) (column_sizes (pooled_values samples.groups)) (group_sizes samples.groups) (judge_of (kruskal_wallis_test samples)) (is-squaring (judge_of (kruskal_wallis_test samples)) refl) half small-sums) (kruskal_wallis_test samples) tail (record {
-      judge_is = refl;
-      reference = refl;
-      alike = λ xs. refl;
-      values = λ xs m.
-          unpacked-value tail xs
-          ∙ sym (packed-value (size_factors (group_sizes samples.groups)) (kruskal_wallis_test samples).bound (column_scores samples.kind (pooled_values samples.groups)) (column_sizes (pooled_values samples.groups)) (group_sizes samples.groups) (judge_of (kruskal_wallis_test samples)) half columns-level small-sums xs);
-    })
+    follows-packed = label-follows (kruskal_wallis_says samples) (packed_meaning half (unpacked_meaning samples))
+        (packed_squares (size_factors (group_sizes samples.groups)) (kruskal_wallis_test samples).bound (column_scores samples.kind (pooled_values samples.groups)) (column_sizes (pooled_values samples.groups)) (group_sizes samples.groups) (judge_of (kruskal_wallis_test samples)) (is-squaring (judge_of (kruskal_wallis_test samples)) refl) half small-sums) refl refl
+        (λ xs m. unpacked-value xs
+        ∙ sym (packed-value (size_factors (group_sizes samples.groups)) (kruskal_wallis_test samples).bound (column_scores samples.kind (pooled_values samples.groups)) (column_sizes (pooled_values samples.groups)) (group_sizes samples.groups) (judge_of (kruskal_wallis_test samples)) half columns-level small-sums xs))
+        tail
 
 -- ---- of the groups of a file
 
@@ -181,6 +168,7 @@ fitting kind groups total bound = record {
   none_empty = none-empty groups;
   whole = sizes-whole groups;
   few = few_subjects groups;
+  observed = observed-labelling groups;
   total_fits = subst (λ sizes. number_of_labellings sizes ≤ MAX) groups.counted total;
   bound_fits = bound;
 }
@@ -232,8 +220,3 @@ pub scores-refused : (kind : ScoreKind) (groups : Groups) (e : PrepareFault) →
 scores-refused kind groups (TooWide Total) is = is
 scores-refused kind groups (TooWide Statistic) is = scores-wide kind groups is
 scores-refused kind groups NoMemory is = tt
-
-pub refused : (samples : ScoredGroups) (e : PrepareFault) → number_of_labellings (group_sizes samples.groups) ≤ MAX → IsMadeOf samples (Err e) → Prepares kruskal_wallis_test samples (Err e)
-refused samples (TooWide Total) fits is = absurd is
-refused samples (TooWide Statistic) fits is = bound-wide (kruskal_wallis_test samples) (total-of samples) fits is
-refused samples NoMemory fits is = tt

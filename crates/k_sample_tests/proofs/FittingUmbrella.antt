@@ -8,39 +8,35 @@ use Rattle.std.proofs.lemmas.List.{map-id}
 use Rattle.std.proofs.lemmas.List.Elements.{All-from_recursion}
 use Rattle.std.proofs.lemmas.List.FromFn.{length-range_with_len}
 use Rattle.std.proofs.lemmas.List.Sums.{sum-map}
-use Rattle.weights.specs.declared.tails.Tail.{Tail}
 use Rattle.weights.specs.declared.rules.Rule.TheVariants.{Far}
 use Rattle.weights.specs.declared.TheConstants.{MAX}
-use Rattle.weights.specs.Conditional.{distance, total}
-use Rattle.weights.specs.Frames.{IsFrameOf}
-use Rattle.weights.specs.Labellings.{counts_of, labellings, labels, number_of_labellings}
+use Rattle.weights.specs.Labellings.{counts_of, labellings, labels}
 use Rattle.weights.specs.Rules.{RuleFits}
-use Rattle.weights.proofs.Centred.{IsCentred, far_natural-fits, measured-is, rule-fits}
+use Rattle.weights.proofs.Centred.{far_natural-fits}
 use Rattle.weights.proofs.Filters.{all_append}
-use Rattle.weights.proofs.FirstLabel.{number_of_labellings-positive}
 use Rattle.weights.proofs.Members.{labelling_from, range-below}
-use Rattle.weights.proofs.Sums.{sum_by-one, sum_by-same}
+use Rattle.weights.proofs.Sums.{sum_by-same}
 use Rattle.midranks.specs.Ties.{tie_groups}
 use Rattle.midranks.specs.declared.ties.Tie.{Tie}
 use Rattle.midranks.proofs.Places.{values_in-groups}
 use Rattle.midranks.proofs.TieLemmas.{groups-ascend}
 use Rattle.sample_reader.specs.Groups.{GroupData, group_sizes}
-use Rattle.sample_reader.specs.PooledSample.{labels_of, paired_subjects, pooled}
+use Rattle.sample_reader.specs.PooledSample.{paired_subjects}
 use Rattle.sample_reader.specs.declared.subjects.Subject.{Subject}
 use Rattle.stage_network.specs.declared.verdicts.Judge.{Judge}
 use Rattle.stage_network.specs.Judged.{judge_of}
-use Rattle.stage_network.proofs.Following.{judge-fits}
-use Rattle.stage_network.specs.Follows.{Follows}
+use Rattle.label_network.specs.LabelNetwork.{label_network}
 use Rattle.label_network.specs.LaterSums.{subjects}
-use Rattle.label_network.proofs.LabelFollows.{label_follows}
 use Rattle.label_network.proofs.Narrowing.{fits-self}
+use Rattle.labelled.specs.LabelTests.{IsSound, IsWithin}
+use Rattle.labelled.proofs.LabelLaws.{label-judge, label-sound}
 use Rattle.pooled_columns.specs.PooledColumns.{column_sizes, pooled_values}
 use Rattle.pooled_columns.proofs.PooledValues.{pooled-rises}
 use Rattle.pooled_columns.proofs.TieColumns.{grouped}
 use Rattle.k_sample_tests.specs.declared.counted_samples.CountedSamples.{CountedSamples}
 use Rattle.k_sample_tests.specs.declared.used_pairs.UsedPair.{UsedPair}
-use Rattle.k_sample_tests.specs.PairCounts.{umbrella_meaning, umbrella_network}
-use Rattle.k_sample_tests.specs.Umbrella.{PeakedGroups, group_of, pair_of, pair_points, points, subject_pairs, umbrella_test, used_pairs}
+use Rattle.k_sample_tests.specs.PairCounts.{umbrella_meaning}
+use Rattle.k_sample_tests.specs.Umbrella.{PeakedGroups, group_of, pair_of, pair_points, points, subject_pairs, umbrella_says, umbrella_test, used_pairs}
 use Rattle.k_sample_tests.specs.UmbrellaSteps.{AreCounted, ArePairs, IsCounting, IsPair, points_from}
 use Rattle.k_sample_tests.proofs.PairFits.{pairs-most, sum-within}
 use Rattle.k_sample_tests.proofs.PairPoints.{pairs_measure}
@@ -128,12 +124,6 @@ statistic-few qs values xs few h =
 
 -- ---- of ordered groups
 
-pub total-of : (samples : PeakedGroups) → total (umbrella_test samples) ≡ number_of_labellings (group_sizes samples.groups)
-total-of samples = sum_by-one (labellings (group_sizes samples.groups))
-
-pub total-some : (samples : PeakedGroups) → 1 ≤ total (umbrella_test samples)
-total-some samples = omega (arith, total-of samples, number_of_labellings-positive (group_sizes samples.groups))
-
 pub columns-sum : (groups : GroupData) → sum (column_sizes (pooled_values groups)) ≡ length (pooled_values groups)
 columns-sum groups = sum-map (λ (t : Tie). t.count) (tie_groups (pooled_values groups)) ∙ values_in-groups (pooled_values groups)
 
@@ -154,19 +144,6 @@ statistic-is samples few xs long counted =
 
 small-square : (n : ℕ) → n ≤ 10000 → n * n ≤ MAX
 small-square n h = let most = mul-le-mul h h in omega (arith, most)
-
--- what is said of the test
-module _ (samples : PeakedGroups) (few : length (group_sizes samples.groups) ≤ 8) (counted : counts_of (length (group_sizes samples.groups)) (labels_of (pooled samples.groups)) ≡ group_sizes samples.groups) (long : length (labels_of (pooled samples.groups)) ≡ length (pooled_values samples.groups)) where
-  pub framed : (qs : List UsedPair) (sizes columns xs : List ℕ) (t : ℕ) → qs ≡ used_pairs samples.peak (length (group_sizes samples.groups)) → sizes ≡ group_sizes samples.groups → columns ≡ column_sizes (pooled_values samples.groups) → xs ≡ labels_of (pooled samples.groups) → t ≡ number_of_labellings (group_sizes samples.groups)
-      → IsFrameOf (umbrella_test samples) (record { statistic = pos (points_from qs sizes sizes columns xs); scale = 2; total = t; two = Far 1 (pos (subject_pairs qs sizes)) (distance 1 (pos (subject_pairs qs sizes)) (pos (points_from qs sizes sizes columns xs))) })
-  framed qs sizes columns xs t p s c l e =
-      let statistic : points_from qs sizes sizes columns xs ≡ sum_by (pair_points (paired_subjects (pooled_values samples.groups) (labels_of (pooled samples.groups)))) (used_pairs samples.peak (length (group_sizes samples.groups))) = rw (p, s, c, l) (statistic-is samples few (labels_of (pooled samples.groups)) long counted) in
-      record {
-        statistic = ap pos statistic;
-        scale = refl;
-        total = e ∙ sym (total-of samples);
-        two = rw (statistic, p, s) refl;
-      }
 
 module _ (samples : PeakedGroups) (made : CountedSamples) (f : AreCounted samples made) where
   abbrev sizes : List ℕ
@@ -190,14 +167,16 @@ module _ (samples : PeakedGroups) (made : CountedSamples) (f : AreCounted sample
   count-fits : (n : ℕ) → n ≤ 12800000000 → RuleFits (Far 1 (pos (subject_pairs pairs sizes)) 0) (pos n)
   count-fits n h = far_natural-fits 1 (subject_pairs pairs sizes) n (lit≤ tt) (omega (arith, centre-few)) (omega (arith, h))
 
-  pub centred : IsCentred (umbrella_test samples) 1 (pos (subject_pairs pairs sizes))
-  centred = record {
-    by = refl;
-    observed = count-fits _ (statistic-few pairs values (labels_of (pooled samples.groups)) pairs_are.few f.few);
-    each = λ r m. count-fits _ (statistic-few pairs values r pairs_are.few f.few);
+  pub within : IsWithin (umbrella_says samples)
+  within = record {
+    few = omega (arith, f.few_rows);
+    total_fits = f.total_fits;
+    shown = refl;
+    observed = f.observed;
+    fits = λ xs a. count-fits _ (statistic-few pairs values xs pairs_are.few f.few);
   }
 
-  pub bound-fits : (umbrella_test samples).bound ≤ MAX
+  pub bound-fits : (umbrella_says samples).bound ≤ MAX
   bound-fits = small-square (length values) f.few
 
   pub points-of : (xs : List ℕ) → Contains (labellings sizes) xs → points_from pairs sizes sizes (column_sizes values) xs ≡ sum_by (pair_points (paired_subjects values xs)) pairs
@@ -209,15 +188,10 @@ module _ (samples : PeakedGroups) (made : CountedSamples) (f : AreCounted sample
     level = columns-sum samples.groups ∙ sym f.whole;
     few = few_sizes;
     few_rows = f.few_rows;
-    rules_fit = λ n h. judge-fits (umbrella_test samples) judge e (pos n) (λ tail. rule-fits (umbrella_test samples) centred tail (pos n) (count-fits n (omega (arith, h, centre-few))));
+    rules_fit = λ n h. label-judge (umbrella_says samples) within judge e (pos n) (count-fits n (omega (arith, h, centre-few)));
   }
 
-  pub follows : (tail : Tail) → Follows (umbrella_test samples) tail (umbrella_network samples tail)
-  follows tail =
+  pub umbrella-sound : IsSound (umbrella_says samples) (label_network (umbrella_meaning samples)) (label_network (umbrella_meaning samples))
+  umbrella-sound =
       let judge : Judge = judge_of (umbrella_test samples) in
-      label_follows (umbrella_meaning samples) (pairs_measure pairs sizes (column_sizes values) judge (is-counting judge refl)) (umbrella_test samples) tail (record {
-        judge_is = refl;
-        reference = refl;
-        alike = λ xs. refl;
-        values = λ xs m. measured-is (umbrella_test samples) refl tail xs ∙ ap pos (sym (points-of xs m)) ∙ sym (value-is pairs sizes (column_sizes values) judge xs);
-      })
+      label-sound (umbrella_says samples) (umbrella_meaning samples) within (pairs_measure pairs sizes (column_sizes values) judge (is-counting judge refl)) refl refl (λ xs m. ap pos (sym (points-of xs m)) ∙ sym (value-is pairs sizes (column_sizes values) judge xs))

@@ -1,14 +1,11 @@
 -- Words for the bodies of the test of Kruskal and Wallis.
-use Rattle.std.specs.Prelude.{◌≡◌, ⊤, ℕ, ◌+◌, ◌-◌, ◌<◌, ◌≤◌, ℤ, pos, unsigned_abs, List, length, map, get_or, Result, Ok, Err}
-use Rattle.std.specs.List.{All, sum}
-use Rattle.weights.specs.Frames.{IsFrameOf}
-use Rattle.weights.specs.Labellings.{number_of_labellings}
+use Rattle.std.specs.Prelude.{◌≡◌, ℕ, ◌+◌, ◌-◌, ◌<◌, ◌≤◌, ℤ, pos, unsigned_abs, List, length, map, get_or, Result, Ok, Err}
+use Rattle.std.specs.List.{All, Contains, sum}
+use Rattle.weights.specs.Labellings.{labellings, number_of_labellings}
 use Rattle.stage_network.specs.Judged.{JudgeFits}
 use Rattle.weights.specs.declared.TheConstants.{MAX}
 use Rattle.stage_network.specs.declared.verdicts.Judge.{Judge}
-use Rattle.weights.specs.declared.wide.WideOf.TheVariants.{Total, Statistic}
 use Rattle.weights.specs.declared.wide.PrepareFault.{PrepareFault}
-use Rattle.weights.specs.declared.wide.PrepareFault.TheVariants.{TooWide, NoMemory}
 use Rattle.completion_bounds.specs.Boxes.{factored_squares}
 use Rattle.record_reader.specs.declared.TheConstants.{MOST_ROWS}
 use Rattle.scores.specs.Scores.{AreScores, score_sum}
@@ -16,6 +13,8 @@ use Rattle.weights.specs.Numbers.{absolute_sum}
 use Rattle.scores.specs.declared.kinds.ScoreKind.{ScoreKind}
 use Rattle.scores.specs.declared.kinds.Scored.{Scored}
 use Rattle.sample_reader.specs.Groups.{group_sizes}
+use Rattle.sample_reader.specs.PooledSample.{labels_of, pooled}
+use Rattle.labelled.specs.LabelTests.{IsRefusedBy}
 use Rattle.label_network.specs.LaterSums.{part_sum, subjects}
 use Rattle.label_network.specs.LaterSteps.{better_of}
 use Rattle.label_network.specs.declared.ends.End.{End}
@@ -69,6 +68,8 @@ pub record AreFitting (samples : ScoredGroups) : Type 0 where
   pub none_empty : All (λ size. 0 < size) (group_sizes samples.groups)
   pub whole : sum (group_sizes samples.groups) ≡ length (pooled_values samples.groups)
   pub few : length (pooled_values samples.groups) ≤ MOST_ROWS
+  pub observed : Contains (labellings (group_sizes samples.groups))
+      (labels_of (pooled samples.groups))
   pub total_fits : number_of_labellings (group_sizes samples.groups) ≤ MAX
   pub bound_fits : (kruskal_wallis_test samples).bound ≤ MAX
 
@@ -77,24 +78,20 @@ pub record AreScored (samples : ScoredGroups) (made : GroupScores) : Type 0 wher
   pub sizes : made.sizes ≡ group_sizes samples.groups
   pub factors : made.factors.items ≡ size_factors (group_sizes samples.groups)
   pub bound : made.bound ≡ (kruskal_wallis_test samples).bound
+  pub scale : made.scale ≡ (kruskal_wallis_test samples).scale
   pub scores : made.scores ≡ pooled_scores samples
   pub sum : made.sum ≡ absolute_sum (pooled_scores samples)
   pub column_sizes : made.columns.sizes ≡ column_sizes (pooled_values samples.groups)
   pub column_scores : made.columns.scores
       ≡ column_scores samples.kind (pooled_values samples.groups)
-  pub frame : IsFrameOf (kruskal_wallis_test samples) made.frame
   pub fitting : AreFitting samples
 
 -- the scores of values, or their sum is too wide
 abbrev pub IsScoredBy : ScoreKind → List ℤ → Result Scored PrepareFault → Type 0
 IsScoredBy kind values (Ok scored) = AreScores kind values scored
-IsScoredBy kind values (Err (TooWide Total)) = ⊥
-IsScoredBy kind values (Err (TooWide Statistic)) = MAX < score_sum kind values
-IsScoredBy kind values (Err NoMemory) = ⊤
+IsScoredBy kind values (Err fault) = IsRefusedBy (score_sum kind values) fault
 
 -- that is made, or the bound is too wide
 abbrev pub IsMadeOf : ScoredGroups → Result GroupScores PrepareFault → Type 0
 IsMadeOf samples (Ok made) = AreScored samples made
-IsMadeOf samples (Err (TooWide Total)) = ⊥
-IsMadeOf samples (Err (TooWide Statistic)) = MAX < (kruskal_wallis_test samples).bound
-IsMadeOf samples (Err NoMemory) = ⊤
+IsMadeOf samples (Err fault) = IsRefusedBy (kruskal_wallis_test samples).bound fault

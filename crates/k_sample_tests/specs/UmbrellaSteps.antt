@@ -1,17 +1,17 @@
 -- Words for the bodies of tests of ordered groups.
 use Rattle.std.specs.Prelude.{◌≡◌, ℕ, ◌+◌, ◌*◌, ◌<◌, ◌≤◌, pos, List, [], ◌∷◌, length, take, drop}
-use Rattle.std.specs.List.{sum, All}
+use Rattle.std.specs.List.{sum, All, Contains}
 use Rattle.weights.specs.declared.TheConstants.{MAX}
 use Rattle.stage_network.specs.declared.verdicts.Judge.{Judge}
-use Rattle.weights.specs.Frames.{IsFrameOf}
 use Rattle.weights.specs.Grouped.{minus}
-use Rattle.weights.specs.Labellings.{counts_of, number_of_labellings}
+use Rattle.weights.specs.Labellings.{counts_of, labellings, number_of_labellings}
 use Rattle.stage_network.specs.Judged.{JudgeFits}
 use Rattle.record_reader.specs.declared.TheConstants.{MOST_ROWS}
 use Rattle.sample_reader.specs.Groups.{group_sizes}
+use Rattle.sample_reader.specs.PooledSample.{labels_of, pooled}
 use Rattle.pooled_columns.specs.PooledColumns.{column_sizes, pooled_values}
 use Rattle.k_sample_tests.specs.PairCounts.{column_points}
-use Rattle.k_sample_tests.specs.Umbrella.{PeakedGroups, subject_pairs, umbrella_test, used_pairs}
+use Rattle.k_sample_tests.specs.Umbrella.{PeakedGroups, subject_pairs, used_pairs}
 use Rattle.k_sample_tests.specs.declared.used_pairs.UsedPair.{UsedPair}
 use Rattle.k_sample_tests.specs.declared.counted_samples.CountedSamples.{CountedSamples}
 
@@ -49,7 +49,8 @@ pub record AreCounted (samples : PeakedGroups) (made : CountedSamples) : Type 0 
   pub sizes : made.sizes ≡ group_sizes samples.groups
   pub pairs : made.pairs.items ≡ used_pairs samples.peak (length (group_sizes samples.groups))
   pub columns : made.columns ≡ column_sizes (pooled_values samples.groups)
-  pub frame : IsFrameOf (umbrella_test samples) made.frame
+  pub observed : Contains (labellings (group_sizes samples.groups))
+      (labels_of (pooled samples.groups))
   pub some : 2 ≤ length (group_sizes samples.groups)
   pub few_rows : length (group_sizes samples.groups) ≤ 8
   pub whole : sum (group_sizes samples.groups) ≡ length (pooled_values samples.groups)

@@ -1,20 +1,29 @@
 // Ordered groups that are prepared for their test.
-ghost use Rattle.std.specs.Prelude.{◌≡◌};
 ghost use Rattle.weights.specs.Wide.{Prepares};
 ghost use Rattle.sample_reader.specs.Data.{data_of};
 ghost use Rattle.k_sample_tests.specs.Umbrella.{umbrella_test};
 ghost use Rattle.k_sample_tests.specs.UmbrellaSteps.{AreCounted};
 
 use crate::counted_samples::{CountedSamples, made_of};
-use sample_reader::{Groups, Labels};
+use crate::pair_counts::PairCounts;
+use crate::pair_points::{labelling_points, signed, subject_pairs};
+use label_network::{LabelStages, label_stages};
+use labelled::{LabelStatistic, Labelled};
+use pooled_columns::labels_in;
+use room_network::Numbered;
+use sample_reader::{Groups, Labels, pooled_subjects};
+use stage_network::Judge;
 use std::alloc::Global;
 use std::marker::Model;
-use weights::{Ints, Nums, PrepareFault, WideOf, multinomial};
+use weights::{Ints, NoMemory, Nums, PrepareFault, Tail, WideOf, multinomial};
 
-/// A test of groups that rise up to a peak and fall from there on, whose data are checked. It is
-/// seen as the peak and the groups that it was prepared of.
+/// A test of groups that rise up to a peak and fall from there on, whose data are checked.
+pub type Umbrella = Labelled<PeakedSamples>;
+
+/// The count over the pairs of groups that are compared. It is seen as the peak and the groups that
+/// it was prepared of.
 #[derive(Drop)]
-pub struct Umbrella {
+pub struct PeakedSamples {
     // What it was prepared of, by which contracts name it.
     peak: u64,
     labels: Labels,
@@ -23,7 +32,7 @@ pub struct Umbrella {
     made: CountedSamples,
 }
 
-impl Model for Umbrella {
+impl Model for PeakedSamples {
     ghost use Rattle.k_sample_tests.specs.Umbrella.{PeakedGroups, peaked_groups_of};
     ghost use Rattle.k_sample_tests.specs.UmbrellaSteps.{AreCounted};
 
@@ -35,33 +44,77 @@ impl Model for Umbrella {
         AreCounted (peaked_groups_of t.peak t.labels t.members t.values) t.made };
 }
 
-impl Umbrella {
-    /// Prepares groups with this peak.
-    pub(crate) fn prepare(
-        alloc: Global,
-        peak: u64,
-        groups: &Groups,
-    ) -> Result<Umbrella, PrepareFault>
-        ensures { Prepares umbrella_test
-            (record { peak = peak; groups = data_of groups.now }) result }
-    {
-        let Some(total) = multinomial(groups.sizes.as_slice()) else {
-            return Err(PrepareFault::TooWide(WideOf::Total));
-        };
-        let made = made_of(alloc, peak, groups, total)?;
-        Ok(Umbrella {
-            peak,
-            labels: groups.labels.copy()?,
-            members: groups.members.copy()?,
-            values: groups.values.copy()?,
-            made,
-        })
-    }
-
-    /// What was made of the groups.
-    pub(crate) fn made(&self) -> &CountedSamples
+impl PeakedSamples {
+    // What was made of the groups.
+    fn made(&self) -> &CountedSamples
         ensures { AreCounted self.now result.now }
     {
         &self.made
+    }
+}
+
+/// Prepares groups with this peak.
+pub(crate) fn prepare(alloc: Global, peak: u64, groups: &Groups) -> Result<Umbrella, PrepareFault>
+    ensures { Prepares umbrella_test
+        (record { peak = peak; groups = data_of groups.now }) result }
+{
+    let Some(total) = multinomial(groups.sizes.as_slice()) else {
+        return Err(PrepareFault::TooWide(WideOf::Total));
+    };
+    let pooled = pooled_subjects(alloc, groups)?;
+    let observed = labels_in(alloc, &pooled)?;
+    let made = made_of(alloc, peak, groups, &pooled)?;
+    let centre = signed(subject_pairs(made.pairs.as_slice(), made.sizes.as_slice()));
+    let samples = PeakedSamples {
+        peak,
+        labels: groups.labels.copy()?,
+        members: groups.members.copy()?,
+        values: groups.values.copy()?,
+        made,
+    };
+    Ok(Labelled::new(samples, observed.as_slice(), 2, 1, centre, total))
+}
+
+impl LabelStatistic for PeakedSamples {
+    ghost use Rattle.label_network.specs.LabelNetwork.{label_network};
+    ghost use Rattle.k_sample_tests.specs.PairCounts.{umbrella_meaning};
+    ghost use Rattle.k_sample_tests.specs.Umbrella.{umbrella_says};
+
+    type Built = LabelStages<Numbered<PairCounts>>;
+
+    ghost says = { umbrella_says };
+
+    ghost network = { λ samples. label_network (umbrella_meaning samples) };
+
+    ghost runs = { λ samples. label_network (umbrella_meaning samples) };
+
+    fn sound(&self) {
+        let _made = self.made();
+    }
+
+    fn sizes(&self) -> &[u64] {
+        self.made().sizes.as_slice()
+    }
+
+    fn value(&self, labels: &[u8]) -> i128 {
+        let made = self.made();
+        labelling_points(
+            made.pairs.as_slice(),
+            made.sizes.as_slice(),
+            made.columns.as_slice(),
+            labels,
+        )
+    }
+
+    fn has_tail(&self, _tail: Tail) -> bool {
+        true
+    }
+
+    fn stages_of(&self, alloc: Global, judge: Judge) -> Result<Self::Built, NoMemory> {
+        let made = self.made();
+        let rows = made.sizes.as_slice();
+        let columns = made.columns.as_slice();
+        let measure = PairCounts::new(alloc, made.pairs.as_slice(), rows, columns, judge)?;
+        label_stages(alloc, columns, rows, Numbered::new(measure))
     }
 }

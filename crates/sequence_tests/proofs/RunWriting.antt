@@ -18,10 +18,10 @@ use Rattle.stage_network.specs.declared.verdicts.Judge.{Judge}
 use Rattle.stage_network.specs.Completions.{over_arcs}
 use Rattle.stage_network.specs.Judged.{judge_of}
 use Rattle.stage_network.specs.Network.{Network, IsReached}
-use Rattle.stage_network.specs.Written.{AreWritten, StandsFor}
+use Rattle.stage_network.specs.Written.{RunsFor, StandsFor}
 use Rattle.label_network.specs.LabelNetwork.{label_network}
 use Rattle.label_network.proofs.Narrowing.{chosen}
-use Rattle.sequence_tests.specs.RunCounts.{begins_run, labels_for, runs_meaning, runs_network, running_runs, written_runs}
+use Rattle.sequence_tests.specs.RunCounts.{begins_run, labels_for, runs_meaning, sequence_meaning, written_network, written_runs}
 use Rattle.sequence_tests.specs.Runs.{rows_with, runs_test}
 use Rattle.sequence_tests.proofs.RunNarrows.{IsOne, here, one-each, one_first, one_second}
 
@@ -159,5 +159,5 @@ module _ (a b : ℕ) (judge : Judge) where
   }
 
 -- the keys of the network that runs stand for those of the one that is written
-pub written : (sequence : SequenceData) → AreWritten (runs_test sequence) (running_runs sequence) (runs_network sequence)
-written sequence tail has = inr (runs-writes (rows_with sequence 0) (rows_with sequence 1) (judge_of (runs_test sequence)) tail)
+pub written : (sequence : SequenceData) (tail : Tail) → RunsFor (label_network (sequence_meaning sequence)) (written_network sequence) tail
+written sequence tail = inr (runs-writes (rows_with sequence 0) (rows_with sequence 1) (judge_of (runs_test sequence)) tail)

@@ -126,12 +126,20 @@ written_runs a b judge = record {
 
 -- ---- of a sequence
 
-abbrev pub runs_network : SequenceData → Tail → Network
-runs_network sequence tail =
+-- as it is written
+abbrev pub written_network : SequenceData → Network
+written_network sequence =
     written_runs (rows_with sequence 0) (rows_with sequence 1) (judge_of (runs_test sequence))
+
+-- one for all tails
+abbrev pub runs_network : SequenceData → Tail → Network
+runs_network sequence tail = written_network sequence
+
+-- what is measured where the network runs
+abbrev pub sequence_meaning : SequenceData → Meaning
+sequence_meaning sequence =
+    runs_meaning (rows_with sequence 0) (rows_with sequence 1) (judge_of (runs_test sequence))
 
 -- what runs
 abbrev pub running_runs : SequenceData → Tail → Network
-running_runs sequence tail =
-    label_network (runs_meaning (rows_with sequence 0) (rows_with sequence 1)
-    (judge_of (runs_test sequence)))
+running_runs sequence tail = label_network (sequence_meaning sequence)

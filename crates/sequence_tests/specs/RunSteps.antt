@@ -1,16 +1,15 @@
 -- Words for the bodies of the runs test.
-use Rattle.std.specs.Prelude.{◌≡◌, ℕ, ◌+◌, ◌*◌, ◌≤◌, ℤ, pos, nat_abs, List, [], ◌∷◌, length, get_or}
+use Rattle.std.specs.Prelude.{◌≡◌, ℕ, ◌+◌, ◌*◌, ◌<◌, ◌≤◌, ℤ, pos, nat_abs, List, length, get_or}
+use Rattle.std.specs.List.{All}
 use Rattle.stage_network.specs.declared.verdicts.Judge.{Judge}
 use Rattle.stage_network.specs.Judged.{JudgeFits}
 use Rattle.weights.specs.declared.TheConstants.{MAX}
-use Rattle.weights.specs.declared.frames.Frame.{Frame}
-use Rattle.weights.specs.Frames.{IsFrameOf}
 use Rattle.weights.specs.Labellings.{number_of_labellings}
 use Rattle.record_reader.specs.declared.TheConstants.{MOST_ROWS}
 use Rattle.label_network.specs.LabelSteps.{AreSizes}
 use Rattle.label_network.specs.Meanings.{sizes_in}
 use Rattle.sample_reader.specs.Sequences.{SequenceData}
-use Rattle.sequence_tests.specs.Runs.{rows_with, runs_test}
+use Rattle.sequence_tests.specs.Runs.{row_counts}
 use Rattle.sequence_tests.specs.RunCounts.{firsts_in, last_in, runs_so_far, seconds_in}
 
 -- a partial has a label, or 2, and a number of runs
@@ -35,11 +34,9 @@ pub record IsRunning (a b : ℕ) (judge : Judge) : Type 0 where
 abbrev pub sequence_of : List (List ℕ) → List ℕ → SequenceData
 sequence_of labels members = record { labels = labels; members = members }
 
--- what is made of a sequence
-pub record AreRuns (sequence : SequenceData) (first second : ℕ) (frame : Frame) : Type 0 where
-  pub first_is : first ≡ rows_with sequence 0
-  pub second_is : second ≡ rows_with sequence 1
-  pub whole : first + second ≡ length sequence.members
+-- what is known of a sequence whose rows have these counts
+pub record AreRuns (sequence : SequenceData) (sizes : List ℕ) : Type 0 where
+  pub sizes_are : sizes ≡ row_counts sequence
+  pub labels : All (λ label. label < 2) sequence.members
   pub few : length sequence.members ≤ MOST_ROWS
-  pub frame_is : IsFrameOf (runs_test sequence) frame
-  pub total_fits : number_of_labellings (first ∷ second ∷ []) ≤ MAX
+  pub total_fits : number_of_labellings (row_counts sequence) ≤ MAX

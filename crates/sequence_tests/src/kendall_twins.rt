@@ -1,21 +1,20 @@
 // Two values of each subject, made ready for Kendall's test.
-ghost use Rattle.std.specs.Prelude.{◌≡◌, ◌≤◌, ◌^◌, ◌<◌, length, pos, IfOk};
-ghost use Rattle.std.specs.List.{All, Any};
+ghost use Rattle.std.specs.Prelude.{◌≡◌, ◌≤◌, length, pos, IfOk};
+ghost use Rattle.std.specs.List.{Any};
 ghost use Rattle.weights.specs.Conditional.{distance};
 ghost use Rattle.weights.specs.Labellings.{number_of_labellings};
 ghost use Rattle.weights.specs.declared.TheConstants.{MAX};
 ghost use Rattle.midranks.specs.Ties.{IsAscending};
-ghost use Rattle.sample_reader.specs.PooledSample.{labels_of};
 ghost use Rattle.pooled_columns.specs.PooledColumns.{column_sizes};
 ghost use Rattle.sequence_tests.specs.Kendall.{kendall_statistic, place_among, places_of};
 ghost use Rattle.sequence_tests.specs.TwinSteps.{AreMade, twins_from};
 
 use crate::kendall_sums::kendall_sum;
 use midranks::{Tie, group_of, tie_groups};
-use pooled_columns::column_sizes;
-use sample_reader::{Subject, ordered_subjects, values};
+use pooled_columns::{column_sizes, labels_in};
+use sample_reader::{ordered_subjects, values};
 use std::alloc::Global;
-use weights::{Bytes, Frame, Ints, NoMemory, Nums, Rule};
+use weights::{Frame, Ints, NoMemory, Nums, Rule};
 
 /// What is made of two values of each subject.
 #[derive(Drop)]
@@ -50,18 +49,6 @@ fn places_of(alloc: Global, values: &[i128]) -> Result<Nums, NoMemory>
         places.push(place_in(ties, *value))?;
     }
     Ok(places)
-}
-
-// The labels of subjects.
-fn labels_in(alloc: Global, subjects: &[Subject]) -> Result<Bytes, NoMemory>
-    requires { All (λ label. label < 2 ^ 8) (labels_of subjects.now) }
-    ensures { IfOk result (λ labels. labels ≡ labels_of subjects.now) }
-{
-    let mut labels = Bytes::empty(alloc);
-    for subject in subjects {
-        labels.push(subject.label as u8)?;
-    }
-    Ok(labels)
 }
 
 // What is said of the test of so many labellings.

@@ -1,39 +1,35 @@
 // A sequence of two labels that is prepared for the runs test.
-ghost use Rattle.std.specs.Prelude.{◌≡◌, ◌+◌, ◌*◌, ◌<◌, ◌≤◌, length, pos, IfOk};
+ghost use Rattle.std.specs.Prelude.{◌≡◌, ◌+◌, ◌*◌, ◌<◌, ◌≤◌, pos, IfOk};
 ghost use Rattle.std.specs.List.{All};
-ghost use Rattle.weights.specs.Conditional.{distance};
-ghost use Rattle.weights.specs.declared.TheConstants.{MAX};
-ghost use Rattle.weights.specs.Labellings.{number_of_labellings};
 ghost use Rattle.weights.specs.Wide.{Prepares};
 ghost use Rattle.record_reader.specs.declared.TheConstants.{MOST_ROWS};
 ghost use Rattle.sample_reader.specs.Data.{sequence_data_of};
 ghost use Rattle.sequence_tests.specs.Runs.{runs, runs_test};
 ghost use Rattle.sequence_tests.specs.RunSteps.{AreRuns};
 
-use crate::run_counts::begins_run;
+use crate::run_counts::{RunCounts, begins_run};
+use label_network::{LabelStages, label_stages};
+use labelled::{LabelStatistic, Labelled};
 use sample_reader::{Labels, Sequence};
+use stage_network::Judge;
 use std::alloc::Global;
 use std::marker::Model;
-use weights::{Bytes, Frame, NoMemory, Nums, PrepareFault, Rule, WideOf, multinomial};
+use weights::{Bytes, NoMemory, Nums, PrepareFault, Tail, WideOf, multinomial};
 
-/// A runs test whose data are checked. It is seen as the sequence that it was prepared of.
+/// A runs test whose data are checked.
+pub type Runs = Labelled<RunNumber>;
+
+/// The number of runs. It is seen as the sequence that it was prepared of.
 #[derive(Drop)]
-pub struct Runs {
+pub struct RunNumber {
     // What it was prepared of, by which contracts name it.
     labels: Labels,
     members: Nums,
-    made: CountedRows,
+    // How many rows have each label.
+    sizes: Nums,
 }
 
-/// How many rows have each label, and what is said of the test.
-#[derive(Clone, Copy)]
-pub(crate) struct CountedRows {
-    pub first: u64,
-    pub second: u64,
-    pub frame: Frame,
-}
-
-impl Model for Runs {
+impl Model for RunNumber {
     ghost use Rattle.sample_reader.specs.Sequences.{SequenceData};
     ghost use Rattle.sequence_tests.specs.RunSteps.{AreRuns, sequence_of};
 
@@ -41,8 +37,7 @@ impl Model for Runs {
 
     ghost view = { λ t. sequence_of t.labels t.members };
 
-    ghost invariant = { λ t.
-        AreRuns (sequence_of t.labels t.members) t.made.first t.made.second t.made.frame };
+    ghost invariant = { λ t. AreRuns (sequence_of t.labels t.members) t.sizes };
 }
 
 // The labels of rows.
@@ -72,71 +67,79 @@ pub(crate) fn runs_in(labels: &[u8]) -> u64
     runs
 }
 
-// What is said of so many rows of each label, which have so many runs.
-fn frame_of(first: u64, second: u64, runs: u64, total: u128) -> Frame
-    requires few { first + second ≤ MOST_ROWS }
-    requires few_runs { runs ≤ MOST_ROWS }
-    ensures { let rows = first + second in
-        let centre = pos (rows + 2 * (first * second)) in
-        result ≡ record {
-          statistic = pos runs;
-          scale = 1;
-          total = total;
-          two = Rule.Far rows centre (distance rows centre (pos runs));
-        } }
+// The mean number of runs of so many rows of each label, times the number of rows.
+fn centre_of(first: u64, second: u64) -> i128
+    requires { first + second ≤ MOST_ROWS }
+    ensures { result ≡ pos ((first + second) + 2 * (first * second)) }
 {
-    let statistic = runs as i128;
-    let rows = first + second;
-    let centre = (rows + 2 * (first * second)) as i128;
-    Frame {
-        statistic,
-        scale: 1,
-        total,
-        two: Rule::far(rows as u128, centre, statistic),
+    (first + second + 2 * (first * second)) as i128
+}
+
+/// Prepares the number of runs, over all labellings of the rows with as many of each label.
+///
+/// # Errors
+/// `TooWide(Total)` where there are more labellings than `weights::MAX`, or else `NoMemory` where
+/// memory runs out. The statistic of at most 10,000 rows is never too wide.
+pub(crate) fn prepare(alloc: Global, sequence: &Sequence) -> Result<Runs, PrepareFault>
+    ensures { Prepares runs_test (sequence_data_of sequence.now) result }
+{
+    let sizes = sequence.sizes.as_slice();
+    let Some(total) = multinomial(sizes) else {
+        return Err(PrepareFault::TooWide(WideOf::Total));
+    };
+    let observed = labels_in(alloc, sequence.members.as_slice())?;
+    let centre = centre_of(sizes[0], sizes[1]);
+    let rows = sequence.members.as_slice().len() as u128;
+    let number = RunNumber {
+        labels: sequence.labels.copy()?,
+        members: sequence.members.copy()?,
+        sizes: sequence.sizes.copy()?,
+    };
+    Ok(Labelled::new(number, observed.as_slice(), 1, rows, centre, total))
+}
+
+impl RunNumber {
+    // How many rows have each label, and what is known of them.
+    fn counts(&self) -> &[u64]
+        ensures { AreRuns self.now result.now }
+    {
+        self.sizes.as_slice()
     }
 }
 
-// A sequence with so many labellings.
-fn made_of(alloc: Global, sequence: &Sequence, total: u128) -> Result<CountedRows, NoMemory>
-    requires total { total ≡ number_of_labellings sequence.now.sizes }
-    requires fits { total ≤ MAX }
-    ensures { IfOk result (λ made.
-        AreRuns (sequence_data_of sequence.now) made.first made.second made.frame) }
-{
-    let labels = labels_in(alloc, sequence.members.as_slice())?;
-    let first = sequence.sizes.as_slice()[0];
-    let second = sequence.sizes.as_slice()[1];
-    Ok(CountedRows {
-        first,
-        second,
-        frame: frame_of(first, second, runs_in(labels.as_slice()), total),
-    })
-}
+impl LabelStatistic for RunNumber {
+    ghost use Rattle.label_network.specs.LabelNetwork.{label_network};
+    ghost use Rattle.sequence_tests.specs.RunCounts.{sequence_meaning, written_network};
+    ghost use Rattle.sequence_tests.specs.Runs.{runs_says};
 
-impl Runs {
-    /// Prepares the number of runs, over all labellings of the rows with as many of each label.
-    ///
-    /// # Errors
-    /// `TooWide(Total)` where there are more labellings than `weights::MAX`, or else `NoMemory`
-    /// where memory runs out. The statistic of at most 10,000 rows is never too wide.
-    pub(crate) fn prepare(alloc: Global, sequence: &Sequence) -> Result<Runs, PrepareFault>
-        ensures { Prepares runs_test (sequence_data_of sequence.now) result }
-    {
-        let Some(total) = multinomial(sequence.sizes.as_slice()) else {
-            return Err(PrepareFault::TooWide(WideOf::Total));
-        };
-        let made = made_of(alloc, sequence, total)?;
-        Ok(Runs {
-            labels: sequence.labels.copy()?,
-            members: sequence.members.copy()?,
-            made,
-        })
+    type Built = LabelStages<RunCounts>;
+
+    ghost says = { runs_says };
+
+    ghost network = { written_network };
+
+    ghost runs = { λ sequence. label_network (sequence_meaning sequence) };
+
+    fn sound(&self) {
+        let _sizes = self.counts();
     }
 
-    /// What was made of the sequence.
-    pub(crate) fn made(&self) -> &CountedRows
-        ensures { AreRuns self.now result.now.first result.now.second result.now.frame }
-    {
-        &self.made
+    fn sizes(&self) -> &[u64] {
+        self.counts()
+    }
+
+    fn value(&self, labels: &[u8]) -> i128 {
+        runs_in(labels) as i128
+    }
+
+    fn has_tail(&self, _tail: Tail) -> bool {
+        true
+    }
+
+    fn stages_of(&self, alloc: Global, judge: Judge) -> Result<Self::Built, NoMemory> {
+        let sizes = self.counts();
+        let measure = RunCounts::new(sizes[0], sizes[1], judge);
+        let columns = vec![in alloc; 1u64; (sizes[0] + sizes[1]) as usize]?;
+        label_stages(alloc, &columns, sizes, measure)
     }
 }

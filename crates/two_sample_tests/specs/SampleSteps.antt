@@ -1,16 +1,13 @@
 -- What is kept of a prepared test.
-use Rattle.std.specs.Prelude.{◌≡◌, ⊤, ◌<◌, ◌≤◌, [], ◌∷◌, length, slice_index, Result, Ok, Err}
+use Rattle.std.specs.Prelude.{◌≡◌, ◌≤◌, [], ◌∷◌, length, slice_index, Contains}
 use Rattle.std.specs.List.{sum}
-use Rattle.weights.specs.Labellings.{number_of_labellings}
-use Rattle.weights.specs.Frames.{IsFrameOf}
+use Rattle.weights.specs.Labellings.{labellings, number_of_labellings}
 use Rattle.weights.specs.declared.TheConstants.{MAX}
-use Rattle.weights.specs.declared.wide.WideOf.TheVariants.{Total, Statistic}
-use Rattle.weights.specs.declared.wide.PrepareFault.{PrepareFault}
-use Rattle.weights.specs.declared.wide.PrepareFault.TheVariants.{TooWide, NoMemory}
 use Rattle.record_reader.specs.declared.TheConstants.{MOST_ROWS}
 use Rattle.sample_reader.specs.Groups.{group_sizes}
+use Rattle.sample_reader.specs.PooledSample.{labels_of, pooled}
 use Rattle.pooled_columns.specs.PooledColumns.{column_scores, column_sizes, pooled_values}
-use Rattle.two_sample_tests.specs.TwoSamples.{TwoSamples, pooled_scores, two_sample_test}
+use Rattle.two_sample_tests.specs.TwoSamples.{TwoSamples, pooled_scores, score_bound}
 use Rattle.two_sample_tests.specs.declared.scored_samples.ScoredSamples.{ScoredSamples}
 
 -- two samples, both with some subjects, and a total and a bound that pass no limit
@@ -21,8 +18,10 @@ pub record AreFitting (samples : TwoSamples) : Type 0 where
   pub second_some : 1 ≤ slice_index (group_sizes samples.groups) 1
   pub whole : sum (group_sizes samples.groups) ≡ length (pooled_values samples.groups)
   pub few : length (pooled_values samples.groups) ≤ MOST_ROWS
+  pub observed : Contains (labellings (group_sizes samples.groups))
+      (labels_of (pooled samples.groups))
   pub total_fits : number_of_labellings (group_sizes samples.groups) ≤ MAX
-  pub bound_fits : (two_sample_test samples).bound ≤ MAX
+  pub bound_fits : score_bound (pooled_scores samples) ≤ MAX
 
 -- what is made of two samples
 pub record AreScored (samples : TwoSamples) (made : ScoredSamples) : Type 0 where
@@ -31,12 +30,4 @@ pub record AreScored (samples : TwoSamples) (made : ScoredSamples) : Type 0 wher
   pub column_sizes : made.columns.sizes ≡ column_sizes (pooled_values samples.groups)
   pub column_scores : made.columns.scores
       ≡ column_scores samples.kind (pooled_values samples.groups)
-  pub frame : IsFrameOf (two_sample_test samples) made.frame
   pub fitting : AreFitting samples
-
--- that is made, or the bound is too wide
-abbrev pub IsMadeOf : TwoSamples → Result ScoredSamples PrepareFault → Type 0
-IsMadeOf samples (Ok made) = AreScored samples made
-IsMadeOf samples (Err (TooWide Total)) = ⊥
-IsMadeOf samples (Err (TooWide Statistic)) = MAX < (two_sample_test samples).bound
-IsMadeOf samples (Err NoMemory) = ⊤

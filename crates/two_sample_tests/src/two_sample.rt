@@ -5,17 +5,25 @@ ghost use Rattle.sample_reader.specs.Data.{data_of};
 ghost use Rattle.two_sample_tests.specs.TwoSamples.{two_sample_test};
 ghost use Rattle.two_sample_tests.specs.SampleSteps.{AreScored};
 
-use crate::scored_samples::{ScoredSamples, made_of};
-use sample_reader::{Groups, Labels};
-use scores::ScoreKind;
+use crate::scored_samples::{ScoredSamples, centre_of, fitting_scores, made_of};
+use label_network::{LabelStages, LinearMeasure, label_stages};
+use labelled::{LabelStatistic, Labelled};
+use pooled_columns::labels_in;
+use room_network::Numbered;
+use sample_reader::{Groups, Labels, pooled_subjects, values};
+use scores::{ScoreKind, labelled_sum};
+use stage_network::{Judge, TailSums};
 use std::alloc::Global;
 use std::marker::Model;
-use weights::{Ints, Nums, PrepareFault, WideOf, multinomial};
+use weights::{Ints, NoMemory, Nums, PrepareFault, Tail, Tails, WideOf, multinomial};
 
-/// A test of two samples whose data are checked. It is seen as the kind of scores and the groups
-/// that it was prepared of.
+/// A test of two samples whose data are checked.
+pub type TwoSample = Labelled<ScoreSum>;
+
+/// The sum of the second sample's scores. It is seen as the kind of scores and the groups that it
+/// was prepared of.
 #[derive(Drop)]
-pub struct TwoSample {
+pub struct ScoreSum {
     // What it was prepared of, by which contracts name it.
     kind: ScoreKind,
     labels: Labels,
@@ -24,7 +32,7 @@ pub struct TwoSample {
     made: ScoredSamples,
 }
 
-impl Model for TwoSample {
+impl Model for ScoreSum {
     ghost use Rattle.two_sample_tests.specs.TwoSamples.{TwoSamples, samples_of};
     ghost use Rattle.two_sample_tests.specs.SampleSteps.{AreScored};
 
@@ -33,6 +41,15 @@ impl Model for TwoSample {
     ghost view = { λ t. samples_of t.kind t.labels t.members t.values };
 
     ghost invariant = { λ t. AreScored (samples_of t.kind t.labels t.members t.values) t.made };
+}
+
+impl ScoreSum {
+    // What was made of the samples.
+    fn made(&self) -> &ScoredSamples
+        ensures { AreScored self.now result.now }
+    {
+        &self.made
+    }
 }
 
 /// Prepares the test of two samples by the scores of a kind: the sum of the scores of the group
@@ -50,21 +67,67 @@ pub fn prepare(alloc: Global, kind: ScoreKind, groups: &Groups) -> Result<TwoSam
     let Some(total) = multinomial(groups.sizes.as_slice()) else {
         return Err(PrepareFault::TooWide(WideOf::Total));
     };
-    let made = made_of(alloc, kind, groups, total)?;
-    Ok(TwoSample {
+    let subjects = pooled_subjects(alloc, groups)?;
+    let observed = labels_in(alloc, &subjects)?;
+    let pooled = values(alloc, &subjects)?;
+    let scored = fitting_scores(alloc, kind, pooled.as_slice())?;
+    let scale = scored.scale;
+    let factor = scored.list.as_slice().len() as u128;
+    let centre = centre_of(groups.sizes.as_slice()[1], scored.list.as_slice());
+    let made = made_of(alloc, kind, groups, pooled.as_slice(), scored.list)?;
+    let sum = ScoreSum {
         kind,
         labels: groups.labels.copy()?,
         members: groups.members.copy()?,
         values: groups.values.copy()?,
         made,
-    })
+    };
+    Ok(Labelled::new(sum, observed.as_slice(), scale, factor, centre, total))
 }
 
-impl TwoSample {
-    /// What was made of the samples.
-    pub(crate) fn made(&self) -> &ScoredSamples
-        ensures { AreScored self.now result.now }
-    {
-        &self.made
+impl LabelStatistic for ScoreSum {
+    ghost use Rattle.label_network.specs.LabelNetwork.{label_network};
+    ghost use Rattle.two_sample_tests.specs.Columns.{two_sample_meaning};
+    ghost use Rattle.two_sample_tests.specs.TwoSamples.{two_sample_says};
+
+    type Built = LabelStages<Numbered<LinearMeasure>>;
+
+    ghost says = { two_sample_says };
+
+    ghost network = { λ samples. label_network (two_sample_meaning samples) };
+
+    ghost runs = { λ samples. label_network (two_sample_meaning samples) };
+
+    fn sound(&self) {
+        let _made = self.made();
+    }
+
+    fn sizes(&self) -> &[u64] {
+        self.made().sizes.as_slice()
+    }
+
+    fn value(&self, labels: &[u8]) -> i128 {
+        labelled_sum(self.made().scores.as_slice(), labels, 1)
+    }
+
+    fn has_tail(&self, _tail: Tail) -> bool {
+        true
+    }
+
+    fn stages_of(&self, alloc: Global, judge: Judge) -> Result<Self::Built, NoMemory> {
+        let made = self.made();
+        let rows = made.sizes.as_slice();
+        let columns = made.columns.sizes.as_slice();
+        let scores = made.columns.scores.as_slice();
+        let measure = LinearMeasure::new(alloc, &[0, 1], rows, scores, columns, judge)?;
+        label_stages(alloc, columns, rows, Numbered::new(measure))
+    }
+
+    // Where sums seldom meet, by two halves.
+    fn numerators(&self, alloc: Global, judge: Judge, tails: Tails) -> Result<TailSums, NoMemory> {
+        self.sound();
+        let stages = self.stages_of(alloc, judge)?;
+        let sums = halves::tail_sums(alloc, &stages, &judge, tails)?;
+        Ok(sums)
     }
 }

@@ -24,7 +24,7 @@ new-packed-requires-clause-all c =
     rw (c.in_ok-sums.ensures.scores, ap (λ (m : Meaning). m.columns) c.in_ok-sums.ensures.meaning) (made.sum ∙ sym (column-total c.args.problem.now made.fitting))
 
 pub new-packed-requires-clause-small : goal.new-packed-requires-clause-small
-new-packed-requires-clause-small c = rw (c.made-made.ensures.sum, ap rows-of c.in_ok-sums.ensures.meaning) c.requires
+new-packed-requires-clause-small c = rw (c.made-made.ensures.sum, ap rows-of c.in_ok-sums.ensures.meaning) c.requires.small
 
 pub label_stages-requires : goal.label_stages-requires
 label_stages-requires c =
@@ -44,4 +44,4 @@ returns c t =
     ∙ ap (λ h. packed_meaning h (sums_meaning c.new-packed.result.sums)) base
     ∙ ap (λ (s : RankSums). packed_meaning half (sums_meaning s)) c.new-packed.ensures.sums
     ∙ ap (packed_meaning half) c.in_ok-sums.ensures.meaning in
-    subst (λ m. Follows (kruskal_wallis_test samples) t (label_network m)) (sym same) (follows-packed samples c.made-made.ensures.fitting t half c.requires)
+    subst (λ m. Follows (kruskal_wallis_test samples) t (label_network m)) (sym same) (follows-packed samples c.made-made.ensures.fitting t half c.requires.small)

@@ -1,7 +1,7 @@
 use Rattle.std.proofs.Common.{◌∙◌, ap, subst, sym, arith}
 use Rattle.label_network.specs.Meanings.{Meaning}
 use Rattle.k_sample_tests.specs.PackedSumSteps.{AreSums, sums_meaning}
-use Rattle.k_sample_tests.proofs.FittingKruskalWallis.{follows, margin}
+use Rattle.k_sample_tests.proofs.FittingKruskalWallis.{margin, squares-sound}
 use Rattle.k_sample_tests.proofs.kruskal_wallis_ways.written_stages.Goals as goal
 
 pub label_stages-requires : goal.label_stages-requires
@@ -13,13 +13,13 @@ label_stages-requires c =
     (c.as_slice-columns.ensures ∙ made.column_sizes) (c.as_slice.ensures ∙ made.sizes)
 
 pub returns-in_err-sums-clause-follows : goal.returns-in_err-sums-clause-follows
-returns-in_err-sums-clause-follows c t = follows c.args.problem.now c.made-made.ensures.fitting t
+returns-in_err-sums-clause-follows c t = (squares-sound c.args.problem.now c.made-made.ensures.fitting).follows t
 
 pub returns-in_err-stages-clause-follows : goal.returns-in_err-stages-clause-follows
-returns-in_err-stages-clause-follows c t = follows c.args.problem.now c.made-made.ensures.fitting t
+returns-in_err-stages-clause-follows c t = (squares-sound c.args.problem.now c.made-made.ensures.fitting).follows t
 
 pub returns-clause-follows : goal.returns-clause-follows
-returns-clause-follows c t = follows c.args.problem.now c.made-made.ensures.fitting t
+returns-clause-follows c t = (squares-sound c.args.problem.now c.made-made.ensures.fitting).follows t
 
 pub returns-clause-sums : goal.returns-clause-sums
 returns-clause-sums c = subst (AreSums c.args.problem.now) (sym c.in_ok-stages.ensures.measure) c.in_ok-sums.ensures

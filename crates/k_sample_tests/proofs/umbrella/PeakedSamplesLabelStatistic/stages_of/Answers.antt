@@ -1,0 +1,31 @@
+use Rattle.std.proofs.Common.{◌≡◌, ℕ, List, length, ◌∙◌, ap}
+use Rattle.std.proofs.lemmas.Result.{IfOk-weaker}
+use Rattle.sample_reader.specs.Groups.{group_sizes}
+use Rattle.pooled_columns.specs.PooledColumns.{column_sizes, pooled_values}
+use Rattle.k_sample_tests.specs.declared.used_pairs.UsedPair.{UsedPair}
+use Rattle.label_network.specs.LabelNetwork.{label_network}
+use Rattle.k_sample_tests.specs.PairCounts.{pairs_meaning, umbrella_meaning}
+use Rattle.k_sample_tests.specs.declared.pair_counts.PairCounts.{PairCounts}
+use Rattle.k_sample_tests.specs.Umbrella.{PeakedGroups, used_pairs}
+use Rattle.k_sample_tests.proofs.FittingUmbrella.{is-counting}
+use Rattle.k_sample_tests.proofs.umbrella.PeakedSamplesLabelStatistic.stages_of.Goals as goal
+
+pub new-requires : goal.new-requires
+new-requires c =
+    let samples : PeakedGroups = c.args.self.now in
+    let made = c.made-made.ensures in
+    rw (c.as_slice.ensures.value ∙ made.pairs, c.as_slice-rows.ensures ∙ made.sizes, c.as_slice-columns.ensures ∙ made.columns) (is-counting samples c.made-made.result.now made c.args.judge c.requires)
+
+pub returns : goal.returns
+returns c =
+    let samples : PeakedGroups = c.args.self.now in
+    let made = c.made-made.ensures in
+    let pairs : List UsedPair = used_pairs samples.peak (length (group_sizes samples.groups)) in
+    let sizes : List ℕ = group_sizes samples.groups in
+    let given = c.in_ok-measure.ensures
+    ∙ ap (λ x. pairs_meaning x c.as_slice-rows.result.now c.as_slice-columns.result.now c.args.judge) (c.as_slice.ensures.value ∙ made.pairs)
+    ∙ ap (λ x. pairs_meaning pairs x c.as_slice-columns.result.now c.args.judge) (c.as_slice-rows.ensures ∙ made.sizes)
+    ∙ ap (λ x. pairs_meaning pairs sizes x c.args.judge) (c.as_slice-columns.ensures ∙ made.columns)
+    ∙ ap (pairs_meaning pairs sizes (column_sizes (pooled_values samples.groups))) c.requires in
+    let same : (m : PairCounts) → m ≡ c.in_ok-measure.measure → label_network (pairs_meaning m.pairs.items m.rows.items m.columns.items m.judge) ≡ label_network (umbrella_meaning samples) = λ m e. ap (λ (m : PairCounts). label_network (pairs_meaning m.pairs.items m.rows.items m.columns.items m.judge)) e ∙ ap label_network given in
+    IfOk-weaker c.label_stages.result (λ s. s.1 ≡ c.new-2.result) _ (λ s e. same s.1 (e ∙ c.new-2.ensures)) c.label_stages.ensures.measure

@@ -1,0 +1,74 @@
+-- What each test of labellings has.
+use Rattle.std.proofs.Common.{◌≡◌, ◌≤◌, ℕ, List, Err, Some, None, inl, refl, sym, ◌∙◌, ap, subst, arith}
+use Rattle.weights.specs.declared.wide.PrepareFault.{PrepareFault}
+use Rattle.weights.specs.declared.wide.PrepareFault.TheVariants.{TooWide, NoMemory}
+use Rattle.weights.specs.declared.wide.WideOf.TheVariants.{Total, Statistic}
+use Rattle.weights.specs.declared.TheConstants.{MAX}
+use Rattle.std.specs.Prelude.{ℤ, Contains}
+use Rattle.weights.specs.declared.rules.Rule.TheVariants.{Far}
+use Rattle.weights.specs.declared.tails.Tail.{Tail}
+use Rattle.weights.specs.Conditional.{total}
+use Rattle.weights.specs.Frames.{IsShown, RulesFit}
+use Rattle.weights.specs.Labellings.{labellings, number_of_labellings}
+use Rattle.weights.specs.Rules.{RuleFits}
+use Rattle.weights.specs.Wide.{Prepares, too_wide}
+use Rattle.weights.proofs.Centred.{IsCentred, all-weigh, bound-wide, measured-is, not-wide, rule-fits, rules-fit, shown, total-wide}
+use Rattle.weights.proofs.FirstLabel.{number_of_labellings-positive}
+use Rattle.weights.proofs.Sums.{sum_by-one}
+use Rattle.stage_network.specs.declared.verdicts.Judge.{Judge}
+use Rattle.stage_network.specs.Follows.{Follows}
+use Rattle.stage_network.specs.Judged.{JudgeFits, judge_of}
+use Rattle.stage_network.proofs.Following.{judge-fits}
+use Rattle.label_network.proofs.Endings.{labelling_value}
+use Rattle.label_network.specs.LabelNetwork.{label_network}
+use Rattle.label_network.specs.Meanings.{Meaning, IsMeasure}
+use Rattle.label_network.proofs.LabelFollows.{label_follows}
+use Rattle.labelled.specs.LabelTests.{IsSound, IsWithin, IsRefusedBy, LabelTest, label_test}
+
+pub total-of : (t : LabelTest) → total (label_test t) ≡ number_of_labellings t.sizes
+total-of t = sum_by-one (labellings t.sizes)
+
+pub total-some : (t : LabelTest) → 1 ≤ total (label_test t)
+total-some t = omega (arith, total-of t, number_of_labellings-positive t.sizes)
+
+module _ (t : LabelTest) (w : IsWithin t) where
+  pub total-fits : total (label_test t) ≤ MAX
+  total-fits = omega (arith, total-of t, w.total_fits)
+
+  pub centred : IsCentred (label_test t) t.factor t.centre
+  centred = record { by = refl; observed = w.fits t.observed w.observed; each = w.fits }
+
+  pub label-rules : RulesFit (label_test t)
+  label-rules = rules-fit (label_test t) centred
+
+  pub label-shown : IsShown (label_test t)
+  label-shown = shown (label_test t) refl w.shown (all-weigh (labellings t.sizes))
+
+  -- the rules fit whatever both sides' rule does
+  pub label-judge : (judge : Judge) → judge ≡ judge_of (label_test t) → (v : ℤ) → RuleFits (Far t.factor t.centre 0) v → JudgeFits judge v
+  label-judge judge e v f = judge-fits (label_test t) judge e v (λ tail. rule-fits (label_test t) centred tail v f)
+
+-- the network of a measure that ends at the statistic
+pub label-follows : (t : LabelTest) (m : Meaning) → IsMeasure m → m.judge ≡ judge_of (label_test t) → m.rows ≡ t.sizes → ((xs : List ℕ) → Contains (labellings t.sizes) xs → t.statistic xs ≡ labelling_value m xs) → (tail : Tail) → Follows (label_test t) tail (label_network m)
+label-follows t m s judge rows values tail = label_follows m s (label_test t) tail (record {
+  judge_is = judge;
+  reference = ap labellings (sym rows);
+  alike = λ xs. refl;
+  values = λ xs a. measured-is (label_test t) refl tail xs ∙ values xs (subst (λ ns. Contains (labellings ns) xs) rows a);
+})
+
+-- which is written down as it runs
+pub label-sound : (t : LabelTest) (m : Meaning) → IsWithin t → IsMeasure m → m.judge ≡ judge_of (label_test t) → m.rows ≡ t.sizes → ((xs : List ℕ) → Contains (labellings t.sizes) xs → t.statistic xs ≡ labelling_value m xs) → IsSound t (label_network m) (label_network m)
+label-sound t m within s judge rows values = record { within = within; follows = label-follows t m s judge rows values; written = λ tail. inl refl }
+
+-- what is too wide, and what is not
+pub label-wide : (t : LabelTest) → (number_of_labellings t.sizes ≤ MAX → ⊥) → too_wide (label_test t) ≡ Some Total
+label-wide t none = total-wide (label_test t) (total-of t) none
+
+pub label-fits : (t : LabelTest) → number_of_labellings t.sizes ≤ MAX → t.bound ≤ MAX → too_wide (label_test t) ≡ None
+label-fits t fits within = not-wide (label_test t) (total-of t) fits within
+
+pub label-refused : {V : Type 0} (says : V → LabelTest) (value : V) (fault : PrepareFault) → number_of_labellings (says value).sizes ≤ MAX → IsRefusedBy (says value).bound fault → Prepares (λ v. label_test (says v)) value (Err fault)
+label-refused says value (TooWide Total) fits is = absurd is
+label-refused says value (TooWide Statistic) fits is = bound-wide (label_test (says value)) (total-of (says value)) fits is
+label-refused says value NoMemory fits is = tt
