@@ -1,5 +1,5 @@
-"""Makes problems of one and two samples, of strata and of tables from a seed, and compares a program's ways to the report
-of each; `agree` runs it.
+"""Makes problems of one and two samples, of blocks, of strata and of tables from a seed, and compares a program's ways to
+the report of each; `agree` runs it.
 
 A line for each problem: 0 where both reports are the same, else 1, and what was tried. Where they differ, the file and
 both reports are shown on standard error.
@@ -12,8 +12,10 @@ from concurrent.futures import ThreadPoolExecutor
 
 ONE_SAMPLE = ("rawsigned", "signedrank", "sign")
 TWO_SAMPLES = ("savage", "raw", "ranksum", "ansari", "mood", "median")
+BLOCKS = ("friedman",)
 STRATA = ("stratranksum", "strata")
 TABLES = ("linear",)
+TESTS = (*ONE_SAMPLE, *TWO_SAMPLES, *BLOCKS, *STRATA, *TABLES)
 # what a problem has at most, so that the slower way takes about a hundredth of a second
 MOST = 30_000
 
@@ -51,6 +53,14 @@ def two_samples(dice):
     return [[label, value()] for label, size in zip("ab", sizes_within(dice, MOST, either(dice))) for _ in range(size)]
 
 
+def blocks(dice):
+    treatments = dice.randint(6, 8)
+    # with many ties, with some and with hardly any
+    most = dice.choice([1, 3, 9, 999])
+    rows = dice.randint(1, 3 if treatments == 6 else 2)
+    return [[dice.randint(0, most) for _ in range(treatments)] for _ in range(rows)]
+
+
 def strata_of_samples(dice):
     value = values_of(dice)
     rows, total = [], 1
@@ -73,6 +83,7 @@ def table(dice):
 LAYOUTS = {
     one_sample: ONE_SAMPLE,
     two_samples: TWO_SAMPLES,
+    blocks: BLOCKS,
     strata_of_samples: STRATA[:1],
     strata_of_tables: STRATA[1:],
     table: TABLES,
@@ -90,7 +101,7 @@ def tell(place):
     """What came of the problem at a place, and what is shown of it."""
     # a seed for each, so that a problem is the same whatever was made before
     dice = random.Random(f"{SEED} {place}")
-    test = (*ONE_SAMPLE, *TWO_SAMPLES, *STRATA, *TABLES)[place % 12]
+    test = TESTS[place % len(TESTS)]
     rows = next(layout for layout, tests in LAYOUTS.items() if test in tests)(dice)
     text = "".join(",".join(map(str, row)) + "\n" for row in [[f"c{i}" for i in range(len(rows[0]))], *rows])
     name = f"{place}.csv"

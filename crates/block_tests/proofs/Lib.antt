@@ -11,5 +11,13 @@ pub mod Rows
 pub mod Fitting
 pub mod OneBlock
 pub mod Steps
+pub mod ServingRooms
+pub mod ServedNarrows
+pub mod ServingLaw
+pub mod ServedFold
+pub mod ServingFollows
+pub mod ServingSteps
+pub mod ServedParts
+pub mod TreatmentOrder
 pub mod CutSteps
 pub mod Vectors

@@ -13,8 +13,13 @@ mod block_test;
 mod kinds;
 mod page;
 mod ranked;
+mod served_blocks;
+mod served_sums;
+mod serving;
+mod servings;
 mod squares;
 mod sums;
+mod treatment_order;
 mod ways;
 
 pub use block_test::{BlockTest, prepare};

@@ -1,19 +1,27 @@
 // Both ways to the answer of a test of blocks.
-ghost use Rattle.std.specs.Prelude.{◌≡◌, ◌≤◌, IfOk};
+ghost use Rattle.std.specs.Prelude.{◌≡◌, ◌≤◌, ◌⊎◌, IfOk};
 ghost use Rattle.weights.specs.declared.TheConstants.{MAX};
+ghost use Rattle.weights.specs.declared.tails.Tail.{Tail};
+ghost use Rattle.stage_network.specs.Follows.{Follows};
 ghost use Rattle.block_tests.specs.BlockNetworks.{line_addends, square_addends};
 ghost use Rattle.block_tests.specs.BlockSteps.{AreStages, cells_sum};
 ghost use Rattle.block_tests.specs.BlockTests.{block_counts, block_test, squared};
+ghost use Rattle.block_tests.specs.Servings.{served_network};
+ghost use Rattle.block_tests.specs.declared.kinds.BlockKind.TheVariants.{Friedman, Cochran};
 
 use crate::block::first_arrangements;
 use crate::block_test::BlockTest;
 use crate::kinds::BlockKind;
 use crate::page::{PageBlocks, page_blocks};
+use crate::served_blocks::ServedBlocks;
 use crate::squares::{SquareBlocks, block_copies};
 use enumerate::{Plain, next_joined};
 use stage_network::{AdditiveStages, Judge, OneOf, Prepared};
 use std::alloc::Global;
 use weights::{Bytes, Frame, NoMemory, Tail};
+
+// Of fewer treatments than these all arrangements of a block are tried.
+const FEW: usize = 5;
 
 impl Plain for BlockTest {
     ghost use Rattle.block_tests.specs.BlockTests.{block_test};
@@ -67,6 +75,18 @@ fn square_stages(
     AdditiveStages::new(alloc, inside)
 }
 
+// The network of a test whose treatments' sums are squared, with numbers that are given to
+// treatments one after another.
+fn served_stages(alloc: Global, test: &BlockTest) -> Result<ServedBlocks, NoMemory>
+    requires { (test.now.kind ≡ Friedman) ⊎ (test.now.kind ≡ Cochran) }
+    ensures { IfOk result (λ s. (t : Tail) → Follows (block_test test.now) t
+        (served_network s.stages.1.servings.treatments s.stages.1.servings.items.items
+        s.stages.1.servings.judge)) }
+{
+    let stages = ServedBlocks::new(alloc, test.blocks(), test.treatments(), test.judge())?;
+    Ok(stages)
+}
+
 // The network of Page's test.
 fn page_stages(
     alloc: Global,
@@ -86,7 +106,10 @@ fn page_stages(
 impl Prepared for BlockTest {
     ghost use Rattle.block_tests.specs.BlockNetworks.{block_network, running_network};
 
-    type Built = OneOf<AdditiveStages<SquareBlocks>, AdditiveStages<PageBlocks>>;
+    type Built = OneOf<
+        OneOf<ServedBlocks, AdditiveStages<SquareBlocks>>,
+        AdditiveStages<PageBlocks>,
+    >;
 
     ghost network = { block_network };
 
@@ -109,7 +132,20 @@ impl Prepared for BlockTest {
             }
             BlockKind::Friedman | BlockKind::Cochran => {
                 let stages = square_stages(alloc, self, judge)?;
-                Ok(OneOf::First(stages))
+                Ok(OneOf::First(OneOf::Second(stages)))
+            }
+        }
+    }
+
+    // Where blocks have more than a few treatments, numbers are given to these one after another.
+    fn quick_stages_of(&self, alloc: Global, tail: Tail) -> Result<Self::Built, NoMemory> {
+        match self.kind() {
+            BlockKind::Friedman if self.treatments() >= FEW => {
+                let stages = served_stages(alloc, self)?;
+                Ok(OneOf::First(OneOf::First(stages)))
+            }
+            BlockKind::Friedman | BlockKind::Page | BlockKind::Cochran => {
+                self.stages_of(alloc, tail)
             }
         }
     }

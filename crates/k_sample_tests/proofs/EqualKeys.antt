@@ -31,12 +31,14 @@ use Rattle.label_network.proofs.Narrowing.{chosen}
 use Rattle.label_network.proofs.OverRooms.{over_measure, over_place}
 use Rattle.label_network.proofs.Rows.{length-pos}
 use Rattle.weights.specs.InOrder.{in_order}
-use Rattle.k_sample_tests.specs.EqualGroups.{equal_groups_network, groups_in_order, lefts, may_precede, places_of, sums}
-use Rattle.k_sample_tests.specs.declared.places.Place.{Place}
+use Rattle.weights.proofs.OneOrder.{length-in_order}
+use Rattle.ordered_groups.specs.OrderedGroups.{groups_in_order, lefts, may_precede, places_of, sums}
+use Rattle.ordered_groups.specs.declared.places.Place.{Place}
+use Rattle.k_sample_tests.specs.EqualGroups.{equal_groups_network}
 use Rattle.k_sample_tests.specs.RankSums.{plus_each, score_parts, squares_meaning}
 use Rattle.k_sample_tests.specs.RankSumSteps.{IsSquaring}
 use Rattle.label_network.proofs.ChoiceSwaps.{labellings-swap, minus-swap, swapped_choices, swapped_member}
-use Rattle.k_sample_tests.proofs.PlaceOrder.{IsTurn, back-key, front-key, length-order, length-places, order-folds, order-room, room_in_order, same_at, swap-same, turn}
+use Rattle.ordered_groups.proofs.PlaceOrder.{IsTurn, back-key, front-key, length-places, order-folds, order-room, room_in_order, same_at, swap-same, turn}
 use Rattle.k_sample_tests.proofs.RankNarrows.{length-parts, length-plus, squares_measure}
 
 plus_each-swap : (i : ℕ) (p a : List ℤ) → length a ≡ length p → plus_each (swap_at i p) (swap_at i a) ≡ swap_at i (plus_each p a)
@@ -325,8 +327,8 @@ module _ (factors : List ℕ) (bound : ℕ) (scores : List ℤ) (columns rows : 
   -- the room of a key in order
   pub equal-room : (g : ℕ) (k : List ℤ) → IsReached n g k → room (groups_in_order rows k) ≡ room_in_order rows (room k)
   equal-room g k r =
-      let ps : List Place = in_order (may_precede true) (in_order (may_precede false) (places_of rows (room k) (partial k))) in
-      let long : length (lefts ps) ≡ length rows = length-map ps (λ (p : Place). p.left) ∙ length-order true (in_order (may_precede false) (places_of rows (room k) (partial k))) ∙ length-order false (places_of rows (room k) (partial k)) ∙ length-places rows (room k) (partial k) (room-long g k r) (partial-long g k r) in
+      let ps : List Place = in_order may_precede (places_of rows (room k) (partial k)) in
+      let long : length (lefts ps) ≡ length rows = length-map ps (λ (p : Place). p.left) ∙ length-in_order may_precede (places_of rows (room k) (partial k)) ∙ length-places rows (room k) (partial k) (room-long g k r) (partial-long g k r) in
       front-key (length rows) (lefts ps) (sums ps) long ∙ order-room rows (room k) (partial k) (partial-long g k r)
 
   pub equal-roomed : IsLawful n → IsRoomed n (length rows) → IsRoomed (equal_groups_network m) (length rows)

@@ -29,7 +29,7 @@ use Rattle.k_sample_tests.specs.EqualGroupSteps.{AreEqualGroups}
 use Rattle.k_sample_tests.specs.KruskalWallis.{size_factors}
 use Rattle.k_sample_tests.specs.PackedSumSteps.{sums_meaning}
 use Rattle.k_sample_tests.specs.declared.rank_sums.RankSums.{RankSums}
-use Rattle.k_sample_tests.proofs.PlaceOrder.{back-key, front-key, same_at, swap-same}
+use Rattle.ordered_groups.proofs.PlaceOrder.{back-key, front-key, same_at, swap-same}
 use Rattle.k_sample_tests.proofs.EqualKeys.{equal-follows, equal-lawful, equal-long, equal-reached, equal-roomed, equal-total}
 
 -- groups of equal size have equal factors

@@ -1,7 +1,7 @@
 use Rattle.std.proofs.Common.{◌∙◌, ◌+◌, ap, length}
 use Rattle.stage_network.proofs.Steps.{reached-next}
 use Rattle.label_network.specs.LabelNetwork.{label_network}
-use Rattle.k_sample_tests.specs.EqualGroups.{groups_in_order}
+use Rattle.ordered_groups.specs.OrderedGroups.{groups_in_order}
 use Rattle.k_sample_tests.specs.PackedSumSteps.{sums_meaning}
 use Rattle.k_sample_tests.proofs.EqualParts.{in-long, in-reached}
 use Rattle.k_sample_tests.proofs.equal_groups.EqualGroupsStages.apply.Goals as goal

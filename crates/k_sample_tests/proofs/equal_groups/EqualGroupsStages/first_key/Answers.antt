@@ -1,6 +1,6 @@
 use Rattle.std.proofs.Common.{◌∙◌, ap, length, refl}
 use Rattle.label_network.specs.LabelNetwork.{label_network}
-use Rattle.k_sample_tests.specs.EqualGroups.{groups_in_order}
+use Rattle.ordered_groups.specs.OrderedGroups.{groups_in_order}
 use Rattle.k_sample_tests.specs.PackedSumSteps.{sums_meaning}
 use Rattle.k_sample_tests.proofs.EqualParts.{in-long}
 use Rattle.k_sample_tests.proofs.equal_groups.EqualGroupsStages.first_key.Goals as goal

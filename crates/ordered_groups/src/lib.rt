@@ -1,0 +1,8 @@
+//! Keys of groups, each of which has a size, a part of it that remains, and a sum: those of equal
+//! size that stand side by side are put in order.
+#![tactic(auto)]
+
+mod keys;
+mod places;
+
+pub use keys::{put_groups_in_order, put_sums_in_order};
