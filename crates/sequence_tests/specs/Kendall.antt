@@ -4,9 +4,9 @@
 -- both columns of values, with their ties.
 use Rattle.std.specs.Prelude.{ℕ, ℤ, pos, ◌*◌, ◌-ℤ◌, List, length, map, nat_lt, int_lt, if◌then◌else◌}
 use Rattle.std.specs.List.{count_by, sum_by}
-use Rattle.weights.specs.Conditional.{ConditionalTest, by_distance, every_tail, unit_weight}
+use Rattle.weights.specs.Conditional.{ConditionalTest, every_tail}
 use Rattle.weights.specs.InOrder.{in_order}
-use Rattle.weights.specs.Labellings.{labellings}
+use Rattle.labelled.specs.LabelTests.{LabelTest, label_test}
 use Rattle.midranks.specs.Ties.{tie_groups}
 use Rattle.midranks.specs.declared.ties.Tie.{Tie}
 use Rattle.sample_reader.specs.PooledSample.{labels_of, may_precede, paired_subjects, values_of}
@@ -35,20 +35,6 @@ kendall_sum subjects = pos (over_pairs one_where_less subjects subjects)
 abbrev pub kendall_statistic : List ℤ → List ℕ → ℤ
 kendall_statistic firsts seconds = kendall_sum (paired_subjects firsts seconds)
 
--- all ways to give the second values to the subjects, whose first values these are; rows says how
--- often each distinct second value occurs. K is at most the square of the number of subjects
-abbrev pub kendall_test : List ℤ → List ℕ → List ℕ → ConditionalTest
-kendall_test firsts rows observed = record {
-  reference = labellings rows;
-  statistic = kendall_statistic firsts;
-  observed = observed;
-  weight = unit_weight;
-  has_tail = every_tail;
-  two_sided = by_distance 1 (pos 0);
-  scale = 1;
-  bound = length firsts * length firsts;
-}
-
 -- the place of a value among distinct ones: how many are less
 abbrev pub place_among : List Tie → ℤ → ℕ
 place_among ties v = count_by (λ t. int_lt t.value v) ties
@@ -61,7 +47,21 @@ places_of values = map (place_among (tie_groups values)) values
 abbrev pub twin_subjects : TwinData → List Subject
 twin_subjects twins = in_order may_precede (paired_subjects twins.first (places_of twins.second))
 
+-- all ways to give the second values to the subjects, each distinct value as often as it occurs; K
+-- is at most the square of the number of subjects
+abbrev pub twin_says : TwinData → LabelTest
+twin_says twins =
+    let firsts = values_of (twin_subjects twins) in record {
+      sizes = column_sizes twins.second;
+      statistic = kendall_statistic firsts;
+      observed = labels_of (twin_subjects twins);
+      tails = every_tail;
+      factor = 1;
+      centre = pos 0;
+      scale = 1;
+      bound = length firsts * length firsts;
+    }
+
 -- the test of Kendall's K of two values of each subject
 abbrev pub twin_test : TwinData → ConditionalTest
-twin_test twins = kendall_test (values_of (twin_subjects twins)) (column_sizes twins.second)
-    (labels_of (twin_subjects twins))
+twin_test twins = label_test (twin_says twins)

@@ -57,6 +57,9 @@ abbrev pub twin_meaning : TwinData → Meaning
 twin_meaning twins = kendall_meaning (column_sizes (values_of (twin_subjects twins)))
     (column_sizes twins.second) (judge_of (twin_test twins))
 
+abbrev pub twin_stages : TwinData → Network
+twin_stages twins = room_network (twin_meaning twins) label_weight
+
 -- one network for all tails
 abbrev pub twin_network : TwinData → Tail → Network
-twin_network twins tail = room_network (twin_meaning twins) label_weight
+twin_network twins tail = twin_stages twins

@@ -1,20 +1,14 @@
 // Two values of each subject, made ready for Kendall's test.
-ghost use Rattle.std.specs.Prelude.{◌≡◌, ◌≤◌, length, pos, IfOk};
+ghost use Rattle.std.specs.Prelude.{◌≡◌, length, IfOk};
 ghost use Rattle.std.specs.List.{Any};
-ghost use Rattle.weights.specs.Conditional.{distance};
-ghost use Rattle.weights.specs.Labellings.{number_of_labellings};
-ghost use Rattle.weights.specs.declared.TheConstants.{MAX};
 ghost use Rattle.midranks.specs.Ties.{IsAscending};
-ghost use Rattle.pooled_columns.specs.PooledColumns.{column_sizes};
-ghost use Rattle.sequence_tests.specs.Kendall.{kendall_statistic, place_among, places_of};
-ghost use Rattle.sequence_tests.specs.TwinSteps.{AreMade, twins_from};
+ghost use Rattle.sequence_tests.specs.Kendall.{place_among, places_of, twin_subjects};
+ghost use Rattle.sequence_tests.specs.TwinSteps.{twins_from};
 
-use crate::kendall_sums::kendall_sum;
 use midranks::{Tie, group_of, tie_groups};
-use pooled_columns::{column_sizes, labels_in};
-use sample_reader::{ordered_subjects, values};
+use sample_reader::{Subject, ordered_subjects};
 use std::alloc::Global;
-use weights::{Frame, Ints, NoMemory, Nums, Rule};
+use weights::{Ints, NoMemory, Nums};
 
 /// What is made of two values of each subject.
 #[derive(Drop)]
@@ -25,8 +19,6 @@ pub(crate) struct MadeTwins {
     pub rows: Nums,
     /// The first values, ascending.
     pub firsts: Ints,
-    /// The observed statistic, its scale, the total and the rule of both sides.
-    pub frame: Frame,
 }
 
 // The place of a value among distinct ones.
@@ -51,52 +43,17 @@ fn places_of(alloc: Global, values: &[i128]) -> Result<Nums, NoMemory>
     Ok(places)
 }
 
-// What is said of the test of so many labellings.
-fn frame_of(firsts: &[i128], labels: &[u8], total: u128) -> Frame
-    requires long { length labels.now ≡ length firsts.now }
-    requires few { length firsts.now ≤ 120 }
-    ensures { let statistic = kendall_statistic firsts.now labels.now in
-        result ≡ record {
-          statistic = statistic;
-          scale = 1;
-          total = total;
-          two = Rule.Far 1 (pos 0) (distance 1 (pos 0) statistic);
-        } }
-{
-    let statistic = kendall_sum(firsts, labels);
-    Frame {
-        statistic,
-        scale: 1,
-        total,
-        two: Rule::far(1, 0, statistic),
-    }
-}
-
-/// Two values of each subject, of which there are so many labellings.
-pub(crate) fn made_of(
+/// The subjects in ascending order of their first values, each labelled by the place of its second
+/// value among the distinct ones.
+pub(crate) fn twin_subjects(
     alloc: Global,
     first: &[i128],
     second: &[i128],
-    rows: Nums,
-    total: u128,
-) -> Result<MadeTwins, NoMemory>
-    requires long { length second.now ≡ length first.now }
-    requires few { length first.now ≤ 120 }
-    requires rows { rows ≡ column_sizes second.now }
-    requires total { total ≡ number_of_labellings rows }
-    requires fits { total ≤ MAX }
-    ensures { IfOk result (AreMade (twins_from first.now second.now)) }
+) -> Result<Vec<Subject>, NoMemory>
+    requires { length second.now ≡ length first.now }
+    ensures { IfOk result (λ subjects.
+        subjects.items ≡ twin_subjects (twins_from first.now second.now)) }
 {
     let places = places_of(alloc, second)?;
-    let subjects = ordered_subjects(alloc, first, places.as_slice())?;
-    let firsts = values(alloc, &subjects)?;
-    let columns = column_sizes(alloc, firsts.as_slice())?;
-    let labels = labels_in(alloc, &subjects)?;
-    let frame = frame_of(firsts.as_slice(), labels.as_slice(), total);
-    Ok(MadeTwins {
-        columns,
-        rows,
-        firsts,
-        frame,
-    })
+    ordered_subjects(alloc, first, places.as_slice())
 }

@@ -5,7 +5,7 @@ use Rattle.weights.proofs.Members.{labelling_from}
 use Rattle.pooled_columns.specs.PooledColumns.{column_sizes}
 use Rattle.sequence_tests.specs.Kendall.{kendall_statistic}
 use Rattle.sequence_tests.proofs.KendallFitting.{firsts-few, rows-sum}
-use Rattle.sequence_tests.proofs.kendall_ways.KendallPlain.value.Goals as goal
+use Rattle.sequence_tests.proofs.kendall.PairOrderLabelStatistic.value.Goals as goal
 
 pub kendall_sum-requires-clause-long : goal.kendall_sum-requires-clause-long
 kendall_sum-requires-clause-long c = (labelling_from (column_sizes c.args.self.now.second) c.args.labels.now c.requires).over.long ∙ rows-sum c.args.self.now c.made.ensures.long c.made.ensures.few ∙ sym (ap length (c.as_slice.ensures ∙ c.made.ensures.firsts))

@@ -1,9 +1,0 @@
-use Rattle.std.proofs.Common.{◌∙◌, refl, sym}
-use mir.Syntax.{w128}
-use Rattle.std.proofs.lemmas.Int.{to_z-of_z}
-use Rattle.weights.proofs.Centred.{measured-is}
-use Rattle.sequence_tests.specs.Kendall.{twin_test}
-use Rattle.sequence_tests.proofs.kendall_ways.KendallPlain.measure.Goals as goal
-
-pub returns : goal.returns
-returns c = to_z-of_z w128 c.value.result (record { sfits = c.value.type_inv }) ∙ c.value.ensures ∙ sym (measured-is (twin_test c.args.self.now) refl c.args._tail c.args.labels.now)
