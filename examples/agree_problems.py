@@ -54,10 +54,10 @@ def two_samples(dice):
 
 
 def blocks(dice):
-    treatments = dice.randint(6, 8)
+    treatments = dice.randint(5, 8)
     # with many ties, with some and with hardly any
     most = dice.choice([1, 3, 9, 999])
-    rows = dice.randint(1, 3 if treatments == 6 else 2)
+    rows = dice.randint(1, max(2, 9 - treatments))
     return [[dice.randint(0, most) for _ in range(treatments)] for _ in range(rows)]
 
 
