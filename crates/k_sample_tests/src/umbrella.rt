@@ -1,4 +1,6 @@
 // Ordered groups that are prepared for their test.
+ghost use Rattle.std.specs.Prelude.{◌≡◌, true};
+ghost use Rattle.std.specs.List.{All};
 ghost use Rattle.weights.specs.Wide.{Prepares};
 ghost use Rattle.sample_reader.specs.Data.{data_of};
 ghost use Rattle.k_sample_tests.specs.Umbrella.{umbrella_test};
@@ -10,12 +12,13 @@ use crate::pair_points::{labelling_points, signed, subject_pairs};
 use label_network::{LabelStages, label_stages};
 use labelled::{LabelStatistic, Labelled};
 use pooled_columns::labels_in;
+use rising_pairs::rising_sums;
 use room_network::Numbered;
 use sample_reader::{Groups, Labels, pooled_subjects};
-use stage_network::Judge;
+use stage_network::{Judge, TailSums, tail_sums_by_rooms};
 use std::alloc::Global;
 use std::marker::Model;
-use weights::{Ints, NoMemory, Nums, PrepareFault, Tail, WideOf, multinomial};
+use weights::{Ints, NoMemory, Nums, PrepareFault, Tail, Tails, WideOf, multinomial};
 
 /// A test of groups that rise up to a peak and fall from there on, whose data are checked.
 pub type Umbrella = Labelled<PeakedSamples>;
@@ -51,6 +54,18 @@ impl PeakedSamples {
     {
         &self.made
     }
+}
+
+// Whether no two subjects are equal: each column has one.
+fn are_distinct(columns: &[u64]) -> bool
+    ensures { result ≡ true → All (λ c. c ≡ 1) columns.now }
+{
+    for i in 0..columns.len() {
+        if columns[i] != 1 {
+            return false;
+        }
+    }
+    true
 }
 
 /// Prepares groups with this peak.
@@ -116,5 +131,17 @@ impl LabelStatistic for PeakedSamples {
         let columns = made.columns.as_slice();
         let measure = PairCounts::new(alloc, made.pairs.as_slice(), rows, columns, judge)?;
         label_stages(alloc, columns, rows, Numbered::new(measure))
+    }
+
+    // Where all groups rise and no two subjects are equal, by how many pairs rise.
+    fn numerators(&self, alloc: Global, judge: Judge, tails: Tails) -> Result<TailSums, NoMemory> {
+        let made = self.made();
+        let sizes = made.sizes.as_slice();
+        if sizes.len() as u64 <= self.peak && are_distinct(made.columns.as_slice()) {
+            return rising_sums(alloc, sizes, 0, 2, &judge);
+        }
+        let stages = self.quick_stages_of(alloc, judge)?;
+        let sums = tail_sums_by_rooms(alloc, &stages, tails)?;
+        Ok(sums)
     }
 }

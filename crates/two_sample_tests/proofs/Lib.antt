@@ -2,3 +2,4 @@ mod ScoreSums
 mod ColumnValues
 mod FittingTests
 mod Vectors
+mod EvenSums

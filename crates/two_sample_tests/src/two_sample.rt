@@ -5,10 +5,12 @@ ghost use Rattle.sample_reader.specs.Data.{data_of};
 ghost use Rattle.two_sample_tests.specs.TwoSamples.{two_sample_test};
 ghost use Rattle.two_sample_tests.specs.SampleSteps.{AreScored};
 
+use crate::even_scores::{even_scores, least_sum};
 use crate::scored_samples::{ScoredSamples, centre_of, fitting_scores, made_of};
 use label_network::{LabelStages, LinearMeasure, label_stages};
 use labelled::{LabelStatistic, Labelled};
 use pooled_columns::labels_in;
+use rising_pairs::rising_sums;
 use room_network::Numbered;
 use sample_reader::{Groups, Labels, pooled_subjects, values};
 use scores::{ScoreKind, labelled_sum};
@@ -123,9 +125,16 @@ impl LabelStatistic for ScoreSum {
         label_stages(alloc, columns, rows, Numbered::new(measure))
     }
 
-    // Where sums seldom meet, by two halves.
+    // Where scores rise by one step, by how many pairs of subjects rise; else by two halves, where
+    // sums seldom meet.
     fn numerators(&self, alloc: Global, judge: Judge, tails: Tails) -> Result<TailSums, NoMemory> {
         self.sound();
+        let made = self.made();
+        if let Some(even) = even_scores(made.scores.as_slice()) {
+            let sizes = made.sizes.as_slice();
+            let base = least_sum(even, sizes[1]);
+            return rising_sums(alloc, sizes, base, even.step, &judge);
+        }
         let stages = self.stages_of(alloc, judge)?;
         let sums = halves::tail_sums(alloc, &stages, &judge, tails)?;
         Ok(sums)

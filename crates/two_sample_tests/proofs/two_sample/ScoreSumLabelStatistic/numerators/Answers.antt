@@ -1,10 +1,45 @@
+use Rattle.std.proofs.Common.{◌≡◌, rules, FitsSigned, sym, ◌∙◌, ap}
+use Rattle.std.specs.Prelude.{slice_index}
+use Rattle.std.proofs.lemmas.Int.{to_z-of_z}
+use Rattle.std.proofs.lemmas.Result.{IfOk-weaker}
+use mir.Syntax.{w128}
+use Rattle.weights.specs.declared.tails.Tail.{Tail}
+use Rattle.sample_reader.specs.Groups.{group_sizes}
+use Rattle.stage_network.specs.Follows.{AreNumerators}
+use Rattle.stage_network.specs.Judged.{judge_of, rule_in}
+use Rattle.stage_network.specs.SweepSteps.{sum_for}
+use Rattle.rising_pairs.specs.RisingTails.{passing_labellings}
+use Rattle.two_sample_tests.specs.EvenSteps.{AreEven, least_sum}
+use Rattle.two_sample_tests.proofs.EvenSums.{fit-rising, numerator-rises}
 use Rattle.weights.specs.Conditional.{ConditionalTest}
 use Rattle.weights.specs.declared.tails.Tail.TheVariants.{Less}
 use Rattle.halves.proofs.Numerators.{judged, numerator-is}
 use Rattle.label_network.specs.LabelNetwork.{label_network}
 use Rattle.two_sample_tests.specs.Columns.{two_sample_meaning}
-use Rattle.two_sample_tests.specs.TwoSamples.{two_sample_test}
+use Rattle.two_sample_tests.specs.TwoSamples.{TwoSamples, pooled_scores, two_sample_test}
 use Rattle.two_sample_tests.proofs.two_sample.ScoreSumLabelStatistic.numerators.Goals as goal
+
+pub rising_sums-requires-clause-fits : goal.rising_sums-requires-clause-fits
+rising_sums-requires-clause-fits c =
+    let samples : TwoSamples = c.args.self.now in
+    let sizes : c.as_slice-sizes.result.now ≡ group_sizes samples.groups = c.as_slice-sizes.ensures ∙ c.made-made.ensures.sizes in
+    let are : AreEven c.in-Some.even (pooled_scores samples) = rw (c.as_slice.ensures ∙ c.made-made.ensures.scores) at c.in-Some.ensures in
+    let fits : FitsSigned w128 c.least_sum-base.result = search rules in
+    let base : c.least_sum-base.result ≡ least_sum c.in-Some.even (slice_index (group_sizes samples.groups) 1) = c.least_sum-base.ensures.is ∙ ap (λ ns. least_sum c.in-Some.even (slice_index ns 1)) sizes in
+    rw (to_z-of_z w128 c.least_sum-base.result fits ∙ base, sizes) (fit-rising samples c.made-made.ensures.fitting c.in-Some.even are c.args.judge c.requires.judge)
+
+pub returns-in-Some : goal.returns-in-Some
+returns-in-Some c =
+    let samples : TwoSamples = c.args.self.now in
+    let sizes : c.as_slice-sizes.result.now ≡ group_sizes samples.groups = c.as_slice-sizes.ensures ∙ c.made-made.ensures.sizes in
+    let are : AreEven c.in-Some.even (pooled_scores samples) = rw (c.as_slice.ensures ∙ c.made-made.ensures.scores) at c.in-Some.ensures in
+    let fits : FitsSigned w128 c.least_sum-base.result = search rules in
+    let base : c.least_sum-base.result ≡ least_sum c.in-Some.even (slice_index (group_sizes samples.groups) 1) = c.least_sum-base.ensures.is ∙ ap (λ ns. least_sum c.in-Some.even (slice_index ns 1)) sizes in
+    let told = rw (to_z-of_z w128 c.least_sum-base.result fits ∙ base, sizes, c.requires.judge) at c.rising_sums.ensures in
+    IfOk-weaker c.rising_sums.result
+    (λ sums. (t : Tail) → (sum_for sums t).sum ≡ passing_labellings (rule_in (judge_of (two_sample_test samples)) t) (least_sum c.in-Some.even (slice_index (group_sizes samples.groups) 1)) c.in-Some.even.step (group_sizes samples.groups))
+    (AreNumerators (two_sample_test samples) c.args.tails)
+    (λ sums each t asked. each t ∙ sym (numerator-rises samples c.made-made.ensures.fitting c.in-Some.even are t)) told
 
 pub tail_sums-requires-clause-intervals : goal.tail_sums-requires-clause-intervals
 tail_sums-requires-clause-intervals c =

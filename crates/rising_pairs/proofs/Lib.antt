@@ -1,0 +1,5 @@
+mod FirstRising
+mod TwoGroups
+mod OneMoreGroup
+mod Counting
+mod Passing

@@ -1,0 +1,3 @@
+pub mod RisingPairs
+pub mod RisingTails
+pub mod RisingSteps

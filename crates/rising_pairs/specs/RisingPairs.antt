@@ -1,0 +1,27 @@
+-- Pairs of subjects that rise: subjects without ties stand in the order of their values, each with
+-- the label of its group, and a pair rises where the later one is of the later group. Their number
+-- is that of Terpstra (1952) and Jonckheere (Biometrika 41, 1954), and of two groups that of Mann
+-- and Whitney (The Annals of Mathematical Statistics 18, 1947).
+use Rattle.std.specs.Prelude.{◌≡◌, ℕ, ◌+◌, ◌*◌, List, [], ◌∷◌, length, get_or, nat_eq, nat_lt}
+use Rattle.std.specs.List.{count_by, sum, sum_by}
+use Rattle.weights.specs.Labellings.{labellings, labels}
+
+-- the pairs of places of which the later one has the greater label
+abbrev pub rising_pairs : List ℕ → ℕ
+rising_pairs [] = 0
+rising_pairs (x ∷ xs) = count_by (λ y. nat_lt x y) xs + rising_pairs xs
+
+-- how many labellings of groups of these sizes have so many
+abbrev pub rising_count : List ℕ → ℕ → ℕ
+rising_count sizes u = count_by (λ xs. nat_eq (rising_pairs xs) u) (labellings sizes)
+
+-- the pairs of subjects of two groups, which are the most that can rise
+abbrev pub pairs_across : List ℕ → ℕ
+pairs_across [] = 0
+pairs_across (n ∷ sizes) = n * sum sizes + pairs_across sizes
+
+-- every sum over the labellings by their rising pairs is the sum over the counts, from that of no
+-- pair on
+abbrev pub SumsAlike : List ℕ → List ℕ → Type 0
+SumsAlike sizes counts = (f : ℕ → ℕ) → sum_by (λ xs. f (rising_pairs xs)) (labellings sizes)
+    ≡ sum_by (λ u. get_or counts u 0 * f u) (labels (length counts))

@@ -1,0 +1,9 @@
+//! How many labellings of groups without ties have each number of rising pairs, and how many have
+//! a statistic that rises evenly with it and passes a rule.
+#![tactic(auto)]
+
+mod counts;
+mod tails;
+
+pub use counts::rising_counts;
+pub use tails::rising_sums;
