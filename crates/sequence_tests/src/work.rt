@@ -25,23 +25,35 @@ fn lists_left(counts: &[u64]) -> u128 {
     lists
 }
 
-// How many choices of labels a column has at most.
-fn choices_of(column: u64, labels: u64) -> u128 {
-    let places = column.saturating_add(labels).saturating_sub(1);
-    match binomial(places, column) {
-        Some(choices) => choices,
+// How many ways there are to choose k of n, as far as they can be told.
+fn ways(n: u64, k: u64) -> u128 {
+    match binomial(n, k) {
+        Some(ways) => ways,
         None => u128::MAX,
     }
 }
 
+// How many choices a column has at most where so many units are left, of these labels: those of its
+// units, and those of labels of which none runs out.
+fn choices_of(column: u64, labels: u64, left: u64) -> u128 {
+    let places = column.saturating_add(labels).saturating_sub(1);
+    ways(left, column).min(ways(places, column))
+}
+
+// The choices of all columns, the first of which is chosen first.
+fn all_choices(columns: &[u64], labels: u64) -> u128 {
+    let mut left: u64 = 0;
+    let mut choices: u128 = 0;
+    for column in columns.iter().rev() {
+        left = left.saturating_add(*column);
+        choices = choices.saturating_add(choices_of(*column, labels, left));
+    }
+    choices
+}
+
 // The rooms times the choices of all columns.
 fn work_of(columns: &[u64], rows: &[u64]) -> u128 {
-    let labels = rows.len() as u64;
-    let mut choices: u128 = 0;
-    for column in columns {
-        choices = choices.saturating_add(choices_of(*column, labels));
-    }
-    choices.saturating_mul(lists_left(rows))
+    lists_left(rows).saturating_mul(all_choices(columns, rows.len() as u64))
 }
 
 /// Whether it is less work to give the columns to the rows' subjects than the rows to the columns'.
