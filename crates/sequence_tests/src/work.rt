@@ -2,25 +2,25 @@
 // ways to the same numbers is taken.
 use weights::binomial;
 
-// The lists that may be left of counts where another is put to those that lists were made of: it is
-// left out, or as much of it is kept as 1, 2 and so on to all. Of the lists that it is put to, those
-// to which as much was put before were made then.
-fn with_count(lists: u128, count: u64, put_before: &mut [u128; 120]) -> u128 {
+// How many lists may be left of counts, where there were so many before this count was put to them:
+// it is left out, or 1, 2 and so on to all of it is kept. Where as much was kept of an earlier one,
+// the lists from before that one were met then.
+fn with_count(lists: u128, count: u64, met_by: &mut [u128; 120]) -> u128 {
     let mut more = lists;
     for kept in 0..count.min(120) as usize {
-        let again = put_before[kept];
+        let again = met_by[kept];
         more = more.saturating_add(lists.saturating_sub(again));
-        put_before[kept] = lists;
+        met_by[kept] = lists;
     }
     more
 }
 
 // How many different lists may be left of counts, where those of 0 are not kept: as many rooms.
 fn lists_left(counts: &[u64]) -> u128 {
-    let mut put_before = [0u128; 120];
+    let mut met_by = [0u128; 120];
     let mut lists: u128 = 1;
     for count in counts {
-        lists = with_count(lists, *count, &mut put_before);
+        lists = with_count(lists, *count, &mut met_by);
     }
     lists
 }
