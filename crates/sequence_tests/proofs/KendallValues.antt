@@ -169,12 +169,12 @@ plus-left (a ∷ x) (b ∷ z) r e l =
     let back : a + b - a ≡ b = omega arith in
     rw (← e, le-leb a (a + b) (omega arith), rest.0, back, rest.1) (refl, refl)
 
-all-take : (P : ℕ → Type 0) (c : ℕ) (xs : List ℕ) → AllByRecursion P xs → AllByRecursion P (take c xs)
+pub all-take : (P : ℕ → Type 0) (c : ℕ) (xs : List ℕ) → AllByRecursion P xs → AllByRecursion P (take c xs)
 all-take P zero xs a = tt
 all-take P (suc c) [] a = tt
 all-take P (suc c) (x ∷ xs) a = (a.0, all-take P c xs a.1)
 
-all-drop : (P : ℕ → Type 0) (c : ℕ) (xs : List ℕ) → AllByRecursion P xs → AllByRecursion P (drop c xs)
+pub all-drop : (P : ℕ → Type 0) (c : ℕ) (xs : List ℕ) → AllByRecursion P xs → AllByRecursion P (drop c xs)
 all-drop P zero xs a = a
 all-drop P (suc c) [] a = tt
 all-drop P (suc c) (x ∷ xs) a = all-drop P c xs a.1

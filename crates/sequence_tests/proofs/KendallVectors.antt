@@ -8,6 +8,7 @@ use Rattle.sample_reader.specs.PooledSample.{paired_subjects}
 use Rattle.sample_reader.specs.Twins.{TwinData}
 use Rattle.sequence_tests.specs.Codes.{code}
 use Rattle.sequence_tests.specs.Kendall.{places_of, twin_test}
+use Rattle.sequence_tests.specs.TurnedTwins.{turned_twins}
 
 -- three subjects, of whom the first two stand in the other order
 abbrev three : TwinData
@@ -44,6 +45,19 @@ tied_sum = refl
 tied_two : numerator (twin_test tied) Two ≡ 2
 unfolding tie_groups paired_subjects
 tied_two = refl
+
+-- the same with the two values of each subject in each other's place: as many again of twice as many
+tied_turned_sum : observed_statistic (twin_test (turned_twins tied)) ≡ pos 2
+unfolding tie_groups paired_subjects
+tied_turned_sum = refl
+
+tied_turned_total : total (twin_test (turned_twins tied)) ≡ 6
+unfolding tie_groups
+tied_turned_total = refl
+
+tied_turned_two : numerator (twin_test (turned_twins tied)) Two ≡ 4
+unfolding tie_groups paired_subjects
+tied_turned_two = refl
 
 -- ties in both columns, and subjects whose first values do not ascend
 abbrev both : TwinData

@@ -10,6 +10,10 @@ pub mod KendallParts
 pub mod PairSums
 pub mod Places
 pub mod KendallFitting
+mod TableSums
+mod TurnedSums
+mod SameSum
+mod TurnedRatios
 pub mod RunNarrows
 pub mod RunKeys
 pub mod RunValues

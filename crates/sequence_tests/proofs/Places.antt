@@ -21,7 +21,7 @@ use Rattle.sequence_tests.proofs.CodeLaws.{sum-first}
 abbrev pub no_tie : Tie
 no_tie = record { value = pos 0; count = 0 }
 
-below : (v : ℤ) (t : Tie) (ts : List Tie) → place_among (t ∷ ts) v ≡ cond (int_lt t.value v) 1 0 + place_among ts v
+pub below : (v : ℤ) (t : Tie) (ts : List Tie) → place_among (t ∷ ts) v ≡ cond (int_lt t.value v) 1 0 + place_among ts v
 below v t ts = sum_by-cons (λ (t : Tie). cond (int_lt t.value v) 1 0) t ts
 
 value-above : (x : ℤ) (ts : List Tie) (i : ℕ) → i < length ts → AllByRecursion (λ t. x <ℤ t.value) ts → x <ℤ (get_or ts i no_tie).value

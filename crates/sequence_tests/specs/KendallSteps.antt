@@ -16,6 +16,12 @@ pub record AreTwins (columns rows : List ℕ) : Type 0 where
   pub short : length rows ≤ 120
   pub total : number_of_labellings rows ≤ MAX
 
+-- counts of the subjects that some of the rows' have, one for each row
+pub record AreSome (rows counts : List ℕ) : Type 0 where
+  pub long : length counts ≡ length rows
+  pub few : sum counts ≤ 120
+  pub fits : number_of_labellings counts ≤ MAX
+
 -- one number, which is a code
 pub record IsCode (room : List ℤ) : Type 0 where
   pub one : length room ≡ 1

@@ -5,6 +5,7 @@ pub mod KendallRooms
 pub mod KendallNetwork
 pub mod RunCounts
 pub mod SequenceTests
+pub mod TurnedTwins
 pub mod KendallSteps
 pub mod TwinSteps
 pub mod RunSteps

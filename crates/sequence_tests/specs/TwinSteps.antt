@@ -16,6 +16,7 @@ pub record AreMade (twins : TwinData) (made : MadeTwins) : Type 0 where
   pub columns : made.columns ≡ column_sizes (values_of (twin_subjects twins))
   pub rows : made.rows ≡ column_sizes twins.second
   pub firsts : made.firsts ≡ values_of (twin_subjects twins)
+  pub total : made.total ≡ number_of_labellings (column_sizes twins.second)
   pub long : length twins.second ≡ length twins.first
   pub few : length twins.first ≤ 120
   pub total_fits : number_of_labellings (column_sizes twins.second) ≤ MAX

@@ -19,6 +19,8 @@ pub(crate) struct MadeTwins {
     pub rows: Nums,
     /// The first values, ascending.
     pub firsts: Ints,
+    /// How many ways there are to give the second values to the subjects.
+    pub total: u128,
 }
 
 // The place of a value among distinct ones.

@@ -5,7 +5,7 @@ ghost use Rattle.weights.specs.Grouped.{minus};
 ghost use Rattle.stage_network.specs.Network.{IsReached};
 ghost use Rattle.room_network.specs.Plans.{alone};
 ghost use Rattle.sequence_tests.specs.KendallRooms.{code_in, counts_left, kendall_floor, kendall_plan};
-ghost use Rattle.sequence_tests.specs.KendallSteps.{AreTwins, IsCode, IsCoded};
+ghost use Rattle.sequence_tests.specs.KendallSteps.{AreSome, AreTwins, IsCode, IsCoded};
 
 use crate::codes::read_code;
 use crate::counts::take_choice;
@@ -54,8 +54,9 @@ impl TwinCounts {
         requires reached { let plan = kendall_plan self.now.columns.items self.now.rows.items in
             IsReached (alone plan) stage room.now }
         requires room { length counts.old ≡ length self.now.rows.items }
-        ensures { let m = length self.now.rows.items in
+        ensures left { let m = length self.now.rows.items in
             counts.new ≡ counts_left self.now.columns.items m stage room.now }
+        ensures some { AreSome self.now.rows.items counts.new }
     {
         read_room(self.columns.as_slice(), stage, room, counts);
     }
@@ -67,8 +68,10 @@ impl TwinCounts {
         requires allowed { let floor = kendall_floor self.now.columns.items self.now.rows.items in
             Contains (floor.choices stage room.now) choice.now }
         requires room { length counts.old ≡ length self.now.rows.items }
-        ensures { let m = length self.now.rows.items in
+        ensures left { let m = length self.now.rows.items in
             counts.new ≡ minus (counts_left self.now.columns.items m stage room.now) choice.now }
+        ensures some { AreSome self.now.rows.items counts.new }
+        ensures chosen { AreSome self.now.rows.items choice.now }
     {
         self.read_left(stage, room, counts);
         take_choice(counts, choice);

@@ -1,0 +1,142 @@
+-- K of a labelling is K of its table, and K of a table is K of the table turned.
+use Rattle.std.proofs.Common.{◌≡◌, ℕ, zero, suc, ◌+◌, ◌*◌, ◌<◌, List, [], ◌∷◌, length, map, take, drop, refl, sym, ◌∙◌, ap, arith}
+use Rattle.std.specs.Prelude.{ℤ, pos, ◌-ℤ◌, replicate}
+use Rattle.std.specs.List.{AllByRecursion, range_with_len, sum}
+use Rattle.std.proofs.lemmas.List.{length-drop, take-append-drop}
+use Rattle.completion_bounds.proofs.Factorials.{total, total-is}
+use Rattle.midranks.specs.Ties.{IsAscending}
+use Rattle.midranks.specs.declared.ties.Tie.{Tie}
+use Rattle.weights.specs.Grouped.{columns_of}
+use Rattle.weights.specs.Labellings.{counts_of}
+use Rattle.weights.proofs.Counted.{count_of}
+use Rattle.weights.proofs.Sized.{counts_of-append, plus}
+use Rattle.turned_tables.specs.Turned.{fronted, turned}
+use Rattle.turned_tables.proofs.Shapes.{length-across}
+use Rattle.turned_tables.proofs.TurnedLines.{AreLong, across, across-fronted, level-turned, long-turned, totals-turned}
+use Rattle.sequence_tests.specs.Kendall.{kendall_statistic, one_where_greater, one_where_less, over_pairs}
+use Rattle.sequence_tests.specs.KendallNetwork.{rises}
+use Rattle.sequence_tests.proofs.CodeLaws.{sum-first}
+use Rattle.sequence_tests.proofs.CountedPairs.{falls-are, rises-are}
+use Rattle.sequence_tests.proofs.KendallValues.{all-drop, all-take, by_stages, counts_in, paired-are, pairs-are, pairs_of, values_of_ties}
+
+-- the pairs of a subject of a column and one of a later column whose row is greater, or less, of a
+-- table of so many rows
+abbrev pub rising : ℕ → List (List ℕ) → ℕ
+rising k [] = 0
+rising k (x ∷ w) = rises x (across k w) + rising k w
+
+abbrev pub falling : ℕ → List (List ℕ) → ℕ
+falling k [] = 0
+falling k (x ∷ w) = rises (across k w) x + falling k w
+
+abbrev pub table_sum : ℕ → List (List ℕ) → ℤ
+table_sum k w = pos (rising k w) -ℤ pos (falling k w)
+
+-- ---- of a labelling
+
+zeros : (s n : ℕ) → map (λ i. count_of i []) (range_with_len s n) ≡ replicate n 0
+zeros s zero = refl
+zeros s (suc n) = ap (λ v. 0 ∷ v) (zeros (s + 1) n)
+
+rest-long : (c : ℕ) (cs xs : List ℕ) → length xs ≡ sum (c ∷ cs) → length (drop c xs) ≡ sum cs
+rest-long c cs xs e = omega (arith, e, sum-first c cs, length-drop c xs)
+
+across-columns : (k : ℕ) (cs xs : List ℕ) → length xs ≡ sum cs → across k (columns_of k cs xs) ≡ counts_of k xs
+across-columns k [] [] e = sym (zeros 0 k)
+across-columns k [] (x ∷ xs) e = absurd (omega (arith, e))
+across-columns k (c ∷ cs) xs e =
+    ap (plus (counts_of k (take c xs))) (across-columns k cs (drop c xs) (rest-long c cs xs e))
+    ∙ sym (counts_of-append k (take c xs) (drop c xs)) ∙ ap (counts_of k) (take-append-drop c xs)
+
+rising-columns : (k : ℕ) (cs xs : List ℕ) → length xs ≡ sum cs → AllByRecursion (λ x. x < k) xs → by_stages one_where_less cs xs ≡ rising k (columns_of k cs xs)
+rising-columns k [] xs e a = refl
+rising-columns k (c ∷ cs) xs e a =
+    let long = rest-long c cs xs e in
+    let later = all-drop (λ x. x < k) c xs a in
+    ap (λ n. n + by_stages one_where_less cs (drop c xs)) (sym (ap (rises (counts_of k (take c xs))) (across-columns k cs (drop c xs) long) ∙ rises-are k (take c xs) (drop c xs) (all-take (λ x. x < k) c xs a) later))
+    ∙ ap (λ n. rises (counts_of k (take c xs)) (across k (columns_of k cs (drop c xs))) + n) (rising-columns k cs (drop c xs) long later)
+
+falling-columns : (k : ℕ) (cs xs : List ℕ) → length xs ≡ sum cs → AllByRecursion (λ x. x < k) xs → by_stages one_where_greater cs xs ≡ falling k (columns_of k cs xs)
+falling-columns k [] xs e a = refl
+falling-columns k (c ∷ cs) xs e a =
+    let long = rest-long c cs xs e in
+    let later = all-drop (λ x. x < k) c xs a in
+    ap (λ n. n + by_stages one_where_greater cs (drop c xs)) (sym (ap (λ v. rises v (counts_of k (take c xs))) (across-columns k cs (drop c xs) long) ∙ falls-are k (take c xs) (drop c xs) (all-take (λ x. x < k) c xs a) later))
+    ∙ ap (λ n. rises (across k (columns_of k cs (drop c xs))) (counts_of k (take c xs)) + n) (falling-columns k cs (drop c xs) long later)
+
+-- of subjects in ascending groups of first values
+pub table-is : (ts : List Tie) (k : ℕ) (xs : List ℕ) → IsAscending ts → length xs ≡ sum (counts_in ts) → AllByRecursion (λ x. x < k) xs → kendall_statistic (values_of_ties ts) xs ≡ table_sum k (columns_of k (counts_in ts) xs)
+table-is ts k xs up long below =
+    ap (λ ss. pos (over_pairs one_where_less ss ss) -ℤ pos (over_pairs one_where_greater ss ss)) (paired-are (values_of_ties ts) xs)
+    ∙ ap (λ n. pos n -ℤ pos (over_pairs one_where_greater (pairs_of (values_of_ties ts) xs) (pairs_of (values_of_ties ts) xs))) (pairs-are one_where_less ts xs up long ∙ rising-columns k (counts_in ts) xs long below)
+    ∙ ap (λ n. pos (rising k (columns_of k (counts_in ts) xs)) -ℤ pos n) (pairs-are one_where_greater ts xs up long ∙ falling-columns k (counts_in ts) xs long below)
+
+-- ---- of a table turned
+
+sum-plus : (x y : List ℕ) → length x ≡ length y → sum (plus x y) ≡ sum x + sum y
+sum-plus [] [] e = refl
+sum-plus [] (b ∷ y) e = absurd (omega (arith, e))
+sum-plus (a ∷ x) [] e = absurd (omega (arith, e))
+sum-plus (a ∷ x) (b ∷ y) e = omega (arith, sum-first (a + b) (plus x y), sum-first a x, sum-first b y, sum-plus x y (omega (arith, e)))
+
+sum-zeros : (n : ℕ) → sum (replicate n 0) ≡ 0
+sum-zeros zero = refl
+sum-zeros (suc n) = omega (arith, sum-first 0 (replicate n 0), sum-zeros n)
+
+-- all cells by the rows and by the columns
+sum-across : (n : ℕ) (lines : List (List ℕ)) → AreLong n lines → sum (across n lines) ≡ sum (map total lines)
+sum-across n [] a = sum-zeros n
+sum-across n (line ∷ lines) a =
+    sum-plus line (across n lines) (a.0 ∙ sym (length-across n lines a.1))
+    ∙ omega (arith, total-is line, sum-across n lines a.1, sum-first (total line) (map total lines))
+
+rising-fronted : (n : ℕ) (x : List ℕ) (lines : List (List ℕ)) → length x ≡ length lines → AreLong n lines → rising (suc n) (fronted x lines) ≡ rises x (map total lines) + rising n lines
+rising-fronted n [] [] e a = refl
+rising-fronted n [] (line ∷ lines) e a = absurd (omega (arith, e))
+rising-fronted n (b ∷ x) [] e a = absurd (omega (arith, e))
+rising-fronted n (b ∷ x) (line ∷ lines) e a =
+    ap (λ v. rises (b ∷ line) v + rising (suc n) (fronted x lines)) (across-fronted n x lines (omega (arith, e)))
+    ∙ regroup b (sum (across n lines)) (sum (map total lines)) (rises line (across n lines)) (rises x (map total lines)) (rising n lines) (rising (suc n) (fronted x lines)) (sum-across n lines a.1) (rising-fronted n x lines (omega (arith, e)) a.1)
+  where
+    regroup : (b s t u v r q : ℕ) → s ≡ t → q ≡ v + r → (b * s + u) + q ≡ (b * t + v) + (u + r)
+    regroup b s t u v r q e f = rw (e, f) (omega arith)
+
+falling-fronted : (n : ℕ) (x : List ℕ) (lines : List (List ℕ)) → length x ≡ length lines → AreLong n lines → falling (suc n) (fronted x lines) ≡ rises (map total lines) x + falling n lines
+falling-fronted n [] [] e a = refl
+falling-fronted n [] (line ∷ lines) e a = absurd (omega (arith, e))
+falling-fronted n (b ∷ x) [] e a = absurd (omega (arith, e))
+falling-fronted n (b ∷ x) (line ∷ lines) e a =
+    ap (λ v. rises v (b ∷ line) + falling (suc n) (fronted x lines)) (across-fronted n x lines (omega (arith, e)))
+    ∙ regroup (total x) (sum x) (total line) (sum line) (rises (across n lines) line) (rises (map total lines) x) (falling n lines) (falling (suc n) (fronted x lines)) (total-is x) (total-is line) (falling-fronted n x lines (omega (arith, e)) a.1)
+  where
+    regroup : (p q s t u v r m : ℕ) → p ≡ q → s ≡ t → m ≡ v + r → (p * t + u) + m ≡ (s * q + v) + (u + r)
+    regroup p q s t u v r m e f g = rw (e, f, g) (grind arith)
+
+rising-none : (k : ℕ) → rising 0 (replicate k []) ≡ 0
+rising-none zero = refl
+rising-none (suc k) = omega (arith, rising-none k)
+
+falling-none : (k : ℕ) → falling 0 (replicate k []) ≡ 0
+falling-none zero = refl
+falling-none (suc k) = omega (arith, none (across 0 (replicate k [])), falling-none k)
+  where
+    none : (x : List ℕ) → rises x [] ≡ 0
+    none [] = refl
+    none (a ∷ x) = refl
+
+rising-turned : (k : ℕ) (w : List (List ℕ)) → AreLong k w → rising (length w) (turned k w) ≡ rising k w
+rising-turned k [] a = rising-none k
+rising-turned k (x ∷ w) a =
+    rising-fronted (length w) x (turned k w) (level-turned k x w a) (long-turned k w)
+    ∙ ap (λ v. rises x v + rising (length w) (turned k w)) (totals-turned k w a.1)
+    ∙ ap (λ n. rises x (across k w) + n) (rising-turned k w a.1)
+
+falling-turned : (k : ℕ) (w : List (List ℕ)) → AreLong k w → falling (length w) (turned k w) ≡ falling k w
+falling-turned k [] a = falling-none k
+falling-turned k (x ∷ w) a =
+    falling-fronted (length w) x (turned k w) (level-turned k x w a) (long-turned k w)
+    ∙ ap (λ v. rises v x + falling (length w) (turned k w)) (totals-turned k w a.1)
+    ∙ ap (λ n. rises (across k w) x + n) (falling-turned k w a.1)
+
+pub sum-turned : (k : ℕ) (w : List (List ℕ)) → AreLong k w → table_sum (length w) (turned k w) ≡ table_sum k w
+sum-turned k w a = ap (λ n. pos n -ℤ pos (falling (length w) (turned k w))) (rising-turned k w a) ∙ ap (λ n. pos (rising k w) -ℤ pos n) (falling-turned k w a)

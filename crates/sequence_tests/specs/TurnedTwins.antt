@@ -1,0 +1,31 @@
+-- Kendall's test turned: the two values of each subject change places. K stays, and what is counted
+-- is in the ratio of the totals.
+use Rattle.std.specs.Prelude.{◌≡◌, ℕ, ◌*◌, ◌/◌, ◌%◌, ◌<◌, ◌≤◌, map}
+use Rattle.weights.specs.declared.lines.Line.{Line}
+use Rattle.weights.specs.declared.tails.Tail.{Tail}
+use Rattle.weights.specs.Conditional.{distribution, numerator, observed_statistic, total}
+use Rattle.sample_reader.specs.Twins.{TwinData}
+use Rattle.sequence_tests.specs.Kendall.{twin_test}
+
+abbrev pub turned_twins : TwinData → TwinData
+turned_twins twins = record { first = twins.second; second = twins.first }
+
+-- a line with its weight in the ratio of two totals
+abbrev pub weighed_line : ℕ → ℕ → Line → Line
+weighed_line all of line = record { value = line.value; weight = line.weight * all / of }
+
+-- K is the same in two tests, and what is counted is in the ratio of their totals: each tail, and
+-- the lines of the distribution
+pub record AreInRatio (t u : TwinData) : Type 0 where
+  pub observed : observed_statistic (twin_test t) ≡ observed_statistic (twin_test u)
+  pub numerators : (tail : Tail)
+      → numerator (twin_test t) tail * total (twin_test u)
+      ≡ numerator (twin_test u) tail * total (twin_test t)
+  pub distributions : let weighed = weighed_line (total (twin_test t)) (total (twin_test u)) in
+      distribution (twin_test t) ≡ map weighed (distribution (twin_test u))
+
+-- a part of a total that in the ratio of another total is a whole number
+pub record IsPart (part of all : ℕ) : Type 0 where
+  pub some : 0 < of
+  pub within : part ≤ of
+  pub whole : (all * part) % of ≡ 0
