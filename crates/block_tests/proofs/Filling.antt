@@ -43,20 +43,20 @@ ascends-more v (suc n) w l a = (least-more v v n w (omega arith) l, ascends-more
 pub length-more : (v n : ℕ) (w : List ℕ) → length (replicate n v ++ w) ≡ n + length w
 length-more v n w = omega (arith, length-append (replicate n v) w, length-replicate {A = ℕ} n v)
 
-abbrev raised : ℕ → List ℕ → List ℕ
-raised v xs = map (λ x. x + v) xs
+abbrev lifted : ℕ → List ℕ → List ℕ
+lifted v xs = map (λ x. x + v) xs
 
 -- some sums that wait get the least of the numbers
 within-chosen : (v : ℕ) (cs bs ws w : List ℕ) → AtLeast v w → Ascends w → length ws ≡ length w
-    → IsWithin (raised v cs ++ (bs ++ added (in_order nat_le ws) w)) (bs ++ added (in_order nat_le (cs ++ ws)) (replicate (length cs) v ++ w))
+    → IsWithin (lifted v cs ++ (bs ++ added (in_order nat_le ws) w)) (bs ++ added (in_order nat_le (cs ++ ws)) (replicate (length cs) v ++ w))
 within-chosen v [] bs ws w l a e = within-same (bs ++ added (in_order nat_le ws) w)
 within-chosen v (c ∷ cs) bs ws w l a e =
     let rest : List ℕ = in_order nat_le (cs ++ ws) in
     let numbers : List ℕ = replicate (length cs) v ++ w in
     let same : v ≤ v = omega arith in
     let long : length (in_order nat_le (cs ++ ws)) ≡ length (replicate (length cs) v ++ w) = length-in_order nat_le (cs ++ ws) ∙ length-append cs ws ∙ ap (λ n. length cs + n) e ∙ sym (length-more v (length cs) w) in
-    within-chain ((c + v) ∷ (raised v cs ++ (bs ++ added (in_order nat_le ws) w))) ((c + v) ∷ (bs ++ added rest numbers)) (bs ++ added (put_in nat_le c rest) (v ∷ numbers))
-    (within-cons (c + v) (raised v cs ++ (bs ++ added (in_order nat_le ws) w)) (bs ++ added rest numbers) (within-chosen v cs bs ws w l a e))
+    within-chain ((c + v) ∷ (lifted v cs ++ (bs ++ added (in_order nat_le ws) w))) ((c + v) ∷ (bs ++ added rest numbers)) (bs ++ added (put_in nat_le c rest) (v ∷ numbers))
+    (within-cons (c + v) (lifted v cs ++ (bs ++ added (in_order nat_le ws) w)) (bs ++ added rest numbers) (within-chosen v cs bs ws w l a e))
     (within-chain ((c + v) ∷ (bs ++ added rest numbers)) (bs ++ (c + v) ∷ added rest numbers) (bs ++ added (put_in nat_le c rest) (v ∷ numbers))
     (within-past (c + v) bs (added rest numbers))
     (within-front bs ((c + v) ∷ added rest numbers) (added (put_in nat_le c rest) (v ∷ numbers))
@@ -74,7 +74,7 @@ all-left : 1 - 1 ≡ 0
 all-left = omega arith
 
 within-settled : (v : ℕ) (r c s zs : List ℕ) → AreOnes r → fits c r ≡ true
-    → IsWithin (settled_sums (minus r c) (gained v c s) ++ zs) (raised v (waiting_sums c s) ++ (settled_sums r s ++ zs))
+    → IsWithin (settled_sums (minus r c) (gained v c s) ++ zs) (lifted v (waiting_sums c s) ++ (settled_sums r s ++ zs))
 within-settled v [] [] s zs o f = within-same zs
 within-settled v [] (a ∷ c) s zs o f = absurd (cc f)
 within-settled v (r ∷ rs) [] s zs o f = absurd (cc f)
@@ -83,22 +83,22 @@ within-settled v (zero ∷ rs) (zero ∷ c) (s ∷ ss) zs o f =
     let same : s + v * 0 ≡ s = omega arith in
     let old : List ℕ = settled_sums rs ss ++ zs in
     let new : List ℕ = settled_sums (minus rs c) (gained v c ss) ++ zs in
-    subst (λ d. IsWithin (settled_sums (d ∷ minus rs c) ((s + v * 0) ∷ gained v c ss) ++ zs) (raised v (waiting_sums c ss) ++ (s ∷ old))) (sym none-left)
-    (subst (λ d. IsWithin (d ∷ new) (raised v (waiting_sums c ss) ++ (s ∷ old))) (sym same)
-    (within-chain (s ∷ new) (s ∷ (raised v (waiting_sums c ss) ++ old)) (raised v (waiting_sums c ss) ++ (s ∷ old))
-    (within-cons s new (raised v (waiting_sums c ss) ++ old) (within-settled v rs c ss zs o.1 (first_and (nat_le 0 0) (fits c rs) f).1))
-    (within-past s (raised v (waiting_sums c ss)) old)))
+    subst (λ d. IsWithin (settled_sums (d ∷ minus rs c) ((s + v * 0) ∷ gained v c ss) ++ zs) (lifted v (waiting_sums c ss) ++ (s ∷ old))) (sym none-left)
+    (subst (λ d. IsWithin (d ∷ new) (lifted v (waiting_sums c ss) ++ (s ∷ old))) (sym same)
+    (within-chain (s ∷ new) (s ∷ (lifted v (waiting_sums c ss) ++ old)) (lifted v (waiting_sums c ss) ++ (s ∷ old))
+    (within-cons s new (lifted v (waiting_sums c ss) ++ old) (within-settled v rs c ss zs o.1 (first_and (nat_le 0 0) (fits c rs) f).1))
+    (within-past s (lifted v (waiting_sums c ss)) old)))
 within-settled v (zero ∷ rs) (suc a ∷ c) (s ∷ ss) zs o f = absurd (too-many a (first_and (nat_le (suc a) 0) (fits c rs) f).0)
   where
     too-many : (a : ℕ) → nat_le (suc a) 0 ≡ true → ⊥
     too-many a e = (let less : suc a ≤ 0 = leb-true (suc a) 0 e in omega (arith, less))
 within-settled v (suc zero ∷ rs) (zero ∷ c) (s ∷ ss) zs o f =
-    subst (λ d. IsWithin (settled_sums (d ∷ minus rs c) ((s + v * 0) ∷ gained v c ss) ++ zs) (raised v (waiting_sums c ss) ++ (settled_sums rs ss ++ zs))) (sym one-left)
+    subst (λ d. IsWithin (settled_sums (d ∷ minus rs c) ((s + v * 0) ∷ gained v c ss) ++ zs) (lifted v (waiting_sums c ss) ++ (settled_sums rs ss ++ zs))) (sym one-left)
     (within-settled v rs c ss zs o.1 (first_and (nat_le 0 1) (fits c rs) f).1)
 within-settled v (suc zero ∷ rs) (suc zero ∷ c) (s ∷ ss) zs o f =
     let same : s + v * 1 ≡ s + v = omega arith in
     let new : List ℕ = settled_sums (minus rs c) (gained v c ss) ++ zs in
-    let old : List ℕ = raised v (waiting_sums c ss) ++ (settled_sums rs ss ++ zs) in
+    let old : List ℕ = lifted v (waiting_sums c ss) ++ (settled_sums rs ss ++ zs) in
     subst (λ d. IsWithin (settled_sums (d ∷ minus rs c) ((s + v * 1) ∷ gained v c ss) ++ zs) ((s + v) ∷ old)) (sym all-left)
     (subst (λ d. IsWithin (d ∷ new) ((s + v) ∷ old)) (sym same)
     (within-cons (s + v) new old (within-settled v rs c ss zs o.1 (first_and (nat_le 1 1) (fits c rs) f).1)))
@@ -183,7 +183,7 @@ within-filled v left r c s o f e l a w =
     let many : length (waiting_sums c s) ≡ sum c = length-waiting c s (ones-fit r c o f) e in
     let same : in_order nat_le (waiting_sums c s ++ waiting_sums (minus r c) (gained v c s)) ≡ in_order nat_le (waiting_sums r s) = order-same (cs ++ ws) (waiting_sums r s) (λ g. sum_by-append g cs ws ∙ sym (waiting-chosen v r c s g o f)) in
     let steps : IsWithin (filled_sums left (minus r c) (gained v c s)) (settled_sums r s ++ added (in_order nat_le (cs ++ ws)) (replicate (length cs) v ++ left)) =
-    within-chain (filled_sums left (minus r c) (gained v c s)) (raised v cs ++ (settled_sums r s ++ added (in_order nat_le ws) left)) (settled_sums r s ++ added (in_order nat_le (cs ++ ws)) (replicate (length cs) v ++ left))
+    within-chain (filled_sums left (minus r c) (gained v c s)) (lifted v cs ++ (settled_sums r s ++ added (in_order nat_le ws) left)) (settled_sums r s ++ added (in_order nat_le (cs ++ ws)) (replicate (length cs) v ++ left))
     (within-settled v r c s (added (in_order nat_le ws) left) o f)
     (within-chosen v cs (settled_sums r s) ws left l a w) in
     subst (λ n. IsWithin (filled_sums left (minus r c) (gained v c s)) (settled_sums r s ++ added (in_order nat_le (waiting_sums r s)) (replicate n v ++ left))) many

@@ -21,7 +21,7 @@ length-left k (v ∷ us) = by v.closes (length-left k us)
     by false e = length-more v.value v.count (left_numbers k us) ∙ ap (λ n. v.count + n) e
 
 -- within a block no number is greater than the next one
-abbrev AreClimbing : List Serving → Type 0
+abbrev pub AreClimbing : List Serving → Type 0
 AreClimbing [] = Unit {0}
 AreClimbing (v ∷ us) = (v.closes ≡ false → v.value ≤ (serving_at us 0).value) × AreClimbing us
 

@@ -18,7 +18,7 @@ use Rattle.block_tests.specs.declared.serving.Serving.{Serving}
 use Rattle.block_tests.proofs.LeftNumbers.{IsFull, later-full, length-left}
 use Rattle.block_tests.proofs.ServingRooms.{at-serving}
 use Rattle.block_tests.proofs.ServedNarrows.{IsServed}
-use Rattle.block_tests.proofs.ServingSteps.{marks-of, sums-of}
+use Rattle.block_tests.proofs.ServingSteps.{dropped, marks-of, sums-of}
 use Rattle.block_tests.proofs.TreatmentSums.{added-within, raised, zeros-within}
 
 -- ---- small numbers
@@ -43,11 +43,6 @@ later-small k (v ∷ us) a = by v.closes (later-small k us a.1)
     by true r = raised (16 + 16 * length us) (16 * suc (length us)) (added (left_numbers k us) (later_numbers k us)) (omega arith) (added-within 16 (16 * length us) (left_numbers k us) (later_numbers k us) (left-small k us a.1) r)
     by false r = raised (16 * length us) (16 * suc (length us)) (later_numbers k us) (omega arith) r
 
-all-dropped : {X : Type 0} (P : X → Type 0) (g : ℕ) (xs : List X) → AllByRecursion P xs → AllByRecursion P (drop g xs)
-all-dropped P zero xs a = a
-all-dropped P (suc g) [] a = tt
-all-dropped P (suc g) (x ∷ xs) a = all-dropped P g xs a.1
-
 module _ (k : ℕ) (vs : List Serving) (judge : Judge) (a : AreServings k vs judge) where
   -- a row tells what is left from a stage on
   pub record IsRowAt (g : ℕ) (row : Row) : Type 0 where
@@ -55,7 +50,7 @@ module _ (k : ℕ) (vs : List Serving) (judge : Judge) (a : AreServings k vs jud
     pub later : row.later.items ≡ later_numbers k (drop g vs)
 
   small-from : (g : ℕ) → AllByRecursion (λ (v : Serving). v.value ≤ 16) (drop g vs)
-  small-from g = all-dropped (λ (v : Serving). v.value ≤ 16) g vs (recursion_from_All (λ (v : Serving). v.value ≤ 16) vs a.small)
+  small-from g = dropped (λ (v : Serving). v.value ≤ 16) g vs (recursion_from_All (λ (v : Serving). v.value ≤ 16) vs a.small)
 
   pub row-small : (g : ℕ) (row : Row) → IsRowAt g row → IsSmallRow row
   row-small g row r =
