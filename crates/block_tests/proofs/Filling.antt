@@ -1,18 +1,18 @@
 -- Where what is left of a block is given in the order of the sums, the squares are the greatest: whoever is served next, they fall.
 use Rattle.std.proofs.Common.{◌≡◌, ℕ, zero, suc, ◌+◌, ◌-◌, ◌*◌, ◌<◌, ◌≤◌, List, [], ◌∷◌, ◌++◌, length, map, replicate, Bool, true, false, cond, refl, sym, ◌∙◌, ap, subst, arith, length-append, nat_le}
-use Rattle.std.specs.List.{sum_by, sum, AllByRecursion}
+use Rattle.std.specs.List.{sum_by, sum}
 use Rattle.std.proofs.lemmas.Bool.{leb-true, leb-false}
-use Rattle.std.proofs.lemmas.List.{length-map, length-replicate}
+use Rattle.std.proofs.lemmas.List.{length-replicate}
 use Rattle.std.proofs.lemmas.List.Sums.{sum_by-append, sum_by-cons}
 use Rattle.weights.specs.Grouped.{fits, minus}
 use Rattle.weights.specs.InOrder.{in_order, put_in}
-use Rattle.weights.proofs.OneOrder.{length-in_order, length-put_in, sum_by-in_order}
+use Rattle.weights.proofs.OneOrder.{length-in_order, sum_by-in_order}
 use Rattle.weights.proofs.Sized.{first_and}
 use Rattle.stage_network.proofs.Swaps.{swap_at}
 use Rattle.block_tests.specs.BlockTests.{added, squared}
 use Rattle.block_tests.specs.Servings.{filled_sums, gained, greatest_squares, settled_sums, waiting_sums}
 use Rattle.block_tests.proofs.ServingRooms.{AreOnes}
-use Rattle.block_tests.proofs.Tops.{Ascends, AtLeast, IsWithin, ascends-added, in_order-ascends, least-lower, order-kept, order-same, squares-within, within-chain, within-cons, within-exchange, within-front, within-past, within-same}
+use Rattle.block_tests.proofs.Tops.{Ascends, AtLeast, IsWithin, ascends-added, in_order-ascends, order-kept, order-same, squares-within, within-chain, within-cons, within-exchange, within-front, within-past, within-same}
 use Rattle.block_tests.proofs.TreatmentSums.{added-assoc, added-zeros, length-added}
 
 -- ---- one sum more, and one number that is the least

@@ -1,21 +1,19 @@
 -- Steps of the bodies that tell what is left to be given, and look it up.
-use Rattle.std.proofs.Common.{◌≡◌, ℕ, zero, suc, ◌+◌, ◌-◌, ◌*◌, ◌<◌, ◌≤◌, List, [], ◌∷◌, ◌++◌, drop, length, min, replicate, get_or, Bool, true, false, cond, inl, inr, refl, sym, ◌∙◌, ap, subst, arith, drop_of_length-le, length-append, length-drop}
+use Rattle.std.proofs.Common.{◌≡◌, ℕ, zero, suc, ◌+◌, ◌-◌, ◌*◌, ◌<◌, ◌≤◌, List, [], ◌∷◌, ◌++◌, drop, length, replicate, get_or, Bool, true, false, cond, inl, inr, refl, sym, ◌∙◌, ap, subst, arith, drop_of_length-le, length-append, length-drop}
 use Rattle.std.specs.Prelude.{ℤ, All}
-use Rattle.std.specs.List.{sum, AllByRecursion}
+use Rattle.std.specs.List.{AllByRecursion}
 use Rattle.std.proofs.Math.Seq.{get_or-append_seam}
 use Rattle.std.proofs.lemmas.Bool.{cases_lt}
-use Rattle.std.proofs.lemmas.List.{get_or_append_left, get_or_default, length-replicate}
+use Rattle.std.proofs.lemmas.List.{get_or_append_left}
 use Rattle.std.proofs.lemmas.List.Elements.{All-from_recursion, recursion_from_All}
 use Rattle.weights.proofs.Filters.{all_append}
 use Rattle.stage_network.specs.declared.verdicts.Judge.{Judge}
-use Rattle.label_network.specs.Meanings.{sizes_in}
-use Rattle.label_network.proofs.Rows.{length-abs}
 use Rattle.block_tests.specs.BlockTests.{added}
 use Rattle.block_tests.specs.BoundSteps.{IsRowOf, IsSmallRow}
 use Rattle.block_tests.specs.Servings.{AreRows, AreServings, ahead_at, later_numbers, left_numbers, serving_at}
 use Rattle.block_tests.specs.declared.serving.Row.{Row}
 use Rattle.block_tests.specs.declared.serving.Serving.{Serving}
-use Rattle.block_tests.proofs.LeftNumbers.{IsFull, later-full, length-left}
+use Rattle.block_tests.proofs.LeftNumbers.{later-full, length-left}
 use Rattle.block_tests.proofs.ServingRooms.{at-serving}
 use Rattle.block_tests.proofs.ServedNarrows.{IsServed}
 use Rattle.block_tests.proofs.ServingSteps.{dropped, marks-of, sums-of}

@@ -1,7 +1,7 @@
-use Rattle.std.proofs.Common.{◌≡◌, ◌<◌, ◌∙◌, ◌+◌, ◌-◌, ◌++◌, [], ap, arith, cond, length, replicate, subst, sym}
+use Rattle.std.proofs.Common.{◌<◌, ◌∙◌, ◌+◌, ◌-◌, ◌++◌, [], ap, arith, cond, length, replicate, subst, sym}
 use Rattle.block_tests.specs.Servings.{AreRows, serving_at}
 use Rattle.block_tests.specs.declared.serving.Serving.{Serving}
-use Rattle.block_tests.proofs.RowSteps.{IsRowAt, row-before, row-found, row-level, row-small, rows-more}
+use Rattle.block_tests.proofs.RowSteps.{row-before, row-found, row-level, row-small, rows-more}
 use Rattle.block_tests.proofs.servings.rows_of.Goals as goal
 
 pub later_before-requires-clause-as_many : goal.later_before-requires-clause-as_many
