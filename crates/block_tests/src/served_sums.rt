@@ -1,5 +1,6 @@
 // Who is served, as rooms, and the treatments' sums, as what is measured of them.
-ghost use Rattle.std.specs.Prelude.{◌≡◌, ◌+◌, ◌*◌, ◌<◌, ◌≤◌, length, map, max, min, nat_abs, pos, slice_index_or, All};
+ghost use Rattle.std.specs.Prelude.{◌≡◌, ◌+◌, ◌*◌, ◌<◌, ◌≤◌, length, map, max, min, nat_abs, pos};
+ghost use Rattle.std.specs.Prelude.{slice_index_or, All};
 ghost use Rattle.std.specs.Prelude.{drop, if◌then◌else◌, true};
 ghost use Rattle.std.specs.List.{sum_by};
 ghost use Rattle.weights.specs.Grouped.{fits, minus};
