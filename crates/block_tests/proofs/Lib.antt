@@ -12,11 +12,16 @@ pub mod Fitting
 pub mod OneBlock
 pub mod Steps
 pub mod ServingRooms
+pub mod Tops
+pub mod Filling
+pub mod LeftNumbers
+pub mod MarkedSums
 pub mod ServedNarrows
 pub mod ServingLaw
 pub mod ServedFold
 pub mod ServingFollows
 pub mod ServingSteps
+pub mod RowSteps
 pub mod ServedParts
 pub mod TreatmentOrder
 pub mod CutSteps

@@ -57,12 +57,12 @@ pub length-sums : (k n : ℕ) (cells : List ℕ) → length (treatment_sums k (c
 length-sums k zero cells = length-replicate k 0
 length-sums k (suc n) cells = length-added k (take k cells) (treatment_sums k (cut k n (drop k cells))) (omega (arith, length-take k cells)) (length-sums k n (drop k cells))
 
-taken : (P : ℕ → Type 0) (k : ℕ) (xs : List ℕ) → AllByRecursion P xs → AllByRecursion P (take k xs) × AllByRecursion P (drop k xs)
+pub taken : (P : ℕ → Type 0) (k : ℕ) (xs : List ℕ) → AllByRecursion P xs → AllByRecursion P (take k xs) × AllByRecursion P (drop k xs)
 taken P zero xs a = (tt, a)
 taken P (suc k) [] a = (tt, tt)
 taken P (suc k) (x ∷ xs) a = (let rest = taken P k xs a.1 in ((a.0, rest.0), rest.1))
 
-zeros-within : (m k : ℕ) → AllByRecursion (λ x. x ≤ m) (replicate k 0)
+pub zeros-within : (m k : ℕ) → AllByRecursion (λ x. x ≤ m) (replicate k 0)
 zeros-within m zero = tt
 zeros-within m (suc k) = (omega arith, zeros-within m k)
 

@@ -10,6 +10,7 @@ ghost use Rattle.block_tests.specs.BlockNetworks.{block_network};
 
 mod block;
 mod block_test;
+mod greatest;
 mod kinds;
 mod page;
 mod ranked;

@@ -1,17 +1,21 @@
 // Who is served, as rooms, and the treatments' sums, as what is measured of them.
-ghost use Rattle.std.specs.Prelude.{◌≡◌, ◌+◌, ◌*◌, ◌<◌, ◌≤◌, length, map, max, min, nat_abs, pos, slice_index_or, All};
-ghost use Rattle.std.specs.Prelude.{if◌then◌else◌, true};
+ghost use Rattle.std.specs.Prelude.{◌≡◌, ◌+◌, ◌*◌, ◌<◌, ◌≤◌, length, map, max, min, nat_abs, pos};
+ghost use Rattle.std.specs.Prelude.{slice_index_or, All};
+ghost use Rattle.std.specs.Prelude.{drop, if◌then◌else◌, true};
 ghost use Rattle.std.specs.List.{sum_by};
 ghost use Rattle.weights.specs.Grouped.{fits, minus};
+ghost use Rattle.room_network.specs.Meanings.{AreReached};
 ghost use Rattle.label_network.specs.LabelSteps.{AreSizes};
 ghost use Rattle.label_network.specs.Meanings.{sizes_in};
 ghost use Rattle.block_tests.specs.BlockTests.{squared};
 ghost use Rattle.block_tests.specs.Servings.{AreMarks, AreSums, IsSmallAhead, far_square, farthest};
 ghost use Rattle.block_tests.specs.Servings.{gained, high_square, low_square, near_square, nearest};
-ghost use Rattle.block_tests.specs.Servings.{over_ends, unserved};
+ghost use Rattle.block_tests.specs.Servings.{greatest_squares, is_late, later_numbers};
+ghost use Rattle.block_tests.specs.Servings.{left_numbers, over_ends, served_sums, unserved};
 ghost use Rattle.block_tests.specs.BoundSteps.{AreSmallBounds};
 ghost use Rattle.block_tests.specs.BlockSteps.{IsSmall};
 
+use crate::greatest::greatest_squares;
 use crate::serving::{Ahead, Bounds};
 use crate::servings::Servings;
 use label_network::{first_counts, next_counts, take_away};
@@ -185,19 +189,62 @@ fn squares(partial: &[i128]) -> u64
     bounds(&marks[..partial.len()], partial, none, 0).low
 }
 
-// The narrower ends of two intervals.
+// The least squares of two intervals' lower ends.
 #[inline(always)]
-fn narrower(bounds: Bounds, base: u64) -> Interval
+fn least_of(bounds: Bounds, base: u64) -> u64
     requires small { AreSmallBounds bounds }
     requires base { base ≤ 1000000000000000 }
-    ensures low { result.low ≡ pos (max bounds.low (base + bounds.near)) }
-    ensures high { result.high ≡ pos (min bounds.high (base + bounds.far)) }
+    ensures is { result ≡ max bounds.low (base + bounds.near) }
+    ensures small { result ≤ 9000000000000000 }
+{
+    bounds.low.max(base + bounds.near)
+}
+
+// And the greatest of their upper ends.
+#[inline(always)]
+fn most_of(bounds: Bounds, base: u64) -> u64
+    requires small { AreSmallBounds bounds }
+    requires base { base ≤ 1000000000000000 }
+    ensures is { result ≡ min bounds.high (base + bounds.far) }
+    ensures small { result ≤ 9000000000000000 }
+{
+    bounds.high.min(base + bounds.far)
+}
+
+// The greatest squares that sums end with, as far as they are looked for, where they are no more
+// than these.
+#[inline(always)]
+fn highest(servings: &Servings, stage: usize, room: &[i128], partial: &[i128], most: u64) -> u64
+    requires reached { AreReached (served_sums servings.now.treatments
+        servings.now.items.items servings.now.judge) stage room.now partial.now }
+    requires small { most ≤ 9000000000000000 }
+    ensures is { let vs = servings.now.items.items in
+        let k = servings.now.treatments in
+        let ahead = drop stage vs in
+        let all = greatest_squares (left_numbers k ahead) (later_numbers k ahead)
+        (sizes_in room.now) (sizes_in partial.now) in
+        result ≡ (if is_late k vs stage then min most all else most) }
+    ensures small { result ≤ 9000000000000000 }
+{
+    if servings.is_late(stage) {
+        return most.min(greatest_squares(room, partial, servings.row(stage)));
+    }
+    most
+}
+
+// The interval between two ends.
+#[inline(always)]
+fn interval_of(low: u64, high: u64) -> Interval
+    requires low { low ≤ 9000000000000000 }
+    requires high { high ≤ 9000000000000000 }
+    ensures low { result.low ≡ pos low }
+    ensures high { result.high ≡ pos high }
     ensures low_small { IsSmall result.low }
     ensures high_small { IsSmall result.high }
 {
     Interval {
-        low: bounds.low.max(base + bounds.near) as i128,
-        high: bounds.high.min(base + bounds.far) as i128,
+        low: low as i128,
+        high: high as i128,
     }
 }
 
@@ -297,8 +344,10 @@ impl Measure for ServedSums {
     ) -> Verdict {
         let ahead = self.servings.ahead(stage);
         let bounds = bounds(room, partial, ahead, self.servings.middle);
-        let interval = narrower(bounds, self.servings.base);
-        self.servings.judge.verdict(tail, interval)
+        let low = least_of(bounds, self.servings.base);
+        let most = most_of(bounds, self.servings.base);
+        let high = highest(&self.servings, stage, room, partial, most);
+        self.servings.judge.verdict(tail, interval_of(low, high))
     }
 
     fn value(&self, partial: &[i128]) -> i128 {
