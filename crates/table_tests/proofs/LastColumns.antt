@@ -66,6 +66,9 @@ pub record IsBehind (n : Network) (most g : ℕ) (k partial : List ℤ) (lines :
   pub weighs : (w : ℕ) → w ≡ valued (λ v. once (λ z. int_le z (pos most)) (pos (past_of partial * nat_abs v))) lines → w ≡ extreme_weight n Two g k
 
 module _ (rows columns : List ℕ) (judge : Judge) where
+  next-left : (j : ℕ) → j < length columns → drop j columns ≡ slice_index columns j ∷ drop (j + 1) columns
+  next-left j before = rw add-one (drop-cons columns j 0 before)
+
   -- from each key on
   values-completed : (f : ℤ → ℕ) (m g : ℕ) (r : List ℕ) (p : ℕ) → g + m ≡ length columns → length r ≡ length rows → values (weight_network rows columns judge) f m g (map pos r ++ pos p ∷ []) ≡ completed (λ v. f (pos (p * v))) (drop g columns) r
   values-completed f zero g r p e long =
@@ -77,7 +80,7 @@ module _ (rows columns : List ℕ) (judge : Judge) where
       let n = weight_network rows columns judge in
       let key : List ℤ = map pos r ++ pos p ∷ [] in
       let before : g < length columns = omega (arith, e) in
-      let split : drop g columns ≡ slice_index columns g ∷ drop (g + 1) columns = rw add-one (drop-cons columns g 0 before) in
+      let split : drop g columns ≡ slice_index columns g ∷ drop (g + 1) columns = next-left g before in
       let front : take (length rows) (map pos r ++ pos p ∷ []) ≡ map pos r = front_is (length rows) (map pos r) (pos p ∷ []) (length-pos r ∙ long) in
       let back : drop (length rows) (map pos r ++ pos p ∷ []) ≡ pos p ∷ [] = back_is (length rows) (map pos r) (pos p ∷ []) (length-pos r ∙ long) in
       values-step n f m g key
@@ -89,10 +92,9 @@ module _ (rows columns : List ℕ) (judge : Judge) where
 
   two_left : (g : ℕ) → g + 2 ≡ length columns → drop g columns ≡ slice_index columns g ∷ slice_index columns (g + 1) ∷ []
   two_left g e =
-      let one : drop g columns ≡ slice_index columns g ∷ drop (g + 1) columns = rw add-one (drop-cons columns g 0 (omega (arith, e))) in
-      let two : drop (g + 1) columns ≡ slice_index columns (g + 1) ∷ drop (g + 1 + 1) columns = rw add-one (drop-cons columns (g + 1) 0 (omega (arith, e))) in
-      let none : drop (g + 1 + 1) columns ≡ [] = drop_of_length-le columns {i = g + 1 + 1} (omega (arith, e)) in
-      one ∙ ap (λ cs. slice_index columns g ∷ cs) (two ∙ ap (λ cs. slice_index columns (g + 1) ∷ cs) none)
+      next-left g (omega (arith, e))
+      ∙ ap (λ cs. slice_index columns g ∷ cs) (next-left (g + 1) (omega (arith, e)))
+      ∙ ap (λ cs. slice_index columns g ∷ slice_index columns (g + 1) ∷ cs) (drop_of_length-le columns {i = g + 1 + 1} (omega (arith, e)))
 
   module _ (a : AreLast rows columns judge) where
     key-of : (g : ℕ) (k : List ℤ) → IsReached (weight_network rows columns judge) g k → IsWeightKey rows columns g (take (length rows) k) (drop (length rows) k)
@@ -106,10 +108,10 @@ module _ (rows columns : List ℕ) (judge : Judge) where
       pub at : IsKey (sorted_meaning rows columns judge) sorted_weight (sorted_width columns rows) g k
       at = is_key (sorted_meaning rows columns judge) sorted_weight (sorted_width columns rows) g k r
 
-      sizes : List ℕ
+      abbrev pub sizes : List ℕ
       sizes = sizes_in (take (length rows) k)
 
-      past : ℕ
+      abbrev pub past : ℕ
       past = past_of (drop (length rows) k)
 
       sizes-long : length sizes ≡ length rows
@@ -224,6 +226,7 @@ within-quotient p most v some = by (leb_tells v (most / p)) (leb_tells (p * v) m
   where
     turned : v * p ≡ p * v
     turned = grind arith
+
     by : ((nat_le v (most / p) ≡ true) × (v ≤ most / p)) ⊎ ((nat_le v (most / p) ≡ false) × (most / p < v)) → ((nat_le (p * v) most ≡ true) × (p * v ≤ most)) ⊎ ((nat_le (p * v) most ≡ false) × (most < p * v)) → nat_le v (most / p) ≡ nat_le (p * v) most
     by (inl a) (inl b) = a.0 ∙ sym b.0
     by (inl a) (inr b) =

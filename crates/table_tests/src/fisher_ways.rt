@@ -109,7 +109,12 @@ impl FisherTable {
         let made = self.made();
         let order = self.in_order(alloc)?;
         let judge = Judge::of(&made.frame);
-        sorted_stages(alloc, order.rows.as_slice(), order.columns.as_slice(), judge)
+        sorted_stages(
+            alloc,
+            order.rows.as_slice(),
+            order.columns.as_slice(),
+            judge,
+        )
     }
 
     /// What completes tables of its sums before their last two columns, in the same order.
@@ -121,7 +126,13 @@ impl FisherTable {
         let made = self.made();
         let order = self.in_order(alloc)?;
         let judge = Judge::of(&made.frame);
-        LastColumns::new(alloc, order.rows.as_slice(), order.columns.as_slice(), judge)
+        let last = LastColumns::new(
+            alloc,
+            order.rows.as_slice(),
+            order.columns.as_slice(),
+            judge,
+        )?;
+        Ok(last)
     }
 }
 

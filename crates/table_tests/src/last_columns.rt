@@ -124,11 +124,7 @@ impl LastColumns {
 
     /// The weight of the extreme tables: what was closed on the way to the last two columns, and
     /// what completes the nodes there.
-    pub(crate) fn sum<C: Count>(
-        &self,
-        alloc: Global,
-        half: &FirstHalf<C>,
-    ) -> Result<u128, NoMemory>
+    pub(crate) fn sum<C: Count>(&self, alloc: Global, half: &FirstHalf<C>) -> Result<u128, NoMemory>
         requires { IsHalfBeforeLast self.now.rooms.rows.items self.now.rooms.columns.items
             self.now.judge C.LIMIT half.now.stage half.now.nodes half.now.closed }
         ensures { let n = weight_network self.now.rooms.rows.items self.now.rooms.columns.items
