@@ -1,9 +1,7 @@
-use Rattle.std.proofs.Common.{◌≡◌, ◌∙◌, ap}
+use Rattle.std.proofs.Common.{◌≡◌}
 use Rattle.std.specs.Prelude.{slice_index}
 use Rattle.label_network.proofs.Rows.{column-read}
-use Rattle.label_network.specs.Meanings.{sizes_in}
-use Rattle.sorted_tables.specs.ChoiceLines.{choice_lines}
-use Rattle.sorted_tables.proofs.SortedPlans.{RoomParts, room_parts}
+use Rattle.sorted_tables.proofs.SortedPlans.{room_parts}
 use Rattle.sorted_tables.proofs.rooms.SortedRooms.choice_lines.Goals as goal
 
 pub list_choices-requires : goal.list_choices-requires
