@@ -1,7 +1,7 @@
 -- What completes the keys before the last two columns: the choices of the last but one, each with what it leaves.
 use Rattle.std.proofs.Common.{◌≡◌, ℕ, zero, suc, ◌+◌, ◌-◌, ◌*◌, ◌/◌, ◌<◌, ◌≤◌, ◌⊎◌, inl, inr, List, [], ◌∷◌, ◌++◌, map, filter, take, drop, get_or, length, Bool, true, false, cond, refl, sym, ◌∙◌, ap, subst, arith, add-one, drop-cons, drop_of_length-le, mul_assoc, lt-ltb, nat_le}
 use Rattle.std.specs.Prelude.{ℤ, pos, nat_abs, int_le, slice_index}
-use Rattle.std.specs.List.{sum, sum_by, AllByRecursion, Contains}
+use Rattle.std.specs.List.{sum, AllByRecursion}
 use Rattle.std.proofs.Math.Nat.{mul-div-le, mul-le-mul_left}
 use Rattle.std.proofs.lemmas.Bool.Decides.{leb_tells}
 use Rattle.std.proofs.lemmas.List.{take-append-drop}

@@ -1,4 +1,4 @@
-use Rattle.std.proofs.Common.{◌≡◌, ◌∙◌, ◌+◌, ℕ, List, length, ap, arith}
+use Rattle.std.proofs.Common.{◌∙◌, ◌+◌, ℕ, List, ap, arith}
 use Rattle.std.specs.Prelude.{ℤ, pos, int_le}
 use Rattle.std.proofs.lemmas.Int.{to_z-of_z}
 use mir.Syntax.{w128}

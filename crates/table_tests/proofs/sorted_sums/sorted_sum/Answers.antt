@@ -1,4 +1,4 @@
-use Rattle.std.proofs.Common.{◌≡◌, sym, subst, ◌∙◌, ap}
+use Rattle.std.proofs.Common.{sym, ◌∙◌, ap}
 use Rattle.weights.specs.declared.tails.Tail.TheVariants.{Two}
 use Rattle.stage_network.specs.Completions.{extreme_weight, total_weight}
 use Rattle.stage_network.proofs.Following.{extreme-is, whole-is}

@@ -1,4 +1,4 @@
-use Rattle.std.proofs.Common.{◌≡◌, ◌+◌, ◌≤◌, ℕ, length, ap, sym, subst, ◌∙◌, arith}
+use Rattle.std.proofs.Common.{◌≡◌, ◌+◌, ◌≤◌, ap, sym, subst, ◌∙◌, arith}
 use Rattle.weights.specs.declared.tails.Tail.TheVariants.{Two}
 use Rattle.node_pool.specs.Nodes.{weighted}
 use Rattle.stage_network.specs.Completions.{extreme_weight, total_weight}

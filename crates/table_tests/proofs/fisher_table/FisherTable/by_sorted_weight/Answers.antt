@@ -1,4 +1,4 @@
-use Rattle.std.proofs.Common.{◌≡◌, ◌∙◌, sym, ap}
+use Rattle.std.proofs.Common.{◌≡◌, ◌∙◌}
 use Rattle.completion_bounds.specs.Fillings.{falling}
 use Rattle.completion_bounds.proofs.FallingSizes.{falling-twice}
 use Rattle.row_products.proofs.Orders.{rising-twice}

@@ -1,4 +1,4 @@
-use Rattle.std.proofs.Common.{◌≡◌, ℕ, ◌≤◌, ◌∙◌, length, ap, arith}
+use Rattle.std.proofs.Common.{ℕ, ◌≤◌, ◌∙◌, length, ap, arith}
 use Rattle.std.proofs.lemmas.List.{length-take}
 use Rattle.completion_bounds.specs.Fillings.{falling}
 use Rattle.sorted_tables.specs.SortedRooms.{rising}

@@ -1,4 +1,4 @@
-use Rattle.std.proofs.Common.{◌≡◌, ◌<◌, ◌*◌, ◌∙◌, ℕ, List, [], get_or, length, ap, sym, arith}
+use Rattle.std.proofs.Common.{◌≡◌, ◌<◌, ◌*◌, ◌∙◌, ℕ, List, [], get_or, length, ap, arith}
 use Rattle.std.specs.Prelude.{slice_index}
 use Rattle.weights.specs.declared.tails.Tail.TheVariants.{Two}
 use Rattle.node_pool.specs.Nodes.{Node, node, weighted}

@@ -1,4 +1,4 @@
-use Rattle.std.proofs.Common.{◌≡◌, ◌+◌, ℕ, arith, ap, ◌∙◌, take}
+use Rattle.std.proofs.Common.{◌+◌, arith, ap, ◌∙◌}
 use Rattle.std.proofs.lemmas.List.{take_all}
 use Rattle.weights.specs.declared.tails.Tail.TheVariants.{Two}
 use Rattle.node_pool.specs.Nodes.{weighted}
