@@ -51,7 +51,7 @@ into-gathered r x l = ap (λ y. pointwise nat_eq y (gathered r x)) (gathered-twi
 
 -- each choice stands once in the list of all
 
-once : (c : ℕ) (r x : List ℕ) → IsChoice c r x → count_by (pointwise nat_eq x) (choices c r) ≡ 1
+pub once : (c : ℕ) (r x : List ℕ) → IsChoice c r x → count_by (pointwise nat_eq x) (choices c r) ≡ 1
 once c r x o = chosen_once c r x o.long ∙ rw (eq-eqb c (sum x) (sym o.whole), o.fitting) refl
 
 told-member : (x : List ℕ) (xs : List (List ℕ)) → 1 ≤ count_by (pointwise nat_eq x) xs → Contains xs x

@@ -10,3 +10,4 @@ pub mod RisingChoices
 pub mod RaisedLoops
 pub mod SortedWays
 pub mod SortedPlans
+pub mod ChoiceSums

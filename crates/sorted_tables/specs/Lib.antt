@@ -1,3 +1,4 @@
+pub mod ChoiceLines
 pub mod GatheredChoices
 pub mod SortedRooms
 pub mod SortedSteps

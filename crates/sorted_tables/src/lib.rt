@@ -3,6 +3,7 @@
 //! choices that differ in the order of rows of equal size.
 #![tactic(auto)]
 
+mod choice_lines;
 mod gathering;
 mod orders;
 mod rooms;

@@ -1,17 +1,22 @@
 // The rooms of labels whose sizes stand in falling order.
-ghost use Rattle.std.specs.Prelude.{◌≡◌, ℕ, List, IfOk};
+ghost use Rattle.std.specs.Prelude.{◌≡◌, ◌<◌, ℕ, List, IfOk, length, slice_index};
 ghost use Rattle.std.specs.List.{sum};
 ghost use Rattle.completion_bounds.specs.Fillings.{falling};
+ghost use Rattle.stage_network.specs.Network.{IsReached};
+ghost use Rattle.room_network.specs.Plans.{alone};
 ghost use Rattle.label_network.specs.LabelRooms.{IsLabelled};
-ghost use Rattle.sorted_tables.specs.SortedRooms.{GivesTables};
+ghost use Rattle.label_network.specs.Meanings.{sizes_in};
+ghost use Rattle.sorted_tables.specs.ChoiceLines.{choice_lines};
+ghost use Rattle.sorted_tables.specs.SortedRooms.{GivesTables, sorted_plan};
 ghost use Rattle.sorted_tables.specs.SortedSteps.{AreSorted};
 
+use crate::choice_lines::list_choices;
 use crate::gathering::{next_gathered, weight_gathered};
 use crate::orders::fall_away;
 use label_network::{Binomials, first_counts, rest_in, write_sizes};
 use room_network::Rooms;
 use std::alloc::Global;
-use weights::NoMemory;
+use weights::{Line, NoMemory};
 
 /// Labels over columns, as [`LabelRooms`](label_network::LabelRooms), but the sizes that remain
 /// after a choice stand in falling order. A choice is for the sizes in the order in which they
@@ -44,6 +49,24 @@ impl SortedRooms {
             binomials,
         })
     }
+
+    /// The choices of a room, in their order, each with what it leaves: the product of the numbers
+    /// of labellings of the choice and of what it leaves; and the choice's weight times the latter.
+    /// Before the last two columns these are the tables that complete the room.
+    pub fn choice_lines(
+        &self,
+        alloc: Global,
+        stage: usize,
+        room: &[i128],
+    ) -> Result<Vec<Line>, NoMemory>
+        requires reached { let plan = sorted_plan self.now.columns.items self.now.rows.items in
+            IsReached (alone plan) stage room.now }
+        requires before { stage < length self.now.columns.items }
+        ensures { let column = slice_index self.now.columns.items stage in
+            IfOk result (λ lines. lines.items ≡ choice_lines column (sizes_in room.now)) }
+    {
+        list_choices(alloc, &self.binomials, self.columns[stage], room)
+    }
 }
 
 /// The rows of a table may stand in any order, and so may its columns. The ways through the rooms
@@ -55,8 +78,6 @@ pub fn sorting_law()
 {}
 
 impl Rooms for SortedRooms {
-    ghost use Rattle.sorted_tables.specs.SortedRooms.{sorted_plan};
-
     ghost plan = { λ s. sorted_plan s.columns.items s.rows.items };
 
     #[inline(always)]

@@ -12,6 +12,7 @@ mod SortedNarrows
 mod SortedKeys
 mod SortedFollows
 mod SortedTests
+mod LastColumns
 mod FilledColumns
 mod FisherTests
 mod TurnedData

@@ -24,7 +24,8 @@ use Rattle.sorted_tables.proofs.SortedPlans.{sorted_width}
 use Rattle.sorted_tables.proofs.SortedWays.{tables_give}
 use Rattle.table_tests.specs.SortedWeighing.{sorted_meaning}
 use Rattle.table_tests.specs.WeightSteps.{IsWeighing}
-use Rattle.table_tests.proofs.SortedNarrows.{labellings-falling, sorted-from, sorted_measure}
+use Rattle.sorted_tables.proofs.ChoiceSums.{labellings-falling}
+use Rattle.table_tests.proofs.SortedNarrows.{sorted-from, sorted_measure}
 
 one-times : (a : ℕ) → 1 * a ≡ a
 one-times a = omega arith

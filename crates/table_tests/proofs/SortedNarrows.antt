@@ -21,7 +21,7 @@ use Rattle.label_network.proofs.Later.{fits-length}
 use Rattle.label_network.proofs.Narrowing.{AreLeft, chosen}
 use Rattle.stage_network.proofs.Swaps.{swap_at}
 use Rattle.sorted_tables.proofs.Reordering.{even-order}
-use Rattle.label_network.proofs.ChoiceSwaps.{labellings-swap}
+use Rattle.sorted_tables.proofs.ChoiceSums.{labellings-falling}
 use Rattle.sorted_tables.proofs.SortedPlans.{IsLeftRoom, among-all, left-onward, left-start, sizes-fallen}
 use Rattle.row_products.specs.RowProducts.{factorial, greatest_by_rows, greatest_product, least_by_rows, least_product}
 use Rattle.table_tests.specs.SortedWeighing.{sharper_high, sharper_low, sorted_meaning}
@@ -31,9 +31,6 @@ use Rattle.table_tests.proofs.SharperFactors.{columns_high, columns_low, high-en
 use Rattle.table_tests.proofs.WeightNarrows.{first-product, keeping, none_left, risen, times-one}
 
 -- what the later columns and the rows say does not see the order of the sizes
-pub labellings-falling : (r : List ℕ) → number_of_labellings (falling r) ≡ number_of_labellings r
-labellings-falling r = even-order is_at_least number_of_labellings labellings-swap r
-
 product-swap : (f : ℕ → ℕ) (i : ℕ) (r : List ℕ) → product_by f (swap_at i r) ≡ product_by f r
 product-swap f i [] = refl
 product-swap f zero (m ∷ []) = refl

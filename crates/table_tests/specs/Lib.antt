@@ -11,3 +11,4 @@ pub mod TableSteps
 pub mod SortedWeighing
 pub mod WeightSteps
 pub mod OddsSteps
+pub mod LastSteps

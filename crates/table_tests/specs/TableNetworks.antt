@@ -1,6 +1,6 @@
 -- The networks of the tests of a table: a stage is a column, in the order of the table, and its
 -- choice says how many of its subjects are in each row.
-use Rattle.std.specs.Prelude.{ℕ, ℤ, pos, List, [], ◌∷◌, length, replicate}
+use Rattle.std.specs.Prelude.{ℤ, pos, List, [], ◌∷◌, length, replicate}
 use Rattle.weights.specs.declared.tails.Tail.{Tail}
 use Rattle.weights.specs.declared.tails.Tail.TheVariants.{Less, Greater, Two}
 use Rattle.stage_network.specs.Judged.{judge_of}

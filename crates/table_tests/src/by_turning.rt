@@ -9,6 +9,7 @@ ghost use Rattle.table_tests.specs.Turned.{IsServedBy};
 
 use crate::fisher_table::FisherTable;
 use crate::scaled::scaled_spread;
+use crate::sorted_sums::sorted_sum;
 use crate::turned::turned_of;
 use enumerate::Plain;
 use stage_network::{Prepared, Spread, TailSum, spread_by_rooms, tail_sum_by_rooms};
@@ -22,6 +23,10 @@ fn sum_as_it_stands(alloc: Global, table: &FisherTable, tail: Tail) -> Result<Ta
     ensures { let sum = numerator (fisher_test table.now) tail in
         IfOk result (λ found. found.sum ≡ sum) }
 {
+    if !table.made().two_by_two {
+        let found = sorted_sum(alloc, table)?;
+        return Ok(found);
+    }
     let stages = table.quick_stages_of(alloc, tail)?;
     let found = tail_sum_by_rooms(alloc, &stages, tail)?;
     Ok(found)

@@ -2,8 +2,10 @@
 ghost use Rattle.std.specs.Prelude.{◌≡◌, pos, true, IfOk, Contains};
 ghost use Rattle.weights.specs.Labellings.{labellings};
 ghost use Rattle.weights.specs.declared.tails.Tail.TheVariants.{Two};
+ghost use Rattle.completion_bounds.specs.Fillings.{falling};
 ghost use Rattle.stage_network.specs.Follows.{AllFollow, Follows};
 ghost use Rattle.label_network.specs.Linear.{linear_meaning};
+ghost use Rattle.sorted_tables.specs.SortedRooms.{rising};
 ghost use Rattle.table_tests.specs.FisherExact.{fisher_test, first_cell, rarity};
 ghost use Rattle.table_tests.specs.SortedWeighing.{sorted_meaning, sorted_network, sorted_rarity_meaning};
 ghost use Rattle.table_tests.specs.TableNetworks.{first_cell_meaning, fisher_network, rarity_meaning};
@@ -12,6 +14,7 @@ ghost use Rattle.table_tests.specs.Weighing.{weight_meaning};
 
 use crate::by_turning::{quick_spread, quick_sum};
 use crate::fisher_table::{FisherTable, held};
+use crate::last_columns::LastColumns;
 use crate::product_stages::{ProductStages, product_stages};
 use crate::sorted_weights::{SortedStages, sorted_stages};
 use crate::sums::{count_label, front, labelled_weight};
@@ -24,6 +27,13 @@ use sorted_tables::rise;
 use stage_network::{Judge, OneOf, Prepared, Spread, TailSum};
 use std::alloc::Global;
 use weights::{Bytes, Frame, NoMemory, Tail};
+
+// Sizes of rows with the greatest first, and of columns with the least first.
+#[derive(Drop)]
+struct InOrder {
+    rows: Vec<u64>,
+    columns: Vec<u64>,
+}
 
 impl FisherTable {
     // The weight of the table that a labelling gives.
@@ -73,21 +83,56 @@ impl FisherTable {
         label_stages(alloc, columns, rows, Numbered::new(measure))
     }
 
-    // The network of the table's weight with sizes in falling order.
-    fn by_sorted_weight(&self, alloc: Global) -> Result<SortedStages, NoMemory>
+    // Its rows and columns in order.
+    fn in_order(&self, alloc: Global) -> Result<InOrder, NoMemory>
+        ensures rows { IfOk result (λ order. order.rows.items ≡ falling (row_sums self.now)) }
+        ensures columns { IfOk result (λ order. order.columns.items
+            ≡ rising (column_sums self.now)) }
+    {
+        let made = self.made();
+        let sizes = made.margins.rows.as_slice();
+        let mut room = [0u64; 8];
+        let fallen = &mut room[..sizes.len()];
+        fall(sizes, fallen);
+        let rows = Vec::from_slice(alloc, fallen)?;
+        let columns = rise(alloc, made.margins.columns.as_slice())?;
+        Ok(InOrder { rows, columns })
+    }
+
+    /// The network of the table's weight with sizes in falling order.
+    pub(crate) fn by_sorted_weight(&self, alloc: Global) -> Result<SortedStages, NoMemory>
         ensures built { let meaning = sorted_rarity_meaning self.now in
             IfOk result (λ s. meaning ≡ sorted_meaning s.1.measure.rows.items
             s.1.measure.columns.items s.1.measure.judge) }
         ensures follows { Follows (fisher_test self.now) Two (sorted_network self.now) }
     {
         let made = self.made();
-        let rows = made.margins.rows.as_slice();
-        let columns = rise(alloc, made.margins.columns.as_slice())?;
-        let mut room = [0u64; 8];
-        let falling = &mut room[..rows.len()];
-        fall(rows, falling);
+        let order = self.in_order(alloc)?;
         let judge = Judge::of(&made.frame);
-        sorted_stages(alloc, falling, columns.as_slice(), judge)
+        sorted_stages(
+            alloc,
+            order.rows.as_slice(),
+            order.columns.as_slice(),
+            judge,
+        )
+    }
+
+    /// What completes tables of its sums before their last two columns, in the same order.
+    pub(crate) fn last_columns(&self, alloc: Global) -> Result<LastColumns, NoMemory>
+        ensures { let meaning = sorted_rarity_meaning self.now in
+            IfOk result (λ last. meaning ≡ sorted_meaning last.rooms.rows.items
+            last.rooms.columns.items last.judge) }
+    {
+        let made = self.made();
+        let order = self.in_order(alloc)?;
+        let judge = Judge::of(&made.frame);
+        let last = LastColumns::new(
+            alloc,
+            order.rows.as_slice(),
+            order.columns.as_slice(),
+            judge,
+        )?;
+        Ok(last)
     }
 }
 

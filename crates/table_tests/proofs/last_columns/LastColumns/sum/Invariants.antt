@@ -1,0 +1,17 @@
+use Rattle.std.proofs.Common.{◌≡◌, ◌+◌, ◌-◌, ◌≤◌, length, take}
+use Rattle.weights.specs.declared.tails.Tail.TheVariants.{Two}
+use Rattle.node_pool.specs.Nodes.{weighted}
+use Rattle.stage_network.specs.Completions.{extreme_weight}
+use Rattle.stage_network.specs.SweepSteps.{sum_for}
+use Rattle.table_tests.specs.LastSteps.{weight_network}
+use Rattle.table_tests.proofs.last_columns.LastColumns.sum.Given as goal
+
+-- the nodes before this one
+abbrev pub invariant-loop-start : goal.invariant-loop-start
+invariant-loop-start g l = record {
+  within : l.start ≤ length l.half.nodes.nodes;
+  sums : l.sum ≡ (sum_for l.half.closed Two).sum + weighted (extreme_weight (weight_network l.self.rooms.rows.items l.self.rooms.columns.items l.self.judge) Two l.half.stage) (take l.start l.half.nodes.nodes);
+}
+
+abbrev pub decreases-loop-start : goal.decreases-loop-start
+decreases-loop-start g l = length l.half.nodes.nodes - l.start
