@@ -17,7 +17,5 @@ pub mod ServingLaw
 pub mod ServedFold
 pub mod ServingFollows
 pub mod ServingSteps
-pub mod ServedParts
-pub mod TreatmentOrder
 pub mod CutSteps
 pub mod Vectors
