@@ -7,7 +7,7 @@ use Rattle.stage_network.specs.Network.{Network, IsReached}
 use Rattle.stage_network.specs.Rooms.{IsRoomed}
 use Rattle.room_network.specs.Meanings.{Meaning}
 use Rattle.room_network.specs.Plans.{Plan}
-use Rattle.room_network.specs.RoomNetworks.{IsHoused, room_network}
+use Rattle.room_network.specs.RoomNetworks.{IsHoused}
 use Rattle.ordered_groups.specs.OrderedGroups.{groups_in_order}
 
 -- the network with the groups of each key in order

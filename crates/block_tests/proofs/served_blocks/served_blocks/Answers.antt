@@ -1,4 +1,4 @@
-use Rattle.std.proofs.Common.{◌≡◌, ◌∙◌, ℕ, List, ap, sym}
+use Rattle.std.proofs.Common.{◌≡◌, ◌∙◌, ℕ, List, ap}
 use Rattle.stage_network.specs.declared.verdicts.Judge.{Judge}
 use Rattle.ordered_groups.specs.OrderedNetworks.{AreItsRooms, MayBeOrdered}
 use Rattle.ordered_groups.proofs.OrderedKeys.{may-be-ordered}

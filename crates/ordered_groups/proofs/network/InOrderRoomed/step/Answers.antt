@@ -1,11 +1,5 @@
-use Rattle.std.proofs.Common.{◌≡◌, ◌∙◌, ◌++◌, ◌<◌, ap, length, sym, subst, arith}
-use Rattle.stage_network.specs.Network.{Network}
-use Rattle.stage_network.specs.Rooms.{IsArc}
 use Rattle.room_network.specs.Meanings.{Meaning}
-use Rattle.room_network.specs.Plans.{Floor, Plan}
-use Rattle.room_network.specs.RoomNetworks.{room_network}
-use Rattle.ordered_groups.proofs.OrderedParts.{in-allowed, in-arc, in-room, left-long}
-use Rattle.ordered_groups.proofs.network.InOrderRoomed.step.Given.{Over}
+use Rattle.ordered_groups.proofs.OrderedParts.{in-allowed, in-arc, in-room}
 use Rattle.ordered_groups.proofs.network.InOrderRoomed.step.Goals as goal
 
 pub cross-requires-clause-reached : goal.cross-requires-clause-reached

@@ -1,4 +1,3 @@
-use Rattle.room_network.specs.RoomNetworks.{room_network}
 use Rattle.ordered_groups.proofs.network.InOrderStages.value.Goals as goal
 
 pub value-requires : goal.value-requires
