@@ -22,7 +22,5 @@ pub mod ServedFold
 pub mod ServingFollows
 pub mod ServingSteps
 pub mod RowSteps
-pub mod ServedParts
-pub mod TreatmentOrder
 pub mod CutSteps
 pub mod Vectors

@@ -1,8 +1,8 @@
 -- Treatments may change places in every key of the network of servings.
-use Rattle.std.proofs.Common.{◌≡◌, ℕ, zero, suc, ◌+◌, ◌*◌, ◌<◌, ◌≤◌, List, [], ◌∷◌, ◌++◌, length, map, max, min, take, drop, replicate, Bool, true, false, cond, refl, sym, ◌∙◌, ap, subst, arith, length-drop}
+use Rattle.std.proofs.Common.{◌≡◌, ℕ, zero, suc, ◌+◌, ◌*◌, ◌<◌, List, [], ◌∷◌, ◌++◌, length, map, max, min, take, drop, replicate, Bool, true, false, cond, refl, sym, ◌∙◌, ap, subst, arith}
 use Rattle.std.specs.Prelude.{ℤ, pos, nat_abs, ◌≤ℤ◌}
 use Rattle.std.specs.List.{sum_by, Contains}
-use Rattle.std.proofs.lemmas.List.{length-map, length-replicate, length-take}
+use Rattle.std.proofs.lemmas.List.{length-replicate}
 use Rattle.std.proofs.lemmas.List.Sums.{sum_by-cons}
 use Rattle.weights.specs.Conditional.{ConditionalTest}
 use Rattle.weights.specs.declared.tails.Tail.{Tail}
@@ -12,11 +12,9 @@ use Rattle.weights.proofs.Sized.{length-minus}
 use Rattle.stage_network.specs.declared.verdicts.Judge.{Judge}
 use Rattle.stage_network.specs.Network.{Network, IsReached}
 use Rattle.stage_network.specs.Judged.{HasIntervals, judge_of}
-use Rattle.stage_network.specs.Completions.{over_arcs, total_weight}
+use Rattle.stage_network.specs.Completions.{over_arcs}
 use Rattle.stage_network.specs.Follows.{Follows}
-use Rattle.stage_network.specs.Laws.{IsLawful}
-use Rattle.stage_network.specs.Rooms.{IsRoomed}
-use Rattle.stage_network.proofs.Folding.{IsTurned, folded-follows, folded-intervals, folded-lawful, folded-roomed, folded_total, over_allowed, reached-folded}
+use Rattle.stage_network.proofs.Folding.{IsTurned, over_allowed}
 use Rattle.stage_network.proofs.Steps.{reached-next}
 use Rattle.stage_network.proofs.Swaps.{length-swap, map-swap, swap_at}
 use Rattle.room_network.specs.Meanings.{Meaning}
@@ -26,11 +24,9 @@ use Rattle.label_network.specs.Meanings.{sizes_in}
 use Rattle.label_network.proofs.ChoiceSwaps.{minus-swap, swapped_choices, swapped_member}
 use Rattle.label_network.proofs.Narrowing.{chosen}
 use Rattle.label_network.proofs.Rows.{length-abs, length-pos}
-use Rattle.weights.specs.InOrder.{in_order}
-use Rattle.weights.proofs.OneOrder.{length-in_order}
-use Rattle.ordered_groups.specs.OrderedGroups.{groups_in_order, lefts, may_precede, places_of, sums}
-use Rattle.ordered_groups.specs.declared.places.Place.{Place}
-use Rattle.ordered_groups.proofs.PlaceOrder.{IsTurn, back-key, front-key, length-places, order-folds, order-room, room_in_order, turn}
+use Rattle.ordered_groups.specs.OrderedNetworks.{AreItsRooms}
+use Rattle.ordered_groups.proofs.OrderedKeys.{AreTurned, ordered-follows}
+use Rattle.ordered_groups.proofs.PlaceOrder.{IsTurn, back-key, front-key, turn}
 use Rattle.block_tests.specs.BlockTests.{squared}
 use Rattle.block_tests.specs.Servings.{AreServings, ahead_at, alike, around, centre, far_square, gained, greatest_squares, high_square, is_late, later_numbers, left_numbers, low_square, most_squares, near_square, one_each, over_ends, served_network, served_sums, serving_at, serving_network, serving_plan, unserved}
 use Rattle.block_tests.specs.declared.serving.Serving.{Serving}
@@ -148,7 +144,7 @@ module _ (k : ℕ) (vs : List Serving) (judge : Judge) (a : AreServings k vs jud
   choices-at : (g : ℕ) (key : List ℤ) → g < length vs → n.choices g key ≡ choices (serving_at vs g).count (sizes_in (room key))
   choices-at g key h = choices_before (serving_plan k vs) g (room key) h
 
-  pub choice-at : (g : ℕ) (key : List ℤ) (c : List ℕ) → g < length vs → Contains (n.choices g key) c → IsChoice (serving_at vs g).count (sizes_in (room key)) c
+  choice-at : (g : ℕ) (key : List ℤ) (c : List ℕ) → g < length vs → Contains (n.choices g key) c → IsChoice (serving_at vs g).count (sizes_in (room key)) c
   choice-at g key c h o = chosen (serving_at vs g).count (sizes_in (room key)) c (subst (λ cs. Contains cs c) (choices-at g key h) o)
 
   choice-long : (g : ℕ) (key : List ℤ) (c : List ℕ) → IsReached n g key → g < length vs → Contains (n.choices g key) c → length c ≡ k
@@ -270,45 +266,26 @@ module _ (k : ℕ) (vs : List Serving) (judge : Judge) (a : AreServings k vs jud
       ∙ ap (λ x. pos (cond (is_late k vs g) (min x (greatest-of g (sizes_in (room (turn k i key))) (sizes_in (partial (turn k i key))))) x)) (most-turn i g key r)
       ∙ ap (λ x. pos (cond (is_late k vs g) (min (most_squares k vs (ahead_at k vs g) (sizes_in (room key)) (sizes_in (partial key))) x) (most_squares k vs (ahead_at k vs g) (sizes_in (room key)) (sizes_in (partial key))))) (greatest-turn i g key r)
 
-  -- ---- the folded network
-
-  pub served-long : (g : ℕ) (key : List ℤ) → IsReached n g key → length key ≡ n.width
-  served-long g key r = key_long (served_sums k vs judge) one_each (serving_width k vs) (served_measure k vs judge a) g key r
-
-  pub served-folds : (P : List ℤ → Type 0) → ((key j : List ℤ) → P key → IsTurn (alike k) key j → P j) → (key : List ℤ) → length key ≡ n.width → P key → P (groups_in_order (alike k) key)
-  served-folds P turns key l p =
-      order-folds (alike k) P turns key
-      (length-take (length (alike k)) key ∙ omega (arith, l, wide))
-      (length-drop (length (alike k)) key ∙ omega (arith, l, wide))
-      p
-
-  pub served-reached : (g : ℕ) (key : List ℤ) → IsReached (served_network k vs judge) g key → IsReached n g key
-  served-reached = reached-folded n (IsTurn (alike k)) (groups_in_order (alike k)) served-turned served-long served-folds
-
-  pub served-intervals : HasIntervals (served_network k vs judge) judge
-  served-intervals = folded-intervals n (IsTurn (alike k)) (groups_in_order (alike k)) served-turned served-long served-folds judge intervals low-turned high-turned
-
-  pub served-lawful : IsLawful n → IsLawful (served_network k vs judge)
-  served-lawful = folded-lawful n (IsTurn (alike k)) (groups_in_order (alike k)) served-turned served-long served-folds judge intervals low-turned high-turned
-
-  pub served-total : (g : ℕ) (key : List ℤ) → g ≤ n.count → IsReached n g key → total_weight (served_network k vs judge) g key ≡ total_weight n g key
-  served-total = folded_total n (IsTurn (alike k)) (groups_in_order (alike k)) served-turned served-long served-folds
+  -- so treatments may be put in order
+  pub treatments-turned : AreTurned (alike k) n judge
+  treatments-turned = record {
+    few = rw wide a.narrow;
+    wide = rw wide refl;
+    long = key_long (served_sums k vs judge) one_each (serving_width k vs) (served_measure k vs judge a);
+    turned = served-turned;
+    intervals = intervals;
+    low = low-turned;
+    high = high-turned;
+  }
 
   pub served-follows : (test : ConditionalTest) (tail : Tail) → judge ≡ judge_of test → Follows test tail n → Follows test tail (served_network k vs judge)
-  served-follows test tail e f = folded-follows n (IsTurn (alike k)) (groups_in_order (alike k)) served-turned served-long served-folds test tail (subst (HasIntervals (served_network k vs judge)) e served-intervals) f
+  served-follows = ordered-follows (alike k) n judge treatments-turned
 
-  -- the room of a key in order
-  pub served-room : (g : ℕ) (key : List ℤ) → IsReached n g key → room (groups_in_order (alike k) key) ≡ room_in_order (alike k) (room key)
-  served-room g key r =
-      let s : IsServed k vs judge a g (room key) (partial key) = key-of g key r in
-      let ps : List Place = in_order may_precede (places_of (alike k) (room key) (partial key)) in
-      let room_long : length (room key) ≡ length (alike k) = s.placed.long ∙ sym wide in
-      let partial_long : length (partial key) ≡ length (alike k) = s.long ∙ sym wide in
-      let long : length (lefts ps) ≡ k = length-map ps (λ (p : Place). p.left) ∙ length-in_order may_precede (places_of (alike k) (room key) (partial key)) ∙ length-places (alike k) (room key) (partial key) room_long partial_long ∙ wide in
-      let same : groups_in_order (alike k) key ≡ lefts ps ++ sums ps = ap (λ w. (let qs : List Place = in_order may_precede (places_of (alike k) (take w key) (drop w key)) in lefts qs ++ sums qs)) wide in
-      ap (take k) same ∙ front-key k (lefts ps) (sums ps) long ∙ order-room (alike k) (room key) (partial key) partial_long
-
-  pub served-roomed : IsLawful n → IsRoomed n k → IsRoomed (served_network k vs judge) k
-  served-roomed l rooms =
-      folded-roomed n (IsTurn (alike k)) (groups_in_order (alike k)) served-turned served-long served-folds l k rooms
-      (λ g j key x y e. served-room g j x ∙ ap (room_in_order (alike k)) e ∙ sym (served-room g key y))
+-- as the network of servings asks for
+pub treatments-housed : (k : ℕ) (vs : List Serving) (judge : Judge) → AreServings k vs judge → (j : ℕ) (us : List Serving) → AreItsRooms (serving_plan k vs) (serving_plan j us) (served_sums k vs judge) (alike k)
+treatments-housed k vs judge a j us = record {
+  weights = refl;
+  housed = record { floor_is = refl; some = omega (arith, a.some); few = omega (arith, a.narrow) };
+  width = sym (length-replicate {A = ℕ} k 1);
+  small_steps = omega arith;
+}

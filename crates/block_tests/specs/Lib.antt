@@ -3,6 +3,4 @@ pub mod BlockNetworks
 pub mod BlockSteps
 pub mod PreparedSteps
 pub mod Servings
-pub mod ServedSteps
 pub mod BoundSteps
-pub mod OrderSteps

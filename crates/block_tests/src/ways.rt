@@ -3,17 +3,18 @@ ghost use Rattle.std.specs.Prelude.{◌≡◌, ◌≤◌, ◌⊎◌, IfOk};
 ghost use Rattle.weights.specs.declared.TheConstants.{MAX};
 ghost use Rattle.weights.specs.declared.tails.Tail.{Tail};
 ghost use Rattle.stage_network.specs.Follows.{Follows};
+ghost use Rattle.ordered_groups.specs.OrderedNetworks.{ordered_network};
 ghost use Rattle.block_tests.specs.BlockNetworks.{line_addends, square_addends};
 ghost use Rattle.block_tests.specs.BlockSteps.{AreStages, cells_sum};
 ghost use Rattle.block_tests.specs.BlockTests.{block_counts, block_test, squared};
-ghost use Rattle.block_tests.specs.Servings.{served_network};
+ghost use Rattle.block_tests.specs.Servings.{serving_network};
 ghost use Rattle.block_tests.specs.declared.kinds.BlockKind.TheVariants.{Friedman, Cochran};
 
 use crate::block::first_arrangements;
 use crate::block_test::BlockTest;
 use crate::kinds::BlockKind;
 use crate::page::{PageBlocks, page_blocks};
-use crate::served_blocks::ServedBlocks;
+use crate::served_blocks::{ServedBlocks, served_blocks};
 use crate::squares::{SquareBlocks, block_copies};
 use enumerate::{Plain, next_joined};
 use stage_network::{AdditiveStages, Judge, OneOf, Prepared};
@@ -80,10 +81,10 @@ fn square_stages(
 fn served_stages(alloc: Global, test: &BlockTest) -> Result<ServedBlocks, NoMemory>
     requires { (test.now.kind ≡ Friedman) ⊎ (test.now.kind ≡ Cochran) }
     ensures { IfOk result (λ s. (t : Tail) → Follows (block_test test.now) t
-        (served_network s.stages.1.servings.treatments s.stages.1.servings.items.items
-        s.stages.1.servings.judge)) }
+        (ordered_network s.2 (serving_network s.1.servings.treatments s.1.servings.items.items
+        s.1.servings.judge))) }
 {
-    let stages = ServedBlocks::new(alloc, test.blocks(), test.treatments(), test.judge())?;
+    let stages = served_blocks(alloc, test.blocks(), test.treatments(), test.judge())?;
     Ok(stages)
 }
 

@@ -1,22 +1,17 @@
 -- Neighbouring groups of equal size may change places in every key of the network of their squared sums.
-use Rattle.std.proofs.Common.{◌≡◌, ℕ, zero, suc, ◌+◌, ◌*◌, ◌<◌, ◌≤◌, List, [], ◌∷◌, ◌++◌, length, map, take, drop, min, replicate, true, false, refl, sym, ◌∙◌, ap, subst, arith, length-drop}
+use Rattle.std.proofs.Common.{◌≡◌, ℕ, zero, suc, ◌+◌, ◌*◌, ◌/◌, ◌<◌, List, [], ◌∷◌, ◌++◌, length, map, take, drop, min, replicate, true, refl, sym, ◌∙◌, ap, subst, arith}
 use Rattle.std.specs.Prelude.{ℤ, pos, nat_abs, ◌≤ℤ◌, slice_index, ◌+ℤ◌, ◌*ℤ◌}
 use Rattle.std.specs.List.{sum_by, Contains}
-use Rattle.std.proofs.lemmas.List.{length-map, length-take}
-use Rattle.weights.specs.Conditional.{ConditionalTest}
-use Rattle.weights.specs.declared.tails.Tail.{Tail}
+use Rattle.std.proofs.lemmas.List.{length-map}
 use Rattle.weights.specs.Grouped.{choices, minus}
 use Rattle.weights.specs.Labellings.{number_of_labellings}
 use Rattle.weights.proofs.Sized.{length-minus}
 use Rattle.completion_bounds.specs.Boxes.{factored_squares, greatest_squares, least_squares}
 use Rattle.stage_network.specs.declared.verdicts.Judge.{Judge}
 use Rattle.stage_network.specs.Network.{Network, IsReached}
-use Rattle.stage_network.specs.Judged.{HasIntervals, judge_of}
-use Rattle.stage_network.specs.Completions.{over_arcs, total_weight}
-use Rattle.stage_network.specs.Follows.{Follows}
-use Rattle.stage_network.specs.Laws.{IsLawful}
-use Rattle.stage_network.specs.Rooms.{IsRoomed}
-use Rattle.stage_network.proofs.Folding.{IsTurned, folded-follows, folded-intervals, folded-lawful, folded-roomed, folded_total, over_allowed, reached-folded}
+use Rattle.stage_network.specs.Judged.{HasIntervals}
+use Rattle.stage_network.specs.Completions.{over_arcs}
+use Rattle.stage_network.proofs.Folding.{IsTurned, over_allowed}
 use Rattle.stage_network.proofs.Steps.{reached-next}
 use Rattle.stage_network.proofs.Swaps.{length-swap, map-swap, swap_at}
 use Rattle.room_network.proofs.RoomLaws.{key_long}
@@ -30,15 +25,15 @@ use Rattle.label_network.proofs.LabelPlans.{label_width}
 use Rattle.label_network.proofs.Narrowing.{chosen}
 use Rattle.label_network.proofs.OverRooms.{over_measure, over_place}
 use Rattle.label_network.proofs.Rows.{length-pos}
-use Rattle.weights.specs.InOrder.{in_order}
-use Rattle.weights.proofs.OneOrder.{length-in_order}
-use Rattle.ordered_groups.specs.OrderedGroups.{groups_in_order, lefts, may_precede, places_of, sums}
-use Rattle.ordered_groups.specs.declared.places.Place.{Place}
-use Rattle.k_sample_tests.specs.EqualGroups.{equal_groups_network}
+use Rattle.scores.specs.PlaceScores.{common_multiple}
+use Rattle.k_sample_tests.specs.KruskalWallis.{size_factors}
+use Rattle.k_sample_tests.specs.PackedSumSteps.{sums_meaning}
 use Rattle.k_sample_tests.specs.RankSums.{plus_each, score_parts, squares_meaning}
 use Rattle.k_sample_tests.specs.RankSumSteps.{IsSquaring}
+use Rattle.k_sample_tests.specs.declared.rank_sums.RankSums.{RankSums}
 use Rattle.label_network.proofs.ChoiceSwaps.{labellings-swap, minus-swap, swapped_choices, swapped_member}
-use Rattle.ordered_groups.proofs.PlaceOrder.{IsTurn, back-key, front-key, length-places, order-folds, order-room, room_in_order, same_at, swap-same, turn}
+use Rattle.ordered_groups.proofs.OrderedKeys.{AreTurned}
+use Rattle.ordered_groups.proofs.PlaceOrder.{IsTurn, back-key, front-key, same_at, swap-same, turn}
 use Rattle.k_sample_tests.proofs.RankNarrows.{length-parts, length-plus, squares_measure}
 
 plus_each-swap : (i : ℕ) (p a : List ℤ) → length a ≡ length p → plus_each (swap_at i p) (swap_at i a) ≡ swap_at i (plus_each p a)
@@ -297,41 +292,27 @@ module _ (factors : List ℕ) (bound : ℕ) (scores : List ℤ) (columns rows : 
   equal-high : (g : ℕ) (k j : List ℤ) → IsReached n g k → IsTurn rows k j → squares_intervals.high g j ≡ squares_intervals.high g k
   equal-high g k j r (i, s, e) = ap (squares_intervals.high g) e ∙ high-turn i g s k r
 
-  -- ---- the folded network
+  -- so groups of equal size may be put in order
+  pub rows-turned : AreTurned rows n judge
+  rows-turned = record {
+    few = h.few_rows;
+    wide = refl;
+    long = key_long (over_rooms m) label_weight (label_width columns rows) (over_measure m (squares_measure factors bound scores columns rows judge h));
+    turned = equal-turned;
+    intervals = squares_intervals;
+    low = equal-low;
+    high = equal-high;
+  }
 
-  pub equal-long : (g : ℕ) (k : List ℤ) → IsReached n g k → length k ≡ n.width
-  equal-long g k r = key_long (over_rooms m) label_weight (label_width columns rows) (over_measure m (squares_measure factors bound scores columns rows judge h)) g k r
+-- ---- the factors of a test
 
-  equal-folds : (P : List ℤ → Type 0) → ((k j : List ℤ) → P k → IsTurn rows k j → P j) → (k : List ℤ) → length k ≡ n.width → P k → P (groups_in_order rows k)
-  equal-folds P turns k l p =
-      order-folds rows P turns k
-      (length-take (length rows) k ∙ omega (arith, l))
-      (length-drop (length rows) k ∙ omega (arith, l))
-      p
+-- groups of equal size have equal factors
+even-factors : (sizes : List ℕ) (i : ℕ) → same_at i sizes ≡ true → swap_at i (size_factors sizes) ≡ size_factors sizes
+even-factors sizes i s = sym (map-swap (λ n. common_multiple sizes / n) i sizes) ∙ ap (map (λ n. common_multiple sizes / n)) (swap-same i sizes s)
 
-  pub equal-reached : (g : ℕ) (k : List ℤ) → IsReached (equal_groups_network m) g k → IsReached n g k
-  equal-reached = reached-folded n (IsTurn rows) (groups_in_order rows) equal-turned equal-long equal-folds
-
-  pub equal-intervals : HasIntervals (equal_groups_network m) judge
-  equal-intervals = folded-intervals n (IsTurn rows) (groups_in_order rows) equal-turned equal-long equal-folds judge squares_intervals equal-low equal-high
-
-  pub equal-lawful : IsLawful n → IsLawful (equal_groups_network m)
-  equal-lawful = folded-lawful n (IsTurn rows) (groups_in_order rows) equal-turned equal-long equal-folds judge squares_intervals equal-low equal-high
-
-  pub equal-total : (g : ℕ) (k : List ℤ) → g ≤ n.count → IsReached n g k → total_weight (equal_groups_network m) g k ≡ total_weight n g k
-  equal-total = folded_total n (IsTurn rows) (groups_in_order rows) equal-turned equal-long equal-folds
-
-  pub equal-follows : (test : ConditionalTest) (tail : Tail) → judge ≡ judge_of test → Follows test tail n → Follows test tail (equal_groups_network m)
-  equal-follows test tail e f = folded-follows n (IsTurn rows) (groups_in_order rows) equal-turned equal-long equal-folds test tail (subst (HasIntervals (equal_groups_network m)) e equal-intervals) f
-
-  -- the room of a key in order
-  pub equal-room : (g : ℕ) (k : List ℤ) → IsReached n g k → room (groups_in_order rows k) ≡ room_in_order rows (room k)
-  equal-room g k r =
-      let ps : List Place = in_order may_precede (places_of rows (room k) (partial k)) in
-      let long : length (lefts ps) ≡ length rows = length-map ps (λ (p : Place). p.left) ∙ length-in_order may_precede (places_of rows (room k) (partial k)) ∙ length-places rows (room k) (partial k) (room-long g k r) (partial-long g k r) in
-      front-key (length rows) (lefts ps) (sums ps) long ∙ order-room rows (room k) (partial k) (partial-long g k r)
-
-  pub equal-roomed : IsLawful n → IsRoomed n (length rows) → IsRoomed (equal_groups_network m) (length rows)
-  equal-roomed l rooms =
-      folded-roomed n (IsTurn rows) (groups_in_order rows) equal-turned equal-long equal-folds l (length rows) rooms
-      (λ g j k a b e. equal-room g j a ∙ ap (room_in_order rows) e ∙ sym (equal-room g k b))
+pub groups-turned : (m : RankSums) (sizes : List ℕ) → sizes ≡ m.rows.items → m.factors.items ≡ size_factors sizes → AreTurned sizes (label_network (sums_meaning m)) m.judge
+groups-turned m sizes rows_are factors_are =
+    subst (λ ns. AreTurned ns (label_network (sums_meaning m)) m.judge) (sym rows_are)
+    (rows-turned m.factors.items m.bound m.later.scores.items m.later.columns.items m.rows.items m.judge m.right.squaring
+    (subst (λ ns. (i : ℕ) → same_at i ns ≡ true → swap_at i m.factors.items ≡ m.factors.items) rows_are
+    (subst (λ fs. (i : ℕ) → same_at i sizes ≡ true → swap_at i fs ≡ fs) (sym factors_are) (even-factors sizes))))

@@ -7,5 +7,3 @@ pub mod KSamples
 pub mod UmbrellaSteps
 pub mod RankSumSteps
 pub mod PackedSumSteps
-pub mod EqualGroups
-pub mod EqualGroupSteps

@@ -6,22 +6,25 @@ ghost use Rattle.sample_reader.specs.Groups.{group_sizes};
 ghost use Rattle.stage_network.specs.Follows.{Follows};
 ghost use Rattle.stage_network.specs.Judged.{judge_of};
 ghost use Rattle.label_network.specs.LabelNetwork.{label_network};
-ghost use Rattle.k_sample_tests.specs.EqualGroups.{equal_groups_network};
+ghost use Rattle.ordered_groups.specs.OrderedNetworks.{ordered_network};
 ghost use Rattle.k_sample_tests.specs.KruskalWallis.{kruskal_wallis_test, pooled_scores};
 ghost use Rattle.k_sample_tests.specs.PackedSums.{packed_meaning};
 ghost use Rattle.k_sample_tests.specs.RankSums.{half_for, unpacked_meaning};
 ghost use Rattle.k_sample_tests.specs.PackedSumSteps.{AreSums, sums_meaning};
 
-use crate::equal_groups::EqualGroups;
 use crate::group_sums::squares_statistic;
 use crate::kruskal_wallis::SquaredSums;
 use crate::packed_sums::{PackedSums, half_for};
 use crate::rank_sums::RankSums;
-use label_network::{LabelStages, label_stages};
+use label_network::{LabelRooms, LabelStages, label_stages};
 use labelled::LabelStatistic;
+use ordered_groups::InOrder;
 use stage_network::{Judge, OneOf};
 use std::alloc::Global;
 use weights::{NoMemory, Tail};
+
+// The network of the groups' sums with groups of equal size in order.
+type EqualGroups = InOrder<LabelRooms, RankSums>;
 
 // The sums of the groups' scores as what is measured.
 fn rank_sums(alloc: Global, problem: &SquaredSums, judge: Judge) -> Result<RankSums, NoMemory>
@@ -108,11 +111,15 @@ fn ordered_stages(
 ) -> Result<EqualGroups, NoMemory>
     requires { judge ≡ judge_of (kruskal_wallis_test problem.now) }
     ensures { IfOk result (λ s. (t : Tail) → Follows (kruskal_wallis_test problem.now) t
-        (equal_groups_network (sums_meaning s.stages.1))) }
+        (ordered_network s.2 (label_network (sums_meaning s.1)))) }
 {
+    let made = problem.made();
     let stages = written_stages(alloc, problem, judge)?;
-    let sizes = Vec::from_slice(alloc, problem.made().sizes.as_slice())?;
-    let ordered = EqualGroups::new(stages, sizes);
+    let columns = made.columns.sizes.as_slice();
+    let groups = made.sizes.as_slice();
+    let rooms = LabelRooms::new(alloc, columns, groups)?;
+    let sizes = Vec::from_slice(alloc, groups)?;
+    let ordered = InOrder::new(stages, rooms, sizes);
     Ok(ordered)
 }
 

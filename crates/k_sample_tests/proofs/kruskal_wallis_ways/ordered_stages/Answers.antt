@@ -1,29 +1,71 @@
-use Rattle.std.proofs.Common.{◌∙◌, ap, subst, sym}
+use Rattle.std.proofs.Common.{◌≡◌, ◌∙◌, ℕ, List, ap, arith, length, refl, subst, sym}
+use Rattle.sample_reader.specs.Groups.{group_sizes}
 use Rattle.stage_network.specs.Follows.{Follows}
-use Rattle.label_network.specs.LabelNetwork.{label_network}
+use Rattle.label_network.specs.LabelNetwork.{IsMargin, label_network, over_rooms}
 use Rattle.label_network.specs.Meanings.{Meaning}
-use Rattle.k_sample_tests.specs.EqualGroups.{equal_groups_network}
-use Rattle.k_sample_tests.specs.EqualGroupSteps.{AreEqualGroups}
+use Rattle.ordered_groups.proofs.OrderedKeys.{AreTurned, may-be-ordered, ordered-follows}
 use Rattle.k_sample_tests.specs.KruskalWallis.{ScoredGroups, kruskal_wallis_test, size_factors}
-use Rattle.k_sample_tests.specs.PackedSumSteps.{sums_meaning}
+use Rattle.k_sample_tests.specs.PackedSumSteps.{AreSums, sums_meaning}
+use Rattle.k_sample_tests.specs.RankSumSteps.{AreFitting}
 use Rattle.k_sample_tests.specs.declared.rank_sums.RankSums.{RankSums}
-use Rattle.k_sample_tests.proofs.EqualParts.{in-follows}
+use Rattle.k_sample_tests.proofs.EqualKeys.{groups-turned}
+use Rattle.k_sample_tests.proofs.FittingKruskalWallis.{margin}
 use Rattle.k_sample_tests.proofs.kruskal_wallis_ways.ordered_stages.Goals as goal
 
-pub new-ordered-requires : goal.new-ordered-requires
-new-ordered-requires c = record {
-  sizes_are = c.in_ok-sizes.ensures.items ∙ c.as_slice.ensures ∙ c.made.ensures.sizes ∙ sym (ap (λ (m : Meaning). m.rows) c.in_ok-stages.ensures.sums.meaning);
-  factors_are = c.in_ok-stages.ensures.sums.factors ∙ ap size_factors (sym (c.in_ok-sizes.ensures.items ∙ c.as_slice.ensures ∙ c.made.ensures.sizes));
-}
+module _ (samples : ScoredGroups) (m : RankSums) (f : AreFitting samples) (a : AreSums samples m) where
+  rows-are : m.rows.items ≡ group_sizes samples.groups
+  rows-are = ap (λ (x : Meaning). x.rows) a.meaning
+
+  is-margin : (columns rows : List ℕ) → columns ≡ m.later.columns.items → rows ≡ m.rows.items → IsMargin (over_rooms (sums_meaning m)) columns rows
+  is-margin columns rows c r =
+      let columns-are = ap (λ (x : Meaning). x.columns) a.meaning in
+      margin samples f (sums_meaning m) columns rows columns-are rows-are (omega (arith, ap length rows-are, f.few_rows)) (c ∙ columns-are) (r ∙ rows-are)
+
+  turned : (sizes : List ℕ) → sizes ≡ group_sizes samples.groups → AreTurned sizes (label_network (sums_meaning m)) m.judge
+  turned sizes s = groups-turned m sizes (s ∙ sym rows-are) (a.factors ∙ ap size_factors (sym s))
+
+pub new-requires : goal.new-requires
+new-requires c =
+    let made = c.made-made.ensures in
+    let sums = c.in_ok-stages.ensures.sums in
+    (is-margin c.args.problem.now c.in_ok-stages.stages.1 made.fitting sums c.as_slice-columns.result.now c.as_slice-groups.result.now
+    (c.as_slice-columns.ensures ∙ made.column_sizes ∙ sym (ap (λ (x : Meaning). x.columns) sums.meaning))
+    (c.as_slice-groups.ensures ∙ made.sizes ∙ sym (ap (λ (x : Meaning). x.rows) sums.meaning))).labelled
+
+pub new-ordered-requires-clause-rooms : goal.new-ordered-requires-clause-rooms
+new-ordered-requires-clause-rooms c =
+    let made = c.made-made.ensures in
+    let sums = c.in_ok-stages.ensures.sums in
+    let rows : c.in_ok-rooms.rooms.rows.items ≡ c.in_ok-stages.stages.1.rows.items = c.in_ok-rooms.ensures.rows ∙ c.as_slice-groups.ensures ∙ made.sizes ∙ sym (ap (λ (x : Meaning). x.rows) sums.meaning) in
+    let margin_is = is-margin c.args.problem.now c.in_ok-stages.stages.1 made.fitting sums c.in_ok-rooms.rooms.columns.items c.in_ok-rooms.rooms.rows.items
+    (c.in_ok-rooms.ensures.columns ∙ c.as_slice-columns.ensures ∙ made.column_sizes ∙ sym (ap (λ (x : Meaning). x.columns) sums.meaning)) rows in
+    record {
+      weights = refl;
+      housed = record {
+        floor_is = margin_is.floor_is;
+        some = omega (arith, margin_is.some, ap length rows);
+        few = omega (arith, margin_is.wide, ap length rows);
+      };
+      width = ap length (ap (λ (x : Meaning). x.rows) sums.meaning ∙ sym (c.in_ok-sizes.ensures.items ∙ c.as_slice-groups.ensures ∙ made.sizes));
+      small_steps = omega (arith, margin_is.wide, ap length rows);
+    }
+
+pub new-ordered-requires-clause-ordered : goal.new-ordered-requires-clause-ordered
+new-ordered-requires-clause-ordered c =
+    let made = c.made-made.ensures in
+    let s = c.in_ok-stages.stages.1 in
+    may-be-ordered c.in_ok-sizes.sizes.items (label_network (sums_meaning s)) s.judge
+    (turned c.args.problem.now s made.fitting c.in_ok-stages.ensures.sums c.in_ok-sizes.sizes.items (c.in_ok-sizes.ensures.items ∙ c.as_slice-groups.ensures ∙ made.sizes))
 
 pub returns : goal.returns
 returns c t =
     let samples : ScoredGroups = c.args.problem.now in
-    let equal : AreEqualGroups c.in_ok-stages.stages.1 c.in_ok-sizes.sizes.items = record {
-      sizes_are = c.in_ok-sizes.ensures.items ∙ c.as_slice.ensures ∙ c.made.ensures.sizes ∙ sym (ap (λ (m : Meaning). m.rows) c.in_ok-stages.ensures.sums.meaning);
-      factors_are = c.in_ok-stages.ensures.sums.factors ∙ ap size_factors (sym (c.in_ok-sizes.ensures.items ∙ c.as_slice.ensures ∙ c.made.ensures.sizes));
-    } in
-    subst (λ (m : RankSums). Follows (kruskal_wallis_test samples) t (equal_groups_network (sums_meaning m))) (sym c.new-ordered.ensures)
-    (in-follows c.in_ok-stages.stages.1 c.in_ok-sizes.sizes.items equal (kruskal_wallis_test samples) t
-    (ap (λ (m : Meaning). m.judge) c.in_ok-stages.ensures.sums.meaning)
-    (subst (λ m. Follows (kruskal_wallis_test samples) t (label_network m)) (sym c.in_ok-stages.ensures.sums.meaning) (c.written_stages.ensures.follows t)))
+    let made = c.made-made.ensures in
+    let s = c.in_ok-stages.stages.1 in
+    let sums = c.in_ok-stages.ensures.sums in
+    rw c.new-ordered.ensures
+    (ordered-follows c.in_ok-sizes.sizes.items (label_network (sums_meaning s)) s.judge
+    (turned samples s made.fitting sums c.in_ok-sizes.sizes.items (c.in_ok-sizes.ensures.items ∙ c.as_slice-groups.ensures ∙ made.sizes))
+    (kruskal_wallis_test samples) t
+    (ap (λ (m : Meaning). m.judge) sums.meaning)
+    (subst (λ m. Follows (kruskal_wallis_test samples) t (label_network m)) (sym sums.meaning) (c.written_stages.ensures.follows t)))

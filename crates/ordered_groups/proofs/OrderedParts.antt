@@ -1,0 +1,58 @@
+-- What the bodies of a network in order read of its keys.
+use Rattle.std.proofs.Common.{◌≡◌, ℕ, ◌<◌, List, ◌++◌, length, take, drop, sym, ◌∙◌, ap, subst}
+use Rattle.std.specs.Prelude.{ℤ}
+use Rattle.std.specs.List.{Contains}
+use Rattle.stage_network.specs.Network.{Network, IsReached}
+use Rattle.stage_network.specs.Rooms.{IsArc, IsPlace}
+use Rattle.room_network.specs.Meanings.{Meaning}
+use Rattle.room_network.specs.Plans.{Floor, Plan, alone}
+use Rattle.room_network.specs.RoomNetworks.{room_network, room_of}
+use Rattle.room_network.proofs.RoomKeys.{KeepsWidth, back_is, front_is, is_allowed, is_key, own_plan, weighed}
+use Rattle.room_network.proofs.RoomLaws.{widths_kept}
+use Rattle.ordered_groups.specs.OrderedNetworks.{ordered_network}
+use Rattle.ordered_groups.specs.OrderSteps.{IsInOrder}
+
+module _ (rooms plan : Plan) (m : Meaning) (sizes : List ℕ) (i : IsInOrder rooms plan m sizes) where
+  abbrev n : Network
+  n = room_network m plan.weight
+
+  kept : KeepsWidth m.floor
+  kept = widths_kept rooms m i.sound i.its_rooms.housed
+
+  pub in-arc : (w g : ℕ) (room : List ℤ) (c : List ℕ) → IsArc (ordered_network sizes n) w g room c → IsArc n w g room c
+  in-arc w g room c v = record { partial = v.partial; wide = v.wide; reached = i.ordered.reached g (room ++ v.partial) v.reached; allowed = v.allowed }
+
+  pub in-place : (w g : ℕ) (room : List ℤ) → IsPlace (ordered_network sizes n) w g room → IsPlace n w g room
+  in-place w g room v = record { partial = v.partial; wide = v.wide; reached = i.ordered.reached g (room ++ v.partial) v.reached }
+
+  -- a room is one of the rooms beside the network
+  pub in-room : (g : ℕ) (room partial : List ℤ) → length room ≡ m.floor.width → IsReached n g (room ++ partial) → IsReached (alone rooms) g room
+  in-room g room partial l r =
+      let own : IsReached (room_network m rooms.weight) g (room ++ partial) = subst (λ w. IsReached (room_network m w) g (room ++ partial)) (sym i.its_rooms.weights) r in
+      let alone_reached : IsReached (alone (weighed m rooms.weight)) g (take m.floor.width (room ++ partial)) = (is_key m rooms.weight kept g (room ++ partial) own).room in
+      subst (λ p. IsReached (alone p) g room) (own_plan rooms m i.its_rooms.housed)
+      (subst (IsReached (alone (weighed m rooms.weight)) g) (front_is m.floor.width room partial l) alone_reached)
+
+  pub in-allowed : (g : ℕ) (room partial : List ℤ) (c : List ℕ) → length room ≡ m.floor.width → g < m.floor.count → Contains (n.choices g (room ++ partial)) c → Contains (rooms.floor.choices g room) c
+  in-allowed g room partial c l before o =
+      subst (λ (f : Floor). Contains (f.choices g room) c) (sym i.its_rooms.housed.floor_is)
+      (subst (λ r. Contains (m.floor.choices g r) c) (front_is m.floor.width room partial l) (is_allowed (weighed m plan.weight) g (room_of m (room ++ partial)) c before o))
+
+  pub left-long : (g : ℕ) (room : List ℤ) (c : List ℕ) → length room ≡ m.floor.width → length (m.floor.next g room c) ≡ m.floor.width
+  left-long g room c l = kept.next_long g room c l
+
+  -- the two parts of a step
+  pub step-front : (g : ℕ) (room : List ℤ) (c : List ℕ) → length room ≡ m.floor.width → take (length room) (m.floor.next g room c ++ m.step g room c) ≡ m.floor.next g room c
+  step-front g room c l = front_is (length room) (m.floor.next g room c) (m.step g room c) (kept.next_long g room c l ∙ sym l)
+
+  pub step-back : (g : ℕ) (room : List ℤ) (c : List ℕ) → length room ≡ m.floor.width → drop (length room) (m.floor.next g room c ++ m.step g room c) ≡ m.step g room c
+  step-back g room c l = back_is (length room) (m.floor.next g room c) (m.step g room c) (kept.next_long g room c l ∙ sym l)
+
+  -- the key that a choice leads to, before its groups are put in order
+  pub in-next : (g : ℕ) (room partial : List ℤ) (c : List ℕ) → length room ≡ m.floor.width → m.floor.next g room c ++ drop m.floor.width (n.next g (room ++ partial) c) ≡ n.next g (room ++ partial) c
+  in-next g room partial c l =
+      let here : List ℤ = take m.floor.width (room ++ partial) in
+      let after : List ℤ = m.advance g (take m.floor.width (room ++ partial)) c (drop m.floor.width (room ++ partial)) in
+      let same : take m.floor.width (room ++ partial) ≡ room = front_is m.floor.width room partial l in
+      ap (λ q. m.floor.next g room c ++ q) (back_is m.floor.width (m.floor.next g here c) after (kept.next_long g here c (ap length same ∙ l)))
+      ∙ ap (λ r. m.floor.next g r c ++ after) (sym same)

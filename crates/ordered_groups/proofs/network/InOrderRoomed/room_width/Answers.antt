@@ -1,0 +1,15 @@
+use Rattle.std.proofs.Common.{subst, sym}
+use Rattle.stage_network.specs.Network.{Network}
+use Rattle.stage_network.specs.Rooms.{IsRoomed}
+use Rattle.room_network.specs.RoomNetworks.{room_network}
+use Rattle.ordered_groups.specs.OrderedNetworks.{ordered_network}
+use Rattle.ordered_groups.proofs.network.InOrderRoomed.room_width.Goals as goal
+
+pub returns-clause-roomed : goal.returns-clause-roomed
+returns-clause-roomed g c =
+    let i = c.self.invariant in
+    let s = c.self.inside in
+    let n : Network = room_network (g.M.Measure.meaning s.stages.1) (g.R.Rooms.plan s.stages.0).weight in
+    rw (← c.self.view_is)
+    (subst (IsRoomed (ordered_network s.sizes.items n)) (sym i.its_rooms.width)
+    (i.ordered.roomed c.stages-lawful.ensures.lawful (subst (IsRoomed n) i.its_rooms.width c.room_width.ensures.roomed)))

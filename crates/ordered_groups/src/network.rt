@@ -1,0 +1,173 @@
+// Networks of rooms in whose keys groups are in order.
+ghost use Rattle.std.specs.Prelude.{◌≡◌};
+ghost use Rattle.room_network.specs.RoomNetworks.{room_network};
+ghost use Rattle.ordered_groups.specs.OrderedNetworks.{AreItsRooms, MayBeOrdered};
+
+use crate::keys::{put_groups_in_order, put_sums_in_order};
+use room_network::{Measure, RoomNetwork, Rooms};
+use stage_network::{Roomed, Stages, Verdict, behind, front};
+use std::marker::Model;
+use weights::Tail;
+
+/// A network of rooms in which groups of equal size that stand side by side are in order: by what
+/// remains of them, and then by their sums. For k such groups it has up to k! times fewer keys. It
+/// is seen as its rooms, its measure, and the groups' sizes.
+#[derive(Drop)]
+pub struct InOrder<R: Rooms, M: Measure> {
+    stages: RoomNetwork<R, M>,
+    // Its rooms once more: they tell a step what a choice leaves of the groups.
+    rooms: R,
+    sizes: Vec<u64>,
+}
+
+impl<R: Rooms, M: Measure> Model for InOrder<R, M> {
+    ghost use Rattle.std.specs.Prelude.{ℕ, List};
+    ghost use Rattle.ordered_groups.specs.OrderSteps.{IsInOrder};
+
+    ghost Value = { R × M × List ℕ };
+
+    ghost view = { λ s. (s.stages.0, s.stages.1, s.sizes.items) };
+
+    ghost invariant = { λ s.
+        IsInOrder (R.plan s.rooms) (R.plan s.stages.0) (M.meaning s.stages.1) s.sizes.items };
+}
+
+impl<R: Rooms, M: Measure> InOrder<R, M> {
+    /// A network with groups of these sizes in order, made of it and of rooms like its own.
+    pub fn new(stages: RoomNetwork<R, M>, rooms: R, sizes: Vec<u64>) -> InOrder<R, M>
+        requires rooms { let m = M.meaning stages.1 in
+            AreItsRooms (R.plan rooms) (R.plan stages.0) m sizes.items }
+        requires ordered { let n = room_network (M.meaning stages.1) (R.plan stages.0).weight in
+            MayBeOrdered sizes.items n }
+        ensures { result ≡ (stages.0, stages.1, sizes.items) }
+    {
+        let _count = rooms.stages();
+        InOrder {
+            stages,
+            rooms,
+            sizes,
+        }
+    }
+}
+
+impl<R: Rooms, M: Measure> Stages for InOrder<R, M> {
+    ghost use Rattle.ordered_groups.specs.OrderedNetworks.{ordered_network};
+
+    ghost network = { λ s. ordered_network s.2
+        (room_network (M.meaning s.1) (R.plan s.0).weight) };
+
+    fn stages(&self) -> usize {
+        self.stages.stages()
+    }
+
+    fn width(&self) -> usize {
+        self.stages.width()
+    }
+
+    fn choice_width(&self) -> usize {
+        self.stages.choice_width()
+    }
+
+    fn first_key(&self, key: &mut [i128]) {
+        let _lawful = self.stages.stages();
+        self.stages.first_key(key);
+        put_groups_in_order(self.sizes.as_slice(), key);
+    }
+
+    fn first_choice(&self, stage: usize, key: &[i128], choice: &mut [u64]) -> bool {
+        self.stages.first_choice(stage, key, choice)
+    }
+
+    fn next_choice(&self, stage: usize, key: &[i128], choice: &mut [u64]) -> bool {
+        self.stages.next_choice(stage, key, choice)
+    }
+
+    fn apply(&self, stage: usize, key: &[i128], choice: &[u64], next: &mut [i128]) -> u128 {
+        let _lawful = self.stages.stages();
+        let weight = self.stages.apply(stage, key, choice, next);
+        put_groups_in_order(self.sizes.as_slice(), next);
+        weight
+    }
+
+    fn rest(&self, stage: usize, key: &[i128]) -> u128 {
+        self.stages.rest(stage, key)
+    }
+
+    #[inline(always)]
+    fn verdict(&self, stage: usize, key: &[i128], tail: Tail) -> Verdict {
+        self.stages.verdict(stage, key, tail)
+    }
+
+    fn value(&self, key: &[i128]) -> i128 {
+        self.stages.value(key)
+    }
+}
+
+impl<R: Rooms, M: Measure> Roomed for InOrder<R, M> {
+    ghost use Rattle.std.specs.Prelude.{◌+◌, ◌++◌};
+
+    ghost room_width = { λ s. (M.meaning s.1).floor.width };
+
+    ghost step_width = { λ s. (M.meaning s.1).floor.width + (M.meaning s.1).step_width };
+
+    ghost step_of = { λ s g room c.
+        (M.meaning s.1).floor.next g room c ++ (M.meaning s.1).step g room c };
+
+    ghost outlook_width = { λ s. (M.meaning s.1).outlook_width };
+
+    ghost outlook_of = { λ s. (M.meaning s.1).outlook };
+
+    fn room_width(&self) -> usize {
+        let _lawful = self.stages.stages();
+        self.stages.room_width()
+    }
+
+    fn step_width(&self) -> usize {
+        let _lawful = self.stages.stages();
+        self.stages.room_width() + self.stages.step_width()
+    }
+
+    // A step has what the choice leaves of the groups, and then the network's own.
+    fn step(&self, stage: usize, room: &[i128], choice: &[u64], step: &mut [i128]) {
+        let (left, inner) = step.split_at_mut(room.len());
+        self.rooms.cross(stage, room, choice, left);
+        self.stages.step(stage, room, choice, inner);
+    }
+
+    #[inline(always)]
+    fn advance(
+        &self,
+        stage: usize,
+        room: &[i128],
+        choice: &[u64],
+        step: &[i128],
+        partial: &[i128],
+        next: &mut [i128],
+    ) {
+        let sizes = self.sizes.as_slice();
+        let inner = behind(step, room.len());
+        self.stages
+            .advance(stage, room, choice, inner, partial, next);
+        put_sums_in_order(sizes, front(step, room.len()), next);
+    }
+
+    fn outlook_width(&self) -> usize {
+        self.stages.outlook_width()
+    }
+
+    fn outlook(&self, stage: usize, room: &[i128], outlook: &mut [i128]) {
+        self.stages.outlook(stage, room, outlook);
+    }
+
+    #[inline(always)]
+    fn verdict_by(
+        &self,
+        stage: usize,
+        room: &[i128],
+        outlook: &[i128],
+        partial: &[i128],
+        tail: Tail,
+    ) -> Verdict {
+        self.stages.verdict_by(stage, room, outlook, partial, tail)
+    }
+}
