@@ -1,5 +1,5 @@
-"""Makes problems of one and two samples, of blocks, of strata and of tables from a seed, and compares a program's ways to
-the report of each; `agree` runs it.
+"""Makes problems of one, two and several samples, of blocks, of strata, of tables and of twins from a seed, and compares a
+program's ways to the report of each; `agree` runs it.
 
 A line for each problem: 0 where both reports are the same, else 1, and what was tried. Where they differ, the file and
 both reports are shown on standard error.
@@ -12,10 +12,12 @@ from concurrent.futures import ThreadPoolExecutor
 
 ONE_SAMPLE = ("rawsigned", "signedrank", "sign")
 TWO_SAMPLES = ("savage", "raw", "ranksum", "ansari", "mood", "median")
+SAMPLES = ("kw", "jt", "umbrella")
 BLOCKS = ("friedman",)
 STRATA = ("stratranksum", "strata")
-TABLES = ("linear",)
-TESTS = (*ONE_SAMPLE, *TWO_SAMPLES, *BLOCKS, *STRATA, *TABLES)
+TABLES = ("linear", "fisher")
+TWINS = ("kendall",)
+TESTS = (*ONE_SAMPLE, *TWO_SAMPLES, *SAMPLES, *BLOCKS, *STRATA, *TABLES, *TWINS)
 # what a problem has at most, so that the slower way takes about a hundredth of a second
 MOST = 30_000
 
@@ -53,6 +55,16 @@ def two_samples(dice):
     return [[label, value()] for label, size in zip("ab", sizes_within(dice, MOST, either(dice))) for _ in range(size)]
 
 
+def samples(dice):
+    value = values_of(dice)
+    sizes = [dice.choice([1, 2, 2, 3, 3, 4]) for _ in range(dice.randint(2, 4))]
+    # without ties by half, whatever the values are
+    values = [value() for _ in range(sum(sizes))]
+    if dice.random() < 0.5:
+        values = dice.sample(range(1000), sum(sizes))
+    return [["abcd"[group], values.pop()] for group, size in enumerate(sizes) for _ in range(size)]
+
+
 def blocks(dice):
     treatments = dice.randint(5, 8)
     # with many ties, with some and with hardly any
@@ -75,6 +87,12 @@ def strata_of_tables(dice):
     return [[f"s{stratum}", *(dice.randint(0, 6) for _ in range(4))] for stratum in range(dice.randint(1, 6))]
 
 
+def twins(dice):
+    # with few values or many, on either side
+    most = [dice.choice([1, 2, 4, 99]) for _ in range(2)]
+    return [[dice.randint(0, side) for side in most] for _ in range(dice.randint(2, 9))]
+
+
 def table(dice):
     width = dice.randint(2, 6)
     return [[dice.choice([0, 0, 0, 1, 1, 2, 3]) for _ in range(width)] for _ in range(dice.randint(2, 5))]
@@ -83,10 +101,12 @@ def table(dice):
 LAYOUTS = {
     one_sample: ONE_SAMPLE,
     two_samples: TWO_SAMPLES,
+    samples: SAMPLES,
     blocks: BLOCKS,
     strata_of_samples: STRATA[:1],
     strata_of_tables: STRATA[1:],
     table: TABLES,
+    twins: TWINS,
 }
 
 
@@ -105,9 +125,10 @@ def tell(place):
     rows = next(layout for layout, tests in LAYOUTS.items() if test in tests)(dice)
     text = "".join(",".join(map(str, row)) + "\n" for row in [[f"c{i}" for i in range(len(rows[0]))], *rows])
     name = f"{place}.csv"
+    words = ["--peak", str(dice.randint(1, len({row[0] for row in rows})))] if test == "umbrella" else []
     with open(name, "w", encoding="utf-8") as file:
         file.write(text)
-    quick, written = report(test, name), report(test, name, "--nodes")
+    quick, written = report(test, name, *words), report(test, name, *words, "--nodes")
     same = quick == written and quick[-1] == "status 0"
     return f"{0 if same else 1} problem {place}, {test}", "" if same else "\n".join([text, *quick, *written])
 
