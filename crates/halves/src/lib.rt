@@ -20,5 +20,7 @@ mod tails;
 
 pub use half_way::{FirstHalf, first_half};
 pub use later::completion_values;
-pub use meeting::meeting_sums;
+pub use lines::merged;
+pub use meeting::{meeting_sums, pair_sums};
+pub use sides::TailSides;
 pub use tails::tail_sums;

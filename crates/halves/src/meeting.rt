@@ -47,8 +47,9 @@ fn asked_sum(asked: bool, ones: &[Line], others: &[Line], sides: Sides) -> TailS
     TailSum { sum, opened: 0 }
 }
 
-// Those of each tail.
-fn pair_sums(ones: &[Line], others: &[Line], tails: Tails, sides: &TailSides) -> TailSums
+/// Of each asked tail the weight of the pairs of two lists whose values sum to one of its sides. No
+/// key was open.
+pub fn pair_sums(ones: &[Line], others: &[Line], tails: Tails, sides: &TailSides) -> TailSums
     requires pairs { ArePairs ones.now others.now }
     requires light { weight_of ones.now ≤ MAX }
     requires ordered { (t : Tail) → AreOrdered (sides_for sides.now t) }

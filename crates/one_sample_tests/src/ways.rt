@@ -2,6 +2,7 @@
 use crate::mark_stages::MarkStages;
 use crate::marks::first_marks;
 use crate::one_sample::OneSample;
+use drawn_sums::sign_sums;
 use enumerate::{Plain, next_signs};
 use scores::labelled_sum;
 use stage_network::{AdditiveStages, Prepared, TailSums};
@@ -61,9 +62,12 @@ impl Prepared for OneSample {
         AdditiveStages::new(alloc, MarkStages { groups, judge })
     }
 
-    // Where sums seldom meet, by two halves.
+    // By draws of the plus marks, or, where sums seldom meet, by two halves.
     fn numerators(&self, alloc: Global, tails: Tails) -> Result<TailSums, NoMemory> {
         let judge = self.judge();
+        if let Some(sums) = sign_sums(alloc, self.made().scores.as_slice(), &judge, tails)? {
+            return Ok(sums);
+        }
         let stages = self.stages_of(alloc, Tail::Less)?;
         let sums = halves::tail_sums(alloc, &stages, &judge, tails)?;
         Ok(sums)

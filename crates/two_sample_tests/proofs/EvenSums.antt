@@ -9,16 +9,15 @@ use Rattle.std.proofs.lemmas.Int.{ints}
 use Rattle.std.proofs.lemmas.List.Sums.{sum_by-cons}
 use Rattle.weights.specs.declared.rules.Rule.TheVariants.{Far}
 use Rattle.weights.specs.declared.tails.Tail.{Tail}
-use Rattle.weights.specs.declared.tails.Tail.TheVariants.{Less, Greater, Two}
-use Rattle.weights.specs.Conditional.{is_extreme, numerator}
+use Rattle.weights.specs.Conditional.{numerator}
 use Rattle.weights.specs.Labellings.{labellings}
-use Rattle.weights.specs.Rules.{RuleFits, passes, rule_of}
-use Rattle.weights.proofs.ByRule.{is_extreme-by_rule}
-use Rattle.weights.proofs.Centred.{measured-is}
+use Rattle.weights.specs.Rules.{RuleFits, passes}
+use Rattle.weights.specs.declared.rules.Rule.{Rule}
 use Rattle.weights.proofs.Chosen.{one_if}
 use Rattle.weights.proofs.Counted.{count_of}
 use Rattle.weights.proofs.Members.{IsLabelling, labelling_from}
-use Rattle.weights.proofs.Sums.{sum_by-filter, sum_by-same_where}
+use Rattle.weights.proofs.Sums.{sum_by-same_where}
+use Rattle.halves.proofs.Numerators.{numerator-counted}
 use Rattle.enumerate.proofs.JoinedMembers.{each-labelling}
 use Rattle.scores.specs.Scores.{labelled_sum}
 use Rattle.sample_reader.specs.Groups.{group_sizes}
@@ -135,20 +134,10 @@ module _ (samples : TwoSamples) (f : AreFitting samples) (even : EvenScores) (ar
 
   pub numerator-rises : (tail : Tail) → numerator (two_sample_test samples) tail ≡ passing_labellings (rule_in (judge_of (two_sample_test samples)) tail) base even.step sizes
   numerator-rises tail =
-      sum_by-filter (λ xs. 1) (is_extreme (two_sample_test samples) tail) (labellings sizes)
-      ∙ sum_by-same_where (IsLabelling sizes) (λ xs. cond (is_extreme (two_sample_test samples) tail xs) 1 0) (λ xs. cond (passes (rule_in (judge_of (two_sample_test samples)) tail) (even_value base even.step (rising_pairs xs))) 1 0) each (labellings sizes) (each-labelling sizes)
-    where
-      same-rule : (tail : Tail) → rule_of (two_sample_test samples) tail ≡ rule_in (judge_of (two_sample_test samples)) tail
-      same-rule Less = refl
-      same-rule Greater = refl
-      same-rule Two = refl
-
-      each : (xs : List ℕ) → IsLabelling sizes xs → one_if (is_extreme (two_sample_test samples) tail xs) ≡ one_if (passes (rule_in (judge_of (two_sample_test samples)) tail) (even_value base even.step (rising_pairs xs)))
-      each xs l = ap one_if (
-          is_extreme-by_rule (two_sample_test samples) tail xs
-          ∙ ap (passes (rule_of (two_sample_test samples) tail)) (measured-is (two_sample_test samples) refl tail xs ∙ sum-rises xs l)
-          ∙ ap (λ rule. passes rule (even_value base even.step (rising_pairs xs))) (same-rule tail)
-          )
+      let rule : Rule = rule_in (judge_of (two_sample_test samples)) tail in
+      numerator-counted (two_sample_test samples) refl refl tail
+      ∙ sum_by-same_where (IsLabelling sizes) (λ xs. cond (passes rule (labelled_sum 1 (pooled_scores samples) xs)) 1 0) (λ xs. cond (passes rule (even_value base even.step (rising_pairs xs))) 1 0)
+      (λ xs l. ap (λ v. cond (passes rule v) 1 0) (sum-rises xs l)) (labellings sizes) (each-labelling sizes)
 
   pub fit-rising : (judge : Judge) → judge ≡ judge_of (two_sample_test samples) → FitLabellings judge base even.step sizes
   fit-rising judge e xs c =

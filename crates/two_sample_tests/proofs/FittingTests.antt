@@ -62,7 +62,7 @@ pub as-many : (samples : TwoSamples) → length (pooled_scores samples) ≡ leng
 as-many samples = length-map (pooled_values samples.groups) (score_of samples.kind (pooled_values samples.groups))
 
 module _ (samples : TwoSamples) (f : AreFitting samples) where
-  whole : slice_index (group_sizes samples.groups) 0 + slice_index (group_sizes samples.groups) 1 ≡ length (pooled_scores samples)
+  pub whole : slice_index (group_sizes samples.groups) 0 + slice_index (group_sizes samples.groups) 1 ≡ length (pooled_scores samples)
   whole = sym (ap sum f.sizes_are ∙ sum-two (slice_index (group_sizes samples.groups) 0) (slice_index (group_sizes samples.groups) 1)) ∙ f.whole ∙ sym (as-many samples)
 
   within : slice_index (group_sizes samples.groups) 1 ≤ length (pooled_scores samples)

@@ -3,3 +3,4 @@ mod ColumnValues
 mod FittingTests
 mod Vectors
 mod EvenSums
+mod DrawnSamples

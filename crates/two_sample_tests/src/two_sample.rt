@@ -7,6 +7,7 @@ ghost use Rattle.two_sample_tests.specs.SampleSteps.{AreScored};
 
 use crate::even_scores::{even_scores, least_sum};
 use crate::scored_samples::{ScoredSamples, centre_of, fitting_scores, made_of};
+use drawn_sums::drawn_sums;
 use label_network::{LabelStages, LinearMeasure, label_stages};
 use labelled::{LabelStatistic, Labelled};
 use pooled_columns::labels_in;
@@ -125,15 +126,19 @@ impl LabelStatistic for ScoreSum {
         label_stages(alloc, columns, rows, Numbered::new(measure))
     }
 
-    // Where scores rise by one step, by how many pairs of subjects rise; else by two halves, where
-    // sums seldom meet.
+    // Where scores rise by one step, by how many pairs of subjects rise; else by draws of the second
+    // sample, or, where sums seldom meet, by two halves.
     fn numerators(&self, alloc: Global, judge: Judge, tails: Tails) -> Result<TailSums, NoMemory> {
         self.sound();
         let made = self.made();
-        if let Some(even) = even_scores(made.scores.as_slice()) {
-            let sizes = made.sizes.as_slice();
+        let scores = made.scores.as_slice();
+        let sizes = made.sizes.as_slice();
+        if let Some(even) = even_scores(scores) {
             let base = least_sum(even, sizes[1]);
             return rising_sums(alloc, sizes, base, even.step, &judge);
+        }
+        if let Some(sums) = drawn_sums(alloc, scores, sizes[1] as usize, &judge, tails)? {
+            return Ok(sums);
         }
         let stages = self.stages_of(alloc, judge)?;
         let sums = halves::tail_sums(alloc, &stages, &judge, tails)?;

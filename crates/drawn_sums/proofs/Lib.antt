@@ -1,0 +1,4 @@
+mod DrawSums
+mod DrawnLabels
+mod RowSteps
+mod BothParts

@@ -1,0 +1,12 @@
+use Rattle.std.proofs.Common.{◌≡◌, cond, take}
+use Rattle.weights.specs.declared.tails.Tail.{Tail}
+use Rattle.stage_network.specs.Asked.{asks}
+use Rattle.stage_network.specs.SweepSteps.{sum_for}
+use Rattle.halves.specs.Sides.{is_in, sides_for}
+use Rattle.drawn_sums.specs.DrawRows.{rows_draws}
+use Rattle.drawn_sums.specs.Meetings.{met}
+use Rattle.drawn_sums.proofs.meeting.meeting.Given as goal
+
+-- the rows before this one are met
+abbrev pub invariant-loop-n : goal.invariant-loop-n
+invariant-loop-n g l = (t : Tail) → (sum_for l.sums t).sum ≡ cond (asks l.tails t) (rows_draws g.C.Count.number (met g.C.Count.number (is_in (sides_for l.sides t)) l.drawn l.stride l.others) 0 l.stride (take l.n l.rows)) 0

@@ -1,0 +1,49 @@
+use Rattle.std.proofs.Common.{◌≡◌, ◌-◌, ◌<◌, ℕ, Bool, true, false, cond, get_or, length, map, ap, sym, ◌∙◌, arith}
+use Rattle.std.specs.Prelude.{ℤ, ◌+ℤ◌}
+use Rattle.stage_network.specs.Asked.{asks}
+use Rattle.stage_network.specs.declared.tail_sums.TailSum.{TailSum}
+use Rattle.halves.specs.Pairs.{once}
+use Rattle.halves.specs.Sides.{is_in, sides_for}
+use Rattle.drawn_sums.specs.DrawRows.{row_draws}
+use Rattle.drawn_sums.specs.Meetings.{met}
+use Rattle.drawn_sums.specs.declared.rows.DrawRow.{DrawRow}
+use Rattle.drawn_sums.proofs.BothParts.{met-over, met-row, met-short}
+use Rattle.drawn_sums.proofs.RowSteps.{at-any, cells-none, cells-same}
+use Rattle.drawn_sums.proofs.meeting.sums_at.Goals as goal
+
+nothing : (b : Bool) (sum n : ℕ) → sum ≡ 0 → n ≡ 0 → sum ≡ cond b n 0
+nothing true sum n e h = e ∙ sym h
+nothing false sum n e h = e
+
+pub returns-then-n-drawn : goal.returns-then-n-drawn
+returns-then-n-drawn g c t d =
+    let num = g.C.Count.number in
+    let p = is_in (sides_for c.args.sides.now t) in
+    let row : DrawRow g.row.C.Denot = get_or c.args.rows.now c.args.n d in
+    nothing (asks c.args.tails t) _ _ (ap (λ (s : TailSum). s.sum) (c.none.ensures t))
+    (cells-none (met num p c.args.drawn c.args.stride c.args.others.now c.args.n) (λ u. met-over num g.C.Count.LIMIT c.args.stride c.args.drawn p c.args.others.now c.args.n u c.if-n-drawn.true) c.args.stride row.lowest (map num row.cells.items))
+
+pub returns-then-left-others : goal.returns-then-left-others
+returns-then-left-others g c t d =
+    let num = g.C.Count.number in
+    let p = is_in (sides_for c.args.sides.now t) in
+    let row : DrawRow g.row.C.Denot = get_or c.args.rows.now c.args.n d in
+    nothing (asks c.args.tails t) _ _ (ap (λ (s : TailSum). s.sum) (c.none-then-left-others.ensures t))
+    (cells-none (met num p c.args.drawn c.args.stride c.args.others.now c.args.n) (λ u. met-short num g.C.Count.LIMIT c.args.stride c.args.drawn p c.args.others.now c.args.n u (omega (arith, c.if-n-drawn.false)) (omega (arith, c.if-left-others.true))) c.args.stride row.lowest (map num row.cells.items))
+
+pub returns : goal.returns
+returns g c t d =
+    let num = g.C.Count.number in
+    let p = is_in (sides_for c.args.sides.now t) in
+    let s : ℕ = c.args.stride in
+    let one : DrawRow g.row.C.Denot = c.index-rows-n.result in
+    let other : DrawRow g.row.C.Denot = c.index-others-left.result in
+    let left : ℕ = c.args.drawn - c.args.n in
+    let low : left < length c.args.others.now = omega (arith, c.if-left-others.false) in
+    let one_is : one ≡ get_or c.args.rows.now c.args.n d = c.index-rows-n.is ∙ at-any num s c.args.rows.now c.args.n one d c.requires.n in
+    let inner : (u : ℤ) → row_draws num (λ v. once p (u +ℤ v)) s other ≡ met num p c.args.drawn s c.args.others.now c.args.n u =
+    λ u. ap (row_draws num (λ v. once p (u +ℤ v)) s) (c.index-others-left.is ∙ at-any num s c.args.others.now left other d low) ∙ sym (met-row num g.C.Count.LIMIT s c.args.drawn p c.args.others.now c.args.n u d (omega (arith, c.if-n-drawn.false)) low) in
+    c.in_ok-sums.ensures t
+    ∙ ap (λ m. cond (asks c.args.tails t) m 0) (
+    cells-same (λ u. row_draws num (λ v. once p (u +ℤ v)) s other) (met num p c.args.drawn s c.args.others.now c.args.n) inner s one.lowest (map num one.cells.items)
+    ∙ ap (row_draws num (met num p c.args.drawn s c.args.others.now c.args.n) s) one_is)

@@ -1,0 +1,12 @@
+use Rattle.std.proofs.Common.{◌≡◌, ℕ, take}
+use Rattle.std.specs.Prelude.{ℤ, pos}
+use Rattle.drawn_sums.specs.Draws.{draw_sum}
+use Rattle.drawn_sums.specs.DrawRows.{IsDrawRow, row_draws}
+use Rattle.drawn_sums.proofs.signs.sign_row.Given as goal
+
+-- the draws of the subjects before this one
+abbrev pub invariant-loop-i : goal.invariant-loop-i
+invariant-loop-i g l = record {
+  row : IsDrawRow g.C.Count.number g.C.Count.LIMIT l.row;
+  told : (h : ℤ → ℕ) → row_draws g.C.Count.number h l.stride l.row ≡ draw_sum (λ n. h) 0 (pos 0) (take l.i l.scores);
+}

@@ -1,0 +1,18 @@
+use Rattle.std.proofs.Common.{ℕ, cond, ap, ◌∙◌}
+use Rattle.halves.specs.Sides.{is_in, sides_for}
+use Rattle.drawn_sums.specs.DrawRows.{rows_draws}
+use Rattle.drawn_sums.specs.Meetings.{met}
+use Rattle.drawn_sums.proofs.BothParts.{all-met}
+use Rattle.drawn_sums.proofs.tails.sums_in.Goals as goal
+
+pub returns : goal.returns
+returns g c t asked =
+    let num = g.C.Count.number in
+    let p = is_in (sides_for c.args.sides.now t) in
+    let s : ℕ = c.args.stride in
+    let n : ℕ = c.args.drawn in
+    c.in_ok-sums.ensures t
+    ∙ ap (λ b. cond b (rows_draws num (met num p n s c.deref-2.result.now) 0 s c.deref.result.now) 0) asked
+    ∙ ap (λ xs. rows_draws num (met num p n s xs) 0 s c.deref.result.now) c.deref-2.ensures.value
+    ∙ ap (rows_draws num (met num p n s c.in_ok-others.others.items) 0 s) c.deref.ensures.value
+    ∙ all-met num g.C.Count.LIMIT s n p c.args.scores.now c.args.others.now c.in_ok-rows.rows.items c.in_ok-others.others.items c.in_ok-rows.ensures c.in_ok-others.ensures

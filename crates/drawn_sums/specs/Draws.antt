@@ -1,0 +1,8 @@
+-- Draws of subjects, who are drawn one by one or left.
+use Rattle.std.specs.Prelude.{ℕ, ℤ, ◌+◌, ◌+ℤ◌, List, [], ◌∷◌}
+
+-- what f says of how many subjects are drawn and what their scores sum to, n others that sum to v
+-- among them, over all ways to draw some of those with these scores
+abbrev pub draw_sum : (ℕ → ℤ → ℕ) → ℕ → ℤ → List ℤ → ℕ
+draw_sum f n v [] = f n v
+draw_sum f n v (s ∷ scores) = draw_sum f n v scores + draw_sum f (n + 1) (v +ℤ s) scores

@@ -1,0 +1,4 @@
+pub mod Draws
+pub mod DrawRows
+pub mod DrawnSums
+pub mod Meetings

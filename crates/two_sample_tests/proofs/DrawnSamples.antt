@@ -1,0 +1,32 @@
+-- The sum of the second sample's scores, by draws of that sample.
+use Rattle.std.proofs.Common.{◌≡◌, ◌≤◌, ℕ, ◌-◌, [], ◌∷◌, length, refl, ◌∙◌, ap, arith}
+use Rattle.std.specs.Prelude.{slice_index}
+use Rattle.std.specs.List.{count_by}
+use Rattle.weights.specs.declared.tails.Tail.{Tail}
+use Rattle.weights.specs.Conditional.{numerator}
+use Rattle.weights.specs.Labellings.{labellings}
+use Rattle.weights.specs.Rules.{passes}
+use Rattle.scores.specs.Scores.{labelled_sum}
+use Rattle.sample_reader.specs.Groups.{group_sizes}
+use Rattle.stage_network.specs.Judged.{judge_of, rule_in}
+use Rattle.halves.proofs.Numerators.{numerator-counted}
+use Rattle.drawn_sums.specs.DrawnSums.{passing_draws}
+use Rattle.two_sample_tests.specs.SampleSteps.{AreFitting}
+use Rattle.two_sample_tests.specs.TwoSamples.{TwoSamples, pooled_scores, two_sample_test}
+use Rattle.two_sample_tests.proofs.FittingTests.{whole}
+
+module _ (samples : TwoSamples) (f : AreFitting samples) where
+  abbrev first : ℕ
+  first = slice_index (group_sizes samples.groups) 0
+
+  abbrev second : ℕ
+  second = slice_index (group_sizes samples.groups) 1
+
+  pub second-within : second ≤ length (pooled_scores samples)
+  second-within = omega (arith, whole samples f)
+
+  pub numerator-drawn : (tail : Tail) → numerator (two_sample_test samples) tail ≡ passing_draws (rule_in (judge_of (two_sample_test samples)) tail) second (pooled_scores samples)
+  numerator-drawn tail =
+      let others : first ≡ length (pooled_scores samples) - second = omega (arith, whole samples f) in
+      numerator-counted (two_sample_test samples) refl refl tail
+      ∙ ap (λ sizes. count_by (λ xs. passes (rule_in (judge_of (two_sample_test samples)) tail) (labelled_sum 1 (pooled_scores samples) xs)) (labellings sizes)) (f.sizes_are ∙ ap (λ n. n ∷ second ∷ []) others)
