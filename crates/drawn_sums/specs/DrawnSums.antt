@@ -10,7 +10,8 @@ use Rattle.scores.specs.Scores.{labelled_sum}
 -- second group's scores that passes a rule
 abbrev pub passing_draws : Rule → ℕ → List ℤ → ℕ
 passing_draws rule n scores =
-    count_by (λ xs. passes rule (labelled_sum 1 scores xs)) (labellings ((length scores - n) ∷ n ∷ []))
+    let sizes = (length scores - n) ∷ n ∷ [] in
+    count_by (λ xs. passes rule (labelled_sum 1 scores xs)) (labellings sizes)
 
 -- how many lists of signs have a sum of the plus marks' scores that passes one
 abbrev pub passing_signs : Rule → List ℤ → ℕ

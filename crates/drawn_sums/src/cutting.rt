@@ -70,8 +70,8 @@ fn is_dense(sorted: &[i128], stride: u64, most: usize) -> bool
     }
 }
 
-/// The greatest number of which each score is some times, or 1, where the sums of all scores are not
-/// too many for a row.
+/// The greatest number of which each score is some times, or 1, where the sums of all scores are
+/// not too many for a row.
 pub(crate) fn sign_stride(scores: &[i128]) -> Result<u64, Stop> {
     let mut stride = 0u128;
     let mut whole = 0u128;

@@ -126,8 +126,8 @@ impl LabelStatistic for ScoreSum {
         label_stages(alloc, columns, rows, Numbered::new(measure))
     }
 
-    // Where scores rise by one step, by how many pairs of subjects rise; else by draws of the second
-    // sample, or, where sums seldom meet, by two halves.
+    // Where scores rise by one step, by how many pairs of subjects rise; else by draws of the
+    // second sample, or, where sums seldom meet, by two halves.
     fn numerators(&self, alloc: Global, judge: Judge, tails: Tails) -> Result<TailSums, NoMemory> {
         self.sound();
         let made = self.made();
