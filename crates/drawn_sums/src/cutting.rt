@@ -6,8 +6,17 @@ use crate::stops::Stop;
 use std::alloc::Global;
 use weights::gcd;
 
-// The rows of one part may have so many cells in all.
-const MOST_CELLS: u128 = 1 << 20;
+// How many cells the rows of so many subjects may have in all: of few subjects no more than there
+// are draws, and more where there are many.
+fn most_cells(subjects: usize) -> u128 {
+    if subjects < 15 {
+        1 << subjects
+    } else if subjects < 40 {
+        1 << 15
+    } else {
+        1 << 20
+    }
+}
 
 /// Scores in ascending order.
 pub(crate) fn in_order(alloc: Global, scores: &[i128]) -> Result<Vec<i128>, Stop>
@@ -65,7 +74,7 @@ fn is_dense(sorted: &[i128], stride: u64, most: usize) -> bool
     requires { 0 < stride }
 {
     match cells_of(sorted, stride, most) {
-        Some(cells) => cells <= MOST_CELLS,
+        Some(cells) => cells <= most_cells(sorted.len()),
         None => false,
     }
 }
@@ -81,7 +90,7 @@ pub(crate) fn sign_stride(scores: &[i128]) -> Result<u64, Stop> {
     }
     match u64::try_from(stride) {
         Ok(0) => Ok(1),
-        Ok(stride) if whole / stride as u128 <= MOST_CELLS => Ok(stride),
+        Ok(stride) if whole / stride as u128 <= most_cells(scores.len() / 2) => Ok(stride),
         Ok(_) | Err(_) => Err(Stop::Wide),
     }
 }
