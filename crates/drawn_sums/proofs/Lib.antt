@@ -2,3 +2,5 @@ mod DrawSums
 mod DrawnLabels
 mod RowSteps
 mod BothParts
+mod RowPairs
+mod LeftDraws

@@ -7,7 +7,7 @@ use Rattle.std.proofs.lemmas.List.{take_all}
 use Rattle.node_pool.specs.Nodes.{weighted}
 use Rattle.dense_rows.specs.Rows.{row_nodes, stepped}
 use Rattle.dense_rows.proofs.RowNodes.{row-none, row-parts}
-use Rattle.dense_rows.proofs.RowSums.{row_sum, row_sum-one, weighted-row}
+use Rattle.dense_rows.proofs.RowSums.{row_sum, row_sum-one, sum-cons, weighted-row}
 use Rattle.drawn_sums.specs.Draws.{draw_sum}
 use Rattle.drawn_sums.specs.DrawRows.{AreDraws, AreRows, IsDrawRow, NoneAbove, number_of, row_draws, rows_draws, with_one}
 use Rattle.drawn_sums.specs.declared.rows.DrawRow.{DrawRow}
@@ -50,6 +50,15 @@ sums-none lowest stride (c ∷ cells) = omega (arith, sums-none (lowest +ℤ str
 
 pub cells-none : (g : ℤ → ℕ) → ((v : ℤ) → g v ≡ 0) → (stride : ℕ) (lowest : ℤ) (cells : List ℕ) → cells_draws g stride lowest cells ≡ 0
 cells-none g none stride lowest cells = cells-same g (λ v. 0) none stride lowest cells ∙ weighted-row (λ k. 0) lowest (pos stride) cells ∙ sums-none lowest (pos stride) cells
+
+sums-steady : (m : ℕ) (lowest stride : ℤ) (cells : List ℕ) → row_sum (λ k. m) lowest stride cells ≡ sum cells * m
+sums-steady m lowest stride [] = omega arith
+sums-steady m lowest stride (c ∷ cells) =
+    let spread : (c + sum cells) * m ≡ c * m + sum cells * m = grind arith in
+    rw (sum-cons c cells, spread, sums-steady m (lowest +ℤ stride) stride cells) refl
+
+pub cells-steady : (m stride : ℕ) (lowest : ℤ) (cells : List ℕ) → cells_draws (λ v. m) stride lowest cells ≡ sum cells * m
+cells-steady m stride lowest cells = weighted-row (λ k. m) lowest (pos stride) cells ∙ sums-steady m lowest (pos stride) cells
 
 sums-moved : (g : ℤ → ℕ) (score lowest stride : ℤ) (cells : List ℕ) → row_sum (λ k. g (number_of k)) (lowest +ℤ score) stride cells ≡ row_sum (λ k. g (number_of k +ℤ score)) lowest stride cells
 sums-moved g score lowest stride [] = refl

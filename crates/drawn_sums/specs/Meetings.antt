@@ -1,8 +1,29 @@
 -- Draws of one part of the subjects, with those of the other.
-use Rattle.std.specs.Prelude.{ℕ, ℤ, ◌+◌, ◌+ℤ◌, List, Bool, cond, nat_eq}
+use Rattle.std.specs.Prelude.{ℕ, ℤ, ◌+◌, ◌-◌, ◌*◌, ◌+ℤ◌, ◌≤◌, List, [], ◌∷◌, drop}
+use Rattle.std.specs.Prelude.{Bool, cond, nat_eq}
+use Rattle.std.specs.List.{sum}
+use Rattle.weights.specs.declared.TheConstants.{MAX}
 use Rattle.halves.specs.Pairs.{once}
-use Rattle.drawn_sums.specs.DrawRows.{rows_draws}
+use Rattle.drawn_sums.specs.DrawRows.{IsDrawRow, row_draws, rows_draws}
 use Rattle.drawn_sums.specs.declared.rows.DrawRow.{DrawRow}
+
+-- what g says of the sums of the pairs of a draw of each row
+abbrev pub pair_draws : {C : Type 0} → (C → ℕ) → (ℤ → ℕ) → ℕ → DrawRow C → DrawRow C → ℕ
+pair_draws number g stride one other =
+    row_draws number (λ u. row_draws number (λ v. g (u +ℤ v)) stride other) stride one
+
+-- how many pairs of a draw of each row stand in cells whose places sum to at least so much
+abbrev pub placed_pairs : ℕ → List ℕ → List ℕ → ℕ
+placed_pairs place [] others = 0
+placed_pairs place (c ∷ ones) others =
+    c * sum (drop place others) + placed_pairs (place - 1) ones others
+
+-- two rows whose pairs can be counted
+pub record AreFew {C : Type 0} (number : C → ℕ) (limit : ℕ)
+    (one other : DrawRow C) : Type 0 where
+  pub first : IsDrawRow number limit one
+  pub second : IsDrawRow number limit other
+  pub fits : one.total * other.total ≤ MAX
 
 -- 1 for a draw of so many subjects whose sum passes
 abbrev pub drawn_at : (ℤ → Bool) → ℕ → ℕ → ℤ → ℕ

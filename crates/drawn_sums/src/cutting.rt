@@ -14,7 +14,7 @@ fn most_cells(subjects: usize) -> u128 {
     } else if subjects < 40 {
         1 << 15
     } else {
-        1 << 20
+        1 << 22
     }
 }
 
@@ -81,7 +81,9 @@ fn is_dense(sorted: &[i128], stride: u64, most: usize) -> bool
 
 /// The greatest number of which each score is some times, or 1, where the sums of all scores are
 /// not too many for a row.
-pub(crate) fn sign_stride(scores: &[i128]) -> Result<u64, Stop> {
+pub(crate) fn sign_stride(scores: &[i128]) -> Result<u64, Stop>
+    ensures { IfOk result (λ stride. 0 < stride) }
+{
     let mut stride = 0u128;
     let mut whole = 0u128;
     for i in 0..scores.len() {

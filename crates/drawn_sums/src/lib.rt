@@ -12,6 +12,8 @@
 mod cutting;
 mod draws;
 mod meeting;
+mod mirrors;
+mod pairs;
 mod rows;
 mod signs;
 mod stops;

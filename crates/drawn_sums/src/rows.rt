@@ -1,5 +1,5 @@
 // The draws of one number of subjects, by the sum of their scores.
-ghost use Rattle.std.specs.Prelude.{◌≡◌, ℕ, ℤ, pos, ◌+ℤ◌, ◌+◌, ◌≤◌, List, map, length};
+ghost use Rattle.std.specs.Prelude.{◌≡◌, ℕ, ℤ, pos, ◌+ℤ◌, ◌-ℤ◌, ◌+◌, ◌≤◌, List, map, length};
 ghost use Rattle.std.specs.Prelude.{OnOk, IfOk};
 ghost use Rattle.weights.specs.declared.TheConstants.{MAX};
 ghost use Rattle.node_pool.specs.Nodes.{weighted};
@@ -20,11 +20,22 @@ pub(crate) struct DrawRow<C: Count> {
     pub cells: Vec<C>,
 }
 
-fn sum_of(one: i128, other: i128) -> Result<i128, Stop>
+/// The sum of two numbers.
+pub(crate) fn sum_of(one: i128, other: i128) -> Result<i128, Stop>
     ensures { IfOk result (λ sum. sum ≡ one +ℤ other) }
 {
     match one.checked_add(other) {
         Some(sum) => Ok(sum),
+        None => Err(Stop::Wide),
+    }
+}
+
+/// What one number is more than another.
+pub(crate) fn difference_of(one: i128, other: i128) -> Result<i128, Stop>
+    ensures { IfOk result (λ z. z ≡ one -ℤ other) }
+{
+    match one.checked_sub(other) {
+        Some(difference) => Ok(difference),
         None => Err(Stop::Wide),
     }
 }

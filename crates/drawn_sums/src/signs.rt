@@ -1,5 +1,5 @@
 // The lists of signs whose sum of scores passes the rules of a test.
-ghost use Rattle.std.specs.Prelude.{◌≡◌, ℕ, ℤ, pos, ◌+ℤ◌, ◌+◌, true, IfOk, IfSome};
+ghost use Rattle.std.specs.Prelude.{◌≡◌, ℕ, ℤ, pos, ◌+ℤ◌, ◌+◌, ◌<◌, true, IfOk, IfSome};
 ghost use Rattle.weights.specs.declared.tails.Tail.{Tail};
 ghost use Rattle.stage_network.specs.Asked.{asks};
 ghost use Rattle.stage_network.specs.Judged.{rule_in};
@@ -11,7 +11,7 @@ ghost use Rattle.drawn_sums.specs.DrawRows.{IsDrawRow, row_draws};
 ghost use Rattle.drawn_sums.specs.DrawnSums.{passing_signs};
 
 use crate::cutting::{in_order, sign_stride};
-use crate::meeting::row_pairs;
+use crate::pairs::row_pairs;
 use crate::rows::DrawRow;
 use crate::stops::Stop;
 use halves::TailSides;
@@ -58,6 +58,7 @@ fn sums_in<C: Count>(
     sides: &TailSides,
     tails: Tails,
 ) -> Result<TailSums, Stop>
+    requires stride { 0 < stride }
     requires ordered { (t : Tail) → AreOrdered (sides_for sides.now t) }
     ensures { IfOk result (λ sums. (t : Tail) → asks tails t ≡ true → (sum_for sums t).sum
         ≡ draw_sum (λ n. once (is_in (sides_for sides.now t))) 0 (pos 0) sorted.now) }
@@ -65,7 +66,7 @@ fn sums_in<C: Count>(
     let (first, second) = sorted.split_at(sorted.len() / 2);
     let row = sign_row::<C>(alloc, first, stride)?;
     let other = sign_row::<C>(alloc, second, stride)?;
-    let sums = row_pairs(alloc, &row, &other, stride, sides, tails)?;
+    let sums = row_pairs(&row, &other, stride, sides, tails)?;
     Ok(sums)
 }
 

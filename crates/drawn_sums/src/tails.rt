@@ -1,5 +1,5 @@
 // The labellings of two groups whose sum of scores passes the rules of a test.
-ghost use Rattle.std.specs.Prelude.{◌≡◌, pos, ◌≤◌, ◌++◌, true, length, IfOk, IfSome};
+ghost use Rattle.std.specs.Prelude.{◌≡◌, pos, ◌<◌, ◌≤◌, ◌++◌, true, length, IfOk, IfSome};
 ghost use Rattle.weights.specs.declared.tails.Tail.{Tail};
 ghost use Rattle.stage_network.specs.Asked.{asks};
 ghost use Rattle.stage_network.specs.Judged.{rule_in};
@@ -12,6 +12,7 @@ ghost use Rattle.drawn_sums.specs.Meetings.{drawn_at};
 use crate::cutting::{cut_of, in_order, stride_of};
 use crate::draws::draw_rows;
 use crate::meeting::meeting;
+use crate::mirrors::{mirror, score_total};
 use crate::stops::Stop;
 use halves::TailSides;
 use stage_network::{Judge, TailSums};
@@ -31,6 +32,7 @@ fn sums_in<C: Count>(
     sides: &TailSides,
     tails: Tails,
 ) -> Result<TailSums, Stop>
+    requires stride { 0 < stride }
     requires ordered { (t : Tail) → AreOrdered (sides_for sides.now t) }
     ensures { IfOk result (λ sums. (t : Tail) → asks tails t ≡ true → (sum_for sums t).sum
         ≡ draw_sum (drawn_at (is_in (sides_for sides.now t)) drawn) 0 (pos 0)
@@ -38,7 +40,7 @@ fn sums_in<C: Count>(
 {
     let rows = draw_rows::<C>(alloc, scores, stride, drawn)?;
     let others = draw_rows::<C>(alloc, others, stride, drawn)?;
-    let sums = meeting(alloc, &rows, &others, drawn, stride, sides, tails)?;
+    let sums = meeting(&rows, &others, drawn, stride, sides, tails)?;
     Ok(sums)
 }
 
@@ -64,7 +66,8 @@ fn cut_sums(
     }
 }
 
-// How many draws pass the rule of each asked tail.
+// How many draws pass the rule of each asked tail. Where fewer are left than drawn, those who are
+// left are counted.
 fn draws_passing(
     alloc: Global,
     scores: &[i128],
@@ -81,6 +84,13 @@ fn draws_passing(
         None => return Err(Stop::Wide),
     };
     let sorted = in_order(alloc, scores)?;
+    let left = scores.len() - drawn;
+    if left < drawn {
+        let total = score_total(scores)?;
+        let mirror = mirror(&sides, total)?;
+        let sums = cut_sums(alloc, sorted.as_slice(), left, &mirror, tails)?;
+        return Ok(sums);
+    }
     let sums = cut_sums(alloc, sorted.as_slice(), drawn, &sides, tails)?;
     Ok(sums)
 }

@@ -20,7 +20,6 @@ mod tails;
 
 pub use half_way::{FirstHalf, first_half};
 pub use later::completion_values;
-pub use lines::merged;
-pub use meeting::{meeting_sums, pair_sums};
-pub use sides::TailSides;
+pub use meeting::meeting_sums;
+pub use sides::{Sides, TailSides, quotient};
 pub use tails::tail_sums;

@@ -1,5 +1,5 @@
 -- The sum of the second sample's scores, by draws of that sample.
-use Rattle.std.proofs.Common.{◌≡◌, ◌≤◌, ℕ, ◌-◌, [], ◌∷◌, length, refl, ◌∙◌, ap, arith}
+use Rattle.std.proofs.Common.{◌≡◌, ℕ, ◌-◌, [], ◌∷◌, length, refl, ◌∙◌, ap, arith}
 use Rattle.std.specs.Prelude.{slice_index}
 use Rattle.std.specs.List.{count_by}
 use Rattle.weights.specs.declared.tails.Tail.{Tail}
@@ -21,9 +21,6 @@ module _ (samples : TwoSamples) (f : AreFitting samples) where
 
   abbrev second : ℕ
   second = slice_index (group_sizes samples.groups) 1
-
-  pub second-within : second ≤ length (pooled_scores samples)
-  second-within = omega (arith, whole samples f)
 
   pub numerator-drawn : (tail : Tail) → numerator (two_sample_test samples) tail ≡ passing_draws (rule_in (judge_of (two_sample_test samples)) tail) second (pooled_scores samples)
   numerator-drawn tail =

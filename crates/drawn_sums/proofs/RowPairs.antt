@@ -1,0 +1,198 @@
+-- Pairs of a draw of each of two rows.
+use Rattle.std.proofs.Common.{◌≡◌, ℕ, zero, suc, ◌+◌, ◌-◌, ◌*◌, ◌<◌, ◌≤◌, List, [], ◌∷◌, map, length, take, drop, get_or, Bool, true, false, cond, refl, sym, subst, ◌∙◌, ap, arith}
+use Rattle.std.specs.Prelude.{ℤ, pos, ◌+ℤ◌, ◌-ℤ◌, ◌*ℤ◌, ◌≤ℤ◌, int_le, int_lt, nat_le, not}
+use Rattle.std.specs.List.{sum}
+use Rattle.std.proofs.lemmas.Int.{ints}
+use Rattle.std.proofs.Math.IntN.{pos-*ℤ-pos}
+use Rattle.dense_rows.proofs.RowSums.{row_sum, sum-cons, sum-take, times-≤, weighted-row}
+use Rattle.halves.specs.declared.sides.Sides.TheVariants.{Every, UpTo, Apart}
+use Rattle.halves.specs.Pairs.{once}
+use Rattle.halves.specs.Sides.{is_in}
+use Rattle.halves.proofs.Counting.{at-most, either}
+use Rattle.drawn_sums.specs.DrawRows.{number_of, row_draws}
+use Rattle.drawn_sums.specs.Meetings.{AreFew, pair_draws, placed_pairs}
+use Rattle.drawn_sums.specs.declared.rows.DrawRow.{DrawRow}
+use Rattle.drawn_sums.proofs.RowSteps.{cells-plus, cells-same, cells-steady, row-total}
+
+-- ---- cells from a place on
+
+pub drop-sum : (n : ℕ) (cells : List ℕ) → sum (drop n cells) ≤ sum cells
+drop-sum zero cells = omega arith
+drop-sum (suc n) [] = omega arith
+drop-sum (suc n) (c ∷ cells) = omega (arith, sum-cons c cells, drop-sum n cells)
+
+pub drop-past : (n : ℕ) (cells : List ℕ) → length cells ≤ n → sum (drop n cells) ≡ 0
+drop-past zero [] h = refl
+drop-past (suc n) [] h = refl
+drop-past zero (c ∷ cells) h = absurd (omega (arith, h))
+drop-past (suc n) (c ∷ cells) h = drop-past n cells (omega (arith, h))
+
+pub drop-at : (n : ℕ) (cells : List ℕ) → n < length cells → sum (drop n cells) ≡ get_or cells n 0 + sum (drop (n + 1) cells)
+drop-at n [] h = absurd (omega (arith, h))
+drop-at zero (c ∷ cells) h = sum-cons c cells
+drop-at (suc n) (c ∷ cells) h =
+    let one : suc n + 1 ≡ suc (n + 1) = omega arith in
+    rw one (drop-at n cells (omega (arith, h)))
+
+-- there is no cell before
+pub before-none : (place : ℕ) (cells : List ℕ) → (0 < place → length cells < place) → 0 + sum (drop place cells) ≡ sum (drop (place - 1) cells)
+before-none zero cells none = omega arith
+before-none (suc place) cells none =
+    let back : suc place - 1 ≡ place = omega arith in
+    omega (arith, drop-past (suc place) cells (omega (arith, none (omega arith))), drop-past place cells (omega (arith, none (omega arith))), ap (λ n. sum (drop n cells)) back)
+
+-- ---- pairs by places
+
+pairs-within : (place : ℕ) (ones others : List ℕ) → placed_pairs place ones others ≤ sum ones * sum others
+pairs-within place [] others = omega arith
+pairs-within place (c ∷ ones) others =
+    let spread : (c + sum ones) * sum others ≡ sum others * c + sum ones * sum others = grind arith in
+    let turned : c * sum (drop place others) ≡ sum (drop place others) * c = grind arith in
+    rw (sum-cons c ones, spread) (omega (arith, turned, times-≤ (sum (drop place others)) (sum others) c (drop-sum place others), pairs-within (place - 1) ones others))
+
+pub first-pairs-within : (place : ℕ) (ones others : List ℕ) (i : ℕ) → placed_pairs place (take i ones) others ≤ sum ones * sum others
+first-pairs-within place ones others i = omega (arith, pairs-within place (take i ones) others, times-≤ (sum (take i ones)) (sum ones) (sum others) (sum-take ones i))
+
+-- a cell more
+pub pairs-more : (place : ℕ) (ones others : List ℕ) (i : ℕ) → i < length ones → placed_pairs place (take (i + 1) ones) others ≡ placed_pairs place (take i ones) others + get_or ones i 0 * sum (drop (place - i) others)
+pairs-more place [] others i h = absurd (omega (arith, h))
+pairs-more place (c ∷ ones) others zero h =
+    let e : place - 0 ≡ place = omega arith in
+    omega (arith, ap (λ n. c * sum (drop n others)) e)
+pairs-more place (c ∷ ones) others (suc i) h =
+    let one : suc i + 1 ≡ suc (i + 1) = omega arith in
+    let left : (place - 1) - i ≡ place - suc i = omega arith in
+    rw one (omega (arith, pairs-more (place - 1) ones others i (omega (arith, h)), ap (λ n. get_or ones i 0 * sum (drop n others)) left))
+
+-- ---- pairs by their sums
+
+module _ (bound : ℤ) (stride : ℕ) where
+  -- the first place at which a row that begins with this number is above
+  abbrev pub IsFirst : ℤ → ℕ → Type 0
+  IsFirst lowest place = (n : ℕ) → int_lt bound (lowest +ℤ pos (n * stride)) ≡ nat_le place n
+
+  -- the row that begins a stride on
+  first-on : (lowest : ℤ) (place : ℕ) → IsFirst lowest place → IsFirst (lowest +ℤ pos stride) (place - 1)
+  first-on lowest place first n =
+      let e : stride + n * stride ≡ suc n * stride = grind arith in
+      ap (int_lt bound) (moved lowest stride (n * stride) ∙ ap (λ m. lowest +ℤ pos m) e) ∙ first (suc n) ∙ less place n
+    where
+      moved : (a : ℤ) (m k : ℕ) → (a +ℤ pos m) +ℤ pos k ≡ a +ℤ pos (m + k)
+      moved a m k = omega (arith, ints)
+
+      less : (p n : ℕ) → nat_le p (suc n) ≡ nat_le (p - 1) n
+      less zero n = grind arith
+      less (suc p) n = grind arith
+
+  first-here : (lowest : ℤ) (place : ℕ) → IsFirst lowest place → int_lt bound lowest ≡ nat_le place 0
+  first-here lowest place first =
+      let e : 0 * stride ≡ 0 = omega arith in
+      ap (int_lt bound) (same lowest ∙ ap (λ m. lowest +ℤ pos m) (sym e)) ∙ first 0
+    where
+      same : (a : ℤ) → a ≡ a +ℤ pos 0
+      same a = omega (arith, ints)
+
+  never : (place : ℕ) → nat_le (suc place) 0 ≡ false
+  never place = grind arith
+
+  over : (u lowest : ℤ) → (u +ℤ lowest) +ℤ pos stride ≡ u +ℤ (lowest +ℤ pos stride)
+  over u lowest = omega (arith, ints)
+
+  one-row : (u lowest : ℤ) (place : ℕ) (cells : List ℕ) → IsFirst (u +ℤ lowest) place → row_sum (λ k. once (int_lt bound) (u +ℤ number_of k)) lowest (pos stride) cells ≡ sum (drop place cells)
+  one-row u lowest place [] first = sym (drop-past place [] (omega arith))
+  one-row u lowest zero (c ∷ cells) first =
+      let here : int_lt bound (u +ℤ lowest) ≡ true = first-here (u +ℤ lowest) zero first in
+      let on : IsFirst (u +ℤ (lowest +ℤ pos stride)) zero = subst (λ z. IsFirst z zero) (over u lowest) (first-on (u +ℤ lowest) zero first) in
+      rw here (omega (arith, sum-cons c cells, one-row u (lowest +ℤ pos stride) zero cells on))
+  one-row u lowest (suc place) (c ∷ cells) first =
+      let here : int_lt bound (u +ℤ lowest) ≡ false = first-here (u +ℤ lowest) (suc place) first ∙ never place in
+      let back : suc place - 1 ≡ place = omega arith in
+      let on : IsFirst (u +ℤ (lowest +ℤ pos stride)) place = subst (λ z. IsFirst z place) (over u lowest) (subst (λ n. IsFirst ((u +ℤ lowest) +ℤ pos stride) n) back (first-on (u +ℤ lowest) (suc place) first)) in
+      rw here (omega (arith, one-row u (lowest +ℤ pos stride) place cells on))
+
+  two-rows : (low high : ℤ) (place : ℕ) (ones others : List ℕ) → IsFirst (low +ℤ high) place → row_sum (λ k. row_sum (λ l. once (int_lt bound) (number_of k +ℤ number_of l)) high (pos stride) others) low (pos stride) ones ≡ placed_pairs place ones others
+  two-rows low high place [] others first = refl
+  two-rows low high place (c ∷ ones) others first =
+      let on : IsFirst ((low +ℤ pos stride) +ℤ high) (place - 1) = subst (λ z. IsFirst z (place - 1)) (turned low high (pos stride)) (first-on (low +ℤ high) place first) in
+      rw (one-row low high place others first, two-rows (low +ℤ pos stride) high (place - 1) ones others on) refl
+    where
+      turned : (a b c : ℤ) → (a +ℤ b) +ℤ c ≡ (a +ℤ c) +ℤ b
+      turned a b c = omega (arith, ints)
+
+-- a number is not above where as many strides are no more than what is left to the bound
+first-by : (bound lowest : ℤ) (m : ℕ) (first n : ℕ) → nat_le first n ≡ not (int_le (pos m) (bound -ℤ lowest)) → int_lt bound (lowest +ℤ pos m) ≡ nat_le first n
+first-by bound lowest m first n e = above (int_le (pos m) (bound -ℤ lowest)) refl ∙ sym e
+  where
+    above : (b : Bool) → int_le (pos m) (bound -ℤ lowest) ≡ b → int_lt bound (lowest +ℤ pos m) ≡ not (int_le (pos m) (bound -ℤ lowest))
+    above true h = rw h (grind (arith, ints))
+    above false h = rw h (grind (arith, ints))
+
+times-pos : (s n : ℕ) → pos s *ℤ pos n ≡ pos (n * s)
+times-pos s n = pos-*ℤ-pos s n ∙ ap pos (turned s n)
+  where
+    turned : (s n : ℕ) → s * n ≡ n * s
+    turned s n = grind arith
+
+-- none is, or those after the last one that is not
+pub first-none : (bound : ℤ) (stride : ℕ) (lowest last : ℤ) (n : ℕ) → int_lt last (pos 0) ≡ true → int_le (pos n) last ≡ int_le (pos stride *ℤ pos n) (bound -ℤ lowest) → int_lt bound (lowest +ℤ pos (n * stride)) ≡ nat_le 0 n
+first-none bound stride lowest last n h e = first-by bound lowest (n * stride) 0 n (always n ∙ ap not (sym below ∙ e ∙ ap (λ z. int_le z (bound -ℤ lowest)) (times-pos stride n)))
+  where
+    always : (n : ℕ) → nat_le 0 n ≡ true
+    always n = grind arith
+
+    below : int_le (pos n) last ≡ false
+    below = grind (arith, ints)
+
+pub first-at : (bound : ℤ) (stride : ℕ) (lowest : ℤ) (last n : ℕ) → int_le (pos n) (pos last) ≡ int_le (pos stride *ℤ pos n) (bound -ℤ lowest) → int_lt bound (lowest +ℤ pos (n * stride)) ≡ nat_le (last + 1) n
+first-at bound stride lowest last n e = first-by bound lowest (n * stride) (last + 1) n (over n ∙ ap not (e ∙ ap (λ z. int_le z (bound -ℤ lowest)) (times-pos stride n)))
+  where
+    over : (n : ℕ) → nat_le (last + 1) n ≡ not (int_le (pos n) (pos last))
+    over n = by (int_le (pos n) (pos last)) refl
+      where
+        by : (b : Bool) → int_le (pos n) (pos last) ≡ b → nat_le (last + 1) n ≡ not (int_le (pos n) (pos last))
+        by true h = rw h (grind (arith, ints))
+        by false h = rw h (grind (arith, ints))
+
+-- ---- pairs of two rows
+
+one-of : (b : Bool) → 1 ≡ cond b 1 0 + cond (not b) 1 0
+one-of true = refl
+one-of false = refl
+
+module _ {C : Type 0} (number : C → ℕ) (stride : ℕ) (one other : DrawRow C) where
+  abbrev first_cells : List ℕ
+  first_cells = map number one.cells.items
+
+  abbrev second_cells : List ℕ
+  second_cells = map number other.cells.items
+
+  pub placed-are : (bound : ℤ) (place : ℕ) → IsFirst bound stride (one.lowest +ℤ other.lowest) place → pair_draws number (once (int_lt bound)) stride one other ≡ placed_pairs place first_cells second_cells
+  placed-are bound place first =
+      let inner : ℤ → ℕ = λ (u : ℤ). row_sum (λ l. once (int_lt bound) (u +ℤ number_of l)) other.lowest (pos stride) second_cells in
+      cells-same (λ u. row_draws number (λ v. once (int_lt bound) (u +ℤ v)) stride other) inner (λ u. weighted-row (λ l. once (int_lt bound) (u +ℤ number_of l)) other.lowest (pos stride) second_cells) stride one.lowest first_cells
+      ∙ weighted-row (λ k. inner (number_of k)) one.lowest (pos stride) first_cells
+      ∙ two-rows bound stride one.lowest other.lowest place first_cells second_cells first
+
+  pairs-plus : (p q r : ℤ → ℕ) → ((v : ℤ) → r v ≡ p v + q v) → pair_draws number r stride one other ≡ pair_draws number p stride one other + pair_draws number q stride one other
+  pairs-plus p q r e =
+      cells-same (λ u. row_draws number (λ v. r (u +ℤ v)) stride other) (λ u. row_draws number (λ v. p (u +ℤ v)) stride other + row_draws number (λ v. q (u +ℤ v)) stride other)
+      (λ u. cells-same (λ v. r (u +ℤ v)) (λ v. p (u +ℤ v) + q (u +ℤ v)) (λ v. e (u +ℤ v)) stride other.lowest second_cells ∙ cells-plus (λ v. p (u +ℤ v)) (λ v. q (u +ℤ v)) stride other.lowest second_cells) stride one.lowest first_cells
+      ∙ cells-plus (λ u. row_draws number (λ v. p (u +ℤ v)) stride other) (λ u. row_draws number (λ v. q (u +ℤ v)) stride other) stride one.lowest first_cells
+
+  module _ (limit : ℕ) (few : AreFew number limit one other) where
+    pub pairs-all : pair_draws number (once (is_in Every)) stride one other ≡ one.total * other.total
+    pairs-all =
+        cells-same (λ u. row_draws number (λ v. 1) stride other) (λ u. other.total) (λ u. row-total number limit stride other few.second) stride one.lowest first_cells
+        ∙ cells-steady other.total stride one.lowest first_cells
+        ∙ ap (λ m. m * other.total) (sym few.first.whole)
+
+    -- what is not above a bound is up to it
+    pub pairs-up_to : (most : ℤ) → one.total * other.total ≡ pair_draws number (once (is_in (UpTo most))) stride one other + pair_draws number (once (int_lt most)) stride one other
+    pairs-up_to most = sym pairs-all ∙ pairs-plus (once (is_in (UpTo most))) (once (int_lt most)) (once (is_in Every)) (at-most most)
+
+    pub pairs-apart : (most least : ℤ) → most ≤ℤ least → pair_draws number (once (is_in (Apart most least))) stride one other ≡ pair_draws number (once (is_in (UpTo most))) stride one other + pair_draws number (once (int_lt least)) stride one other
+    pairs-apart most least h = pairs-plus (once (is_in (UpTo most))) (once (int_lt least)) (once (is_in (Apart most least))) (either most least h)
+
+    -- and no more than all
+    pub pairs-most : (p : ℤ → Bool) → pair_draws number (once p) stride one other ≤ one.total * other.total
+    pairs-most p = omega (arith, sym pairs-all ∙ pairs-plus (once p) (once (λ v. not (p v))) (once (is_in Every)) (λ v. one-of (p v)))
