@@ -6,16 +6,11 @@ use crate::stops::Stop;
 use std::alloc::Global;
 use weights::gcd;
 
-// How many cells the rows of so many subjects may have in all: of few subjects no more than there
-// are draws, and more where there are many.
+// How many cells the rows of so many subjects may have in all: few where there are few draws, and
+// fewer where there are so many subjects that adding would take long.
 fn most_cells(subjects: usize) -> u128 {
-    if subjects < 15 {
-        1 << subjects
-    } else if subjects < 40 {
-        1 << 15
-    } else {
-        1 << 22
-    }
+    let most = 1u128 << subjects.saturating_add(3).min(25);
+    most.min((1 << 33) / subjects.max(1) as u128)
 }
 
 /// Scores in ascending order.
@@ -92,7 +87,7 @@ pub(crate) fn sign_stride(scores: &[i128]) -> Result<u64, Stop>
     }
     match u64::try_from(stride) {
         Ok(0) => Ok(1),
-        Ok(stride) if whole / stride as u128 <= most_cells(scores.len() / 2) => Ok(stride),
+        Ok(stride) if whole / stride as u128 <= most_cells(scores.len() / 2) / 8 => Ok(stride),
         Ok(_) | Err(_) => Err(Stop::Wide),
     }
 }
