@@ -74,6 +74,29 @@ fn is_dense(sorted: &[i128], stride: u64, most: usize) -> bool
     }
 }
 
+// How many subjects a sweep by tie groups takes one by one: of each group no more than are drawn.
+fn steps_of(sorted: &[i128], most: usize) -> usize {
+    let mut steps = 0usize;
+    let mut alike = 0usize;
+    for i in 0..sorted.len() {
+        let is_next = i > 0 && sorted[i] == sorted[i - 1];
+        alike = if is_next { alike.saturating_add(1) } else { 1 };
+        if alike <= most {
+            steps = steps.saturating_add(1);
+        }
+    }
+    steps
+}
+
+// Whether the draws are counted: their rows are not too long, and tie groups would save little.
+fn is_drawn(first: &[i128], second: &[i128], sorted: &[i128], stride: u64, most: usize) -> bool
+    requires { 0 < stride }
+{
+    is_dense(first, stride, most)
+        && is_dense(second, stride, most)
+        && sorted.len() / 4 <= steps_of(sorted, most)
+}
+
 /// The greatest number of which each score is some times, or 1, where the sums of all scores are
 /// not too many for a row.
 pub(crate) fn sign_stride(scores: &[i128]) -> Result<u64, Stop>
@@ -108,7 +131,7 @@ pub(crate) fn cut_of(sorted: &[i128], stride: u64, most: usize) -> Result<usize,
             high = middle;
         }
     }
-    if is_dense(&sorted[..low], stride, most) && is_dense(&sorted[low..], stride, most) {
+    if is_drawn(&sorted[..low], &sorted[low..], sorted, stride, most) {
         Ok(low)
     } else {
         Err(Stop::Wide)
