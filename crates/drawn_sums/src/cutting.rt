@@ -97,6 +97,17 @@ fn is_drawn(first: &[i128], second: &[i128], sorted: &[i128], stride: u64, most:
         && sorted.len() / 4 <= steps_of(sorted, most)
 }
 
+// How many sums the scores of all may have where any number of so many subjects is drawn.
+fn most_sums(subjects: usize) -> u128 {
+    if subjects < 15 {
+        1 << subjects
+    } else if subjects < 40 {
+        1 << 15
+    } else {
+        1 << 20
+    }
+}
+
 /// The greatest number of which each score is some times, or 1, where the sums of all scores are
 /// not too many for a row.
 pub(crate) fn sign_stride(scores: &[i128]) -> Result<u64, Stop>
@@ -110,7 +121,7 @@ pub(crate) fn sign_stride(scores: &[i128]) -> Result<u64, Stop>
     }
     match u64::try_from(stride) {
         Ok(0) => Ok(1),
-        Ok(stride) if whole / stride as u128 <= most_cells(scores.len() / 2) / 8 => Ok(stride),
+        Ok(stride) if whole / stride as u128 <= most_sums(scores.len() / 2) => Ok(stride),
         Ok(_) | Err(_) => Err(Stop::Wide),
     }
 }
