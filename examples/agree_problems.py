@@ -69,7 +69,8 @@ def blocks(dice):
     treatments = dice.randint(5, 8)
     # with many ties, with some and with hardly any
     most = dice.choice([1, 3, 9, 999])
-    rows = dice.randint(1, max(2, 9 - treatments))
+    # from four blocks on sums are mirrored where there are no ties
+    rows = dice.randint(1, {5: 7, 6: 4}.get(treatments, 2))
     return [[dice.randint(0, most) for _ in range(treatments)] for _ in range(rows)]
 
 

@@ -221,12 +221,12 @@ gained-all f v (suc zero ∷ rs) (s ∷ ss) o e =
 gained-all f v (suc (suc r) ∷ rs) (s ∷ ss) o e = absurd (omega (arith, o.0))
 
 -- all wait
-settled-none : (k : ℕ) (s : List ℕ) → settled_sums (replicate k 1) s ≡ []
+pub settled-none : (k : ℕ) (s : List ℕ) → settled_sums (replicate k 1) s ≡ []
 settled-none zero s = refl
 settled-none (suc k) [] = refl
 settled-none (suc k) (s ∷ ss) = settled-none k ss
 
-waiting-all : (k : ℕ) (s : List ℕ) → length s ≡ k → waiting_sums (replicate k 1) s ≡ s
+pub waiting-all : (k : ℕ) (s : List ℕ) → length s ≡ k → waiting_sums (replicate k 1) s ≡ s
 waiting-all zero [] e = refl
 waiting-all zero (s ∷ ss) e = absurd (omega (arith, e))
 waiting-all (suc k) [] e = absurd (omega (arith, e))

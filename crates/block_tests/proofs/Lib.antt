@@ -16,11 +16,17 @@ pub mod Tops
 pub mod Filling
 pub mod LeftNumbers
 pub mod MarkedSums
+pub mod UprightSums
+pub mod SumEnds
+pub mod EvenBlocks
+pub mod MirroredRows
 pub mod ServedNarrows
 pub mod ServingLaw
+pub mod MirroredWays
 pub mod ServedFold
 pub mod ServingFollows
 pub mod ServingSteps
+pub mod MirrorSteps
 pub mod RowSteps
 pub mod CutSteps
 pub mod Vectors

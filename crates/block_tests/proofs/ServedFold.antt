@@ -1,9 +1,8 @@
 -- Treatments may change places in every key of the network of servings.
-use Rattle.std.proofs.Common.{◌≡◌, ℕ, zero, suc, ◌+◌, ◌*◌, ◌<◌, List, [], ◌∷◌, ◌++◌, length, map, max, min, take, drop, replicate, Bool, true, false, cond, refl, sym, ◌∙◌, ap, subst, arith}
+use Rattle.std.proofs.Common.{◌≡◌, ℕ, zero, suc, ◌+◌, ◌*◌, ◌<◌, List, [], ◌∷◌, ◌++◌, length, map, min, take, drop, replicate, Bool, true, false, cond, refl, sym, ◌∙◌, ap, subst, arith}
 use Rattle.std.specs.Prelude.{ℤ, pos, nat_abs, ◌≤ℤ◌}
 use Rattle.std.specs.List.{sum_by, Contains}
 use Rattle.std.proofs.lemmas.List.{length-replicate}
-use Rattle.std.proofs.lemmas.List.Sums.{sum_by-cons}
 use Rattle.weights.specs.Conditional.{ConditionalTest}
 use Rattle.weights.specs.declared.tails.Tail.{Tail}
 use Rattle.weights.specs.Grouped.{choices, minus}
@@ -28,12 +27,15 @@ use Rattle.ordered_groups.specs.OrderedNetworks.{AreItsRooms}
 use Rattle.ordered_groups.proofs.OrderedKeys.{AreTurned, ordered-follows}
 use Rattle.ordered_groups.proofs.PlaceOrder.{IsTurn, back-key, front-key, turn}
 use Rattle.block_tests.specs.BlockTests.{squared}
-use Rattle.block_tests.specs.Servings.{AreServings, ahead_at, alike, around, centre, far_square, gained, greatest_squares, high_square, is_late, later_numbers, left_numbers, low_square, most_squares, near_square, one_each, over_ends, served_network, served_sums, serving_at, serving_network, serving_plan, unserved}
+use Rattle.block_tests.specs.Mirrors.{AreMirrors}
+use Rattle.block_tests.specs.Servings.{AreServings, ahead_at, alike, around, centre, far_square, gained, greatest_squares, is_late, later_numbers, left_numbers, most_squares, near_square, one_each, over_ends, served_network, served_sums, serving_at, serving_network, serving_plan, unserved}
+use Rattle.block_tests.specs.Upright.{mirror_at, upright}
 use Rattle.block_tests.specs.declared.serving.Serving.{Serving}
 use Rattle.block_tests.specs.declared.serving.Ahead.{Ahead}
 use Rattle.block_tests.proofs.Filling.{greatest-swap}
 use Rattle.block_tests.proofs.ServingRooms.{serving_width}
 use Rattle.block_tests.proofs.ServedNarrows.{IsServed, served, served_measure}
+use Rattle.block_tests.proofs.UprightSums.{sums-swap, upright-swap}
 
 swap-replicate : {X : Type 0} (i n : ℕ) (x : X) → swap_at i (replicate n x) ≡ replicate n x
 swap-replicate i zero x = refl
@@ -64,15 +66,9 @@ ends-swap f z zero (r ∷ q ∷ rs) (s ∷ t ∷ ss) e = three (f (t + q * z.lea
     three a b c = omega arith
 ends-swap f z (suc i) (r ∷ rs) (s ∷ ss) e = ap (λ n. f (s + r * z.least + z.later_least) (s + r * z.most + z.later_most) + n) (ends-swap f z i rs ss (omega (arith, e)))
 
-squares-swap : (i : ℕ) (s : List ℕ) → sum_by squared (swap_at i s) ≡ sum_by squared s
-squares-swap i [] = refl
-squares-swap zero (s ∷ []) = refl
-squares-swap zero (s ∷ t ∷ ss) = omega (arith, sum_by-cons squared s (t ∷ ss), sum_by-cons squared t ss, sum_by-cons squared t (s ∷ ss), sum_by-cons squared s ss)
-squares-swap (suc i) (s ∷ ss) = omega (arith, sum_by-cons squared s (swap_at i ss), sum_by-cons squared s ss, squares-swap i ss)
-
-module _ (k : ℕ) (vs : List Serving) (judge : Judge) (a : AreServings k vs judge) where
+module _ (k : ℕ) (vs : List Serving) (judge : Judge) (a : AreServings k vs judge) (mirrors : List ℕ) (mirrors_are : AreMirrors k vs mirrors) where
   abbrev n : Network
-  n = serving_network k vs judge
+  n = serving_network k vs mirrors judge
 
   abbrev room : List ℤ → List ℤ
   room key = take k key
@@ -84,7 +80,7 @@ module _ (k : ℕ) (vs : List Serving) (judge : Judge) (a : AreServings k vs jud
   wide = length-replicate {A = ℕ} k 1
 
   key-of : (g : ℕ) (key : List ℤ) → IsReached n g key → IsServed k vs judge a g (room key) (partial key)
-  key-of g key r = served k vs judge a g (room key) (partial key) (is_key (served_sums k vs judge) one_each (serving_width k vs) g key r).reached
+  key-of g key r = served k vs judge a mirrors mirrors_are g (room key) (partial key) (is_key (served_sums k vs mirrors judge) one_each (serving_width k vs) g key r).reached
 
   turn-room : (i g : ℕ) (key : List ℤ) → IsReached n g key → room (turn k i key) ≡ swap_at i (room key)
   turn-room i g key r = front-key k (swap_at i (room key)) (swap_at i (partial key)) (length-swap i (room key) ∙ (key-of g key r).placed.long)
@@ -116,23 +112,32 @@ module _ (k : ℕ) (vs : List Serving) (judge : Judge) (a : AreServings k vs jud
       by true = length-replicate k (pos 1)
       by false = length-pos (minus sizes c) ∙ length-minus sizes c ∙ l
 
+  -- the sums after a choice
+  abbrev after : ℕ → List ℕ → List ℕ → List ℕ
+  after g c sums = upright (mirror_at mirrors g) (gained (serving_at vs g).value c sums)
+
+  after-swap : (i g : ℕ) (c sums : List ℕ) → length c ≡ length sums → map pos (after g (swap_at i c) (swap_at i sums)) ≡ swap_at i (map pos (after g c sums))
+  after-swap i g c sums l =
+      ap (λ s. map pos (upright (mirror_at mirrors g) s)) (gained-swap (serving_at vs g).value i c sums l)
+      ∙ ap (map pos) (upright-swap (mirror_at mirrors g) i (gained (serving_at vs g).value c sums))
+      ∙ map-swap pos i (after g c sums)
+
   -- where choices lead that change places with the treatments
   turn-next : (i g : ℕ) (key : List ℤ) (c : List ℕ) → IsReached n g key → length c ≡ k → n.next g (turn k i key) (swap_at i c) ≡ turn k i (n.next g key c)
   turn-next i g key c r l =
-      let v : ℕ = (serving_at vs g).value in
       let s : IsServed k vs judge a g (room key) (partial key) = key-of g key r in
       let sizes : List ℕ = sizes_in (room key) in
       let sums : List ℕ = sizes_in (partial key) in
       let sizes_long : length sizes ≡ k = length-abs (room key) ∙ s.placed.long in
       let sums_long : length sums ≡ k = length-abs (partial key) ∙ s.long in
-      let after : List ℤ = map pos (gained v c sums) in
-      ap (λ q. left g q (swap_at i c) ++ map pos (gained v (swap_at i c) (sizes_in (partial (turn k i key))))) (turn-sizes i g key r)
-      ∙ ap (λ q. left g (swap_at i sizes) (swap_at i c) ++ map pos (gained v (swap_at i c) q)) (turn-sums i g key r)
-      ∙ ap (λ q. q ++ map pos (gained v (swap_at i c) (swap_at i sums))) (left-swap i g sizes c (l ∙ sym sizes_long))
-      ∙ ap (λ q. swap_at i (left g sizes c) ++ q) (ap (map pos) (gained-swap v i c sums (l ∙ sym sums_long)) ∙ map-swap pos i (gained v c sums))
+      let next : List ℤ = map pos (after g c sums) in
+      ap (λ q. left g q (swap_at i c) ++ map pos (after g (swap_at i c) (sizes_in (partial (turn k i key))))) (turn-sizes i g key r)
+      ∙ ap (λ q. left g (swap_at i sizes) (swap_at i c) ++ map pos (after g (swap_at i c) q)) (turn-sums i g key r)
+      ∙ ap (λ q. q ++ map pos (after g (swap_at i c) (swap_at i sums))) (left-swap i g sizes c (l ∙ sym sizes_long))
+      ∙ ap (λ q. swap_at i (left g sizes c) ++ q) (after-swap i g c sums (l ∙ sym sums_long))
       ∙ sym (
-      ap (λ q. swap_at i q ++ swap_at i (partial (left g sizes c ++ after))) (front-key k (left g sizes c) after (left-long g sizes c sizes_long))
-      ∙ ap (λ q. swap_at i (left g sizes c) ++ swap_at i q) (back-key k (left g sizes c) after (left-long g sizes c sizes_long)))
+      ap (λ q. swap_at i q ++ swap_at i (partial (left g sizes c ++ next))) (front-key k (left g sizes c) next (left-long g sizes c sizes_long))
+      ∙ ap (λ q. swap_at i (left g sizes c) ++ swap_at i q) (back-key k (left g sizes c) next (left-long g sizes c sizes_long)))
 
   turn-first : (i : ℕ) → turn k i n.first ≡ n.first
   turn-first i =
@@ -172,7 +177,7 @@ module _ (k : ℕ) (vs : List Serving) (judge : Judge) (a : AreServings k vs jud
 
   -- what a choice of who is served adds to a sum over arcs
   abbrev term : (List ℤ → ℕ) → ℕ → List ℕ → List ℕ → List ℕ → ℕ
-  term f g sizes sums c = 1 * f (left g sizes c ++ map pos (gained (serving_at vs g).value c sums))
+  term f g sizes sums c = 1 * f (left g sizes c ++ map pos (after g c sums))
 
   turn-arcs : (f : List ℤ → ℕ) (g : ℕ) (key j : List ℤ) → ((l i : List ℤ) → IsReached n (g + 1) l → IsTurn (alike k) l i → f i ≡ f l) → IsReached n g key → IsTurn (alike k) key j → g < n.count → over_arcs n f g j ≡ over_arcs n f g key
   turn-arcs f g key j even_f r (i, s, e) h =
@@ -192,7 +197,7 @@ module _ (k : ℕ) (vs : List Serving) (judge : Judge) (a : AreServings k vs jud
   turn-ends key j r (i, s, e) =
       ap n.value (turn-is i key j e)
       ∙ ap (λ q. pos (sum_by squared q)) (turn-sums i n.count key r)
-      ∙ ap pos (squares-swap i (sizes_in (partial key)))
+      ∙ ap pos (sums-swap squared i (sizes_in (partial key)))
 
   pub served-turned : IsTurned n (IsTurn (alike k))
   served-turned = record {
@@ -204,7 +209,7 @@ module _ (k : ℕ) (vs : List Serving) (judge : Judge) (a : AreServings k vs jud
   -- ---- intervals
 
   abbrev m : Meaning
-  m = served_sums k vs judge
+  m = served_sums k vs mirrors judge
 
   is-key : (g : ℕ) (key : List ℤ) → IsReached n g key → IsKey m one_each (serving_width k vs) g key
   is-key g key r = is_key m one_each (serving_width k vs) g key r
@@ -213,13 +218,13 @@ module _ (k : ℕ) (vs : List Serving) (judge : Judge) (a : AreServings k vs jud
   rises g key c r h o =
       let here : IsKey m one_each (serving_width k vs) g key = is-key g key r in
       rw (room-next m one_each (serving_width k vs) g key c here.long, partial-next m one_each (serving_width k vs) g key c here.long)
-      ((served_measure k vs judge a).low_rises g (room key) (partial key) c here.reached h (subst (λ cs. Contains cs c) (choices-at g key h) o))
+      ((served_measure k vs judge a mirrors mirrors_are).low_rises g (room key) (partial key) c here.reached h (subst (λ cs. Contains cs c) (choices-at g key h) o))
 
   falls : (g : ℕ) (key : List ℤ) (c : List ℕ) → IsReached n g key → g < n.count → Contains (n.choices g key) c → m.high (g + 1) (room (n.next g key c)) (partial (n.next g key c)) ≤ℤ m.high g (room key) (partial key)
   falls g key c r h o =
       let here : IsKey m one_each (serving_width k vs) g key = is-key g key r in
       rw (room-next m one_each (serving_width k vs) g key c here.long, partial-next m one_each (serving_width k vs) g key c here.long)
-      ((served_measure k vs judge a).high_falls g (room key) (partial key) c here.reached h (subst (λ cs. Contains cs c) (choices-at g key h) o))
+      ((served_measure k vs judge a mirrors mirrors_are).high_falls g (room key) (partial key) c here.reached h (subst (λ cs. Contains cs c) (choices-at g key h) o))
 
   abbrev intervals : HasIntervals n judge
   intervals = record {
@@ -228,8 +233,8 @@ module _ (k : ℕ) (vs : List Serving) (judge : Judge) (a : AreServings k vs jud
     verdicts = λ t g key r. refl;
     low_rises = rises;
     high_falls = falls;
-    low_ends = λ key r. (served_measure k vs judge a).low_ends (room key) (partial key) (is-key n.count key r).reached;
-    high_ends = λ key r. (served_measure k vs judge a).high_ends (room key) (partial key) (is-key n.count key r).reached;
+    low_ends = λ key r. (served_measure k vs judge a mirrors mirrors_are).low_ends (room key) (partial key) (is-key n.count key r).reached;
+    high_ends = λ key r. (served_measure k vs judge a mirrors mirrors_are).high_ends (room key) (partial key) (is-key n.count key r).reached;
   }
 
   ends-turn : (f : ℕ → ℕ → ℕ) (i g : ℕ) (key : List ℤ) → IsReached n g key → over_ends f (ahead_at k vs g) (sizes_in (room (turn k i key))) (sizes_in (partial (turn k i key))) ≡ over_ends f (ahead_at k vs g) (sizes_in (room key)) (sizes_in (partial key))
@@ -242,13 +247,10 @@ module _ (k : ℕ) (vs : List Serving) (judge : Judge) (a : AreServings k vs jud
   low-turned : (g : ℕ) (key j : List ℤ) → IsReached n g key → IsTurn (alike k) key j → intervals.low g j ≡ intervals.low g key
   low-turned g key j r (i, s, e) =
       ap (intervals.low g) (turn-is i key j e)
-      ∙ ap (λ x. pos (max x (around k vs + over_ends (near_square (centre k vs)) (ahead_at k vs g) (sizes_in (room (turn k i key))) (sizes_in (partial (turn k i key)))))) (ends-turn low_square i g key r)
-      ∙ ap (λ x. pos (max (over_ends low_square (ahead_at k vs g) (sizes_in (room key)) (sizes_in (partial key))) (around k vs + x))) (ends-turn (near_square (centre k vs)) i g key r)
+      ∙ ap (λ x. pos (around k vs + x)) (ends-turn (near_square (centre k vs)) i g key r)
 
   most-turn : (i g : ℕ) (key : List ℤ) → IsReached n g key → most_squares k vs (ahead_at k vs g) (sizes_in (room (turn k i key))) (sizes_in (partial (turn k i key))) ≡ most_squares k vs (ahead_at k vs g) (sizes_in (room key)) (sizes_in (partial key))
-  most-turn i g key r =
-      ap (λ x. min x (around k vs + over_ends (far_square (centre k vs)) (ahead_at k vs g) (sizes_in (room (turn k i key))) (sizes_in (partial (turn k i key))))) (ends-turn high_square i g key r)
-      ∙ ap (λ x. min (over_ends high_square (ahead_at k vs g) (sizes_in (room key)) (sizes_in (partial key))) (around k vs + x)) (ends-turn (far_square (centre k vs)) i g key r)
+  most-turn i g key r = ap (λ x. around k vs + x) (ends-turn (far_square (centre k vs)) i g key r)
 
   abbrev greatest-of : ℕ → List ℕ → List ℕ → ℕ
   greatest-of g sizes sums = greatest_squares (left_numbers k (drop g vs)) (later_numbers k (drop g vs)) sizes sums
@@ -271,19 +273,19 @@ module _ (k : ℕ) (vs : List Serving) (judge : Judge) (a : AreServings k vs jud
   treatments-turned = record {
     few = rw wide a.narrow;
     wide = rw wide refl;
-    long = key_long (served_sums k vs judge) one_each (serving_width k vs) (served_measure k vs judge a);
+    long = key_long (served_sums k vs mirrors judge) one_each (serving_width k vs) (served_measure k vs judge a mirrors mirrors_are);
     turned = served-turned;
     intervals = intervals;
     low = low-turned;
     high = high-turned;
   }
 
-  pub served-follows : (test : ConditionalTest) (tail : Tail) → judge ≡ judge_of test → Follows test tail n → Follows test tail (served_network k vs judge)
+  pub served-follows : (test : ConditionalTest) (tail : Tail) → judge ≡ judge_of test → Follows test tail n → Follows test tail (served_network k vs mirrors judge)
   served-follows = ordered-follows (alike k) n judge treatments-turned
 
 -- as the network of servings asks for
-pub treatments-housed : (k : ℕ) (vs : List Serving) (judge : Judge) → AreServings k vs judge → (j : ℕ) (us : List Serving) → AreItsRooms (serving_plan k vs) (serving_plan j us) (served_sums k vs judge) (alike k)
-treatments-housed k vs judge a j us = record {
+pub treatments-housed : (k : ℕ) (vs : List Serving) (judge : Judge) → AreServings k vs judge → (mirrors : List ℕ) → (j : ℕ) (us : List Serving) → AreItsRooms (serving_plan k vs) (serving_plan j us) (served_sums k vs mirrors judge) (alike k)
+treatments-housed k vs judge a mirrors j us = record {
   weights = refl;
   housed = record { floor_is = refl; some = omega (arith, a.some); few = omega (arith, a.narrow) };
   width = sym (length-replicate {A = ℕ} k 1);

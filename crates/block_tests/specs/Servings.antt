@@ -20,6 +20,7 @@ use Rattle.label_network.specs.Meanings.{sizes_in}
 use Rattle.ordered_groups.specs.OrderedGroups.{groups_in_order}
 use Rattle.block_tests.specs.BlockSteps.{IsSmall}
 use Rattle.block_tests.specs.BlockTests.{added, squared}
+use Rattle.block_tests.specs.Upright.{mirror_at, upright}
 use Rattle.block_tests.specs.declared.serving.Serving.{Serving}
 use Rattle.block_tests.specs.declared.serving.Ahead.{Ahead}
 use Rattle.block_tests.specs.declared.serving.Row.{Row}
@@ -119,13 +120,6 @@ over_ends f a (r ∷ room) (s ∷ sums) =
     f (s + r * a.least + a.later_least) (s + r * a.most + a.later_most)
     + over_ends f a room sums
 
--- the square of the least number, and of the greatest
-abbrev pub low_square : ℕ → ℕ → ℕ
-low_square low high = squared low
-
-abbrev pub high_square : ℕ → ℕ → ℕ
-high_square low high = squared high
-
 -- how far the numbers from one to another are from a centre at least, and at most
 abbrev pub nearest : ℕ → ℕ → ℕ → ℕ
 nearest q low high = (low - q) + (q - high)
@@ -153,17 +147,14 @@ centre k vs = given vs / k
 abbrev pub around : ℕ → List Serving → ℕ
 around k vs = 2 * (centre k vs * given vs) - k * squared (centre k vs)
 
--- Of two intervals of the squares the narrower end: that of the sums, and that of their distances
--- from the centre.
+-- what the squares of the sums are at least, and at most
 abbrev pub least_squares : ℕ → List Serving → Ahead → List ℕ → List ℕ → ℕ
 least_squares k vs a room sums =
-    max (over_ends low_square a room sums)
-    (around k vs + over_ends (near_square (centre k vs)) a room sums)
+    around k vs + over_ends (near_square (centre k vs)) a room sums
 
 abbrev pub most_squares : ℕ → List Serving → Ahead → List ℕ → List ℕ → ℕ
 most_squares k vs a room sums =
-    min (over_ends high_square a room sums)
-    (around k vs + over_ends (far_square (centre k vs)) a room sums)
+    around k vs + over_ends (far_square (centre k vs)) a room sums
 
 -- ---- the greatest squares of all
 
@@ -216,15 +207,17 @@ highest_squares k vs g room sums =
     let all = greatest_squares (left_numbers k ahead) (later_numbers k ahead) room sums in
     if is_late k vs g then min most all else most
 
-abbrev pub served_sums : ℕ → List Serving → Judge → Meaning
-served_sums k vs judge = record {
+-- after each serving the sums are mirrored where they lean
+abbrev pub served_sums : ℕ → List Serving → List ℕ → Judge → Meaning
+served_sums k vs mirrors judge = record {
   floor = serving_floor k vs;
   slots = k;
   step_width = 0;
   outlook_width = 0;
   first = replicate k (pos 0);
   step = λ g room c. [];
-  advance = λ g room c p. map pos (gained (serving_at vs g).value c (sizes_in p));
+  advance = λ g room c p.
+      map pos (upright (mirror_at mirrors g) (gained (serving_at vs g).value c (sizes_in p)));
   outlook = λ g room. [];
   value = λ p. pos (sum_by squared (sizes_in p));
   low = λ g room p.
@@ -235,16 +228,17 @@ served_sums k vs judge = record {
 
 -- ---- the network
 
-abbrev pub serving_network : ℕ → List Serving → Judge → Network
-serving_network k vs judge = room_network (served_sums k vs judge) one_each
+abbrev pub serving_network : ℕ → List Serving → List ℕ → Judge → Network
+serving_network k vs mirrors judge = room_network (served_sums k vs mirrors judge) one_each
 
 -- all treatments alike
 abbrev pub alike : ℕ → List ℕ
 alike k = replicate k 1
 
 -- with the treatments in order, first by whether they are served, then by their sums
-abbrev pub served_network : ℕ → List Serving → Judge → Network
-served_network k vs judge = folded (groups_in_order (alike k)) (serving_network k vs judge)
+abbrev pub served_network : ℕ → List Serving → List ℕ → Judge → Network
+served_network k vs mirrors judge =
+    folded (groups_in_order (alike k)) (serving_network k vs mirrors judge)
 
 -- servings of k treatments that have a lawful network
 pub record AreServings (k : ℕ) (vs : List Serving) (judge : Judge) : Type 0 where

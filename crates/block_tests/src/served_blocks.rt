@@ -1,8 +1,11 @@
 // The network of servings with treatments in order.
-ghost use Rattle.std.specs.Prelude.{◌≡◌, IfOk};
+ghost use Rattle.std.specs.Prelude.{◌≡◌, ◌<◌, ℕ, length, true, All, IfOk};
+ghost use Rattle.block_tests.specs.Mirrors.{AreEven, AreMirrors};
 ghost use Rattle.block_tests.specs.Servings.{AreServings, alike, all_servings};
+ghost use Rattle.block_tests.specs.Upright.{mirror_at};
 
 use crate::block::Block;
+use crate::mirroring::are_even;
 use crate::served_sums::{ServedSums, ServingRooms};
 use crate::servings::{Servings, servings_of};
 use ordered_groups::InOrder;
@@ -14,7 +17,8 @@ use weights::NoMemory;
 /// Blocks whose numbers are given to treatments one after another, each to those that have none of
 /// its block yet. Treatments are in order: first those that are served, then the others, each by
 /// their sums. A block of k numbers costs a key at most k 2^(k - 1) arcs, where it has k!
-/// arrangements, and keys that meet within a block are one.
+/// arrangements, and keys that meet within a block are one. Where the blocks are the same from both
+/// ends, so are keys between blocks that are mirror images.
 pub type ServedBlocks = InOrder<ServingRooms, ServedSums>;
 
 // The servings of these blocks.
@@ -22,14 +26,21 @@ fn all_of(
     alloc: Global,
     blocks: &[Block],
     treatments: usize,
+    is_even: bool,
     judge: Judge,
 ) -> Result<Servings, NoMemory>
     requires { AreServings treatments (all_servings blocks.now) judge }
     ensures treatments { IfOk result (λ s. s.treatments ≡ treatments) }
     ensures items { IfOk result (λ s. s.items.items ≡ all_servings blocks.now) }
     ensures judge { IfOk result (λ s. s.judge ≡ judge) }
+    ensures mirrors { let vs = all_servings blocks.now in
+        IfOk result (λ s. AreMirrors treatments vs s.mirrors.items) }
+    ensures even { let vs = all_servings blocks.now in
+        IfOk result (λ s. (g : ℕ) → g < length vs → 0 < mirror_at s.mirrors.items g
+        → is_even ≡ true) }
 {
-    Servings::new(alloc, treatments, servings_of(alloc, blocks)?, judge)
+    let items = servings_of(alloc, blocks)?;
+    Servings::new(alloc, treatments, items, is_even, judge)
 }
 
 /// The network of these blocks of so many treatments.
@@ -44,10 +55,16 @@ pub(crate) fn served_blocks(
     ensures treatments { IfOk result (λ s. s.1.servings.treatments ≡ treatments) }
     ensures items { IfOk result (λ s. s.1.servings.items.items ≡ all_servings blocks.now) }
     ensures judge { IfOk result (λ s. s.1.servings.judge ≡ judge) }
+    ensures mirrors { let vs = all_servings blocks.now in
+        IfOk result (λ s. AreMirrors treatments vs s.1.servings.mirrors.items) }
+    ensures even { let vs = all_servings blocks.now in
+        IfOk result (λ s. (g : ℕ) → g < length vs → 0 < mirror_at s.1.servings.mirrors.items g
+        → All AreEven blocks.now) }
 {
-    let given = all_of(alloc, blocks, treatments, judge)?;
-    let summed = all_of(alloc, blocks, treatments, judge)?;
-    let beside = all_of(alloc, blocks, treatments, judge)?;
+    let is_even = are_even(blocks);
+    let given = all_of(alloc, blocks, treatments, is_even, judge)?;
+    let summed = all_of(alloc, blocks, treatments, is_even, judge)?;
+    let beside = all_of(alloc, blocks, treatments, is_even, judge)?;
     let sizes = vec![in alloc; 1u64; treatments]?;
     let rooms = ServingRooms { servings: given };
     let sums = ServedSums { servings: summed };

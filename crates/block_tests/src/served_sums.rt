@@ -1,5 +1,5 @@
 // Who is served, as rooms, and the treatments' sums, as what is measured of them.
-ghost use Rattle.std.specs.Prelude.{◌≡◌, ◌+◌, ◌*◌, ◌<◌, ◌≤◌, length, map, max, min, nat_abs, pos};
+ghost use Rattle.std.specs.Prelude.{◌≡◌, ◌+◌, ◌-◌, ◌*◌, ◌<◌, ◌≤◌, length, map, min, nat_abs, pos};
 ghost use Rattle.std.specs.Prelude.{slice_index_or, All};
 ghost use Rattle.std.specs.Prelude.{drop, if◌then◌else◌, true};
 ghost use Rattle.std.specs.List.{sum_by};
@@ -9,13 +9,15 @@ ghost use Rattle.label_network.specs.LabelSteps.{AreSizes};
 ghost use Rattle.label_network.specs.Meanings.{sizes_in};
 ghost use Rattle.block_tests.specs.BlockTests.{squared};
 ghost use Rattle.block_tests.specs.Servings.{AreMarks, AreSums, IsSmallAhead, far_square, farthest};
-ghost use Rattle.block_tests.specs.Servings.{gained, high_square, low_square, near_square, nearest};
+ghost use Rattle.block_tests.specs.Servings.{gained, near_square, nearest};
 ghost use Rattle.block_tests.specs.Servings.{greatest_squares, is_late, later_numbers};
 ghost use Rattle.block_tests.specs.Servings.{left_numbers, over_ends, served_sums, unserved};
 ghost use Rattle.block_tests.specs.BoundSteps.{AreSmallBounds};
+ghost use Rattle.block_tests.specs.Upright.{upright};
 ghost use Rattle.block_tests.specs.BlockSteps.{IsSmall};
 
 use crate::greatest::greatest_squares;
+use crate::leaning::write_upright;
 use crate::serving::{Ahead, Bounds};
 use crate::servings::Servings;
 use label_network::{first_counts, next_counts, take_away};
@@ -83,6 +85,25 @@ fn write_gained(value: u64, choice: &[u64], partial: &[i128], next: &mut [i128])
     }
 }
 
+// Writes the sums, raised by a number where a choice says so, and mirrored where they lean.
+fn write_mirrored(number: u64, value: u64, choice: &[u64], partial: &[i128], next: &mut [i128])
+    requires few { length partial.now ≤ 8 }
+    requires some { 0 < number }
+    requires number { number ≤ 2720000 }
+    requires sums { AreSums partial.now }
+    requires value { value ≤ 16 }
+    requires counts { All (λ c. c ≤ 1) choice.now }
+    requires as_many { length choice.now ≡ length partial.now }
+    requires room { length next.old ≡ length partial.now }
+    ensures { next.new
+        ≡ map pos (upright number (gained value choice.now (sizes_in partial.now))) }
+{
+    let mut numbers = [0i128; 8];
+    let sums = &mut numbers[..partial.len()];
+    write_gained(value, choice, partial, sums);
+    write_upright(number, sums, next);
+}
+
 // A treatment's sum, raised where it is left, and for later blocks.
 #[inline(always)]
 fn raised_sum(room: &[i128], partial: &[i128], place: usize, here: u64, later: u64) -> u64
@@ -140,10 +161,6 @@ fn bounds(room: &[i128], partial: &[i128], ahead: Ahead, centre: u64) -> Bounds
     requires sums { AreSums partial.now }
     requires ahead { IsSmallAhead ahead }
     requires centre { centre ≤ 21760000 }
-    ensures low { result.low
-        ≡ over_ends low_square ahead (sizes_in room.now) (sizes_in partial.now) }
-    ensures high { result.high
-        ≡ over_ends high_square ahead (sizes_in room.now) (sizes_in partial.now) }
     ensures near { result.near
         ≡ over_ends (near_square centre) ahead (sizes_in room.now) (sizes_in partial.now) }
     ensures far { result.far
@@ -151,24 +168,15 @@ fn bounds(room: &[i128], partial: &[i128], ahead: Ahead, centre: u64) -> Bounds
     ensures small { AreSmallBounds result }
     ensures level { length room.now ≡ length partial.now }
 {
-    let mut low = 0;
-    let mut high = 0;
     let mut near = 0;
     let mut far = 0;
     for i in 0..partial.len() {
         let least = raised_sum(room, partial, i, ahead.least, ahead.later_least);
         let most = raised_sum(room, partial, i, ahead.most, ahead.later_most);
-        low += small_square(least);
-        high += small_square(most);
         near += small_square(nearest(centre, least, most));
         far += small_square(farthest(centre, least, most));
     }
-    Bounds {
-        low,
-        high,
-        near,
-        far,
-    }
+    Bounds { near, far }
 }
 
 // The squares of sums, added.
@@ -186,29 +194,18 @@ fn squares(partial: &[i128]) -> u64
         later_least: 0,
         later_most: 0,
     };
-    bounds(&marks[..partial.len()], partial, none, 0).low
+    bounds(&marks[..partial.len()], partial, none, 0).near
 }
 
-// The least squares of two intervals' lower ends.
+// What the squares of the sums are, beside those of their distances from the centre.
 #[inline(always)]
-fn least_of(bounds: Bounds, base: u64) -> u64
-    requires small { AreSmallBounds bounds }
+fn squares_with(base: u64, distances: u64) -> u64
     requires base { base ≤ 1000000000000000 }
-    ensures is { result ≡ max bounds.low (base + bounds.near) }
+    requires distances { distances ≤ 8000000000000000 }
+    ensures is { result ≡ base + distances }
     ensures small { result ≤ 9000000000000000 }
 {
-    bounds.low.max(base + bounds.near)
-}
-
-// And the greatest of their upper ends.
-#[inline(always)]
-fn most_of(bounds: Bounds, base: u64) -> u64
-    requires small { AreSmallBounds bounds }
-    requires base { base ≤ 1000000000000000 }
-    ensures is { result ≡ min bounds.high (base + bounds.far) }
-    ensures small { result ≤ 9000000000000000 }
-{
-    bounds.high.min(base + bounds.far)
+    base + distances
 }
 
 // The greatest squares that sums end with, as far as they are looked for, where they are no more
@@ -216,7 +213,8 @@ fn most_of(bounds: Bounds, base: u64) -> u64
 #[inline(always)]
 fn highest(servings: &Servings, stage: usize, room: &[i128], partial: &[i128], most: u64) -> u64
     requires reached { AreReached (served_sums servings.now.treatments
-        servings.now.items.items servings.now.judge) stage room.now partial.now }
+        servings.now.items.items servings.now.mirrors.items servings.now.judge)
+        stage room.now partial.now }
     requires small { most ≤ 9000000000000000 }
     ensures is { let vs = servings.now.items.items in
         let k = servings.now.treatments in
@@ -298,7 +296,7 @@ impl Measure for ServedSums {
     ghost use Rattle.block_tests.specs.Servings.{served_sums};
 
     ghost meaning = { λ s. served_sums s.servings.treatments s.servings.items.items
-        s.servings.judge };
+        s.servings.mirrors.items s.servings.judge };
 
     fn slots(&self) -> usize {
         self.servings.treatments
@@ -328,7 +326,13 @@ impl Measure for ServedSums {
         partial: &[i128],
         next: &mut [i128],
     ) {
-        write_gained(self.servings.serving(stage).value, choice, partial, next);
+        let value = self.servings.serving(stage).value;
+        let mirror = self.servings.mirror(stage);
+        if mirror == 0 {
+            write_gained(value, choice, partial, next);
+        } else {
+            write_mirrored(mirror, value, choice, partial, next);
+        }
     }
 
     fn outlook(&self, _stage: usize, _room: &[i128], _outlook: &mut [i128]) {}
@@ -344,8 +348,8 @@ impl Measure for ServedSums {
     ) -> Verdict {
         let ahead = self.servings.ahead(stage);
         let bounds = bounds(room, partial, ahead, self.servings.middle);
-        let low = least_of(bounds, self.servings.base);
-        let most = most_of(bounds, self.servings.base);
+        let low = squares_with(self.servings.base, bounds.near);
+        let most = squares_with(self.servings.base, bounds.far);
         let high = highest(&self.servings, stage, room, partial, most);
         self.servings.judge.verdict(tail, interval_of(low, high))
     }

@@ -82,7 +82,7 @@ fn served_stages(alloc: Global, test: &BlockTest) -> Result<ServedBlocks, NoMemo
     requires { (test.now.kind ≡ Friedman) ⊎ (test.now.kind ≡ Cochran) }
     ensures { IfOk result (λ s. (t : Tail) → Follows (block_test test.now) t
         (ordered_network s.2 (serving_network s.1.servings.treatments s.1.servings.items.items
-        s.1.servings.judge))) }
+        s.1.servings.mirrors.items s.1.servings.judge))) }
 {
     let stages = served_blocks(alloc, test.blocks(), test.treatments(), test.judge())?;
     Ok(stages)

@@ -1,8 +1,10 @@
-use Rattle.std.proofs.Common.{◌≡◌, ◌∙◌, ℕ, List, ap}
+use Rattle.std.proofs.Common.{◌≡◌, ◌<◌, ◌∙◌, ℕ, List, ap, subst, sym}
 use Rattle.stage_network.specs.declared.verdicts.Judge.{Judge}
 use Rattle.ordered_groups.specs.OrderedNetworks.{AreItsRooms, MayBeOrdered}
 use Rattle.ordered_groups.proofs.OrderedKeys.{may-be-ordered}
+use Rattle.block_tests.specs.Mirrors.{AreMirrors}
 use Rattle.block_tests.specs.Servings.{AreServings, all_servings, alike, served_sums, serving_network, serving_plan}
+use Rattle.block_tests.specs.Upright.{mirror_at}
 use Rattle.block_tests.specs.declared.served_sums.ServedSums.{ServedSums}
 use Rattle.block_tests.specs.declared.served_sums.ServingRooms.{ServingRooms}
 use Rattle.block_tests.specs.declared.serving.Serving.{Serving}
@@ -16,17 +18,18 @@ record Given (k : ℕ) (vs : List Serving) (judge : Judge) (p : ServingRooms × 
   items : p.1.servings.items.items ≡ vs
   judge_is : p.1.servings.judge ≡ judge
   sizes : s ≡ alike k
+  mirrors : AreMirrors k vs p.1.servings.mirrors.items
 
 rooms-given : (k : ℕ) (vs : List Serving) (judge : Judge) → AreServings k vs judge → (p : ServingRooms × ServedSums) (s : List ℕ) → Given k vs judge p s → (j : ℕ) (us : List Serving) → j ≡ k → us ≡ vs
-    → AreItsRooms (serving_plan j us) (serving_plan p.0.servings.treatments p.0.servings.items.items) (served_sums p.1.servings.treatments p.1.servings.items.items p.1.servings.judge) s
+    → AreItsRooms (serving_plan j us) (serving_plan p.0.servings.treatments p.0.servings.items.items) (served_sums p.1.servings.treatments p.1.servings.items.items p.1.servings.mirrors.items p.1.servings.judge) s
 rooms-given k vs judge a p s f j us e i =
     rw (f.sizes, f.treatments, f.items, f.judge_is, e, i)
-    (treatments-housed k vs judge a p.0.servings.treatments p.0.servings.items.items)
+    (treatments-housed k vs judge a p.1.servings.mirrors.items p.0.servings.treatments p.0.servings.items.items)
 
-order-given : (k : ℕ) (vs : List Serving) (judge : Judge) → AreServings k vs judge → (p : ServingRooms × ServedSums) (s : List ℕ) → Given k vs judge p s → MayBeOrdered s (serving_network p.1.servings.treatments p.1.servings.items.items p.1.servings.judge)
+order-given : (k : ℕ) (vs : List Serving) (judge : Judge) → AreServings k vs judge → (p : ServingRooms × ServedSums) (s : List ℕ) → Given k vs judge p s → MayBeOrdered s (serving_network p.1.servings.treatments p.1.servings.items.items p.1.servings.mirrors.items p.1.servings.judge)
 order-given k vs judge a p s f =
     rw (f.sizes, f.treatments, f.items, f.judge_is)
-    (may-be-ordered (alike k) (serving_network k vs judge) judge (treatments-turned k vs judge a))
+    (may-be-ordered (alike k) (serving_network k vs p.1.servings.mirrors.items judge) judge (treatments-turned k vs judge a p.1.servings.mirrors.items f.mirrors))
 
 given : (c : After-new-stages) → Given c.args.treatments (all_servings c.args.blocks.now) c.args.judge c.new-stages.result c.in_ok-sizes.sizes.items
 given c =
@@ -35,6 +38,7 @@ given c =
       treatments = ap (λ (p : ServingRooms × ServedSums). p.1.servings.treatments) parts ∙ c.in_ok-summed.ensures.treatments;
       items = ap (λ (p : ServingRooms × ServedSums). p.1.servings.items.items) parts ∙ c.in_ok-summed.ensures.items;
       judge_is = ap (λ (p : ServingRooms × ServedSums). p.1.servings.judge) parts ∙ c.in_ok-summed.ensures.judge;
+      mirrors = subst (λ (p : ServingRooms × ServedSums). AreMirrors c.args.treatments (all_servings c.args.blocks.now) p.1.servings.mirrors.items) (sym parts) c.in_ok-summed.ensures.mirrors;
       sizes = c.in_ok-sizes.ensures.items_if_clones_equal (λ y same. same);
     }
 
@@ -46,3 +50,10 @@ new-ordered-requires-clause-rooms c =
 pub new-ordered-requires-clause-ordered : goal.new-ordered-requires-clause-ordered
 new-ordered-requires-clause-ordered c =
     order-given c.args.treatments (all_servings c.args.blocks.now) c.args.judge c.requires c.new-stages.result c.in_ok-sizes.sizes.items (given (goal.at.new-ordered-requires-clause-ordered c).After-new-stages)
+
+pub returns-clause-even : goal.returns-clause-even
+returns-clause-even c = λ g h some.
+    c.are_even-is_even.ensures
+    (c.in_ok-summed.ensures.even g h
+    (subst (λ ms. 0 < mirror_at ms g)
+    (ap (λ (s : ServingRooms × ServedSums × List ℕ). s.1.servings.mirrors.items) c.new-ordered.ensures ∙ ap (λ (p : ServingRooms × ServedSums). p.1.servings.mirrors.items) c.new-stages.ensures.parts) some))

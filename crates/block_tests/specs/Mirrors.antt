@@ -1,0 +1,45 @@
+-- Where sums are mirrored: after a block, where all later blocks are the same from both ends. What
+-- a treatment gets of those is then as often so much more than the least as so much less than the
+-- most, so sums and their mirror go on to the same squares.
+use Rattle.std.specs.Prelude.{◌≡◌, ℕ, ◌+◌, ◌-◌, ◌*◌, ◌≤◌, ◌<◌, List, drop, get_or, length, true, nat_le, if◌then◌else◌}
+use Rattle.block_tests.specs.Servings.{ahead_at, centre, given, is_late, later_numbers, left_numbers, serving_at}
+use Rattle.block_tests.specs.Upright.{mirror_at}
+use Rattle.block_tests.specs.declared.serving.Serving.{Serving}
+
+-- how often the number occurs that lacks as much to the end as this one
+abbrev pub opposite : ℕ → List ℕ → ℕ → ℕ
+opposite end counts i = if nat_le i end then get_or counts (end - i) 0 else 0
+
+-- the counts of a block that is the same from both ends
+pub record AreEven (counts : List ℕ) : Type 0 where
+  pub end : ℕ
+  pub each : (i : ℕ) → i < length counts → get_or counts i 0 ≡ opposite end counts i
+
+-- the first and the last of numbers, added
+abbrev pub both_ends : List ℕ → ℕ
+both_ends numbers = get_or numbers 0 0 + get_or numbers (length numbers - 1) 0
+
+-- numbers that are the same from both ends: each and the one as far from the other end add to that
+pub record IsEvenRow (numbers : List ℕ) : Type 0 where
+  pub each : (i : ℕ) → i < length numbers
+      → get_or numbers i 0 + get_or numbers (length numbers - 1 - i) 0 ≡ both_ends numbers
+
+-- After this serving sums may be mirrored at this number, where the later blocks are even: it
+-- closes its block; the number is twice the mean of the sums; the centre is midway between the ends
+-- of what they will be; and where the greatest squares of all end the intervals, what is left to be
+-- given is the same from both ends.
+pub record IsMirror (k : ℕ) (vs : List Serving) (g c : ℕ) : Type 0 where
+  pub closes : (serving_at vs g).closes ≡ true
+  pub small : c ≤ 16 * (g + 1)
+  pub half : k * c + 2 * given (drop (g + 1) vs) ≡ 2 * given vs
+  pub amid : 2 * centre k vs
+      ≡ c + (((ahead_at k vs (g + 1)).least + (ahead_at k vs (g + 1)).later_least)
+      + ((ahead_at k vs (g + 1)).most + (ahead_at k vs (g + 1)).later_most))
+  pub left : is_late k vs (g + 1) ≡ true → IsEvenRow (left_numbers k (drop (g + 1) vs))
+  pub later : is_late k vs (g + 1) ≡ true → IsEvenRow (later_numbers k (drop (g + 1) vs))
+
+-- a number for each serving, by which sums may be mirrored after it where it is not 0
+pub record AreMirrors (k : ℕ) (vs : List Serving) (mirrors : List ℕ) : Type 0 where
+  pub long : length mirrors ≡ length vs
+  pub each : (g : ℕ) → g < length vs → 0 < mirror_at mirrors g
+      → IsMirror k vs g (mirror_at mirrors g)

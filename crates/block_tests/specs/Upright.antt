@@ -1,0 +1,24 @@
+-- Sums that are mirrored: each becomes what it lacks to a number.
+use Rattle.std.specs.Prelude.{ℕ, ◌-◌, ◌*◌, List, map, get_or, Bool, ◌&&◌, nat_eq, nat_lt, if◌then◌else◌}
+use Rattle.std.specs.List.{sum_by}
+
+abbrev pub mirrored : ℕ → List ℕ → List ℕ
+mirrored c sums = map (λ s. c - s) sums
+
+abbrev pub cubed : ℕ → ℕ
+cubed n = n * (n * n)
+
+-- None is more than the number, and their cubes add to more than those of what they lack to it. Of
+-- sums and their mirror one alone leans, or neither.
+abbrev pub lean : ℕ → List ℕ → Bool
+lean c sums =
+    nat_eq (sum_by (λ s. s - c) sums) 0
+    && nat_lt (sum_by (λ s. cubed (c - s)) sums) (sum_by cubed sums)
+
+-- sums that lean are mirrored, where there is a number for it
+abbrev pub upright : ℕ → List ℕ → List ℕ
+upright c sums = if nat_lt 0 c && lean c sums then mirrored c sums else sums
+
+-- the number for a stage, or 0
+abbrev pub mirror_at : List ℕ → ℕ → ℕ
+mirror_at mirrors g = get_or mirrors g 0
