@@ -1,5 +1,5 @@
 -- The labellings of strata whose first cells have a given sum: sums over them, stratum by stratum.
-use Rattle.std.proofs.Common.{◌≡◌, ℕ, ◌+◌, ◌-◌, ◌*◌, ◌<◌, ◌≤◌, cond, List, [], ◌∷◌, nat_eq, eq-eqb, ne_eqb, inl, inr, refl, sym, ◌∙◌, ap, arith}
+use Rattle.std.proofs.Common.{◌≡◌, ℕ, ◌+◌, ◌-◌, ◌*◌, ◌<◌, ◌≤◌, cond, List, [], ◌∷◌, nat_eq, eq-eqb, ne_eqb, inl, inr, refl, sym, ◌∙◌, ap, arith, mul_assoc}
 use Rattle.std.specs.Prelude.{max, min}
 use Rattle.std.specs.List.{range_with_len, sum, sum_by}
 use Rattle.std.proofs.lemmas.Bool.{cases_eq}
@@ -13,7 +13,6 @@ use Rattle.strata_cells.proofs.FirstCells.{cells-meet, cells-sum}
 use Rattle.homogeneity.specs.Zelen.{has_sum}
 use Rattle.homogeneity.specs.ZelenSteps.{CanHave}
 use Rattle.homogeneity.specs.ZelenNetwork.{greatest_choice, greatest_sum, least_choice, least_sum, number_with}
-use Rattle.homogeneity.proofs.Products.{grouped}
 
 -- ---- over lists of first cells
 
@@ -24,7 +23,7 @@ pub over-step : (s : Stratum) (strata : List Stratum) (f : List ℕ → ℕ) →
 over-step s strata f =
     sum_by-fronts (λ cells. cells_weight (s ∷ strata) cells * f cells) (λ x. x) (λ x. cell_lists strata) (cells_in s)
     ∙ sum_by-same _ (λ x. cell_weight s x * over_cells strata (λ cells. f (x ∷ cells))) (λ x.
-    sum_by-same (λ cells. cell_weight s x * cells_weight strata cells * f (x ∷ cells)) (λ cells. cell_weight s x * (cells_weight strata cells * f (x ∷ cells))) (λ cells. grouped (cell_weight s x) (cells_weight strata cells) (f (x ∷ cells))) (cell_lists strata)
+    sum_by-same (λ cells. cell_weight s x * cells_weight strata cells * f (x ∷ cells)) (λ cells. cell_weight s x * (cells_weight strata cells * f (x ∷ cells))) (λ cells. mul_assoc (cell_weight s x) (cells_weight strata cells) (f (x ∷ cells))) (cell_lists strata)
     ∙ sum_by-scaled (cell_weight s x) (λ cells. cells_weight strata cells * f (x ∷ cells)) (cell_lists strata)) (cells_in s)
 
 pub over-none : (f : List ℕ → ℕ) → over_cells [] f ≡ f []

@@ -1,5 +1,5 @@
 -- Choices of one number, in their order.
-use Rattle.std.proofs.Common.{◌≡◌, ◌≢◌, ℕ, suc, ◌+◌, ◌-◌, ◌<◌, ◌≤◌, List, [], ◌∷◌, length, map, AllPairs, get_or, set, refl, sym, ◌∙◌, ap, arith}
+use Rattle.std.proofs.Common.{◌≡◌, ◌≢◌, ℕ, suc, ◌+◌, ◌-◌, ◌<◌, ◌≤◌, List, [], ◌∷◌, length, map, AllPairs, get_or, set, refl, ◌∙◌, ap, arith}
 use Rattle.std.specs.Prelude.{Contains}
 use Rattle.std.specs.List.{AllByRecursion, range_with_len}
 use Rattle.std.proofs.lemmas.List.Elements.{All-contains, All-from_recursion}
@@ -37,13 +37,11 @@ next-choice most [] long h = absurd (omega (arith, long))
 next-choice most (j ∷ []) long h = first-choice (j + 1) most (omega (arith, h))
 next-choice most (j ∷ k ∷ ks) long h = absurd (omega (arith, long))
 
-ones-apart : (x y : ℕ) → x < y → x ∷ [] ≢ y ∷ []
-ones-apart x y l e = let same : x ≡ y = cc in omega arith
-
 pub different : (low high : ℕ) → AllPairs ◌≢◌ (choices_between low high)
 different low high i j d below inside e =
     let n : ℕ = high + 1 - low in
     let within : j < n = omega (arith, length-map-range_with_len (λ x. x ∷ []) low n) in
     let first : get_or (choices_between low high) i d ≡ (low + i) ∷ [] = get_or-map-range_with_len (λ x. x ∷ []) low n i (low + i) d (omega arith) refl in
     let second : get_or (choices_between low high) j d ≡ (low + j) ∷ [] = get_or-map-range_with_len (λ x. x ∷ []) low n j (low + j) d within refl in
-    ones-apart (low + i) (low + j) (omega arith) (sym first ∙ e ∙ second)
+    let same : low + i ≡ low + j = cc in
+    omega arith

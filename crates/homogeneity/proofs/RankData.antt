@@ -15,7 +15,7 @@ use Rattle.sample_reader.specs.declared.subjects.Subject.{Subject}
 use Rattle.label_network.specs.LaterSums.{subjects}
 use Rattle.pooled_columns.proofs.PooledValues.{Rises}
 use Rattle.pooled_columns.proofs.TieColumns.{grouped}
-use Rattle.homogeneity.specs.RankRooms.{column_ranks, columns_after, columns_of, first_second, left}
+use Rattle.homogeneity.specs.RankRooms.{column_ranks, columns_after, columns_of, left, second_of}
 use Rattle.homogeneity.specs.RankSteps.{AreColumns, first_rank}
 use Rattle.homogeneity.specs.StratifiedRanks.{ranks_in, second_size, two_sizes}
 use Rattle.homogeneity.specs.declared.rank_columns.Column.{Column}
@@ -35,38 +35,38 @@ pub record IsStratum (s : List Subject) : Type 0 where
 size-some : (t : Tie) (ties : List Tie) → values_in (t ∷ ties) ≡ t.count + values_in ties
 size-some t ties = sum_by-cons (λ t. t.count) t ties
 
-left-after : (ahead before : ℕ) (t : Tie) (ties : List Tie) (rest : List Column) → left (columns_after ahead before (t ∷ ties) ++ rest) ≡ values_in (t ∷ ties)
-left-after ahead before t ties rest = sym (size-some t ties)
+left-after : (second before : ℕ) (t : Tie) (ties : List Tie) (rest : List Column) → left (columns_after second before (t ∷ ties) ++ rest) ≡ values_in (t ∷ ties)
+left-after second before t ties rest = sym (size-some t ties)
 
-sound-after : (ahead before : ℕ) (ties : List Tie) (rest : List Column) → values_in ties ≤ 10000 → AllByRecursion (λ t. 0 < t.count) ties → AreColumns rest → ahead ≤ left rest → AreColumns (columns_after ahead before ties ++ rest)
-sound-after ahead before [] rest few some s h = s
-sound-after ahead before (t ∷ ties) rest few some s h = (
+sound-after : (second before : ℕ) (ties : List Tie) (rest : List Column) → values_in ties ≤ 10000 → AllByRecursion (λ t. 0 < t.count) ties → AreColumns rest → second_of rest ≤ left rest → AreColumns (columns_after second before ties ++ rest)
+sound-after second before [] rest few some s h = s
+sound-after second before (t ∷ ties) rest few some s h = (
   record {
     small = omega (arith, few, size-some t ties);
     on = on ties (before + t.count);
     rises = rises ties;
     ahead = last ties (before + t.count) some.1;
   },
-  sound-after ahead (before + t.count) ties rest (omega (arith, few, size-some t ties)) some.1 s h,
+  sound-after second (before + t.count) ties rest (omega (arith, few, size-some t ties)) some.1 s h,
 )
   where
-    on : (ties : List Tie) (before : ℕ) → 0 < values_in ties → left (columns_after ahead before ties ++ rest) ≡ values_in ties
+    on : (ties : List Tie) (before : ℕ) → 0 < values_in ties → left (columns_after second before ties ++ rest) ≡ values_in ties
     on [] before later = absurd (omega (arith, later))
-    on (u ∷ ties) before later = left-after ahead before u ties rest
+    on (u ∷ ties) before later = left-after second before u ties rest
 
-    rises : (ties : List Tie) → 0 < values_in ties → 2 * before + t.count + 1 ≤ first_rank (columns_after ahead (before + t.count) ties ++ rest)
+    rises : (ties : List Tie) → 0 < values_in ties → 2 * before + t.count + 1 ≤ first_rank (columns_after second (before + t.count) ties ++ rest)
     rises [] later = absurd (omega (arith, later))
     rises (u ∷ ties) later = omega arith
 
-    last : (ties : List Tie) (before : ℕ) → AllByRecursion (λ t. 0 < t.count) ties → values_in ties ≡ 0 → ahead ≤ left (columns_after ahead before ties ++ rest)
+    last : (ties : List Tie) (before : ℕ) → AllByRecursion (λ t. 0 < t.count) ties → values_in ties ≡ 0 → second_of (columns_after second before ties ++ rest) ≤ left (columns_after second before ties ++ rest)
     last [] before some none = h
     last (u ∷ ties) before some none = absurd (omega (arith, some.0, none, size-some u ties))
 
-sizes-after : (ahead before : ℕ) (t : Tie) (ties : List Tie) (rest : List Column) → AllByRecursion (λ t. 0 < t.count) ties → later_sizes (columns_after ahead before (t ∷ ties) ++ rest) ≡ halves (left rest) ahead ∷ later_sizes rest
-sizes-after ahead before t [] rest some = refl
-sizes-after ahead before t (u ∷ ties) rest some =
+sizes-after : (second before : ℕ) (t : Tie) (ties : List Tie) (rest : List Column) → AllByRecursion (λ t. 0 < t.count) ties → later_sizes (columns_after second before (t ∷ ties) ++ rest) ≡ halves (left rest) (second_of rest) ∷ later_sizes rest
+sizes-after second before t [] rest some = refl
+sizes-after second before t (u ∷ ties) rest some =
     let more : nat_eq (values_in (u ∷ ties)) 0 ≡ cond false true false = ne_eqb (values_in (u ∷ ties)) 0 (λ e. omega (arith, e, some.0, size-some u ties)) in
-    rw more (sizes-after ahead (before + t.count) u ties rest some.1)
+    rw more (sizes-after second (before + t.count) u ties rest some.1)
 
 -- ---- ranks
 
@@ -74,11 +74,11 @@ copied : (n v : ℕ) (ys : List ℕ) → map pos (replicate n v ++ ys) ≡ repli
 copied zero v ys = refl
 copied (suc n) v ys = ap (λ zs. pos v ∷ zs) (copied n v ys)
 
-ranks-after : (ahead before : ℕ) (ties : List Tie) (rest : List Column) → map pos (column_ranks (columns_after ahead before ties ++ rest)) ≡ subjects (map pos (ranks_after before ties)) (map (λ t. t.count) ties) ++ map pos (column_ranks rest)
-ranks-after ahead before [] rest = refl
-ranks-after ahead before (t ∷ ties) rest =
-    copied t.count (2 * before + t.count + 1) (column_ranks (columns_after ahead (before + t.count) ties ++ rest))
-    ∙ ap (λ zs. replicate t.count (pos (2 * before + t.count + 1)) ++ zs) (ranks-after ahead (before + t.count) ties rest)
+ranks-after : (second before : ℕ) (ties : List Tie) (rest : List Column) → map pos (column_ranks (columns_after second before ties ++ rest)) ≡ subjects (map pos (ranks_after before ties)) (map (λ t. t.count) ties) ++ map pos (column_ranks rest)
+ranks-after second before [] rest = refl
+ranks-after second before (t ∷ ties) rest =
+    copied t.count (2 * before + t.count + 1) (column_ranks (columns_after second (before + t.count) ties ++ rest))
+    ∙ ap (λ zs. replicate t.count (pos (2 * before + t.count + 1)) ++ zs) (ranks-after second (before + t.count) ties rest)
     ∙ sym (append_assoc (replicate t.count (pos (2 * before + t.count + 1))) (subjects (map pos (ranks_after (before + t.count) ties)) (map (λ t. t.count) ties)) (map pos (column_ranks rest)))
 
 twice : {X Y Z : Type 0} (f : X → Y) (g : Y → Z) (xs : List X) → map g (map f xs) ≡ map (λ x. g (f x)) xs
@@ -98,13 +98,13 @@ stratum-ranks values up =
 square-more : (b n v s : ℕ) → n * (2 * b + n + 1) + b * (b + 1) ≡ (b + n) * (b + n + 1)
 square-more b n v s = grind arith
 
-sum-after : (ahead before : ℕ) (ties : List Tie) (rest : List Column) → sum (column_ranks (columns_after ahead before ties ++ rest)) + before * (before + 1) ≡ (before + values_in ties) * (before + values_in ties + 1) + sum (column_ranks rest)
-sum-after ahead before [] rest = let e : before + values_in [] ≡ before = omega arith in rw e (omega arith)
-sum-after ahead before (t ∷ ties) rest =
-    let c : Column = record { size = t.count; later = values_in ties; rank = 2 * before + t.count + 1; ahead = ahead } in
+sum-after : (second before : ℕ) (ties : List Tie) (rest : List Column) → sum (column_ranks (columns_after second before ties ++ rest)) + before * (before + 1) ≡ (before + values_in ties) * (before + values_in ties + 1) + sum (column_ranks rest)
+sum-after second before [] rest = let e : before + values_in [] ≡ before = omega arith in rw e (omega arith)
+sum-after second before (t ∷ ties) rest =
+    let c : Column = record { size = t.count; later = values_in ties; rank = 2 * before + t.count + 1; second = second } in
     let to : before + t.count + values_in ties ≡ before + values_in (t ∷ ties) = omega (arith, size-some t ties) in
-    let again = rw to at (sum-after ahead (before + t.count) ties rest) in
-    omega (arith, column_total c (columns_after ahead (before + t.count) ties ++ rest), again, square-more before t.count 0 0)
+    let again = rw to at (sum-after second (before + t.count) ties rest) in
+    omega (arith, column_total c (columns_after second (before + t.count) ties ++ rest), again, square-more before t.count 0 0)
 
 -- ---- strata
 
@@ -128,22 +128,25 @@ some-tie s h = by (tie_groups (values_of s)) refl
 pub first-left : (s : List Subject) (strata : List (List Subject)) → 1 ≤ length s → left (columns_of (s ∷ strata)) ≡ length s
 first-left s strata h =
     let some : HasTie s = some-tie s h in
-    ap (λ ties. left (columns_after (first_second strata) 0 ties ++ columns_of strata)) some.are
-    ∙ left-after (first_second strata) 0 some.first some.ties (columns_of strata)
+    ap (λ ties. left (columns_after (second_size s) 0 ties ++ columns_of strata)) some.are
+    ∙ left-after (second_size s) 0 some.first some.ties (columns_of strata)
     ∙ ap values_in (sym some.are) ∙ values-long s
 
-pub second-within : (strata : List (List Subject)) → AllByRecursion IsStratum strata → first_second strata ≤ left (columns_of strata)
+first-second : (s : List Subject) (strata : List (List Subject)) → 1 ≤ length s → second_of (columns_of (s ∷ strata)) ≡ second_size s
+first-second s strata h = ap (λ ties. second_of (columns_after (second_size s) 0 ties ++ columns_of strata)) (some-tie s h).are
+
+pub second-within : (strata : List (List Subject)) → AllByRecursion IsStratum strata → second_of (columns_of strata) ≤ left (columns_of strata)
 second-within [] all = omega arith
-second-within (s ∷ strata) all = omega (arith, first-left s strata all.0.some, all.0.level)
+second-within (s ∷ strata) all = omega (arith, first-left s strata all.0.some, first-second s strata all.0.some, all.0.level)
 
 pub columns-sound : (strata : List (List Subject)) → AllByRecursion IsStratum strata → AreColumns (columns_of strata)
 columns-sound [] all = tt
-columns-sound (s ∷ strata) all = sound-after (first_second strata) 0 (tie_groups (values_of s)) (columns_of strata) (omega (arith, values-long s, all.0.few)) (groups-counts (values_of s)) (columns-sound strata all.1) (second-within strata all.1)
+columns-sound (s ∷ strata) all = sound-after (second_size s) 0 (tie_groups (values_of s)) (columns_of strata) (omega (arith, values-long s, all.0.few)) (groups-counts (values_of s)) (columns-sound strata all.1) (second-within strata all.1)
 
 pub columns-ranks : (strata : List (List Subject)) → AllByRecursion IsStratum strata → map pos (column_ranks (columns_of strata)) ≡ map pos (concat (map ranks_in strata))
 columns-ranks [] all = refl
 columns-ranks (s ∷ strata) all =
-    ranks-after (first_second strata) 0 (tie_groups (values_of s)) (columns_of strata)
+    ranks-after (second_size s) 0 (tie_groups (values_of s)) (columns_of strata)
     ∙ ap (λ zs. zs ++ map pos (column_ranks (columns_of strata))) (stratum-ranks (values_of s) all.0.rises)
     ∙ ap (λ zs. map pos (ranks_in s) ++ zs) (columns-ranks strata all.1)
     ∙ sym (appended (ranks_in s) (concat (map ranks_in strata)))
@@ -152,14 +155,14 @@ columns-ranks (s ∷ strata) all =
     appended [] ys = refl
     appended (x ∷ xs) ys = ap (λ zs. pos x ∷ zs) (appended xs ys)
 
-pub columns-sizes : (strata : List (List Subject)) → AllByRecursion IsStratum strata → halves (left (columns_of strata)) (first_second strata) ∷ later_sizes (columns_of strata) ≡ map two_sizes strata ++ (0 ∷ 0 ∷ []) ∷ []
+pub columns-sizes : (strata : List (List Subject)) → AllByRecursion IsStratum strata → halves (left (columns_of strata)) (second_of (columns_of strata)) ∷ later_sizes (columns_of strata) ≡ map two_sizes strata ++ (0 ∷ 0 ∷ []) ∷ []
 columns-sizes [] all = refl
 columns-sizes (s ∷ strata) all =
     let some : HasTie s = some-tie s all.0.some in
     let own : halves (left (columns_of (s ∷ strata))) (second_size s) ≡ two_sizes s = own-sizes (two_sizes s) refl in
-    let later : later_sizes (columns_of (s ∷ strata)) ≡ halves (left (columns_of strata)) (first_second strata) ∷ later_sizes (columns_of strata) =
-    ap (λ ties. later_sizes (columns_after (first_second strata) 0 ties ++ columns_of strata)) some.are ∙ sizes-after (first_second strata) 0 some.first some.ties (columns_of strata) some.some in
-    ap (λ x. x ∷ later_sizes (columns_of (s ∷ strata))) own ∙ ap (λ xs. two_sizes s ∷ xs) (later ∙ columns-sizes strata all.1)
+    let later : later_sizes (columns_of (s ∷ strata)) ≡ halves (left (columns_of strata)) (second_of (columns_of strata)) ∷ later_sizes (columns_of strata) =
+    ap (λ ties. later_sizes (columns_after (second_size s) 0 ties ++ columns_of strata)) some.are ∙ sizes-after (second_size s) 0 some.first some.ties (columns_of strata) some.some in
+    ap (λ x. x ∷ later_sizes (columns_of (s ∷ strata))) (ap (halves (left (columns_of (s ∷ strata)))) (first-second s strata all.0.some) ∙ own) ∙ ap (λ xs. two_sizes s ∷ xs) (later ∙ columns-sizes strata all.1)
   where
     own-sizes : (sizes : List ℕ) → sizes ≡ two_sizes s → halves (left (columns_of (s ∷ strata))) (second_size s) ≡ two_sizes s
     own-sizes sizes e =
@@ -169,7 +172,7 @@ columns-sizes (s ∷ strata) all =
 pub ranks-total : (strata : List (List Subject)) → sum (column_ranks (columns_of strata)) ≡ sum_by (λ s. length s * (length s + 1)) strata
 ranks-total [] = refl
 ranks-total (s ∷ strata) =
-    let all = sum-after (first_second strata) 0 (tie_groups (values_of s)) (columns_of strata) in
+    let all = sum-after (second_size s) 0 (tie_groups (values_of s)) (columns_of strata) in
     let long : 0 + values_in (tie_groups (values_of s)) ≡ length s = omega (arith, values-long s) in
     let told = rw long at all in
     omega (arith, told, ranks-total strata, sum_by-cons (λ (s : List Subject). length s * (length s + 1)) s strata)

@@ -13,9 +13,10 @@ use Rattle.weights.proofs.Sums.{sum_by-flat_map, sum_by-map, sum_by-one, sum_by-
 use Rattle.enumerate.specs.Joined.{joined_labellings}
 use Rattle.enumerate.proofs.JoinedMembers.{each-long, joined-front}
 use Rattle.room_network.specs.Plans.{Plan, alone}
-use Rattle.homogeneity.specs.RankRooms.{column_at, left, rank_plan, remaining_after, ways_of}
+use Rattle.homogeneity.specs.RankRooms.{column_at, left, rank_plan, remaining_after, second_of, ways_of}
 use Rattle.homogeneity.specs.RankSteps.{AreColumns, IsColumn, later_ways}
 use Rattle.homogeneity.specs.declared.rank_columns.Column.{Column}
+use Rattle.homogeneity.proofs.RankSums.{remaining-within}
 use Rattle.homogeneity.proofs.WaySums.{gather, gather-none, gather-step}
 use Rattle.homogeneity.proofs.TwoParts.{halves, ones, two-parts}
 
@@ -48,14 +49,14 @@ number-more s ss =
 -- the sizes of the strata behind that of the first column; one of no subject comes last
 abbrev pub later_sizes : List Column → List (List ℕ)
 later_sizes [] = []
-later_sizes (c ∷ columns) = cond (nat_eq c.later 0) (halves (left columns) c.ahead ∷ later_sizes columns) (later_sizes columns)
+later_sizes (c ∷ columns) = cond (nat_eq c.later 0) (halves (left columns) (second_of columns) ∷ later_sizes columns) (later_sizes columns)
 
 pub later-ways : (columns : List Column) → number_joined (later_sizes columns) ≡ later_ways columns
 later-ways [] = refl
 later-ways (c ∷ columns) = by (nat_eq c.later 0) (later-ways columns)
   where
-    by : (b : Bool) → number_joined (later_sizes columns) ≡ later_ways columns → number_joined (cond b (halves (left columns) c.ahead ∷ later_sizes columns) (later_sizes columns)) ≡ cond b (ways_of (left columns) c.ahead) 1 * later_ways columns
-    by true h = number-more (halves (left columns) c.ahead) (later_sizes columns) ∙ ap (λ n. ways_of (left columns) c.ahead * n) h
+    by : (b : Bool) → number_joined (later_sizes columns) ≡ later_ways columns → number_joined (cond b (halves (left columns) (second_of columns) ∷ later_sizes columns) (later_sizes columns)) ≡ cond b (ways_of (left columns) (second_of columns)) 1 * later_ways columns
+    by true h = number-more (halves (left columns) (second_of columns)) (later_sizes columns) ∙ ap (λ n. ways_of (left columns) (second_of columns) * n) h
     by false h = omega (arith, h)
 
 -- how many subjects of each column are of the second group
@@ -72,17 +73,17 @@ module _ (c : Column) (columns : List Column) (is : IsColumn c columns) (r x : �
       rw (rest, e) refl
 
   -- what is behind a column: the rest of its stratum, and the next ones
-  behind : sum_by f (joined_labellings (halves (left columns) (remaining_after c r x) ∷ later_sizes columns)) ≡ sum_by (λ zs. sum_by (λ us. f (zs ++ us)) (joined_labellings (later_sizes (c ∷ columns)))) (labellings (halves c.later (r - x)))
+  behind : sum_by f (joined_labellings (halves (left columns) (remaining_after c columns r x) ∷ later_sizes columns)) ≡ sum_by (λ zs. sum_by (λ us. f (zs ++ us)) (joined_labellings (later_sizes (c ∷ columns)))) (labellings (halves c.later (r - x)))
   behind = elim (eqb_tells c.later 0) [
     | inl e ↦ last e.0 e.1
     | inr e ↦ (let on : left columns ≡ c.later = is.on (omega (arith, e.1)) in rw (e.0, on) (over_joined (halves c.later (r - x)) (later_sizes columns) f))
   ]
     where
-      last : nat_eq c.later 0 ≡ true → c.later ≡ 0 → sum_by f (joined_labellings (halves (left columns) (remaining_after c r x) ∷ later_sizes columns)) ≡ sum_by (λ zs. sum_by (λ us. f (zs ++ us)) (joined_labellings (later_sizes (c ∷ columns)))) (labellings (halves c.later (r - x)))
+      last : nat_eq c.later 0 ≡ true → c.later ≡ 0 → sum_by f (joined_labellings (halves (left columns) (remaining_after c columns r x) ∷ later_sizes columns)) ≡ sum_by (λ zs. sum_by (λ us. f (zs ++ us)) (joined_labellings (later_sizes (c ∷ columns)))) (labellings (halves c.later (r - x)))
       last e z =
           let g : List ℕ → ℕ = λ zs. sum_by (λ us. f (zs ++ us)) (joined_labellings (later_sizes (c ∷ columns))) in
-          let next : remaining_after c r x ≡ c.ahead = rw e refl in
-          let sizes : later_sizes (c ∷ columns) ≡ halves (left columns) c.ahead ∷ later_sizes columns = rw e refl in
+          let next : remaining_after c columns r x ≡ (second_of columns) = rw e refl in
+          let sizes : later_sizes (c ∷ columns) ≡ halves (left columns) (second_of columns) ∷ later_sizes columns = rw e refl in
           ap (λ n. sum_by f (joined_labellings (halves (left columns) n ∷ later_sizes columns))) next
           ∙ sym (ap (λ ss. sum_by f (joined_labellings ss)) sizes)
           ∙ sym (ap (λ s. sum_by g (labellings s)) (none-left z) ∙ two-none g)
@@ -97,17 +98,17 @@ at-drop xs g t d ts h e = let split : drop g xs ≡ get_or xs g d ∷ drop (suc 
 pub rest-drop : {X : Type 0} (xs : List X) (g : ℕ) (t d : X) (ts : List X) → g < length xs → drop g xs ≡ t ∷ ts → drop (g + 1) xs ≡ ts
 rest-drop xs g t d ts h e = let split : drop g xs ≡ get_or xs g d ∷ drop (suc g) xs = drop-cons xs g d h in rw add-one (cc)
 
-module _ (columns : List Column) (second : ℕ) where
+module _ (columns : List Column) where
   abbrev plan : Plan
-  plan = rank_plan columns second
+  plan = rank_plan columns
 
-  step : (t : Column) (m g r : ℕ) (f : List (List ℕ) → ℕ) → column_at columns g ≡ t → g < length columns
-      → gather (alone plan) (suc m) g (pos r ∷ []) f ≡ sum_by (λ x. ways_of t.size x * gather (alone plan) m (g + 1) (pos (remaining_after t r x) ∷ []) (λ w. f ((x ∷ []) ∷ w))) (range_with_len (r - t.later) (min t.size r + 1 - (r - t.later)))
-  step t m g r f e before =
+  step : (t : Column) (ts : List Column) (m g r : ℕ) (f : List (List ℕ) → ℕ) → column_at columns g ≡ t → drop (g + 1) columns ≡ ts → g < length columns
+      → gather (alone plan) (suc m) g (pos r ∷ []) f ≡ sum_by (λ x. ways_of t.size x * gather (alone plan) m (g + 1) (pos (remaining_after t ts r x) ∷ []) (λ w. f ((x ∷ []) ∷ w))) (range_with_len (r - t.later) (min t.size r + 1 - (r - t.later)))
+  step t ts m g r f e d before =
       let one : List ℕ → ℕ = λ c. plan.weight g (pos r ∷ []) c * gather (alone plan) m (g + 1) (plan.floor.next g (pos r ∷ []) c) (λ w. f (c ∷ w)) in
       let range : List ℕ = range_with_len (r - t.later) (min t.size r + 1 - (r - t.later)) in
       let choices : (alone plan).choices g (pos r ∷ []) ≡ map (λ x. x ∷ []) range = rw (lt-ltb g (length columns) before, e) refl in
-      let same : sum_by (λ x. one (x ∷ [])) range ≡ sum_by (λ x. ways_of t.size x * gather (alone plan) m (g + 1) (pos (remaining_after t r x) ∷ []) (λ w. f ((x ∷ []) ∷ w))) range = rw e refl in
+      let same : sum_by (λ x. one (x ∷ [])) range ≡ sum_by (λ x. ways_of t.size x * gather (alone plan) m (g + 1) (pos (remaining_after t ts r x) ∷ []) (λ w. f ((x ∷ []) ∷ w))) range = rw (e, d) refl in
       gather-step (alone plan) m g (pos r ∷ []) f ∙ ap (sum_by one) choices ∙ sum_by-map one (λ x. x ∷ []) range ∙ same
 
   pub ways_give : (ts : List Column) (g r : ℕ) (f : List (List ℕ) → ℕ) → drop g columns ≡ ts → g + length ts ≡ length columns → AreColumns ts → r ≤ left ts
@@ -119,17 +120,11 @@ module _ (columns : List Column) (second : ℕ) where
       let before : g < length columns = omega (arith, e) in
       let here : column_at columns g ≡ t = at-drop columns g t _ ts before d in
       let next : drop (g + 1) columns ≡ ts = rest-drop columns g t t ts before d in
-      step t (length ts) g r f here before
+      step t ts (length ts) g r f here next before
       ∙ same-within _ (λ x. ways_of t.size x * sum_by (λ zs. sum_by (λ us. f ((x ∷ []) ∷ second_counts ts (zs ++ us))) (joined_labellings (later_sizes (t ∷ ts)))) (labellings (halves t.later (r - x)))) (r - t.later) (min t.size r + 1 - (r - t.later)) (λ x low high.
       ap (λ n. ways_of t.size x * n) (
-      ways_give ts (g + 1) (remaining_after t r x) (λ w. f ((x ∷ []) ∷ w)) next (omega (arith, e)) s.1 (within t ts s.0 r x h (omega (arith, low)) (omega (arith, high, low, h)))
+      ways_give ts (g + 1) (remaining_after t ts r x) (λ w. f ((x ∷ []) ∷ w)) next (omega (arith, e)) s.1 (remaining-within t ts s.0 r x h (omega (arith, low)) (omega (arith, high, low, h)))
       ∙ behind t ts s.0 r x (λ xs. f ((x ∷ []) ∷ second_counts ts xs)) (omega (arith, low)) (omega (arith, high, low, h))))
       ∙ sym (two-parts t.size t.later r (λ x zs. sum_by (λ us. f ((x ∷ []) ∷ second_counts ts (zs ++ us))) (joined_labellings (later_sizes (t ∷ ts)))) h)
       ∙ sum_by-same_where (λ xs. length xs ≡ sum (halves (left (t ∷ ts)) r)) _ (λ xs. sum_by (λ us. f (second_counts (t ∷ ts) (xs ++ us))) (joined_labellings (later_sizes (t ∷ ts)))) (λ xs long. sum_by-same _ _ (λ us. ap f (sym (cut-first t ts xs us (omega (arith, long, h, sum_by-cons (λ v. v) (t.size + t.later - r) (r ∷ []), sum_by-cons (λ v. v) r []))))) (joined_labellings (later_sizes (t ∷ ts)))) (labellings (halves (left (t ∷ ts)) r)) (each-long (halves (left (t ∷ ts)) r))
       ∙ sym (over_joined (halves (left (t ∷ ts)) r) (later_sizes (t ∷ ts)) (λ xs. f (second_counts (t ∷ ts) xs)))
-    where
-      within : (t : Column) (ts : List Column) → IsColumn t ts → (r x : ℕ) → r ≤ t.size + t.later → r ≤ x + t.later → x ≤ r → remaining_after t r x ≤ left ts
-      within t ts is r x h low high = elim (eqb_tells t.later 0) [
-        | inl e ↦ rw (e.0) (is.ahead e.1)
-        | inr e ↦ (let on : left ts ≡ t.later = is.on (omega (arith, e.1)) in rw (e.0) (omega (arith, on, low)))
-      ]

@@ -12,7 +12,8 @@ use Rattle.sample_reader.specs.declared.subjects.Subject.{Subject}
 use Rattle.stage_network.specs.declared.verdicts.Judge.{Judge}
 use Rattle.room_network.specs.Meanings.{partial_after, way_value}
 use Rattle.room_network.specs.Plans.{Gives, alone}
-use Rattle.homogeneity.specs.RankRooms.{added_by, column_at, column_ranks, columns_of, first_second, rank_floor, rank_meaning, rank_plan}
+use Rattle.homogeneity.specs.OneCount.{chosen}
+use Rattle.homogeneity.specs.RankRooms.{column_at, column_ranks, columns_of, rank_floor, rank_meaning, rank_plan, second_of}
 use Rattle.room_network.specs.Numbers.{so_far}
 use Rattle.homogeneity.specs.StratifiedRanks.{ranked_strata_test, two_sizes}
 use Rattle.homogeneity.specs.declared.rank_columns.Column.{Column}
@@ -50,9 +51,9 @@ column-labelled (suc c) v ys (x ∷ xs) = by (nat_eq x 1) (column-labelled c v y
     by true h e = ap (λ z. pos v +ℤ z) h ∙ one-taken v (ones (take c xs)) (labelled_sum 1 (map pos ys) (drop c xs)) (ones (x ∷ take c xs)) e
     by false h e = ap (λ z. pos 0 +ℤ z) h ∙ one-passed v (ones (take c xs)) (labelled_sum 1 (map pos ys) (drop c xs)) (ones (x ∷ take c xs)) e
 
-module _ (columns : List Column) (second : ℕ) (judge : Judge) where
+module _ (columns : List Column) (judge : Judge) where
   abbrev meaning : Rattle.room_network.specs.Meanings.Meaning
-  meaning = rank_meaning columns second judge
+  meaning = rank_meaning columns judge
 
   after-is : (ts : List Column) (g : ℕ) (room p : List ℤ) (xs : List ℕ) → drop g columns ≡ ts → g + length ts ≡ length columns
       → so_far (partial_after meaning g room p (second_counts ts xs)) ≡ so_far p +ℤ labelled_sum 1 (map pos (column_ranks ts)) xs
@@ -60,14 +61,14 @@ module _ (columns : List Column) (second : ℕ) (judge : Judge) where
   after-is (t ∷ ts) g room p xs d e =
       let x : List ℕ = ones (take t.size xs) ∷ [] in
       let here : column_at columns g ≡ t = at-drop columns g t _ ts (omega (arith, e)) d in
-      let added : added_by columns g x ≡ pos (ones (take t.size xs) * t.rank) = ap (λ (c : Column). pos (ones (take t.size xs) * c.rank)) here in
-      after-is ts (g + 1) ((rank_floor columns second).next g room x) ((so_far p +ℤ added_by columns g x) ∷ []) (drop t.size xs) (rest-drop columns g t t ts (omega (arith, e)) d) (omega (arith, e))
-      ∙ grouped (so_far p) (added_by columns g x) (labelled_sum 1 (map pos (column_ranks ts)) (drop t.size xs))
-      ∙ ap (λ z. so_far p +ℤ (z +ℤ labelled_sum 1 (map pos (column_ranks ts)) (drop t.size xs))) added
+      let added : ℤ = pos (chosen x * (column_at columns g).rank) in
+      after-is ts (g + 1) ((rank_floor columns).next g room x) ((so_far p +ℤ added) ∷ []) (drop t.size xs) (rest-drop columns g t t ts (omega (arith, e)) d) (omega (arith, e))
+      ∙ grouped (so_far p) added (labelled_sum 1 (map pos (column_ranks ts)) (drop t.size xs))
+      ∙ ap (λ (c : Column). so_far p +ℤ (pos (ones (take t.size xs) * c.rank) +ℤ labelled_sum 1 (map pos (column_ranks ts)) (drop t.size xs))) here
       ∙ ap (λ z. so_far p +ℤ z) (sym (column-labelled t.size t.rank (column_ranks ts) xs))
 
   pub value-is : (xs : List ℕ) → way_value meaning (second_counts columns xs) ≡ labelled_sum 1 (map pos (column_ranks columns)) xs
-  value-is xs = after-is columns 0 (pos second ∷ []) (pos 0 ∷ []) xs refl (omega arith) ∙ none-plus (labelled_sum 1 (map pos (column_ranks columns)) xs)
+  value-is xs = after-is columns 0 (pos (second_of columns) ∷ []) (pos 0 ∷ []) xs refl (omega arith) ∙ none-plus (labelled_sum 1 (map pos (column_ranks columns)) xs)
 
 -- ---- the labellings of the test
 
@@ -75,19 +76,18 @@ once : (n : ℕ) → n ≡ 1 * n
 once n = omega arith
 
 module _ (strata : List (List Subject)) (all : AllByRecursion IsStratum strata) where
-  pub gives : Gives (rank_plan (columns_of strata) (first_second strata)) (joined_labellings (map two_sizes strata)) (λ xs. 1) (second_counts (columns_of strata))
+  pub gives : Gives (rank_plan (columns_of strata)) (joined_labellings (map two_sizes strata)) (λ xs. 1) (second_counts (columns_of strata))
   gives = record {
     law = λ f.
         (let columns : List Column = columns_of strata in
-        let second : ℕ = first_second strata in
         let e : length columns - 0 ≡ length columns = omega arith in
         let g : List ℕ → ℕ = λ xs. f (second_counts columns xs) in
-        ap (λ m. gather (alone (rank_plan columns second)) m 0 (pos second ∷ []) f) e
-        ∙ ways_give columns second columns 0 second f refl (omega arith) (columns-sound strata all) (second-within strata all)
+        ap (λ m. gather (alone (rank_plan columns)) m 0 (pos (second_of columns) ∷ []) f) e
+        ∙ ways_give columns columns 0 (second_of columns) f refl (omega arith) (columns-sound strata all) (second-within strata all)
         ∙ ap (λ ss. sum_by g (joined_labellings ss)) (columns-sizes strata all)
         ∙ none-behind (map two_sizes strata) g
         ∙ sum_by-same g (λ xs. 1 * g xs) (λ xs. once (g xs)) (joined_labellings (map two_sizes strata)));
   }
 
-  pub statistic-is : (judge : Judge) (xs : List ℕ) → (ranked_strata_test strata).statistic xs ≡ way_value (rank_meaning (columns_of strata) (first_second strata) judge) (second_counts (columns_of strata) xs)
-  statistic-is judge xs = ap (λ zs. labelled_sum 1 zs xs) (sym (columns-ranks strata all)) ∙ sym (value-is (columns_of strata) (first_second strata) judge xs)
+  pub statistic-is : (judge : Judge) (xs : List ℕ) → (ranked_strata_test strata).statistic xs ≡ way_value (rank_meaning (columns_of strata) judge) (second_counts (columns_of strata) xs)
+  statistic-is judge xs = ap (λ zs. labelled_sum 1 zs xs) (sym (columns-ranks strata all)) ∙ sym (value-is (columns_of strata) judge xs)

@@ -1,18 +1,19 @@
 -- Steps of the loops over strata and their sizes.
-use Rattle.std.proofs.Common.{◌≡◌, ℕ, ℤ, ◌+◌, ◌*◌, ◌<◌, ◌≤◌, List, [], ◌∷◌, ◌++◌, length, drop, get_or, map, refl, ◌∙◌, ap, arith, drop_of_length-le}
-use Rattle.std.specs.Prelude.{pos, slice_index_or}
+use Rattle.std.proofs.Common.{◌≡◌, ℕ, ◌+◌, ◌*◌, ◌<◌, ◌≤◌, List, [], ◌∷◌, ◌++◌, length, drop, get_or, map, append-nil, append_assoc, refl, sym, ◌∙◌, ap, arith}
+use Rattle.std.specs.Prelude.{pos}
 use Rattle.std.specs.List.{concat}
-use Rattle.std.proofs.Math.Nat.{mul-le-mul_left, mul-le-mul_right}
+use Rattle.std.proofs.Math.Nat.{mul-le-mul_left, mul-le-mul_right, mul-le-mul}
 use Rattle.std.proofs.lemmas.List.{drop_more, map-append}
 use Rattle.weights.specs.declared.TheConstants.{MAX}
 use Rattle.weights.proofs.FirstLabel.{number_of_labellings-positive}
 use Rattle.sample_reader.specs.PooledSample.{labels_of}
 use Rattle.sample_reader.specs.declared.subjects.Subject.{Subject}
-use Rattle.homogeneity.specs.RankRooms.{columns_in, columns_of, first_second}
+use Rattle.homogeneity.specs.RankMade.{AreLists}
+use Rattle.homogeneity.specs.RankRooms.{columns_in, columns_of}
 use Rattle.homogeneity.specs.StratifiedRanks.{ranks_in}
-use Rattle.homogeneity.specs.StrataSteps.{part_sizes, part_ways, parts_total}
-use Rattle.homogeneity.specs.declared.ranked.Part.{Part}
-use Rattle.homogeneity.proofs.Products.{product-some}
+use Rattle.homogeneity.specs.StrataSteps.{part_of, part_sizes, part_ways, parts_total}
+use Rattle.homogeneity.specs.declared.rank_strata.Part.{Part}
+use Rattle.homogeneity.specs.declared.rank_strata.RankStrata.{RankStrata}
 
 abbrev pub no_part : Part
 no_part = record { subjects = 0; second = 0 }
@@ -29,12 +30,9 @@ some-way p = number_of_labellings-positive (part_sizes p)
 
 pub all-some : (parts : List Part) → 1 ≤ parts_total parts
 all-some [] = omega arith
-all-some (p ∷ parts) = product-some (part_ways p) (parts_total parts) (some-way p) (all-some parts)
+all-some (p ∷ parts) = mul-le-mul (some-way p) (all-some parts)
 
 module _ (parts : List Part) where
-  pub product-first : IsTotalled parts 0 1
-  product-first = record { product = omega arith; some = omega arith; fits = omega arith }
-
   module _ (i all : ℕ) (h : i < length parts) (s : IsTotalled parts i all) where
     abbrev here : Part
     here = get_or parts i no_part
@@ -55,41 +53,28 @@ module _ (parts : List Part) where
     pub product-next : all * part_ways here ≤ MAX → IsTotalled parts (i + 1) (all * part_ways here)
     product-next fit = record {
       product = by (part_ways here) (parts_total (drop (i + 1) parts)) next;
-      some = product-some all (part_ways here) s.some (some-way here);
+      some = mul-le-mul s.some (some-way here);
       fits = fit;
     }
       where
         by : (m n : ℕ) → parts_total (drop i parts) ≡ m * n → all * m * n ≡ parts_total parts
         by m n e = (let whole : all * (m * n) ≡ parts_total parts = rw e at s.product in omega (arith, whole))
 
-  pub product-whole : (i all : ℕ) → length parts ≤ i → IsTotalled parts i all → all ≡ parts_total parts
-  product-whole i all h s =
-      let over : parts_total (drop i parts) ≡ 1 = rw (drop_of_length-le parts {i = i} h) refl in
-      let last : all * 1 ≡ parts_total parts = rw over at s.product in
-      omega (arith, last)
+-- ---- one more stratum
 
--- ---- lists that are made of strata
+concat-more : (f : List Subject → List ℕ) (strata : List (List Subject)) (s : List Subject) → concat (map f (strata ++ s ∷ [])) ≡ concat (map f strata) ++ f s
+concat-more f [] s = append-nil (f s)
+concat-more f (t ∷ ts) s = ap (λ zs. f t ++ zs) (concat-more f ts s) ∙ sym (append_assoc (f t) (concat (map f ts)) (f s))
 
-pub columns-more : (strata : List (List Subject)) (i : ℕ) → i < length strata → columns_of (drop i strata) ≡ columns_in (first_second (drop (i + 1) strata)) (slice_index_or strata i []) ++ columns_of (drop (i + 1) strata)
-columns-more strata i h = ap columns_of (drop_more strata i [] h)
+columns-more : (strata : List (List Subject)) (s : List Subject) → columns_of (strata ++ s ∷ []) ≡ columns_of strata ++ columns_in s
+columns-more [] s = append-nil (columns_in s)
+columns-more (t ∷ ts) s = ap (λ zs. columns_in t ++ zs) (columns-more ts s) ∙ sym (append_assoc (columns_in t) (columns_of ts) (columns_in s))
 
-pub columns-past : (strata : List (List Subject)) (i : ℕ) → length strata ≤ i → columns_of (drop i strata) ≡ []
-columns-past strata i h = ap columns_of (drop_of_length-le strata {i = i} h)
-
-abbrev pub ranks_from : List (List Subject) → List ℤ
-ranks_from strata = map pos (concat (map ranks_in strata))
-
-pub ranks-more : (strata : List (List Subject)) (i : ℕ) → i < length strata → ranks_from (drop i strata) ≡ map pos (ranks_in (slice_index_or strata i [])) ++ ranks_from (drop (i + 1) strata)
-ranks-more strata i h = ap ranks_from (drop_more strata i [] h) ∙ map-append pos (ranks_in (slice_index_or strata i [])) (concat (map ranks_in (drop (i + 1) strata)))
-
-pub ranks-past : (strata : List (List Subject)) (i : ℕ) → length strata ≤ i → ranks_from (drop i strata) ≡ []
-ranks-past strata i h = ap ranks_from (drop_of_length-le strata {i = i} h)
-
-abbrev pub labels_from : List (List Subject) → List ℕ
-labels_from strata = concat (map labels_of strata)
-
-pub labels-more : (strata : List (List Subject)) (i : ℕ) → i < length strata → labels_from (drop i strata) ≡ labels_of (slice_index_or strata i []) ++ labels_from (drop (i + 1) strata)
-labels-more strata i h = ap labels_from (drop_more strata i [] h)
-
-pub labels-past : (strata : List (List Subject)) (i : ℕ) → length strata ≤ i → labels_from (drop i strata) ≡ []
-labels-past strata i h = ap labels_from (drop_of_length-le strata {i = i} h)
+pub lists-more : (strata : List (List Subject)) (s : List Subject) (old new : RankStrata) → AreLists strata old → new.parts ≡ old.parts ++ part_of s ∷ [] → new.columns ≡ old.columns ++ columns_in s → new.ranks ≡ old.ranks ++ map pos (ranks_in s) → new.labels ≡ old.labels ++ labels_of s
+    → AreLists (strata ++ s ∷ []) new
+lists-more strata s old new a p c r l = record {
+  parts = p ∙ ap (λ xs. xs ++ part_of s ∷ []) a.parts ∙ sym (map-append part_of strata (s ∷ []));
+  columns = c ∙ ap (λ xs. xs ++ columns_in s) a.columns ∙ sym (columns-more strata s);
+  ranks = r ∙ ap (λ xs. xs ++ map pos (ranks_in s)) a.ranks ∙ sym (ap (map pos) (concat-more ranks_in strata s) ∙ map-append pos (concat (map ranks_in strata)) (ranks_in s));
+  labels = l ∙ ap (λ xs. xs ++ labels_of s) a.labels ∙ sym (concat-more labels_of strata s);
+}

@@ -3,9 +3,10 @@ use Rattle.std.proofs.Common.{◌≡◌, ℕ, ◌<◌, ◌≤◌, cond, List, []
 use Rattle.std.specs.Prelude.{Contains}
 use Rattle.std.specs.Cmp.Lexicographic.{pointwise, same_text}
 use Rattle.std.specs.List.{filter}
-use Rattle.weights.proofs.Members.{Contains-cons, Contains-filter, Contains-here, Contains-later, same_refl}
+use Rattle.weights.proofs.Members.{Contains-cons, Contains-filter, same_refl}
 use Rattle.enumerate.specs.Walk.{BeginsWith, StepsThrough, members_after}
 use Rattle.enumerate.proofs.Walking.{Contains-next}
+use Rattle.stage_network.proofs.Images.{filtered_from}
 use Rattle.strata_cells.specs.declared.stratum.Stratum.{Stratum}
 use Rattle.strata_cells.specs.Strata.{strata_labellings}
 use Rattle.homogeneity.specs.Zelen.{has_sum}
@@ -31,23 +32,6 @@ module _ (p : List ℕ → Bool) where
 
   missing : (y : List ℕ) (ys : List (List ℕ)) → p y ≡ false → filter p (y ∷ ys) ≡ filter p ys
   missing y ys e = rw e refl
-
-  pub filter-in : (x : List ℕ) (all : List (List ℕ)) → Contains (filter p all) x → Contains all x × (p x ≡ true)
-  filter-in x [] c = absurd (none x c)
-    where
-      none : (x : List ℕ) → Contains [] x → ⊥
-      none x (i, below, is) = omega (arith, below)
-  filter-in x (y ∷ ys) c = by (p y) refl c (filter-in x ys)
-    where
-      later : Contains ys x × (p x ≡ true) → Contains (y ∷ ys) x × (p x ≡ true)
-      later h = (Contains-later y x ys h.0, h.1)
-
-      by : (b : Bool) → p y ≡ b → Contains (cond b (y ∷ filter p ys) (filter p ys)) x → (Contains (filter p ys) x → Contains ys x × (p x ≡ true)) → Contains (y ∷ ys) x × (p x ≡ true)
-      by true e c rest = elim (Contains-cons y x (filter p ys) c) [
-        | inl same ↦ (Contains-here y x ys same, ap p (sym same) ∙ e)
-        | inr more ↦ later (rest more)
-      ]
-      by false e c rest = later (rest c)
 
 -- a list has one last member
 one-last : (all : List (List ℕ)) (x z : List ℕ) → Contains all x → members_after x all ≡ [] → Contains all z → members_after z all ≡ [] → x ≡ z
@@ -108,10 +92,10 @@ module _ (strata : List Stratum) (given : ℕ) where
 
   module _ (old : List ℕ) (m : Contains (filter p all) old) where
     pub old-in : Contains all old
-    old-in = (filter-in p old all m).0
+    old-in = (filtered_from p old all m).0
 
     old-has : p old ≡ true
-    old-has = (filter-in p old all m).1
+    old-has = (filtered_from p old all m).1
 
     pub step-found : (new : List ℕ) → IsOnward strata given old true new → StepsThrough (filter p all) old true new
     step-found new o = record {

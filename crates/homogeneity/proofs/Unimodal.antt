@@ -1,5 +1,5 @@
 -- How many labellings give a first cell rises up to some cell, and then falls: it is least at an end.
-use Rattle.std.proofs.Common.{◌≡◌, ℕ, zero, suc, ◌+◌, ◌-◌, ◌*◌, ◌≤◌, inl, inr, refl, sym, ◌∙◌, ap, arith}
+use Rattle.std.proofs.Common.{suc-mul, ◌≡◌, ℕ, zero, suc, ◌+◌, ◌-◌, ◌*◌, ◌≤◌, inl, inr, refl, sym, ◌∙◌, ap, arith}
 use Rattle.std.specs.Prelude.{min}
 use Rattle.std.proofs.Math.Nat.{mul-le-mul, mul-le-mul_left, mul-le-mul_right}
 use Rattle.std.proofs.lemmas.Bool.{cases_lt}
@@ -8,7 +8,6 @@ use Rattle.weights.proofs.Binomials.{binomial-marked, binomial-pascal}
 use Rattle.strata_cells.specs.declared.stratum.Stratum.{Stratum}
 use Rattle.strata_cells.specs.Strata.{cell_weight, first_column, first_row, greatest_cell, least_cell, size}
 use Rattle.homogeneity.specs.ZelenNetwork.{lesser_weight}
-use Rattle.homogeneity.proofs.Products.{product-some}
 
 -- ---- products
 
@@ -34,16 +33,16 @@ crossed a b m n = grind arith
 turned : (p a m b : ℕ) → (p * a) * (m * b) ≡ (a * b) * (p * m)
 turned p a m b = grind arith
 
+suc-some : (x e : ℕ) → 1 ≤ e → 1 ≤ suc x * e
+suc-some x e h = let one : 1 ≤ suc x = omega arith in mul-le-mul one h
+
 no-less : (a b m : ℕ) → 1 ≤ m → a * m ≤ b * m → a ≤ b
 no-less a b m one h = elim (cases_lt b a) [
   | inl less ↦ (let more : suc b * m ≤ a * m = mul-le-mul_right m less in
-      let step : suc b * m ≡ b * m + m = suc-times b m in
+      let step : suc b * m ≡ b * m + m = suc-mul b m in
       absurd (omega (arith, more, step, h, one)))
   | inr most ↦ omega (arith, most)
 ]
-  where
-    suc-times : (b m : ℕ) → suc b * m ≡ b * m + m
-    suc-times b m = grind arith
 
 -- two neighbours: how many labellings give them, by how many subjects may change places
 module _ (x p m e : ℕ) where
@@ -65,12 +64,12 @@ module _ (x p m e : ℕ) where
   rises : 1 ≤ e → suc x * e ≤ p * suc m → here ≤ next
   rises some h =
       let more : here * (suc x * e) ≤ here * (p * suc m) = mul-le-mul_left here h in
-      no-less here next (suc x * e) (product-some (suc x) e (omega arith) some) (omega (arith, more, exchanged))
+      no-less here next (suc x * e) ((suc-some x e some)) (omega (arith, more, exchanged))
 
   falls : 1 ≤ e → p * suc m ≤ suc x * e → next ≤ here
   falls some h =
       let more : here * (p * suc m) ≤ here * (suc x * e) = mul-le-mul_left here h in
-      no-less next here (suc x * e) (product-some (suc x) e (omega arith) some) (omega (arith, more, exchanged))
+      no-less next here (suc x * e) ((suc-some x e some)) (omega (arith, more, exchanged))
 
 -- ---- of a stratum
 

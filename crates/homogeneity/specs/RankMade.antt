@@ -5,18 +5,21 @@ use Rattle.weights.specs.Conditional.{total}
 use Rattle.weights.specs.Frames.{IsFrameOf, RulesFit}
 use Rattle.weights.specs.Numbers.{absolute_sum}
 use Rattle.weights.specs.declared.TheConstants.{MAX}
+use Rattle.sample_reader.specs.PooledSample.{labels_of}
+use Rattle.sample_reader.specs.declared.subjects.Subject.{Subject}
 use Rattle.sample_reader.specs.StrataGroups.{StrataGroupData}
 use Rattle.stage_network.specs.Follows.{AllFollow}
 use Rattle.stage_network.specs.Judged.{judge_of}
 use Rattle.homogeneity.specs.RankNetworks.{AreUsable, stratified_rank_network}
-use Rattle.homogeneity.specs.RankRooms.{columns_of, first_second}
+use Rattle.homogeneity.specs.RankRooms.{columns_of}
 use Rattle.homogeneity.specs.RankSteps.{AreFitColumns, AreRankSums}
-use Rattle.homogeneity.specs.StrataSteps.{AreLabelled, ArePartsSound, part_centre, part_of}
+use Rattle.homogeneity.specs.StrataSteps.{ArePartsSound, part_centre, part_of}
 use Rattle.homogeneity.specs.StrataSteps.{part_sizes, parts_total}
-use Rattle.homogeneity.specs.StratifiedRanks.{ranked_strata_test, ranks_in, strata_subjects}
+use Rattle.homogeneity.specs.StratifiedRanks.{ranks_in, strata_subjects}
 use Rattle.homogeneity.specs.StratifiedRanks.{stratified_rank_test, two_sizes}
 use Rattle.homogeneity.specs.declared.rank_made.RankedStrata.{RankedStrata}
-use Rattle.homogeneity.specs.declared.ranked.Part.{Part}
+use Rattle.homogeneity.specs.declared.rank_strata.Part.{Part}
+use Rattle.homogeneity.specs.declared.rank_strata.RankStrata.{RankStrata}
 
 abbrev pub samples_of : List (List ℕ) → List (List ℕ) → List ℕ → List ℕ → List ℤ → StrataGroupData
 samples_of strata labels places members values = record {
@@ -27,41 +30,35 @@ samples_of strata labels places members values = record {
   values = values;
 }
 
--- what is made of samples in strata whose labellings pass no limit
+-- what is made of strata
+pub record AreLists (strata : List (List Subject)) (made : RankStrata) : Type 0 where
+  pub parts : made.parts ≡ map part_of strata
+  pub columns : made.columns ≡ columns_of strata
+  pub ranks : made.ranks ≡ map pos (concat (map ranks_in strata))
+  pub labels : made.labels ≡ concat (map labels_of strata)
+
+-- what is kept of samples in strata whose labellings pass no limit: their lists, of which parts and
+-- columns are sound, that no sum of their ranks and no rule passes a limit, and that the network
+-- follows the test
 pub record AreRanked (samples : StrataGroupData) (made : RankedStrata) : Type 0 where
   pub usable : AreUsable samples
-  pub parts : made.parts ≡ map part_of (strata_subjects samples)
-  pub sizes : made.sizes ≡ map (λ part. part.subjects) made.parts
-  pub columns : made.columns ≡ columns_of (strata_subjects samples)
-  pub ranks : made.ranks ≡ map pos (concat (map ranks_in (strata_subjects samples)))
-  pub second : made.second ≡ first_second (strata_subjects samples)
-  pub frame : IsFrameOf (ranked_strata_test (strata_subjects samples)) made.frame
-  pub total_fits : total (ranked_strata_test (strata_subjects samples)) ≤ MAX
-
--- and what is known of it: that its parts and its columns are sound, that no sum of its ranks and
--- no rule passes a limit, and that the network follows the test
-pub record RankedFacts (samples : StrataGroupData) (made : RankedStrata) : Type 0 where
-  pub columns : made.columns ≡ columns_of (strata_subjects samples)
-  pub ranks : made.ranks ≡ map pos (concat (map ranks_in (strata_subjects samples)))
-  pub second : made.second ≡ first_second (strata_subjects samples)
+  pub lists : AreLists (strata_subjects samples) made.strata
   pub frame : IsFrameOf (stratified_rank_test samples) made.frame
   pub total_fits : total (stratified_rank_test samples) ≤ MAX
   pub some : 1 ≤ total (stratified_rank_test samples)
-  pub sound : ArePartsSound made.parts
-  pub parts : map part_sizes made.parts ≡ map two_sizes (strata_subjects samples)
+  pub sound : ArePartsSound made.strata.parts
+  pub parts : map part_sizes made.strata.parts ≡ map two_sizes (strata_subjects samples)
   pub sizes : map sum (map two_sizes (strata_subjects samples)) ≡ made.sizes
-  pub ranks_fit : absolute_sum made.ranks ≤ MAX
-  pub fit : AreFitColumns made.columns made.second
-  pub sums_fit : AreRankSums made.columns made.second (judge_of (stratified_rank_test samples))
+  pub ranks_fit : absolute_sum made.strata.ranks ≤ MAX
+  pub fit : AreFitColumns made.strata.columns
+  pub sums_fit : AreRankSums made.strata.columns (judge_of (stratified_rank_test samples))
   pub rules_fit : RulesFit (stratified_rank_test samples)
   pub follows : AllFollow (stratified_rank_test samples) (stratified_rank_network samples)
 
--- what is known of samples that were read: their strata can be ranked and counted
+-- what is known of samples that were read: their strata can be counted
 pub record StrataFacts (samples : StrataGroupData) : Type 0 where
-  pub usable : AreUsable samples
   pub sound : ArePartsSound (map part_of (strata_subjects samples))
-  pub labelled : AreLabelled (strata_subjects samples)
-  pub total_is : total (ranked_strata_test (strata_subjects samples))
+  pub total_is : total (stratified_rank_test samples)
       ≡ parts_total (map part_of (strata_subjects samples))
 
 -- and where their labellings pass no limit: no sum of ranks does

@@ -10,13 +10,12 @@ use Rattle.sample_reader.specs.declared.subjects.Subject.{Subject}
 use Rattle.stage_network.specs.Judged.{judge_of}
 use Rattle.stage_network.specs.Network.{Network}
 use Rattle.room_network.specs.RoomNetworks.{room_network}
-use Rattle.homogeneity.specs.RankRooms.{columns_of, first_second, rank_meaning, rank_weight}
+use Rattle.homogeneity.specs.RankRooms.{columns_of, rank_meaning, rank_weight}
 use Rattle.homogeneity.specs.StratifiedRanks.{ranked_strata_test, strata_subjects}
 
 abbrev pub ranked_strata_network : List (List Subject) → Network
 ranked_strata_network strata =
-    let judge = judge_of (ranked_strata_test strata) in
-    room_network (rank_meaning (columns_of strata) (first_second strata) judge)
+    room_network (rank_meaning (columns_of strata) (judge_of (ranked_strata_test strata)))
     (rank_weight (columns_of strata))
 
 -- one network for all tails

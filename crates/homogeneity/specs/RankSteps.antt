@@ -1,5 +1,5 @@
 -- Words for the bodies: what columns owe each other, and what is kept of each stage.
-use Rattle.std.specs.Prelude.{◌≡◌, ⊤, ℕ, ℤ, ◌+◌, ◌-◌, ◌*◌, ◌<◌, ◌≤◌, List, [], ◌∷◌, drop, get_or, length, min, nat_eq, unsigned_abs, if◌then◌else◌}
+use Rattle.std.specs.Prelude.{◌≡◌, ⊤, ℕ, ℤ, ◌+◌, ◌-◌, ◌*◌, ◌<◌, ◌≤◌, List, [], ◌∷◌, drop, get_or, length, nat_eq, unsigned_abs, if◌then◌else◌}
 use Rattle.std.specs.List.{sum}
 use Rattle.weights.specs.declared.TheConstants.{MAX}
 use Rattle.midranks.specs.declared.TheConstants.{MOST_VALUES}
@@ -8,8 +8,8 @@ use Rattle.stage_network.specs.Judged.{JudgeFits}
 use Rattle.stage_network.specs.declared.verdicts.Judge.{Judge}
 use Rattle.room_network.specs.Plans.{alone}
 use Rattle.homogeneity.specs.OneCount.{IsOneCount, chosen, remaining}
-use Rattle.homogeneity.specs.RankRooms.{column_at, column_ranks, greatest_added, least_added}
-use Rattle.homogeneity.specs.RankRooms.{left, rank_plan, ways_of}
+use Rattle.homogeneity.specs.RankRooms.{column_at, column_ranks, fewest_here, greatest_added, least_added, most_here}
+use Rattle.homogeneity.specs.RankRooms.{left, rank_plan, second_of, ways_of}
 use Rattle.homogeneity.specs.declared.rank_columns.Column.{Column}
 
 -- the rank of the first column, 0 where there is none
@@ -23,7 +23,7 @@ pub record IsColumn (c : Column) (columns : List Column) : Type 0 where
   pub small : c.size + c.later ≤ MOST_VALUES
   pub on : 0 < c.later → left columns ≡ c.later
   pub rises : 0 < c.later → c.rank ≤ first_rank columns
-  pub ahead : c.later ≡ 0 → c.ahead ≤ left columns
+  pub ahead : c.later ≡ 0 → second_of columns ≤ left columns
 
 abbrev pub AreColumns : List Column → Type 0
 AreColumns [] = ⊤
@@ -37,7 +37,8 @@ pub record AreSound (columns : List Column) : Type 0 where
 abbrev pub later_ways : List Column → ℕ
 later_ways [] = 1
 later_ways (c ∷ columns) =
-    (if nat_eq c.later 0 then ways_of (left columns) c.ahead else 1) * later_ways columns
+    (if nat_eq c.later 0 then ways_of (left columns) (second_of columns) else 1)
+    * later_ways columns
 
 -- that of the last stages: none, the last one, and so on
 pub record AreLaterWays (columns : List Column) (done : ℕ) (ways : List ℕ) : Type 0 where
@@ -46,57 +47,45 @@ pub record AreLaterWays (columns : List Column) (done : ℕ) (ways : List ℕ) :
   pub each : (i : ℕ) → i ≤ done
       → get_or ways i 0 ≡ later_ways (drop (length columns - i) columns)
 
--- columns whose labellings pass no limit, with so many of the second group in the first stratum
-pub record AreFitColumns (columns : List Column) (second : ℕ) : Type 0 where
+-- columns whose labellings pass no limit
+pub record AreFitColumns (columns : List Column) : Type 0 where
   pub sound : AreSound columns
-  pub within : second ≤ left columns
-  pub total_fits : ways_of (left columns) second * later_ways columns ≤ MAX
+  pub within : second_of columns ≤ left columns
+  pub total_fits : ways_of (left columns) (second_of columns) * later_ways columns ≤ MAX
   pub ranks_fit : sum (column_ranks columns) ≤ MAX
 
-pub record AreRankRooms (columns : List Column) (second : ℕ) (ways : List ℕ) : Type 0 where
-  pub fit : AreFitColumns columns second
+pub record AreRankRooms (columns : List Column) (ways : List ℕ) : Type 0 where
+  pub fit : AreFitColumns columns
   pub ways_are : AreLaterWays columns (length columns) ways
 
--- what is known of a room that is reached: how many are left from its stage on, and how many
--- labellings they and those behind them have, of which none passes the limit; and before the last
--- stage, that some choice is allowed
-pub record RankSeat (columns : List Column) (second : ℕ) (ways : List ℕ) (g : ℕ) (room : List ℤ)
-    : Type 0 where
+-- what is known of a room that is reached: how many are left from its stage on, how many labellings
+-- they and those behind them have, and what ranks can still add, of which none passes the limit;
+-- and before the last stage, that some choice is allowed
+pub record RankSeat (columns : List Column) (g : ℕ) (room : List ℤ) : Type 0 where
   pub one : IsOneCount room
   pub stage : g ≤ length columns
   pub sound : AreColumns (drop g columns)
   pub few : left (drop g columns) ≤ MOST_VALUES
   pub within : remaining room ≤ left (drop g columns)
   pub own : ways_of (left (drop g columns)) (remaining room) ≤ MAX
-  pub behind : get_or ways (length columns - g) 0 ≡ later_ways (drop g columns)
   pub both : ways_of (left (drop g columns)) (remaining room) * later_ways (drop g columns) ≤ MAX
+  pub least : least_added (drop g columns) (remaining room) ≤ MAX
+  pub greatest : greatest_added (drop g columns) (remaining room) ≤ MAX
   pub meets : g < length columns → let c = column_at columns g in
-      remaining room - c.later ≤ min c.size (remaining room)
-  pub total : total_weight (alone (rank_plan columns second)) g room
+      fewest_here c (remaining room) ≤ most_here c (remaining room)
+  pub total : total_weight (alone (rank_plan columns)) g room
       ≡ ways_of (left (drop g columns)) (remaining room) * later_ways (drop g columns)
 
 -- and of a choice there
 pub record RankChoice (column : Column) (room : List ℤ) (x : List ℕ) : Type 0 where
+  pub some : 0 < length x
   pub within : chosen x ≤ column.size
   pub most : chosen x ≤ remaining room
   pub fits : ways_of column.size (chosen x) ≤ MAX
   pub few : column.size ≤ MOST_VALUES
-
--- and of both for the sum of ranks: what is still added from a room on, and what a choice adds
-pub record RankPlace (columns : List Column) (g : ℕ) (room : List ℤ) : Type 0 where
-  pub one : IsOneCount room
-  pub stage : g ≤ length columns
-  pub sound : AreColumns (drop g columns)
-  pub within : remaining room ≤ left (drop g columns)
-  pub ranks : sum (column_ranks (drop g columns)) ≤ MAX
-  pub least : least_added (drop g columns) (remaining room) ≤ MAX
-  pub greatest : greatest_added (drop g columns) (remaining room) ≤ MAX
-
-pub record RankMove (column : Column) (x : List ℕ) : Type 0 where
-  pub some : 0 < length x
-  pub fits : chosen x * column.rank ≤ MAX
+  pub added : chosen x * column.rank ≤ MAX
 
 -- and rules that compute no great number of a sum of ranks
-pub record AreRankSums (columns : List Column) (second : ℕ) (judge : Judge) : Type 0 where
-  pub fit : AreFitColumns columns second
+pub record AreRankSums (columns : List Column) (judge : Judge) : Type 0 where
+  pub fit : AreFitColumns columns
   pub judge_fits : (v : ℤ) → unsigned_abs v ≤ sum (column_ranks columns) → JudgeFits judge v

@@ -1,11 +1,10 @@
 -- Words for what is made of the strata of samples, and kept of a prepared test.
-use Rattle.std.specs.Prelude.{ℕ, ◌+◌, ◌-◌, ◌*◌, ◌<◌, ◌≤◌, ◌^◌, List, [], ◌∷◌, length}
+use Rattle.std.specs.Prelude.{ℕ, ◌+◌, ◌-◌, ◌*◌, ◌≤◌, List, [], ◌∷◌, length}
 use Rattle.std.specs.List.{All}
 use Rattle.weights.specs.Labellings.{number_of_labellings}
-use Rattle.midranks.specs.declared.TheConstants.{MOST_VALUES}
 use Rattle.sample_reader.specs.declared.subjects.Subject.{Subject}
 use Rattle.homogeneity.specs.StratifiedRanks.{second_size}
-use Rattle.homogeneity.specs.declared.ranked.Part.{Part}
+use Rattle.homogeneity.specs.declared.rank_strata.Part.{Part}
 
 abbrev pub part_of : List Subject → Part
 part_of stratum = record { subjects = length stratum; second = second_size stratum }
@@ -27,8 +26,3 @@ part_centre part = part.second * (part.subjects + 1)
 -- no more subjects of the second group than subjects
 pub record ArePartsSound (parts : List Part) : Type 0 where
   pub each : All (λ part. part.second ≤ part.subjects) parts
-
--- strata that can be ranked, whose labels are bytes
-pub record AreLabelled (strata : List (List Subject)) : Type 0 where
-  pub few : All (λ stratum. length stratum ≤ MOST_VALUES) strata
-  pub small : All (λ stratum. All (λ subject. subject.label < 2 ^ 8) stratum) strata

@@ -18,17 +18,10 @@ use Rattle.homogeneity.specs.declared.zelen.ObservedStrata.{ObservedStrata}
 abbrev pub own_cells : List Stratum → List ℕ
 own_cells strata = map (λ s. s.a) strata
 
--- what is made of strata whose labellings with the observed sum pass no limit
+-- what is kept of strata whose labellings with the observed sum pass no limit: the sum that is kept
+-- gives the members, of which there is one, rules compute no number past a limit, and the network
+-- follows the test
 pub record AreObserved (strata : List Stratum) (made : ObservedStrata) : Type 0 where
-  pub tables : made.strata ≡ strata
-  pub sum_is : made.sum ≡ own_sum strata
-  pub sized : AreSized strata made.sizes
-  pub frame_is : IsFrameOf (observed_sum_test strata) made.frame
-  pub fits : number_with strata (own_sum strata) ≤ MAX
-
--- and what is known of it: that the sum that is kept gives the members, of which there is one, that
--- rules compute no number past a limit, and that the network follows the test
-pub record ObservedFacts (strata : List Stratum) (made : ObservedStrata) : Type 0 where
   pub tables : made.strata ≡ strata
   pub sum_is : made.sum ≡ own_sum strata
   pub sized : AreSized strata made.sizes

@@ -1,7 +1,6 @@
 // What is known of the strata from each one on, where the sum of the first cells is given.
 ghost use Rattle.std.specs.Prelude.{◌≡◌, ℕ, [], ◌∷◌, ◌+◌, ◌<◌, ◌≤◌, ◌^◌, length, IfOk, MatchOption, SomeIff};
 ghost use Rattle.weights.specs.declared.TheConstants.{MAX};
-ghost use Rattle.record_reader.specs.declared.TheConstants.{MOST_ROWS};
 ghost use Rattle.strata_cells.specs.StrataLimits.{AreSmall, IsSmall};
 ghost use Rattle.homogeneity.specs.ZelenNetwork.{greatest_sum, least_sum, number_with};
 ghost use Rattle.homogeneity.specs.ZelenSteps.{AreLaters, AreNumbers, AreSummed, IsCountable};
@@ -37,7 +36,7 @@ pub(crate) struct Reach {
 // The least sum of the first cells of strata.
 fn least_sum(strata: &[Stratum]) -> u64
     requires small { AreSmall strata.now }
-    requires few { length strata.now ≤ MOST_ROWS }
+    requires fits { least_sum strata.now < 2 ^ 62 }
     ensures { result ≡ least_sum strata.now }
 {
     let mut all = 0;
@@ -50,7 +49,7 @@ fn least_sum(strata: &[Stratum]) -> u64
 // And the greatest.
 fn greatest_sum(strata: &[Stratum]) -> u64
     requires small { AreSmall strata.now }
-    requires few { length strata.now ≤ MOST_ROWS }
+    requires fits { greatest_sum strata.now < 2 ^ 62 }
     ensures { result ≡ greatest_sum strata.now }
 {
     let mut all = 0;

@@ -16,21 +16,21 @@ pub(crate) struct Column {
     pub later: u64,
     /// Their doubled midrank within the stratum.
     pub rank: u64,
-    /// How many subjects of the second group the next stratum has, 0 where it is the last.
-    pub ahead: u64,
+    /// How many subjects of the stratum are of the second group.
+    pub second: u64,
 }
 
-/// Adds the columns of a stratum's tie groups, which have so many subjects; so many of the next
-/// stratum's are of the second group.
+/// Adds the columns of a stratum's tie groups, which have so many subjects, so many of them of the
+/// second group.
 pub(crate) fn push_columns(
     columns: &mut List<Column>,
     ties: &[Tie],
     subjects: u64,
-    ahead: u64,
+    second: u64,
 ) -> Result<(), NoMemory>
     requires all { values_in ties.now ≡ subjects }
     requires few { subjects ≤ MOST_VALUES }
-    ensures { OnOk result (columns.new ≡ columns.old ++ columns_after ahead 0 ties.now) }
+    ensures { OnOk result (columns.new ≡ columns.old ++ columns_after second 0 ties.now) }
 {
     let mut before = 0;
     for tie in ties {
@@ -38,7 +38,7 @@ pub(crate) fn push_columns(
             size: tie.count,
             later: subjects - before - tie.count,
             rank: 2 * before + tie.count + 1,
-            ahead,
+            second,
         })?;
         before += tie.count;
     }

@@ -9,27 +9,19 @@ ghost use Rattle.homogeneity.specs.RankMade.{AreRanked, RanksFit, StrataFacts};
 ghost use Rattle.homogeneity.specs.StrataSteps.{part_of, parts_total};
 ghost use Rattle.homogeneity.specs.StratifiedRanks.{strata_subjects, stratified_rank_test};
 
-use crate::rank_columns::Column;
-use crate::rank_strata::RankStrata;
-use crate::ranked::{
-    Part, centre_of, columns_of, labels_of, parts_of, parts_total, ranks_of, second_at, sizes_of,
-};
+use crate::rank_strata::{Part, RankStrata};
+use crate::ranked::{centre_of, parts_total, sizes_of};
 use sample_reader::StrataGroups;
 use scores::labelled_sum;
 use std::alloc::Global;
-use weights::{Frame, Ints, List, NoMemory, Nums, Rule};
+use weights::{Frame, NoMemory, Nums, Rule};
 
 /// What is made of the strata of samples.
 #[derive(Drop)]
 pub(crate) struct RankedStrata {
-    pub parts: List<Part>,
+    pub strata: RankStrata,
     /// The strata's sizes, for the walk.
     pub sizes: Nums,
-    pub columns: List<Column>,
-    /// The subjects' doubled midranks, stratum by stratum and by ascending value.
-    pub ranks: Ints,
-    /// How many subjects of the first stratum are of the second group.
-    pub second: u64,
     /// The observed statistic, its scale, the total and the rule of both sides.
     pub frame: Frame,
 }
@@ -80,24 +72,22 @@ pub(crate) fn made_of(
 {
     strata_fit(samples);
     let strata = RankStrata::of(alloc, samples)?;
-    let parts = parts_of(alloc, &strata)?;
-    let Some(total) = parts_total(parts.as_slice()) else {
+    let parts = strata.parts.as_slice();
+    let Some(total) = parts_total(parts) else {
         return Ok(None);
     };
-    ranks_fit(samples, parts.as_slice());
-    let sizes = sizes_of(alloc, parts.as_slice())?;
-    let columns = columns_of(alloc, &strata)?;
-    let ranks = ranks_of(alloc, &strata)?;
-    let labels = labels_of(alloc, &strata)?;
-    let centre = centre_of(parts.as_slice());
-    let frame = frame_of(ranks.as_slice(), labels.as_slice(), centre, total);
-    let second = second_at(&strata, 0);
+    ranks_fit(samples, parts);
+    let sizes = sizes_of(alloc, parts)?;
+    let centre = centre_of(parts);
+    let frame = frame_of(
+        strata.ranks.as_slice(),
+        strata.labels.as_slice(),
+        centre,
+        total,
+    );
     Ok(Some(RankedStrata {
-        parts,
+        strata,
         sizes,
-        columns,
-        ranks,
-        second,
         frame,
     }))
 }

@@ -3,7 +3,7 @@ ghost use Rattle.std.specs.Prelude.{◌≡◌, ◌≤◌, pos};
 ghost use Rattle.weights.specs.declared.TheConstants.{MAX};
 ghost use Rattle.room_network.specs.Meanings.{IsRoom, IsStep};
 ghost use Rattle.homogeneity.specs.RankRooms.{column_at, rank_floor, rank_meaning, rank_numbers};
-ghost use Rattle.homogeneity.specs.RankSteps.{AreRankSums, RankMove, RankPlace};
+ghost use Rattle.homogeneity.specs.RankSteps.{AreRankSums, RankChoice, RankSeat};
 
 use crate::one_count::count_in;
 use crate::rank_columns::Column;
@@ -18,10 +18,8 @@ use weights::List;
 #[derive(Drop)]
 pub struct RankMeasure {
     pub(crate) columns: List<Column>,
-    // How many subjects of the first stratum are of the second group.
-    pub(crate) second: u64,
     pub(crate) judge: Judge,
-    ghost right: { AreRankSums columns second judge },
+    ghost right: { AreRankSums columns judge },
 }
 
 #[inline(always)]
@@ -36,22 +34,21 @@ impl RankMeasure {
     // What is known of a room that is reached. It does nothing.
     #[inline(always)]
     fn seat(&self, _stage: usize, _room: &[i128])
-        requires { let m = rank_meaning self.now.columns self.now.second self.now.judge in
-            IsRoom m _stage _room.now }
-        ensures { RankPlace self.now.columns _stage _room.now }
+        requires { IsRoom (rank_meaning self.now.columns self.now.judge) _stage _room.now }
+        ensures { RankSeat self.now.columns _stage _room.now }
     {}
 
     // And of a choice there.
     #[inline(always)]
     fn choice_seat(&self, _stage: usize, _room: &[i128], _choice: &[u64])
-        requires { let m = rank_meaning self.now.columns self.now.second self.now.judge in
+        requires { let m = rank_meaning self.now.columns self.now.judge in
             IsStep m _stage _room.now _choice.now }
-        ensures { RankMove (column_at self.now.columns _stage) _choice.now }
+        ensures { RankChoice (column_at self.now.columns _stage) _room.now _choice.now }
     {}
 }
 
 impl NumberMeasure for RankMeasure {
-    ghost floor = { λ m. rank_floor m.columns m.second };
+    ghost floor = { λ m. rank_floor m.columns };
 
     ghost numbers = { λ m. rank_numbers m.columns m.judge };
 

@@ -1,12 +1,12 @@
 // The rooms of the stratified rank sum test.
 ghost use Rattle.std.specs.Prelude.{◌≡◌, ◌≤◌, ◌<◌, ◌+◌, ◌-◌, ◌*◌, ◌∷◌, length, drop, get_or};
-ghost use Rattle.std.specs.Prelude.{min, Contains, IfOk};
+ghost use Rattle.std.specs.Prelude.{Contains, IfOk};
 ghost use Rattle.weights.specs.declared.TheConstants.{MAX};
 ghost use Rattle.midranks.specs.declared.TheConstants.{MOST_VALUES};
 ghost use Rattle.stage_network.specs.Network.{IsReached};
 ghost use Rattle.room_network.specs.Plans.{alone};
-ghost use Rattle.homogeneity.specs.OneCount.{IsOneCount, remaining};
-ghost use Rattle.homogeneity.specs.RankRooms.{column_at, left, rank_plan, remaining_after, ways_of};
+ghost use Rattle.homogeneity.specs.RankRooms.{column_at, fewest_here, left, most_here};
+ghost use Rattle.homogeneity.specs.RankRooms.{rank_floor, rank_plan, remaining_after, second_of, ways_of};
 ghost use Rattle.homogeneity.specs.RankSteps.{AreColumns, AreFitColumns, AreLaterWays};
 ghost use Rattle.homogeneity.specs.RankSteps.{AreRankRooms, RankChoice, RankSeat, later_ways};
 
@@ -21,11 +21,9 @@ use weights::{List, NoMemory, multinomial};
 #[derive(Drop)]
 pub struct RankRooms {
     pub(crate) columns: List<Column>,
-    // How many subjects of the first stratum are of the second group.
-    pub(crate) second: u64,
     // How many labellings the strata have that are behind the last stages.
     ways: List<u128>,
-    ghost right: { AreRankRooms columns second ways },
+    ghost right: { AreRankRooms columns ways },
 }
 
 // How many labellings some subjects have, so many of whom are of the second group.
@@ -41,14 +39,25 @@ fn ways_of(subjects: u64, second: u64) -> u128
     }
 }
 
-// How many remain behind a column that has some of the second group.
+// How many subjects of the first column's stratum are of the second group.
 #[inline(always)]
-pub(crate) fn remaining_after(column: Column, remaining: u64, count: u64) -> u64
+fn second_of(columns: &[Column]) -> u64
+    ensures { result ≡ second_of columns.now }
+{
+    match columns {
+        [] => 0,
+        [column, ..] => column.second,
+    }
+}
+
+// How many remain behind a column, before others, that has some of the second group.
+#[inline(always)]
+pub(crate) fn remaining_after(column: Column, later: &[Column], remaining: u64, count: u64) -> u64
     requires { count ≤ remaining }
-    ensures { result ≡ remaining_after column remaining count }
+    ensures { result ≡ remaining_after column later.now remaining count }
 {
     if column.later == 0 {
-        column.ahead
+        second_of(later)
     } else {
         remaining - count
     }
@@ -82,19 +91,20 @@ pub(crate) fn column_of(columns: &[Column], stage: usize) -> Column
     columns[stage]
 }
 
-// The least and the greatest number of a column's subjects that can be of the second group.
-fn least_count(column: Column, room: &[i128]) -> u64
-    requires { IsOneCount room.now }
-    ensures { result ≡ remaining room.now - column.later }
+// The least and the greatest number of a column's subjects that can be of the second group, with so
+// many to be placed.
+#[inline(always)]
+pub(crate) fn fewest_here(column: Column, remaining: u64) -> u64
+    ensures { result ≡ fewest_here column remaining }
 {
-    count_in(room).saturating_sub(column.later)
+    remaining.saturating_sub(column.later)
 }
 
-fn most_count(column: Column, room: &[i128]) -> u64
-    requires { IsOneCount room.now }
-    ensures { result ≡ min column.size (remaining room.now) }
+#[inline(always)]
+pub(crate) fn most_here(column: Column, remaining: u64) -> u64
+    ensures { result ≡ most_here column remaining }
 {
-    column.size.min(count_in(room))
+    column.size.min(remaining)
 }
 
 fn product(a: u128, b: u128) -> u128
@@ -102,15 +112,6 @@ fn product(a: u128, b: u128) -> u128
     ensures { result ≡ a * b }
 {
     a * b
-}
-
-// How many labellings the strata have that are behind a stage.
-fn ways_behind(ways: &[u128], count: usize, stage: usize) -> u128
-    requires within { stage ≤ count }
-    requires long { length ways.now ≡ count + 1 }
-    ensures { result ≡ get_or ways.now (count - stage) 0 }
-{
-    ways[count - stage]
 }
 
 // How many labellings the strata have that are behind a column, where those behind the next one
@@ -122,7 +123,7 @@ fn more_ways(column: Column, later: &[Column], behind: u128) -> u128
     ensures { result ≡ later_ways (column ∷ later.now) }
 {
     if column.later == 0 {
-        product(ways_of(left(later), column.ahead), behind)
+        product(ways_of(left(later), second_of(later)), behind)
     } else {
         behind
     }
@@ -138,7 +139,7 @@ fn later_ways(alloc: Global, columns: &[Column]) -> Result<List<u128>, NoMemory>
     ways.push(1)?;
     for done in 0..columns.len() {
         let stage = columns.len() - done - 1;
-        let behind = ways_behind(ways.as_slice(), done, 0);
+        let behind = ways.as_slice()[done];
         let later = from_stage(columns, stage + 1);
         ways.push(more_ways(column_of(columns, stage), later, behind))?;
     }
@@ -146,46 +147,43 @@ fn later_ways(alloc: Global, columns: &[Column]) -> Result<List<u128>, NoMemory>
 }
 
 impl RankRooms {
-    /// The rooms of columns, where so many subjects of the first stratum are of the second group.
-    pub(crate) fn new(
-        alloc: Global,
-        columns: List<Column>,
-        second: u64,
-    ) -> Result<RankRooms, NoMemory>
-        requires { AreFitColumns columns second }
-        ensures columns { IfOk result (λ rooms. rooms.columns ≡ columns) }
-        ensures second { IfOk result (λ rooms. rooms.second ≡ second) }
+    /// The rooms of columns.
+    pub(crate) fn new(alloc: Global, columns: List<Column>) -> Result<RankRooms, NoMemory>
+        requires { AreFitColumns columns }
+        ensures { IfOk result (λ rooms. rooms.columns ≡ columns) }
     {
         let ways = later_ways(alloc, columns.as_slice())?;
-        Ok(RankRooms {
-            columns,
-            second,
-            ways,
-        })
+        Ok(RankRooms { columns, ways })
+    }
+
+    // How many labellings the strata have that are behind a stage.
+    fn behind(&self, stage: usize) -> u128
+        requires { stage ≤ length self.now.columns }
+        ensures { result ≡ later_ways (drop stage self.now.columns) }
+    {
+        self.ways.as_slice()[self.columns.len() - stage]
     }
 
     // What is known of a room that is reached. It does nothing.
     #[inline(always)]
     fn seat(&self, _stage: usize, _room: &[i128])
-        requires { let plan = rank_plan self.now.columns self.now.second in
-            IsReached (alone plan) _stage _room.now }
-        ensures { RankSeat self.now.columns self.now.second self.now.ways _stage _room.now }
+        requires { IsReached (alone (rank_plan self.now.columns)) _stage _room.now }
+        ensures { RankSeat self.now.columns _stage _room.now }
     {}
 
     // And of a choice there.
     #[inline(always)]
     fn choice_seat(&self, _stage: usize, _room: &[i128], _choice: &[u64])
-        requires reached { let plan = rank_plan self.now.columns self.now.second in
-            IsReached (alone plan) _stage _room.now }
+        requires reached { IsReached (alone (rank_plan self.now.columns)) _stage _room.now }
         requires before { _stage < length self.now.columns }
-        requires allowed { let plan = rank_plan self.now.columns self.now.second in
-            Contains (plan.floor.choices _stage _room.now) _choice.now }
+        requires allowed { let floor = rank_floor self.now.columns in
+            Contains (floor.choices _stage _room.now) _choice.now }
         ensures { RankChoice (column_at self.now.columns _stage) _room.now _choice.now }
     {}
 }
 
 impl Rooms for RankRooms {
-    ghost plan = { λ s. rank_plan s.columns s.second };
+    ghost plan = { λ s. rank_plan s.columns };
 
     fn stages(&self) -> usize {
         self.columns.len()
@@ -200,19 +198,19 @@ impl Rooms for RankRooms {
     }
 
     fn first(&self, room: &mut [i128]) {
-        write_remaining(room, self.second);
+        write_remaining(room, second_of(self.columns.as_slice()));
     }
 
     fn first_choice(&self, stage: usize, room: &[i128], choice: &mut [u64]) {
         self.seat(stage, room);
         let column = column_of(self.columns.as_slice(), stage);
-        write_count(choice, least_count(column, room));
+        write_count(choice, fewest_here(column, count_in(room)));
     }
 
     fn next_choice(&self, stage: usize, room: &[i128], choice: &mut [u64]) -> bool {
         self.seat(stage, room);
         let column = column_of(self.columns.as_slice(), stage);
-        if choice[0] < most_count(column, room) {
+        if choice[0] < most_here(column, count_in(room)) {
             choice[0] += 1;
             true
         } else {
@@ -224,16 +222,15 @@ impl Rooms for RankRooms {
         self.seat(stage, room);
         self.choice_seat(stage, room, choice);
         let column = column_of(self.columns.as_slice(), stage);
+        let later = from_stage(self.columns.as_slice(), stage + 1);
         let count = choice[0];
-        write_remaining(next, remaining_after(column, count_in(room), count));
+        write_remaining(next, remaining_after(column, later, count_in(room), count));
         ways_of(column.size, count)
     }
 
     fn rest(&self, stage: usize, room: &[i128]) -> u128 {
         self.seat(stage, room);
-        let columns = self.columns.as_slice();
-        let behind = ways_behind(self.ways.as_slice(), columns.len(), stage);
-        let later = from_stage(columns, stage);
-        product(ways_of(left(later), count_in(room)), behind)
+        let later = from_stage(self.columns.as_slice(), stage);
+        product(ways_of(left(later), count_in(room)), self.behind(stage))
     }
 }

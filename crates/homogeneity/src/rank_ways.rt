@@ -16,7 +16,7 @@ impl Plain for StratifiedRanks {
     ghost test = { stratified_rank_test };
 
     fn first(&self, alloc: Global) -> Result<Bytes, NoMemory> {
-        first_labels(alloc, self.made().parts.as_slice())
+        first_labels(alloc, self.made().strata.parts.as_slice())
     }
 
     fn next(&self, labels: &mut Bytes) -> bool {
@@ -28,7 +28,7 @@ impl Plain for StratifiedRanks {
     }
 
     fn value(&self, labels: &[u8]) -> i128 {
-        labelled_sum(self.made().ranks.as_slice(), labels, 1)
+        labelled_sum(self.made().strata.ranks.as_slice(), labels, 1)
     }
 
     fn frame(&self) -> Frame {
@@ -59,10 +59,9 @@ impl Prepared for StratifiedRanks {
 
     fn stages_of(&self, alloc: Global, _tail: Tail) -> Result<Self::Built, NoMemory> {
         let made = self.made();
-        let rooms = RankRooms::new(alloc, made.columns.copy()?, made.second)?;
+        let rooms = RankRooms::new(alloc, made.strata.columns.copy()?)?;
         let measure = RankMeasure {
-            columns: made.columns.copy()?,
-            second: made.second,
+            columns: made.strata.columns.copy()?,
             judge: Judge::of(&made.frame),
         };
         Ok(RoomNetwork::new(rooms, Numbered::new(measure)))

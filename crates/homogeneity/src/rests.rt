@@ -1,10 +1,15 @@
 // Strata, a sum of their first cells, and what is known of the strata from each one on.
-ghost use Rattle.std.specs.Prelude.{◌≡◌, ◌+◌, ◌<◌, ◌≤◌, length, drop, IfOk, MatchOption};
+ghost use Rattle.std.specs.Prelude.{◌≡◌, ◌+◌, ◌<◌, ◌≤◌, length, drop, Contains, IfOk};
+ghost use Rattle.std.specs.Prelude.{MatchOption};
+ghost use Rattle.stage_network.specs.Network.{IsReached};
+ghost use Rattle.room_network.specs.Plans.{alone};
 ghost use Rattle.weights.specs.declared.TheConstants.{MAX};
 ghost use Rattle.strata_cells.specs.Strata.{cell_weight, greatest_cell, least_cell, stratum_at};
 ghost use Rattle.homogeneity.specs.ZelenNetwork.{greatest_choice, least_choice, number_with};
+ghost use Rattle.homogeneity.specs.ZelenNetwork.{zelen_floor, zelen_plan};
 ghost use Rattle.strata_cells.specs.StrataLimits.{IsSmall};
 ghost use Rattle.homogeneity.specs.ZelenSteps.{AreRests, AreSummed, IsLater, IsLeft};
+ghost use Rattle.homogeneity.specs.ZelenSteps.{ZelenChoice, ZelenSeat};
 
 use crate::laters::{Later, choice_from, choice_to, laters_of};
 use std::alloc::Global;
@@ -56,6 +61,24 @@ impl Rests {
             laters,
         }))
     }
+
+    /// What is known of a room that is reached. It does nothing.
+    #[inline(always)]
+    pub(crate) fn seat(&self, _stage: usize, _room: &[i128])
+        requires { IsReached (alone (zelen_plan self.now.strata self.now.sum)) _stage _room.now }
+        ensures { ZelenSeat self.now.strata self.now.sum _stage _room.now }
+    {}
+
+    /// And of a first cell that is allowed there. It does nothing.
+    #[inline(always)]
+    pub(crate) fn choice_seat(&self, _stage: usize, _room: &[i128], _choice: &[u64])
+        requires reached { let plan = zelen_plan self.now.strata self.now.sum in
+            IsReached (alone plan) _stage _room.now }
+        requires before { _stage < length self.now.strata }
+        requires allowed { let floor = zelen_floor self.now.strata self.now.sum in
+            Contains (floor.choices _stage _room.now) _choice.now }
+        ensures { ZelenChoice self.now.strata _stage _room.now _choice.now }
+    {}
 
     // What is known of the strata from a stage on.
     fn later(&self, stage: usize) -> &Later

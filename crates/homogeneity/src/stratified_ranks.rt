@@ -2,7 +2,7 @@
 ghost use Rattle.std.specs.Prelude.{◌≡◌};
 ghost use Rattle.weights.specs.Wide.{Prepares};
 ghost use Rattle.sample_reader.specs.Data.{strata_data_of};
-ghost use Rattle.homogeneity.specs.RankMade.{RankedFacts};
+ghost use Rattle.homogeneity.specs.RankMade.{AreRanked};
 ghost use Rattle.homogeneity.specs.StratifiedRanks.{stratified_rank_test};
 
 use crate::rank_made::{RankedStrata, made_of};
@@ -63,7 +63,7 @@ impl StratifiedRanks {
 
     /// What was made of the samples.
     pub(crate) fn made(&self) -> &RankedStrata
-        ensures { RankedFacts self.now result.now }
+        ensures { AreRanked self.now result.now }
     {
         &self.made
     }

@@ -7,7 +7,7 @@ ghost use Rattle.record_reader.specs.declared.TheConstants.{MOST_ROWS};
 ghost use Rattle.strata_cells.specs.Strata.{strata_of};
 ghost use Rattle.strata_cells.specs.StrataLimits.{AreSmall};
 ghost use Rattle.homogeneity.specs.Zelen.{observed_sum_labellings, observed_sum_test, zelen_test};
-ghost use Rattle.homogeneity.specs.ZelenMade.{AreObserved, IsMember, ObservedFacts};
+ghost use Rattle.homogeneity.specs.ZelenMade.{AreObserved, IsMember};
 ghost use Rattle.homogeneity.specs.ZelenNetwork.{number_with, own_sum};
 ghost use Rattle.homogeneity.specs.ZelenSteps.{AreSummed};
 
@@ -130,7 +130,7 @@ impl Zelen {
 
     /// What was made of the strata.
     pub(crate) fn made(&self) -> &ObservedStrata
-        ensures { ObservedFacts (strata_of self.now) result.now }
+        ensures { AreObserved (strata_of self.now) result.now }
     {
         &self.made
     }

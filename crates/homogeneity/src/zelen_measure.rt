@@ -2,12 +2,10 @@
 ghost use Rattle.std.specs.Prelude.{◌≡◌, ◌<◌, ◌≤◌, ℤ, length, drop, pos, IfOk};
 ghost use Rattle.weights.specs.declared.TheConstants.{MAX};
 ghost use Rattle.stage_network.specs.Judged.{JudgeFits};
-ghost use Rattle.room_network.specs.Meanings.{IsRoom, IsStep};
 ghost use Rattle.strata_cells.specs.Strata.{cell_weight, greatest_cell, least_cell};
 ghost use Rattle.strata_cells.specs.StrataLimits.{IsSmall};
-ghost use Rattle.homogeneity.specs.ZelenNetwork.{lesser_weight, lesser_weights, zelen_meaning};
+ghost use Rattle.homogeneity.specs.ZelenNetwork.{lesser_weight, lesser_weights};
 ghost use Rattle.homogeneity.specs.ZelenSteps.{AreLesser, AreRests, IsZelenMeasure, LesserSeat};
-ghost use Rattle.homogeneity.specs.ZelenSteps.{ZelenChoice, ZelenSeat};
 
 use crate::one_count::count_in;
 use crate::rests::Rests;
@@ -104,22 +102,6 @@ impl ZelenMeasure {
     {
         self.lesser.as_slice()[self.rests.strata.len() - stage]
     }
-
-    // What is known of a room that is reached. It does nothing.
-    #[inline(always)]
-    fn seat(&self, _stage: usize, _room: &[i128])
-        requires { let m = zelen_meaning self.now.rests.strata self.now.rests.sum self.now.judge in
-            IsRoom m _stage _room.now }
-        ensures { ZelenSeat self.now.rests.strata self.now.rests.sum _stage _room.now }
-    {}
-
-    // And of a first cell that is allowed there.
-    #[inline(always)]
-    fn choice_seat(&self, _stage: usize, _room: &[i128], _choice: &[u64])
-        requires { let m = zelen_meaning self.now.rests.strata self.now.rests.sum self.now.judge in
-            IsStep m _stage _room.now _choice.now }
-        ensures { ZelenChoice self.now.rests.strata _stage _room.now _choice.now }
-    {}
 }
 
 impl NumberMeasure for ZelenMeasure {
@@ -141,13 +123,13 @@ impl NumberMeasure for ZelenMeasure {
 
     #[inline(always)]
     fn number(&self, stage: usize, room: &[i128], choice: &[u64]) -> i128 {
-        self.choice_seat(stage, room, choice);
+        self.rests.choice_seat(stage, room, choice);
         held(self.rests.weight(stage, choice[0]))
     }
 
     #[inline(always)]
     fn later(&self, stage: usize, room: &[i128]) -> Interval {
-        self.seat(stage, room);
+        self.rests.seat(stage, room);
         Interval {
             low: held(self.least_factor(stage)),
             high: held(self.rests.number(stage, count_in(room))),

@@ -34,8 +34,7 @@ lowered x half h = omega (arith, ints, h)
 size-more : (base a n power : ℕ) → a < base → n < power → a + base * n < base * power
 size-more base a n power h k =
     let one : base * (n + 1) ≤ base * power = mul-le-mul_left base (omega (arith, k)) in
-    let two : base * (n + 1) ≡ base * n + base = split base n in
-    omega (arith, one, two, h)
+    omega (arith, one, (split base n), h)
   where
     split : (b n : ℕ) → b * (n + 1) ≡ b * n + b
     split b n = grind arith
@@ -96,24 +95,18 @@ pack-plus half (x ∷ sums) (a ∷ added) l =
 pub numeral-size : (base : ℕ) (xs : List ℤ) → ((i : ℕ) → unsigned_abs (get_or xs i (pos 0)) < base) → unsigned_abs (numeral base xs) < base ^ length xs
 numeral-size base [] each = let one : base ^ 0 ≡ 1 = pow-zero base in omega (arith, one)
 numeral-size base (x ∷ xs) each =
-    let both = size-plus x (pos base *ℤ numeral base xs) in
-    let times : unsigned_abs (pos base *ℤ numeral base xs) ≡ base * unsigned_abs (numeral base xs) = unsigned_abs-mul (pos base) (numeral base xs) in
     let here = size-more base (unsigned_abs x) (unsigned_abs (numeral base xs)) (base ^ length xs) (each 0) (numeral-size base xs (λ i. each (suc i))) in
-    let power : base ^ suc (length xs) ≡ base * base ^ length xs = pow-succ' base (length xs) in
-    omega (arith, both, times, here, power)
+    omega (arith, (size-plus x (pos base *ℤ numeral base xs)), (unsigned_abs-mul (pos base) (numeral base xs)), here, (pow-succ' base (length xs)))
 
 -- a digit and what comes before it
 pub numeral-more : (base : ℕ) (xs : List ℤ) → ((i : ℕ) → unsigned_abs (get_or xs i (pos 0)) < base) → (i : ℕ) → i < length xs
     → unsigned_abs (get_or xs i (pos 0)) + base * unsigned_abs (numeral base (drop (i + 1) xs)) < base ^ length xs
 numeral-more base xs each i h =
     let rest : List ℤ = drop (i + 1) xs in
-    let long : length rest ≡ length xs - (i + 1) = length-drop (i + 1) xs in
     let below = numeral-size base rest (λ j. subst (λ z. unsigned_abs z < base) (sym (get_or-drop (i + 1) xs j (pos 0))) (each ((i + 1) + j))) in
-    let here = size-more base (unsigned_abs (get_or xs i (pos 0))) (unsigned_abs (numeral base rest)) (base ^ length rest) (each i) below in
-    let power : base ^ suc (length rest) ≡ base * base ^ length rest = pow-succ' base (length rest) in
     let some : 0 < base = omega (arith, each 0) in
-    let grows : base ^ suc (length rest) ≤ base ^ length xs = pow-le-pow_right some (omega (arith, long, h)) in
-    omega (arith, here, power, grows)
+    let grows : base ^ suc (length rest) ≤ base ^ length xs = pow-le-pow_right some (omega (arith, (length-drop (i + 1) xs), h)) in
+    omega (arith, (size-more base (unsigned_abs (get_or xs i (pos 0))) (unsigned_abs (numeral base rest)) (base ^ length rest) (each i) below), (pow-succ' base (length rest)), grows)
 
 -- the first partial's sums are 0
 pub pack-zeros : (half k : ℕ) → pack half (replicate k (pos 0)) ≡ numeral (2 * half) (replicate k (pos half))

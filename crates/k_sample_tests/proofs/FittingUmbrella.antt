@@ -1,5 +1,5 @@
 -- What holds of a test of ordered groups whose total passes no limit.
-use Rattle.std.proofs.Common.{◌≡◌, ℕ, suc, ◌+◌, ◌*◌, ◌<◌, ◌≤◌, Bool, true, false, cond, List, [], ◌∷◌, length, map, refl, sym, ◌∙◌, ap, subst, arith, nat_eq, lit≤, length-append}
+use Rattle.std.proofs.Common.{◌≡◌, ℕ, suc, ◌+◌, ◌*◌, ◌<◌, ◌≤◌, Bool, true, false, cond, List, [], ◌∷◌, length, refl, sym, ◌∙◌, ap, subst, arith, nat_eq, lit≤, length-append}
 use Rattle.std.specs.Prelude.{ℤ, pos, ◌-◌, slice_index, int_lt, nat_lt, nat_le, Contains}
 use Rattle.std.specs.List.{AllByRecursion, flat_map, sum, sum_by}
 use Rattle.std.specs.Ordering.{int_eq}
@@ -26,7 +26,6 @@ use Rattle.sample_reader.specs.declared.subjects.Subject.{Subject}
 use Rattle.stage_network.specs.declared.verdicts.Judge.{Judge}
 use Rattle.stage_network.specs.Judged.{judge_of}
 use Rattle.label_network.specs.LabelNetwork.{label_network}
-use Rattle.label_network.specs.LaterSums.{subjects}
 use Rattle.label_network.proofs.Narrowing.{fits-self}
 use Rattle.labelled.specs.LabelTests.{IsSound, IsWithin}
 use Rattle.labelled.proofs.LabelLaws.{label-judge, label-sound}
@@ -113,9 +112,8 @@ paired-few (v ∷ values) (x ∷ xs) = omega (arith, paired-few values xs)
 pair-few : (ss : List Subject) (n : ℕ) → length ss ≤ n → (q : UsedPair) → pair_points ss q ≤ (2 * n) * n
 pair-few ss n h q =
     let inner : (a : Subject) → sum_by (λ (b : Subject). points a.value b.value) (group_of q.greater ss) ≤ 2 * n = λ a. omega (arith, sum-within (λ (b : Subject). points a.value b.value) 2 (λ b. points-few a.value b.value) (group_of q.greater ss), group-few q.greater ss, h) in
-    let outer = sum-within (λ (a : Subject). sum_by (λ (b : Subject). points a.value b.value) (group_of q.greater ss)) (2 * n) inner (group_of q.lesser ss) in
     let most : (2 * n) * length (group_of q.lesser ss) ≤ (2 * n) * n = mul-le-mul_left (2 * n) (omega (arith, group-few q.lesser ss, h)) in
-    omega (arith, outer, most)
+    omega (arith, (sum-within (λ (a : Subject). sum_by (λ (b : Subject). points a.value b.value) (group_of q.greater ss)) (2 * n) inner (group_of q.lesser ss)), most)
 
 pub statistic-few : (qs : List UsedPair) (values : List ℤ) (xs : List ℕ) → length qs ≤ 64 → length values ≤ 10000 → sum_by (pair_points (paired_subjects values xs)) qs ≤ 12800000000
 statistic-few qs values xs few h =
@@ -134,10 +132,9 @@ statistic-is samples few xs long counted =
     let sizes : List ℕ = group_sizes samples.groups in
     let values : List ℤ = pooled_values samples.groups in
     let qs : List UsedPair = used_pairs samples.peak (length sizes) in
-    let same : subjects (map (λ (t : Tie). t.value) (tie_groups values)) (map (λ (t : Tie). t.count) (tie_groups values)) ≡ values = grouped (λ v. v) values (pooled-rises samples.groups) ∙ map-id values in
     points-are qs sizes (pairs-are samples.peak (length sizes) few) (tie_groups values) sizes xs (groups-ascend values) (long ∙ sym (columns-sum samples.groups)) counted (fits-self sizes)
     ∙ sum_by-same _ _ (λ q. none (slice_index sizes q.lesser) (slice_index sizes q.greater) _) qs
-    ∙ ap (λ vs. sum_by (pair_points (paired_subjects vs xs)) qs) same
+    ∙ ap (λ vs. sum_by (pair_points (paired_subjects vs xs)) qs) (grouped (λ v. v) values (pooled-rises samples.groups) ∙ map-id values)
   where
     none : (a b d : ℕ) → 2 * ((a - a) * b) + d ≡ d
     none a b d = let e : a - a ≡ 0 = omega arith in rw e (omega arith)

@@ -7,5 +7,4 @@ use Rattle.std.proofs.lemmas.List.{append_assoc}
 pub gathered : {Y : Type 0} (f : ℕ → List Y) (n i : ℕ) (xs new all : List Y) → i < n → xs ++ flat_map f (range_with_len i (n - i)) ≡ all → new ≡ xs ++ f i → new ++ flat_map f (range_with_len (i + 1) (n - (i + 1))) ≡ all
 gathered f n i xs new all h e g =
     let more : n - i ≡ suc (n - (i + 1)) = omega (arith, h) in
-    let parts : flat_map f (range_with_len i (n - i)) ≡ f i ++ flat_map f (range_with_len (i + 1) (n - (i + 1))) = ap (λ m. flat_map f (range_with_len i m)) more in
-    rw g (append_assoc xs (f i) (flat_map f (range_with_len (i + 1) (n - (i + 1))))) ∙ ap (λ l. xs ++ l) (sym parts) ∙ e
+    rw g (append_assoc xs (f i) (flat_map f (range_with_len (i + 1) (n - (i + 1))))) ∙ ap (λ l. xs ++ l) (sym (ap (λ m. flat_map f (range_with_len i m)) more)) ∙ e

@@ -2,7 +2,7 @@
 use Rattle.std.proofs.Common.{◌≡◌, ℕ, zero, suc, ◌+◌, ◌*◌, ◌<◌, ◌≤◌, Bool, true, false, cond, List, [], ◌∷◌, map, refl, ◌∙◌, arith, nat_eq}
 use Rattle.std.specs.Prelude.{ℤ, pos, ◌+ℤ◌, unsigned_abs}
 use Rattle.std.specs.List.{AllByRecursion, range_with_len}
-use Rattle.std.proofs.Math.Nat.{mul-le-mul, mul-le-mul_left}
+use Rattle.std.proofs.Math.Nat.{mul-le-mul, mul-le-mul_left, le_refl, mul-add}
 use Rattle.std.proofs.lemmas.Bool.{eqb-true}
 use Rattle.weights.specs.Labellings.{labels}
 use Rattle.completion_bounds.specs.Boxes.{factored_squares}
@@ -33,9 +33,8 @@ module _ (s : ℤ) (x : ℕ) (f : ℕ → ℤ) where
       by : (b : Bool) → nat_eq x a ≡ b → absolute_sum (map with_score (range_with_len (a + 1) n)) ≤ unsigned_abs s + absolute_sum (map f (range_with_len (a + 1) n))
           → absolute_sum (map with_score (range_with_len a (suc n))) ≤ unsigned_abs s + absolute_sum (map f (range_with_len a (suc n)))
       by true e rest =
-          let here : x ≡ a = eqb-true x a e in
           let one : unsigned_abs (with_score a) ≤ unsigned_abs s + unsigned_abs (f a) = rw e (size-plus s (f a)) in
-          omega (arith, one, none-there n (a + 1) (omega (arith, here)))
+          omega (arith, one, none-there n (a + 1) (omega (arith, (eqb-true x a e))))
       by false e rest = omega (arith, without a false e refl, rest)
 
 zeros : (is : List ℕ) → absolute_sum (map (λ i. pos 0) is) ≡ 0
@@ -55,13 +54,5 @@ pub squares-most : (p : List ℤ) (factors : List ℕ) (most : ℕ) → AllByRec
 squares-most [] factors most a = omega arith
 squares-most (p ∷ ps) [] most a = omega arith
 squares-most (p ∷ ps) (f ∷ factors) most a =
-    let first : f * (unsigned_abs p * unsigned_abs p) ≤ most * (unsigned_abs p * unsigned_abs p) = mul-le-mul a.0 (le-same (unsigned_abs p * unsigned_abs p)) in
-    let both : most * (unsigned_abs p * unsigned_abs p + absolute_sum ps * absolute_sum ps) ≤ most * ((unsigned_abs p + absolute_sum ps) * (unsigned_abs p + absolute_sum ps)) = mul-le-mul_left most (square-sum (unsigned_abs p) (absolute_sum ps)) in
-    let apart : most * (unsigned_abs p * unsigned_abs p + absolute_sum ps * absolute_sum ps) ≡ most * (unsigned_abs p * unsigned_abs p) + most * (absolute_sum ps * absolute_sum ps) = split most (unsigned_abs p * unsigned_abs p) (absolute_sum ps * absolute_sum ps) in
-    omega (arith, first, both, apart, squares-most ps factors most a.1)
-  where
-    le-same : (n : ℕ) → n ≤ n
-    le-same n = omega arith
-
-    split : (a b c : ℕ) → a * (b + c) ≡ a * b + a * c
-    split a b c = omega arith
+    let apart : most * (unsigned_abs p * unsigned_abs p + absolute_sum ps * absolute_sum ps) ≡ most * (unsigned_abs p * unsigned_abs p) + most * (absolute_sum ps * absolute_sum ps) = mul-add most (unsigned_abs p * unsigned_abs p) (absolute_sum ps * absolute_sum ps) in
+    omega (arith, (mul-le-mul a.0 (le_refl (unsigned_abs p * unsigned_abs p))), (mul-le-mul_left most (square-sum (unsigned_abs p) (absolute_sum ps))), apart, squares-most ps factors most a.1)

@@ -126,10 +126,8 @@ module _ (s : PackedSums) where
 
     parts-each : (i : ℕ) → unsigned_abs (get_or (parts g c) i (pos 0)) < 2 * half
     parts-each i =
-        let part = counts-within (score_of s.sums.later.scores.items g) c i in
-        let all = column-fits s.sums g f p a.reached a.before c a.allowed in
         let most = (partial_is s.sums g f p a.reached).small in
-        omega (arith, part, all, most, s.right.small)
+        omega (arith, (counts-within (score_of s.sums.later.scores.items g) c i), (column-fits s.sums g f p a.reached a.before c a.allowed), most, s.right.small)
 
     pub parts-digits : AreDigits (2 * half) (parts g c)
     parts-digits = record {
@@ -155,9 +153,7 @@ module _ (s : PackedSums) where
         let next : List ℤ = plus_each (sums e) (parts g c) in
         let it = packed half next (within s.sums.factors.items s.sums.bound s.sums.later.scores.items s.sums.later.columns.items s.sums.rows.items s.sums.judge squaring half s.right.small (suc g) (minus (sizes_in f) c) next after) in
         let wide : length next ≡ groups = (reached_partial s.sums.factors.items s.sums.bound s.sums.later.scores.items s.sums.later.columns.items s.sums.rows.items s.sums.judge squaring (suc g) (minus (sizes_in f) c) next after).wide in
-        let most : (2 * half) ^ length next ≤ MAX + 1 = subst (λ n. (2 * half) ^ n ≤ MAX + 1) (sym wide) s.right.wide in
-        let same : unsigned_abs (get_or e 0 (pos 0) +ℤ numeral (2 * half) (parts g c)) ≡ it.number = ap unsigned_abs (step-sum ∙ it.is) in
-        omega (arith, same, it.below, most)
+        omega (arith, (ap unsigned_abs (step-sum ∙ it.is)), it.below, (subst (λ n. (2 * half) ^ n ≤ MAX + 1) (sym wide) s.right.wide))
 
   -- the sums of a place's number
   module _ (g : ℕ) (f e : List ℤ) (a : AreReached packed_rooms g f e) where

@@ -23,8 +23,7 @@ module _ (half : ℕ) (m : Meaning) (back : (g : ℕ) (r : List ℕ) (p : List �
   pub reached_pack : (g : ℕ) (r : List ℕ) (e : List ℤ) → AreReached (packed_meaning half m) g r e → IsPackOf g r e
   reached_pack zero r e a = pack-of zero r m.first e (a.0, refl) a.1
   reached_pack (suc g) r e (s, q, c, a, before, o, f, t) =
-      let past : IsPackOf g s q = reached_pack g s q a in
-      pack-of (suc g) r (m.advance g s c (unpacked half m q)) e (s, unpacked half m q, c, past.reached, before, o, f, refl) t
+      pack-of (suc g) r (m.advance g s c (unpacked half m q)) e (s, unpacked half m q, c, (reached_pack g s q a).reached, before, o, f, refl) t
 
   module _ (g : ℕ) (r : List ℕ) (e : List ℤ) (c : List ℕ) (a : AreReached (packed_meaning half m) g r e) (h : g < length m.columns) (o : Contains (allowed m g r) c) where
     pub reached_next : AreReached m (suc g) (minus r c) (m.advance g r c (unpacked half m e))

@@ -1,7 +1,7 @@
 -- The value of a labelling is the same where the sums are packed.
 use Rattle.std.proofs.Common.{◌≡◌, ℕ, ◌+◌, ◌*◌, ◌<◌, ◌≤◌, List, [], ◌∷◌, ◌++◌, length, map, take, drop, replicate, refl, ◌∙◌, ap, arith}
-use Rattle.std.specs.Prelude.{ℤ, pos, ◌+ℤ◌, ◌*ℤ◌, unsigned_abs}
-use Rattle.std.proofs.lemmas.Int.{ints}
+use Rattle.std.proofs.Math.IntN.{+ℤ_idr}
+use Rattle.std.specs.Prelude.{ℤ, pos, ◌*ℤ◌, unsigned_abs}
 use Rattle.std.proofs.lemmas.List.{length-replicate}
 use Rattle.stage_network.specs.declared.verdicts.Judge.{Judge}
 use Rattle.weights.specs.Labellings.{counts_of, labels}
@@ -30,15 +30,11 @@ sizes-each (p ∷ ps) (a ∷ rest) = omega (arith, size-plus p a, sizes-each ps 
 -- what a column adds is what its scores alone would give the groups
 alone : (is : List ℕ) (c : ℕ) (s : ℤ) (xs : List ℕ) → score_parts s (map (λ i. count_of i (take c xs)) is) ≡ map (λ i. labelled_sum i (replicate c s ++ []) xs) is
 alone [] c s xs = refl
-alone (i ∷ is) c s xs = rw (block i c s [] xs, alone is c s xs, plus-zero (pos (count_of i (take c xs)) *ℤ s)) refl
-  where
-    plus-zero : (t : ℤ) → t +ℤ pos 0 ≡ t
-    plus-zero t = omega (arith, ints)
+alone (i ∷ is) c s xs = rw (block i c s [] xs, alone is c s xs, +ℤ_idr (pos (count_of i (take c xs)) *ℤ s)) refl
 
 column-within : (k c : ℕ) (s : ℤ) (xs : List ℕ) → absolute_sum (score_parts s (counts_of k (take c xs))) ≤ c * unsigned_abs s
 column-within k c s xs =
-    let same = ap absolute_sum (alone (labels k) c s xs) in
-    omega (arith, same, sums-within k (replicate c s ++ []) xs, sizes-block c s [])
+    omega (arith, (ap absolute_sum (alone (labels k) c s xs)), sums-within k (replicate c s ++ []) xs, sizes-block c s [])
 
 module _ (factors : List ℕ) (bound : ℕ) (scores : List ℤ) (columns rows : List ℕ) (judge : Judge) (half : ℕ) where
   after-is : (cs : List ℕ) (ss : List ℤ) (g : ℕ) (r : List ℕ) (p : List ℤ) (xs : List ℕ) → drop g scores ≡ ss → length ss ≡ length cs → length p ≡ length rows → absolute_sum p + absolute_sum (subjects ss cs) < half

@@ -8,7 +8,7 @@ use Rattle.weights.specs.Grouped.{fits}
 use Rattle.k_sample_tests.specs.declared.used_pairs.UsedPair.{UsedPair}
 use Rattle.k_sample_tests.specs.PairCounts.{column_points, placed}
 use Rattle.k_sample_tests.specs.Umbrella.{subject_pairs}
-use Rattle.k_sample_tests.proofs.PairPoints.{within-at}
+use Rattle.label_network.proofs.Rows.{get-within}
 
 pub sum-within : {X : Type 0} (f : X → ℕ) (n : ℕ) → ((x : X) → f x ≤ n) → (xs : List X) → sum_by f xs ≤ n * length xs
 sum-within f n each [] = omega arith
@@ -34,15 +34,14 @@ pairs-next qs sizes i d h = sum_by-drop_more (λ (q : UsedPair). slice_index siz
 pub pairs-most : (qs : List UsedPair) (sizes : List ℕ) → length qs ≤ 64 → sum sizes ≤ 10000 → subject_pairs qs sizes ≤ 6400000000
 pairs-most qs sizes few h =
     let one : (i : ℕ) → get_or sizes i 0 ≤ 10000 = λ i. omega (arith, at-within sizes i, h) in
-    let all = sum-within (λ (q : UsedPair). slice_index sizes q.lesser * slice_index sizes q.greater) (10000 * 10000) (λ q. mul-le-mul (one q.lesser) (one q.greater)) qs in
-    omega (arith, all, few)
+    omega (arith, (sum-within (λ (q : UsedPair). slice_index sizes q.lesser * slice_index sizes q.greater) (10000 * 10000) (λ q. mul-le-mul (one q.lesser) (one q.greater)) qs), few)
 
 module _ (rows left column : List ℕ) (few : sum rows ≤ 10000) (f : fits left rows ≡ true) (h : fits column left ≡ true) where
   pub left-few : (i : ℕ) → get_or left i 0 ≤ 10000
-  left-few i = omega (arith, within-at rows left i f, at-within rows i, few)
+  left-few i = omega (arith, get-within rows left i f, at-within rows i, few)
 
   pub column-few : (i : ℕ) → get_or column i 0 ≤ 10000
-  column-few i = omega (arith, within-at left column i h, left-few i)
+  column-few i = omega (arith, get-within left column i h, left-few i)
 
   pub placed-few : (i : ℕ) → placed rows left i ≤ 10000
   placed-few i = omega (arith, at-within rows i, few)

@@ -86,8 +86,7 @@ module _ (qs : List UsedPair) (rows columns : List ℕ) (judge : Judge) (h : IsC
 pub around : (qs : List UsedPair) (rows r : List ℕ) (beside middle : ℕ) → beside ≡ subject_pairs qs r → middle ≡ column_points qs rows r r → (beside ≤ middle) × (middle - beside ≡ sure_points qs rows r) × (middle + beside ≡ sure_points qs rows r + open_points qs r)
 around qs rows r beside middle e f =
     let whole = middle-is qs rows r in
-    let twice = open-is qs r in
-    (omega (arith, e, f, whole), omega (arith, e, f, whole), omega (arith, e, f, whole, twice))
+    (omega (arith, e, f, whole), omega (arith, e, f, whole), omega (arith, e, f, whole, (open-is qs r)))
 
 -- the front of eight numbers
 pub room-of : (n : ℕ) → n ≤ 8 → length {A = ℕ} (take n (0 ∷ 0 ∷ 0 ∷ 0 ∷ 0 ∷ 0 ∷ 0 ∷ 0 ∷ [])) ≡ n

@@ -1,18 +1,18 @@
 -- The interval of counted points narrows along every choice.
-use Rattle.std.proofs.Common.{◌≡◌, ℕ, zero, suc, ◌+◌, ◌-◌, ◌*◌, ◌≤◌, List, [], ◌∷◌, length, get_or, true, refl, sym, ◌∙◌, ap, arith, nat_le}
+use Rattle.std.proofs.Common.{◌≡◌, ℕ, zero, suc, ◌+◌, ◌-◌, ◌*◌, ◌≤◌, List, [], ◌∷◌, length, get_or, true, refl, sym, ◌∙◌, ap, arith}
 use Rattle.std.specs.Prelude.{ℤ, pos, ◌+ℤ◌, ◌≤ℤ◌, nat_abs, slice_index}
 use Rattle.std.specs.List.{sum}
 use Rattle.std.proofs.Math.Seq.{drop-length}
-use Rattle.std.proofs.lemmas.Bool.{leb-true}
 use Rattle.std.proofs.lemmas.Int.{ints}
 use Rattle.std.proofs.lemmas.List.Sums.{sum_by-cons}
 use Rattle.stage_network.specs.declared.verdicts.Judge.{Judge}
 use Rattle.weights.specs.Grouped.{fits, minus}
-use Rattle.weights.proofs.Sized.{first_and}
 use Rattle.weights.proofs.Sums.{sum_by-plus, sum_by-scaled}
 use Rattle.room_network.specs.Numbers.{so_far}
 use Rattle.label_network.specs.Meanings.{AreReached, IsMeasure}
 use Rattle.label_network.proofs.Narrowing.{IsLeft, IsNarrowing, measured, reached-kept, reached-left}
+use Rattle.label_network.proofs.Rearranging.{get-minus}
+use Rattle.label_network.proofs.Rows.{get-within}
 use Rattle.k_sample_tests.specs.declared.used_pairs.UsedPair.{UsedPair}
 use Rattle.k_sample_tests.specs.PairCounts.{column_points, open_points, pairs_meaning, placed, sure_points}
 use Rattle.k_sample_tests.specs.Umbrella.{subject_pairs}
@@ -37,22 +37,7 @@ pair-high R r x s y h i j =
     let one : R - (r - x) ≡ (R - r) + x = omega (arith, h, i) in
     let two : s ≡ (s - y) + y = omega (arith, j) in
     let three : r ≡ (r - x) + x = omega (arith, i) in
-    let four : r * s ≡ ((r - x) + x) * ((s - y) + y) = ap (λ n. n * s) three ∙ ap (λ n. ((r - x) + x) * n) two in
-    rw one (omega (arith, one-high (R - r) (r - x) x y (s - y), ap (λ n. (R - r) * n) two, four))
-
-pub left-at : (r x : List ℕ) (i : ℕ) → fits x r ≡ true → get_or (minus r x) i 0 ≡ get_or r i 0 - get_or x i 0
-left-at [] [] i f = refl
-left-at [] (a ∷ x) i f = absurd (cc f)
-left-at (r ∷ rs) [] i f = absurd (cc f)
-left-at (r ∷ rs) (a ∷ x) zero f = refl
-left-at (r ∷ rs) (a ∷ x) (suc i) f = left-at rs x i (first_and (nat_le a r) (fits x rs) f).1
-
-pub within-at : (r x : List ℕ) (i : ℕ) → fits x r ≡ true → get_or x i 0 ≤ get_or r i 0
-within-at [] [] i f = omega arith
-within-at [] (a ∷ x) i f = absurd (cc f)
-within-at (r ∷ rs) [] i f = absurd (cc f)
-within-at (r ∷ rs) (a ∷ x) zero f = leb-true a r (first_and (nat_le a r) (fits x rs) f).0
-within-at (r ∷ rs) (a ∷ x) (suc i) f = within-at rs x i (first_and (nat_le a r) (fits x rs) f).1
+    rw one (omega (arith, one-high (R - r) (r - x) x y (s - y), ap (λ n. (R - r) * n) two, (ap (λ n. n * s) three ∙ ap (λ n. ((r - x) + x) * n) two)))
 
 pub open-is : (qs : List UsedPair) (r : List ℕ) → open_points qs r ≡ 2 * subject_pairs qs r
 open-is qs r = sum_by-scaled 2 (λ (q : UsedPair). slice_index r q.lesser * slice_index r q.greater) qs
@@ -65,8 +50,8 @@ module _ (rows r x : List ℕ) (f : fits r rows ≡ true) (h : fits x r ≡ true
   pub points-rise : (qs : List UsedPair) → sure_points qs rows r ≤ column_points qs rows r x + sure_points qs rows (minus r x)
   points-rise [] = omega arith
   points-rise (q ∷ qs) =
-      let here = pair-low (get_or rows q.lesser 0) (get_or r q.lesser 0) (get_or x q.lesser 0) (get_or r q.greater 0) (get_or x q.greater 0) (within-at rows r q.lesser f) (within-at r x q.lesser h) (within-at r x q.greater h) in
-      let there = rw (← left-at r x q.lesser h, ← left-at r x q.greater h) at here in
+      let here = pair-low (get_or rows q.lesser 0) (get_or r q.lesser 0) (get_or x q.lesser 0) (get_or r q.greater 0) (get_or x q.greater 0) (get-within rows r q.lesser f) (get-within r x q.lesser h) (get-within r x q.greater h) in
+      let there = rw (← get-minus r x q.lesser h, ← get-minus r x q.greater h) at here in
       omega (
         arith,
         there,
@@ -79,8 +64,8 @@ module _ (rows r x : List ℕ) (f : fits r rows ≡ true) (h : fits x r ≡ true
   pub points-fall : (qs : List UsedPair) → column_points qs rows r x + (sure_points qs rows (minus r x) + open_points qs (minus r x)) ≤ sure_points qs rows r + open_points qs r
   points-fall [] = omega arith
   points-fall (q ∷ qs) =
-      let here = pair-high (get_or rows q.lesser 0) (get_or r q.lesser 0) (get_or x q.lesser 0) (get_or r q.greater 0) (get_or x q.greater 0) (within-at rows r q.lesser f) (within-at r x q.lesser h) (within-at r x q.greater h) in
-      let there = rw (← left-at r x q.lesser h, ← left-at r x q.greater h) at here in
+      let here = pair-high (get_or rows q.lesser 0) (get_or r q.lesser 0) (get_or x q.lesser 0) (get_or r q.greater 0) (get_or x q.greater 0) (get-within rows r q.lesser f) (get-within r x q.lesser h) (get-within r x q.greater h) in
+      let there = rw (← get-minus r x q.lesser h, ← get-minus r x q.greater h) at here in
       omega (
         arith,
         there,

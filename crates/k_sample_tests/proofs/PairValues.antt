@@ -1,5 +1,6 @@
 -- The points of a labelling, column by column, are those of its pairs of subjects.
 use Rattle.std.proofs.Common.{◌≡◌, ℕ, zero, suc, ◌+◌, ◌-◌, ◌*◌, ◌<◌, ◌≤◌, Bool, true, false, cond, List, [], ◌∷◌, ◌++◌, map, length, get_or, take, drop, refl, sym, ◌∙◌, ap, arith, nat_eq, le-leb, ◌≢◌, length-append}
+use Rattle.std.proofs.Math.Nat.{zero-add}
 use Rattle.std.specs.Prelude.{ℤ, pos, ◌+ℤ◌, ◌<ℤ◌, ◌≤ℤ◌, replicate, slice_index, int_lt}
 use Rattle.std.specs.List.{sum, sum_by, AllByRecursion}
 use Rattle.std.specs.Ordering.{int_eq}
@@ -24,11 +25,13 @@ use Rattle.label_network.proofs.Endings.{labelling_value, partial_after}
 use Rattle.label_network.specs.LaterSums.{subjects}
 use Rattle.room_network.specs.Numbers.{so_far}
 use Rattle.label_network.proofs.Narrowing.{minus-within}
+use Rattle.midranks.proofs.TieLemmas.{all-weaker}
 use Rattle.k_sample_tests.specs.declared.used_pairs.UsedPair.{UsedPair}
 use Rattle.k_sample_tests.specs.PairCounts.{column_points, pairs_meaning, placed}
 use Rattle.k_sample_tests.specs.Umbrella.{group_of, pair_points, points}
 use Rattle.k_sample_tests.specs.UmbrellaSteps.{ArePairs, IsPair, points_from}
-use Rattle.k_sample_tests.proofs.PairPoints.{left-at, within-at}
+use Rattle.label_network.proofs.Rearranging.{get-minus}
+use Rattle.label_network.proofs.Rows.{get-within}
 
 -- the pairs of a subject of group l among some and one of group h among others
 abbrev pub across : ℕ → ℕ → List Subject → List Subject → ℕ
@@ -50,10 +53,6 @@ all-kept P i (x ∷ xs) a = by (nat_eq x.label i) (all-kept P i xs a.1)
     by : (b : Bool) → AllByRecursion P (group_of i xs) → AllByRecursion P (cond b (x ∷ group_of i xs) (group_of i xs))
     by true rest = (a.0, rest)
     by false rest = rest
-
-all-weaker : {X : Type 0} (P Q : X → Type 0) → ((x : X) → P x → Q x) → (xs : List X) → AllByRecursion P xs → AllByRecursion Q xs
-all-weaker P Q f [] a = tt
-all-weaker P Q f (x ∷ xs) a = (f x a.0, all-weaker P Q f xs a.1)
 
 across-alike : (n : ℕ) (P Q : ℤ → Type 0) → ((v w : ℤ) → P v → Q w → points v w ≡ n) → (l h : ℕ) (xs ys : List Subject) → AllByRecursion (λ s. P s.value) xs → AllByRecursion (λ s. Q s.value) ys
     → across l h xs ys ≡ n * length (group_of h ys) * length (group_of l xs)
@@ -193,10 +192,7 @@ counts-left k c xs r e =
 
 pub count-at : (k i : ℕ) (xs : List ℕ) → i < k → get_or (counts_of k xs) i 0 ≡ count_of i xs
 count-at k i xs h =
-    get_or-map (λ i. count_of i xs) (labels k) i 0 0 (omega (arith, h, length-range_with_len 0 k)) ∙ ap (λ j. count_of j xs) (get_or-range_with_len 0 k i 0 h ∙ none i)
-  where
-    none : (i : ℕ) → 0 + i ≡ i
-    none i = omega arith
+    get_or-map (λ i. count_of i xs) (labels k) i 0 0 (omega (arith, h, length-range_with_len 0 k)) ∙ ap (λ j. count_of j xs) (get_or-range_with_len 0 k i 0 h ∙ zero-add i)
 
 -- ---- all columns
 
@@ -215,13 +211,11 @@ module _ (qs : List UsedPair) (rows : List ℕ) (pairs : ArePairs (length rows) 
   one-pair t ts r xs up long e f q p =
       let x : List ℕ = counts_of (length rows) (take t.count xs) in
       let part = counts-left (length rows) t.count xs r e in
-      let lesser : get_or x q.lesser 0 ≡ count_of q.lesser (take t.count xs) = count-at (length rows) q.lesser (take t.count xs) p.0 in
-      let greater : get_or x q.greater 0 ≡ count_of q.greater (take t.count xs) = count-at (length rows) q.greater (take t.count xs) p.1 in
       let later : get_or (minus r x) q.greater 0 ≡ count_of q.greater (drop t.count xs) = ap (λ ns. get_or ns q.greater 0) part.1 ∙ count-at (length rows) q.greater (drop t.count xs) p.1 in
-      let all : get_or r q.greater 0 ≡ get_or x q.greater 0 + get_or (minus r x) q.greater 0 = omega (arith, left-at r x q.greater part.0, within-at r x q.greater part.0) in
-      let more : placed rows (minus r x) q.lesser ≡ placed rows r q.lesser + get_or x q.lesser 0 = omega (arith, left-at r x q.lesser part.0, within-at r x q.lesser part.0, within-at rows r q.lesser f) in
+      let all : get_or r q.greater 0 ≡ get_or x q.greater 0 + get_or (minus r x) q.greater 0 = omega (arith, get-minus r x q.greater part.0, get-within r x q.greater part.0) in
+      let more : placed rows (minus r x) q.lesser ≡ placed rows r q.lesser + get_or x q.lesser 0 = omega (arith, get-minus r x q.lesser part.0, get-within r x q.lesser part.0, get-within rows r q.lesser f) in
       joined (placed rows r q.lesser) (get_or x q.lesser 0) (get_or x q.greater 0) (get_or (minus r x) q.greater 0) (get_or r q.greater 0) (placed rows (minus r x) q.lesser) (pair_points (paired_subjects (values_of_ties ts) (drop t.count xs)) q) (pair_points (paired_subjects (values_of_ties (t ∷ ts)) xs) q) all more
-      (column-pairs t ts up xs long q.lesser q.greater ∙ rw (lesser, greater, later) refl)
+      (column-pairs t ts up xs long q.lesser q.greater ∙ rw ((count-at (length rows) q.lesser (take t.count xs) p.0), (count-at (length rows) q.greater (take t.count xs) p.1), later) refl)
     where
       joined : (p xl xh bh rh pm d w : ℕ) → rh ≡ xh + bh → pm ≡ p + xl → w ≡ (xl * xh + 2 * (xl * bh)) + d → (2 * (p * xh) + xl * xh) + (2 * (pm * bh) + d) ≡ 2 * (p * rh) + w
       joined p xl xh bh rh pm d w e f g = rw (e, f, g) (omega arith)

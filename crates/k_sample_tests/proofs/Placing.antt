@@ -65,15 +65,13 @@ module _ (qs : List UsedPair) (rows columns labels initial : List ℕ) (g : ℕ)
       let part = counts-left (length rows) (get_or columns g 0) later left k.counted in
       let taken : counts_of (length rows) front ≡ counts_of (length rows) (take (get_or columns g 0) later) = ap (counts_of (length rows)) e in
       let parts : drop g columns ≡ get_or columns g 0 ∷ drop (g + 1) columns = rw add-one (drop-cons columns g 0 before) in
-      let all : points_from qs rows left (drop g columns) later ≡ column_points qs rows left (counts_of (length rows) (take (get_or columns g 0) later)) + points_from qs rows (minus left (counts_of (length rows) (take (get_or columns g 0) later))) (drop (g + 1) columns) (drop (get_or columns g 0) later) = ap (λ cs. points_from qs rows left cs later) parts in
       let now : next ≡ minus left (counts_of (length rows) (take (get_or columns g 0) later)) = n ∙ ap (minus left) taken in
-      let added : p ≡ column_points qs rows left (counts_of (length rows) (take (get_or columns g 0) later)) = q ∙ ap (column_points qs rows left) taken in
       record {
         counted = ap (counts_of (length rows)) f ∙ sym part.1 ∙ sym now;
         within = rw now (minus-within left (counts_of (length rows) (take (get_or columns g 0) later)) rows part.0 k.within);
         long = omega (arith, ap length f, length-drop (get_or columns g 0) later, k.long, sum_by-drop_more (λ v. v) columns g 0 before);
         small = omega (arith, k.small, few);
-        adding = rw (now, f) (omega (arith, k.adding, all, added));
+        adding = rw (now, f) (omega (arith, k.adding, (ap (λ cs. points_from qs rows left cs later) parts), (q ∙ ap (column_points qs rows left) taken)));
       }
 
 -- ---- no more than all pairs add

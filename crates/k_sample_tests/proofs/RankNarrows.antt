@@ -1,5 +1,7 @@
 -- The box of the sums that groups can come to narrows along every choice.
 use Rattle.std.proofs.Common.{◌≡◌, ℕ, zero, suc, ◌+◌, ◌-◌, ◌*◌, ◌<◌, ◌≤◌, Bool, true, false, cond, List, [], ◌∷◌, ◌++◌, length, min, refl, sym, ◌∙◌, ap, arith, nat_le}
+use Rattle.std.proofs.Math.Nat.{add-mul}
+use Rattle.std.proofs.Math.IntN.{+ℤ_idr}
 use Rattle.std.specs.Prelude.{ℤ, pos, ◌+ℤ◌, ◌*ℤ◌, ◌≤ℤ◌, nat_lt, replicate, slice_index, unsigned_abs}
 use Rattle.std.specs.List.{sum}
 use Rattle.std.specs.Int.{int_min, int_max}
@@ -13,7 +15,7 @@ use Rattle.weights.proofs.ChoiceLists.{IsChoice}
 use Rattle.weights.proofs.Sized.{first_and, sum-minus}
 use Rattle.completion_bounds.specs.Boxes.{factored_squares}
 use Rattle.completion_bounds.proofs.Narrowing.{IsNarrower, greatest_squares-falls, greatest_squares-point, least_squares-point, least_squares-rises}
-use Rattle.label_network.specs.LaterSums.{greatest_sum, later_scores, least_sum, part_sum, subjects}
+use Rattle.label_network.specs.LaterSums.{greatest_sum, later_scores, least_sum, subjects}
 use Rattle.weights.specs.Numbers.{absolute_sum}
 use Rattle.label_network.specs.Linear.{score_of}
 use Rattle.label_network.specs.Meanings.{AreReached, IsMeasure}
@@ -22,6 +24,7 @@ use Rattle.label_network.proofs.Absolute.{size-plus, sizes-block}
 use Rattle.label_network.proofs.Later.{fits-length, later-end, later-next, sizes-next}
 use Rattle.label_network.proofs.LaterArcs.{part-arc}
 use Rattle.label_network.proofs.Narrowing.{IsLeft, IsNarrowing, measured, reached-kept, reached-left}
+use Rattle.label_network.proofs.LinearArcs.{part-none}
 use Rattle.k_sample_tests.specs.RankSums.{greatest_parts, least_parts, plus_each, score_parts, squares_meaning}
 use Rattle.k_sample_tests.specs.RankSumSteps.{IsSquaring}
 
@@ -67,22 +70,16 @@ narrower (p ∷ ps) (m ∷ ms) (k ∷ x) c v later l f h e =
     )
 
 -- after the last column the box is one point
-part-none : (better : ℤ → ℤ → ℤ) (n : ℕ) → part_sum better n [] ≡ pos 0
-part-none better zero = refl
-part-none better (suc n) = refl
-
-plus-zero : (t : ℤ) → t +ℤ pos 0 ≡ t
-plus-zero t = omega (arith, ints)
 
 lows-end : (p : List ℤ) (r : List ℕ) → length p ≡ length r → plus_each p (least_parts [] r) ≡ p
 lows-end [] r l = refl
 lows-end (p ∷ ps) [] l = absurd (omega (arith, l))
-lows-end (p ∷ ps) (m ∷ ms) l = rw (part-none int_min m, plus-zero p, lows-end ps ms (omega (arith, l))) refl
+lows-end (p ∷ ps) (m ∷ ms) l = rw (part-none int_min m, +ℤ_idr p, lows-end ps ms (omega (arith, l))) refl
 
 highs-end : (p : List ℤ) (r : List ℕ) → length p ≡ length r → plus_each p (greatest_parts [] r) ≡ p
 highs-end [] r l = refl
 highs-end (p ∷ ps) [] l = absurd (omega (arith, l))
-highs-end (p ∷ ps) (m ∷ ms) l = rw (part-none int_max m, plus-zero p, highs-end ps ms (omega (arith, l))) refl
+highs-end (p ∷ ps) (m ∷ ms) l = rw (part-none int_max m, +ℤ_idr p, highs-end ps ms (omega (arith, l))) refl
 
 -- ---- how great the sums are
 
@@ -98,13 +95,7 @@ sizes-plus : (v : ℤ) (p : List ℤ) (x : List ℕ) → absolute_sum (plus_each
 sizes-plus v [] x = omega arith
 sizes-plus v (p ∷ ps) [] = omega arith
 sizes-plus v (p ∷ ps) (k ∷ x) =
-    let here = size-plus p (pos k *ℤ v) in
-    let times : unsigned_abs (pos k *ℤ v) ≡ k * unsigned_abs v = unsigned_abs-mul (pos k) v in
-    let apart : sum (k ∷ x) * unsigned_abs v ≡ k * unsigned_abs v + sum x * unsigned_abs v = ap (λ n. n * unsigned_abs v) (sum_by-cons (λ v. v) k x) ∙ split k (sum x) (unsigned_abs v) in
-    omega (arith, here, times, apart, sizes-plus v ps x)
-  where
-    split : (a b c : ℕ) → (a + b) * c ≡ a * c + b * c
-    split a b c = omega arith
+    omega (arith, (size-plus p (pos k *ℤ v)), (unsigned_abs-mul (pos k) v), (ap (λ n. n * unsigned_abs v) (sum_by-cons (λ v. v) k x) ∙ add-mul k (sum x) (unsigned_abs v)), sizes-plus v ps x)
 
 pub sizes-zeros : (n : ℕ) → absolute_sum (replicate n (pos 0)) ≡ 0
 sizes-zeros zero = refl
@@ -132,10 +123,9 @@ module _ (factors : List ℕ) (bound : ℕ) (scores : List ℤ) (columns rows : 
 
     keeping : IsPartial scores columns rows (g + 1) (minus r x) (plus_each p (score_parts (score_of scores g) x))
     keeping =
-        let same : sum x * unsigned_abs (score_of scores g) ≡ slice_index columns g * unsigned_abs (score_of scores g) = ap (λ n. n * unsigned_abs (score_of scores g)) c.whole in
         record {
           wide = length-plus p (score_parts (score_of scores g) x) choice-long ∙ k.wide;
-          small = omega (arith, k.small, column-size, sizes-plus (score_of scores g) p x, same);
+          small = omega (arith, k.small, column-size, sizes-plus (score_of scores g) p x, (ap (λ n. n * unsigned_abs (score_of scores g)) c.whole));
         }
 
     in-box : IsNarrower (plus_each p (least_parts (replicate (slice_index columns g) (score_of scores g) ++ later_scores scores columns (g + 1)) r)) (plus_each p (greatest_parts (replicate (slice_index columns g) (score_of scores g) ++ later_scores scores columns (g + 1)) r)) (plus_each (plus_each p (score_parts (score_of scores g) x)) (least_parts (later_scores scores columns (g + 1)) (minus r x))) (plus_each (plus_each p (score_parts (score_of scores g) x)) (greatest_parts (later_scores scores columns (g + 1)) (minus r x)))

@@ -1,7 +1,7 @@
 -- The value of a labelling in the network is the factored sum of its groups' squared sums.
 use Rattle.std.proofs.Common.{◌≡◌, ℕ, zero, suc, ◌+◌, Bool, true, false, cond, List, [], ◌∷◌, ◌++◌, length, map, take, drop, refl, ◌∙◌, ap, arith, suc-add, nat_eq}
 use Rattle.std.specs.Prelude.{ℤ, pos, ◌+ℤ◌, ◌*ℤ◌, replicate}
-use Rattle.std.proofs.Math.IntN.{zero-*ℤ}
+use Rattle.std.proofs.Math.IntN.{zero-*ℤ, +ℤ_idl, +ℤ_idr}
 use Rattle.std.proofs.lemmas.Int.{ints}
 use Rattle.std.proofs.lemmas.List.{length-map, length-replicate}
 use Rattle.std.proofs.lemmas.List.FromFn.{length-range_with_len}
@@ -17,15 +17,12 @@ use Rattle.label_network.specs.LaterSums.{subjects}
 use Rattle.label_network.specs.Linear.{score_of}
 use Rattle.label_network.proofs.LaterArcs.{more-times}
 use Rattle.scores.specs.Scores.{labelled_sum}
+use Rattle.scores.proofs.LabelledSums.{labelled-none}
 use Rattle.k_sample_tests.specs.KruskalWallis.{group_sums}
 use Rattle.k_sample_tests.specs.RankSums.{plus_each, score_parts, squares_meaning}
 use Rattle.k_sample_tests.proofs.RankNarrows.{length-parts, length-plus}
 
 -- ---- one group
-
-pub group-none : (i : ℕ) (scores : List ℤ) → labelled_sum i scores [] ≡ pos 0
-group-none i [] = refl
-group-none i (s ∷ scores) = refl
 
 taken : (n k : ℕ) (s t r : ℤ) → n ≡ 1 + k → t ≡ (pos k *ℤ s) +ℤ r → s +ℤ t ≡ (pos n *ℤ s) +ℤ r
 taken n k s t r e f =
@@ -43,7 +40,7 @@ none s t = rw (zero-*ℤ s) (omega (arith, ints))
 -- of subjects who share a score, those with the label i count
 pub block : (i c : ℕ) (s : ℤ) (rest : List ℤ) (xs : List ℕ) → labelled_sum i (replicate c s ++ rest) xs ≡ (pos (count_of i (take c xs)) *ℤ s) +ℤ labelled_sum i rest (drop c xs)
 block i zero s rest xs = none s (labelled_sum i rest xs)
-block i (suc c) s rest [] = rw (zero-*ℤ s, group-none i rest) refl
+block i (suc c) s rest [] = rw (zero-*ℤ s, labelled-none i rest) refl
 block i (suc c) s rest (x ∷ xs) = by (nat_eq x i) (sum_by-cons (λ l. cond (nat_eq l i) 1 0) x (take c xs)) (block i c s rest xs)
   where
     by : (b : Bool) → count_of i (x ∷ take c xs) ≡ cond b 1 0 + count_of i (take c xs) → labelled_sum i (replicate c s ++ rest) xs ≡ (pos (count_of i (take c xs)) *ℤ s) +ℤ labelled_sum i rest (drop c xs)
@@ -66,17 +63,11 @@ blocks (i ∷ is) (p ∷ ps) c s rest xs l = rw (joined p _ _ _ (block i c s res
 plus-none : (p : List ℤ) (is xs : List ℕ) → length p ≡ length is → p ≡ plus_each p (map (λ i. labelled_sum i [] xs) is)
 plus-none [] is xs l = refl
 plus-none (p ∷ ps) [] xs l = absurd (omega (arith, l))
-plus-none (p ∷ ps) (i ∷ is) xs l = rw (← plus-none ps is xs (omega (arith, l)), plus-zero p) refl
-  where
-    plus-zero : (t : ℤ) → t +ℤ pos 0 ≡ t
-    plus-zero t = omega (arith, ints)
+plus-none (p ∷ ps) (i ∷ is) xs l = rw (← plus-none ps is xs (omega (arith, l)), +ℤ_idr p) refl
 
 none-plus : (q : List ℤ) → plus_each (replicate (length q) (pos 0)) q ≡ q
 none-plus [] = refl
-none-plus (a ∷ q) = rw (none-plus q, zero-plus a) refl
-  where
-    zero-plus : (t : ℤ) → pos 0 +ℤ t ≡ t
-    zero-plus t = omega (arith, ints)
+none-plus (a ∷ q) = rw (none-plus q, +ℤ_idl a) refl
 
 pub length-labels : (k : ℕ) → length (labels k) ≡ k
 length-labels k = length-range_with_len 0 k

@@ -1,45 +1,37 @@
 -- Where groups rise and no two subjects are equal, each rising pair adds 2.
-use Rattle.std.proofs.Common.{◌≡◌, ℕ, zero, suc, ◌+◌, ◌-◌, ◌*◌, ◌<◌, ◌≤◌, Bool, true, false, cond, List, [], ◌∷◌, length, map, take, drop, refl, sym, ◌∙◌, ap, subst, arith, nat_eq, nat_lt, inl, inr}
-use Rattle.std.specs.Prelude.{ℤ, pos, ◌+ℤ◌, Contains}
-use Rattle.std.specs.List.{All, AllByRecursion, count_by, filter, flat_map, sum, sum_by, range_with_len}
+use Rattle.std.proofs.Common.{◌≡◌, ℕ, ◌+◌, ◌*◌, ◌<◌, ◌≤◌, Bool, true, false, cond, List, [], ◌∷◌, length, map, take, drop, refl, sym, ◌∙◌, ap, subst, arith, nat_eq, nat_lt, inl, inr}
+use Rattle.std.specs.Prelude.{ℤ, pos, ◌+ℤ◌}
+use Rattle.std.specs.List.{All, AllByRecursion, count_by, flat_map, sum, sum_by}
 use Rattle.std.proofs.lemmas.Bool.{cases_lt}
 use Rattle.std.proofs.lemmas.Int.{ints}
 use Rattle.std.proofs.lemmas.Bool.Decides.{nat_tests}
 use Rattle.std.proofs.lemmas.List.{map-id}
 use Rattle.std.proofs.lemmas.List.Elements.{recursion_from_All}
 use Rattle.std.proofs.lemmas.List.Sums.{sum_by-cons}
-use Rattle.weights.specs.declared.rules.Rule.TheVariants.{Far}
 use Rattle.weights.specs.declared.tails.Tail.{Tail}
-use Rattle.weights.specs.declared.tails.Tail.TheVariants.{Less, Greater, Two}
-use Rattle.weights.specs.Conditional.{is_extreme, numerator}
-use Rattle.weights.specs.Labellings.{labellings, labels}
-use Rattle.weights.specs.Rules.{RuleFits, passes, rule_of}
-use Rattle.weights.proofs.ByRule.{is_extreme-by_rule}
-use Rattle.weights.proofs.Centred.{measured-is}
-use Rattle.weights.proofs.Chosen.{one_if}
+use Rattle.weights.specs.Conditional.{numerator}
+use Rattle.weights.specs.Labellings.{labels}
 use Rattle.weights.proofs.Counted.{count_of}
-use Rattle.weights.proofs.Members.{IsLabelling, labelling_from, range-below}
+use Rattle.weights.proofs.Members.{IsLabelling, range-below}
 use Rattle.weights.proofs.Ranges.{range-none, range-one}
-use Rattle.weights.proofs.Sums.{sum_by-filter, sum_by-flat_map, sum_by-plus, sum_by-same, sum_by-same_where, sum_by-scaled, sum_by-swap, sum_by-zero}
-use Rattle.enumerate.proofs.JoinedMembers.{each-labelling}
+use Rattle.weights.proofs.Sums.{sum_by-flat_map, sum_by-plus, sum_by-same, sum_by-same_where, sum_by-scaled, sum_by-swap, sum_by-zero}
 use Rattle.midranks.specs.Ties.{IsAscending, tie_groups}
 use Rattle.midranks.specs.declared.ties.Tie.{Tie}
 use Rattle.midranks.proofs.TieLemmas.{groups-ascend}
 use Rattle.sample_reader.specs.Groups.{group_sizes}
 use Rattle.sample_reader.specs.PooledSample.{paired_subjects}
-use Rattle.sample_reader.specs.declared.subjects.Subject.{Subject}
 use Rattle.stage_network.specs.declared.verdicts.Judge.{Judge}
 use Rattle.stage_network.specs.Judged.{judge_of, rule_in}
 use Rattle.label_network.specs.LaterSums.{subjects}
 use Rattle.labelled.specs.LabelTests.{IsWithin}
-use Rattle.labelled.proofs.LabelLaws.{label-judge}
+use Rattle.labelled.proofs.LabelLaws.{fit-by, numerator-by}
 use Rattle.pooled_columns.specs.PooledColumns.{column_sizes, pooled_values}
 use Rattle.pooled_columns.proofs.PooledValues.{pooled-rises}
 use Rattle.pooled_columns.proofs.TieColumns.{grouped}
 use Rattle.rising_pairs.specs.RisingPairs.{rising_pairs}
 use Rattle.rising_pairs.specs.RisingTails.{FitLabellings, even_value, passing_labellings}
 use Rattle.k_sample_tests.specs.declared.used_pairs.UsedPair.{UsedPair}
-use Rattle.k_sample_tests.specs.Umbrella.{PeakedGroups, group_of, pair_of, pair_points, umbrella_says, umbrella_statistic, umbrella_test, used_pairs}
+use Rattle.k_sample_tests.specs.Umbrella.{PeakedGroups, pair_of, pair_points, umbrella_says, umbrella_statistic, umbrella_test, used_pairs}
 use Rattle.k_sample_tests.proofs.FittingUmbrella.{columns-sum}
 use Rattle.k_sample_tests.proofs.PairValues.{across, column-pairs, rest-long}
 
@@ -181,10 +173,9 @@ module _ (samples : PeakedGroups) where
     statistic-rises : (xs : List ℕ) → IsLabelling sizes xs → umbrella_statistic (used_pairs samples.peak (length sizes)) values xs ≡ even_value (pos 0) 2 (rising_pairs xs)
     statistic-rises xs l =
         let ts : List Tie = tie_groups values in
-        let same : values_of_ties ts ≡ values = grouped (λ v. v) values (pooled-rises samples.groups) ∙ map-id values in
         ap pos (
         used-pairs samples.peak (length sizes) rises (pair_points (paired_subjects values xs))
-        ∙ ap (λ vs. over_groups (λ u v. across u v (paired_subjects vs xs) (paired_subjects vs xs)) (length sizes)) (sym same)
+        ∙ ap (λ vs. over_groups (λ u v. across u v (paired_subjects vs xs) (paired_subjects vs xs)) (length sizes)) (sym (grouped (λ v. v) values (pooled-rises samples.groups) ∙ map-id values))
         ∙ rising-points (length sizes) ts xs (groups-ascend values) (each-one ts (recursion_from_All (λ c. c ≡ 1) (column_sizes values) distinct)) (l.over.long ∙ whole ∙ sym (columns-sum samples.groups)) l.over.below
         )
         ∙ from-none (2 * rising_pairs xs)
@@ -193,21 +184,7 @@ module _ (samples : PeakedGroups) where
         from-none n = omega (arith, ints)
 
     pub numerator-rises : (tail : Tail) → numerator (umbrella_test samples) tail ≡ passing_labellings (rule_in (judge_of (umbrella_test samples)) tail) (pos 0) 2 sizes
-    numerator-rises tail =
-        sum_by-filter (λ xs. 1) (is_extreme (umbrella_test samples) tail) (labellings sizes)
-        ∙ sum_by-same_where (IsLabelling sizes) (λ xs. cond (is_extreme (umbrella_test samples) tail xs) 1 0) (λ xs. cond (passes (rule_in (judge_of (umbrella_test samples)) tail) (even_value (pos 0) 2 (rising_pairs xs))) 1 0) each (labellings sizes) (each-labelling sizes)
-      where
-        same-rule : (tail : Tail) → rule_of (umbrella_test samples) tail ≡ rule_in (judge_of (umbrella_test samples)) tail
-        same-rule Less = refl
-        same-rule Greater = refl
-        same-rule Two = refl
-
-        each : (xs : List ℕ) → IsLabelling sizes xs → one_if (is_extreme (umbrella_test samples) tail xs) ≡ one_if (passes (rule_in (judge_of (umbrella_test samples)) tail) (even_value (pos 0) 2 (rising_pairs xs)))
-        each xs l = ap one_if (
-            is_extreme-by_rule (umbrella_test samples) tail xs
-            ∙ ap (passes (rule_of (umbrella_test samples) tail)) (measured-is (umbrella_test samples) refl tail xs ∙ statistic-rises xs l)
-            ∙ ap (λ rule. passes rule (even_value (pos 0) 2 (rising_pairs xs))) (same-rule tail)
-            )
+    numerator-rises = numerator-by (umbrella_says samples) (λ xs. even_value (pos 0) 2 (rising_pairs xs)) statistic-rises
 
     pub fit-rising : (judge : Judge) → judge ≡ judge_of (umbrella_test samples) → IsWithin (umbrella_says samples) → FitLabellings judge (pos 0) 2 sizes
-    fit-rising judge e within xs c = label-judge (umbrella_says samples) within judge e (even_value (pos 0) 2 (rising_pairs xs)) (subst (RuleFits (Far 1 (umbrella_says samples).centre 0)) (statistic-rises xs (labelling_from sizes xs c)) (within.fits xs c))
+    fit-rising = fit-by (umbrella_says samples) (λ xs. even_value (pos 0) 2 (rising_pairs xs)) statistic-rises

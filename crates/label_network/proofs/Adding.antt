@@ -1,8 +1,9 @@
 -- One row after another adds its step times a part of the later scores: their least, or greatest.
 use Rattle.std.proofs.Common.{◌≡◌, ℕ, zero, suc, ◌+◌, ◌-◌, ◌*◌, ◌<◌, ◌≤◌, ◌^◌, List, [], ◌∷◌, length, get_or, drop, ◌∙◌, ap, subst, arith, add-one, drop-cons, drop_of_length-le, ◌⊎◌}
+use Rattle.std.proofs.Math.IntN.{+ℤ_idl}
 use Rattle.std.specs.Prelude.{ℤ, pos, ◌+ℤ◌, ◌-ℤ◌, ◌*ℤ◌, unsigned_abs}
 use Rattle.std.specs.List.{sum}
-use Rattle.std.proofs.Math.Nat.{mul-le-mul_left}
+use Rattle.std.proofs.Math.Nat.{mul-le-mul_left, add-mul}
 use Rattle.std.proofs.lemmas.Int.{ints, unsigned_abs-mul}
 use Rattle.std.proofs.lemmas.List.Sums.{sum_by-drop_more, sum_by-take-drop}
 use Rattle.label_network.specs.LaterSums.{total_score, least_sum, greatest_sum}
@@ -25,9 +26,6 @@ pub record AreAdding (us : List ℤ) (ms : List ℕ) (later : List ℤ) (i left 
   pub least : IsAdding least_sum us ms later i left low
   pub most : IsAdding greatest_sum us ms later i left high
 
-spread : (a b c : ℕ) → (a + b) * c ≡ a * c + b * c
-spread a b c = omega arith
-
 less-none : (u : ℤ) → u -ℤ pos 0 ≡ u
 less-none u = omega (arith, ints)
 
@@ -35,24 +33,19 @@ pub first-small : (us : List ℤ) (later : List ℤ) (t : ℤ) → t ≡ total_s
 first-small [] later t e h = omega arith
 first-small (u ∷ us) later t e h =
     let one : unsigned_abs t ≤ absolute_sum later = rw e (total-size later) in
-    let two : unsigned_abs u * unsigned_abs t ≤ unsigned_abs u * absolute_sum later = mul-le-mul_left (unsigned_abs u) one in
-    rw (less-none u) (omega (arith, two, h, spread (unsigned_abs u) (reach u us) (absolute_sum later)))
+    rw (less-none u) (omega (arith, (mul-le-mul_left (unsigned_abs u) one), h, add-mul (unsigned_abs u) (reach u us) (absolute_sum later)))
 
 first-adding : (part : ℕ → List ℤ → ℤ) (us : List ℤ) (ms : List ℕ) (later : List ℤ) (left : ℕ) (t s : ℤ) → length us ≡ length ms → 0 < length us → left ≡ sum ms → t ≡ total_score later → s ≡ pos 0 +ℤ ((get_or us 0 (pos 0) -ℤ pos 0) *ℤ t) → IsAdding part us ms later 1 left s
 first-adding part [] ms later left t s l h e f g = absurd (omega (arith, h))
 first-adding part (u ∷ us) [] later left t s l h e f g = absurd (omega (arith, l))
 first-adding part (u ∷ us) (m ∷ ms) later left t s l h e f g =
-    let value : s ≡ u *ℤ total_score later = g ∙ rw (less-none u, f) (plain (u *ℤ total_score later)) in
-    let size : unsigned_abs s ≡ unsigned_abs u * unsigned_abs (total_score later) = ap unsigned_abs value ∙ unsigned_abs-mul u (total_score later) in
+    let value : s ≡ u *ℤ total_score later = g ∙ rw (less-none u, f) (+ℤ_idl (u *ℤ total_score later)) in
     let most : unsigned_abs u * unsigned_abs (total_score later) ≤ unsigned_abs u * absolute_sum later = mul-le-mul_left (unsigned_abs u) (total-size later) in
     record {
       counted = e;
       adding = ap (λ a. a +ℤ steps_by part u us ms later) value;
-      small = omega (arith, size, most, spread (unsigned_abs u) (reach u us) (absolute_sum later));
+      small = omega (arith, (ap unsigned_abs value ∙ unsigned_abs-mul u (total_score later)), most, add-mul (unsigned_abs u) (reach u us) (absolute_sum later));
     }
-  where
-    plain : (a : ℤ) → pos 0 +ℤ a ≡ a
-    plain a = omega (arith, ints)
 
 pub first-both : (us : List ℤ) (ms : List ℕ) (later : List ℤ) (left : ℕ) (t s : ℤ) → length us ≡ length ms → 0 < length us → left ≡ sum ms → t ≡ total_score later → s ≡ pos 0 +ℤ ((get_or us 0 (pos 0) -ℤ pos 0) *ℤ t) → AreAdding us ms later 1 left s s
 first-both us ms later left t s l h e f g = record {
@@ -83,16 +76,14 @@ module _ (us : List ℤ) (ms : List ℕ) (later : List ℤ) (i : ℕ) (some : 1 
   pub next-step : whole_reach us < 2 ^ 127 → unsigned_abs (get_or us i (pos 0) -ℤ get_or us (i - 1) (pos 0)) < 2 ^ 127
   next-step h =
       let here : suc (i - 1) ≡ i = omega (arith, some) in
-      let part : reach (get_or us (i - 1) (pos 0)) (drop i us) ≤ whole_reach us = subst (λ n. reach (get_or us (i - 1) (pos 0)) (drop n us) ≤ whole_reach us) here (reach-part (i - 1) us) in
-      omega (arith, part, reach-split, h)
+      omega (arith, (subst (λ n. reach (get_or us (i - 1) (pos 0)) (drop n us) ≤ whole_reach us) here (reach-part (i - 1) us)), reach-split, h)
 
   module _ (left : ℕ) (counted : left ≡ sum (drop (i - 1) ms)) where
     pub next-left : left - get_or ms (i - 1) 0 ≡ sum (drop i ms)
     next-left =
         let more : sum (drop (i - 1) ms) ≡ get_or ms (i - 1) 0 + sum (drop ((i - 1) + 1) ms) = sum_by-drop_more (λ v. v) ms (i - 1) 0 (omega (arith, some, before, level)) in
         let here : (i - 1) + 1 ≡ i = omega (arith, some) in
-        let same : sum (drop ((i - 1) + 1) ms) ≡ sum (drop i ms) = ap (λ n. sum (drop n ms)) here in
-        omega (arith, counted, more, same)
+        omega (arith, counted, more, (ap (λ n. sum (drop n ms)) here))
 
     pub next-less : get_or ms (i - 1) 0 ≤ left
     next-less =
@@ -107,7 +98,7 @@ module _ (us : List ℤ) (ms : List ℕ) (later : List ℤ) (i : ℕ) (some : 1 
 
     module _ (part : ℕ → List ℤ → ℤ) (size : (j : ℕ) → unsigned_abs (part j later) ≤ absolute_sum later) (s : ℤ) (a : IsAdding part us ms later i left s) where
       sizes : unsigned_abs s + (unsigned_abs (get_or us i (pos 0) -ℤ get_or us (i - 1) (pos 0)) * absolute_sum later + reach (get_or us i (pos 0)) (drop (i + 1) us) * absolute_sum later) ≤ whole_reach us * absolute_sum later
-      sizes = omega (arith, a.small, ap (λ n. n * absolute_sum later) reach-split, spread (unsigned_abs (get_or us i (pos 0) -ℤ get_or us (i - 1) (pos 0))) (reach (get_or us i (pos 0)) (drop (i + 1) us)) (absolute_sum later))
+      sizes = omega (arith, a.small, ap (λ n. n * absolute_sum later) reach-split, add-mul (unsigned_abs (get_or us i (pos 0) -ℤ get_or us (i - 1) (pos 0))) (reach (get_or us i (pos 0)) (drop (i + 1) us)) (absolute_sum later))
 
       product : (j : ℕ) (v : ℤ) → v ≡ part j later → unsigned_abs (get_or us i (pos 0) -ℤ get_or us (i - 1) (pos 0)) * unsigned_abs v ≤ unsigned_abs (get_or us i (pos 0) -ℤ get_or us (i - 1) (pos 0)) * absolute_sum later
       product j v e = mul-le-mul_left (unsigned_abs (get_or us i (pos 0) -ℤ get_or us (i - 1) (pos 0))) (rw e (size j))
@@ -118,15 +109,13 @@ module _ (us : List ℤ) (ms : List ℕ) (later : List ℤ) (i : ℕ) (some : 1 
       next-adding : (v s' : ℤ) → v ≡ part (left - get_or ms (i - 1) 0) later → s' ≡ s +ℤ ((get_or us i (pos 0) -ℤ get_or us (i - 1) (pos 0)) *ℤ v) → IsAdding part us ms later (i + 1) (left - get_or ms (i - 1) 0) s'
       next-adding v s' e f =
           let back : (i + 1) - 1 ≡ i = omega arith in
-          let steps : steps_by part (get_or us (i - 1) (pos 0)) (drop i us) (drop i ms) later ≡ ((get_or us i (pos 0) -ℤ get_or us (i - 1) (pos 0)) *ℤ part (sum (get_or ms i 0 ∷ drop (i + 1) ms)) later) +ℤ steps_by part (get_or us i (pos 0)) (drop (i + 1) us) (drop (i + 1) ms) later = ap (λ ws. steps_by part (get_or us (i - 1) (pos 0)) ws (drop i ms) later) rows-split ∙ ap (λ ns. steps_by part (get_or us (i - 1) (pos 0)) (get_or us i (pos 0) ∷ drop (i + 1) us) ns later) sizes-split in
           let here : v ≡ part (sum (get_or ms i 0 ∷ drop (i + 1) ms)) later = e ∙ ap (λ n. part n later) (next-left ∙ ap sum sizes-split) in
           let times : (get_or us i (pos 0) -ℤ get_or us (i - 1) (pos 0)) *ℤ v ≡ (get_or us i (pos 0) -ℤ get_or us (i - 1) (pos 0)) *ℤ part (sum (get_or ms i 0 ∷ drop (i + 1) ms)) later = ap (λ n. (get_or us i (pos 0) -ℤ get_or us (i - 1) (pos 0)) *ℤ n) here in
           let size : unsigned_abs s' ≤ unsigned_abs s + unsigned_abs ((get_or us i (pos 0) -ℤ get_or us (i - 1) (pos 0)) *ℤ v) = rw f (size-plus s ((get_or us i (pos 0) -ℤ get_or us (i - 1) (pos 0)) *ℤ v)) in
-          let times_size = unsigned_abs-mul (get_or us i (pos 0) -ℤ get_or us (i - 1) (pos 0)) v in
           record {
             counted = rw back next-left;
-            adding = rw back (last _ _ _ _ _ _ a.adding steps times f);
-            small = rw back (omega (arith, sizes, size, times_size, product (left - get_or ms (i - 1) 0) v e));
+            adding = rw back (last _ _ _ _ _ _ a.adding (ap (λ ws. steps_by part (get_or us (i - 1) (pos 0)) ws (drop i ms) later) rows-split ∙ ap (λ ns. steps_by part (get_or us (i - 1) (pos 0)) (get_or us i (pos 0) ∷ drop (i + 1) us) ns later) sizes-split) times f);
+            small = rw back (omega (arith, sizes, size, (unsigned_abs-mul (get_or us i (pos 0) -ℤ get_or us (i - 1) (pos 0)) v), product (left - get_or ms (i - 1) 0) v e));
           }
         where
           last : (s s' q p r all : ℤ) {t : ℤ} → s +ℤ t ≡ all → t ≡ q +ℤ r → p ≡ q → s' ≡ s +ℤ p → s' +ℤ r ≡ all
@@ -147,8 +136,7 @@ module _ (us : List ℤ) (ms : List ℕ) (later : List ℤ) (i : ℕ) (some : 1 
 
 pub last-adding : (part : ℕ → List ℤ → ℤ) (us : List ℤ) (ms : List ℕ) (later : List ℤ) (i left : ℕ) (s : ℤ) → length us ≤ i → IsAdding part us ms later i left s → s ≡ added_by part us ms later
 last-adding part us ms later i left s h a =
-    let none : drop i us ≡ [] = drop_of_length-le us {i = i} h in
-    plain s _ _ a.adding (ap (λ ws. steps_by part (get_or us (i - 1) (pos 0)) ws (drop i ms) later) none)
+    plain s _ _ a.adding (ap (λ ws. steps_by part (get_or us (i - 1) (pos 0)) ws (drop i ms) later) (drop_of_length-le us {i = i} h))
   where
     plain : (s t all : ℤ) → s +ℤ t ≡ all → t ≡ pos 0 → s ≡ all
     plain s t all e f = omega (arith, ints, e, f)

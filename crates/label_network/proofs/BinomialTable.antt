@@ -1,14 +1,12 @@
 -- A table of the numbers of ways to choose, filled row by row.
 use Rattle.std.proofs.Common.{◌≡◌, ℕ, zero, suc, ◌+◌, ◌-◌, ◌*◌, ◌<◌, ◌≤◌, List, [], ◌∷◌, ◌++◌, length, get_or, min, refl, sym, ◌∙◌, ap, subst, arith, length-append, ◌⊎◌, inl, inr}
-use Rattle.std.specs.Prelude.{drop}
-use Rattle.std.specs.List.{sum}
-use Rattle.std.proofs.lemmas.List.Sums.{sum_by-take-drop}
 use Rattle.std.proofs.lemmas.Bool.{cases_lt}
 use Rattle.weights.specs.Numbers.{binomial}
 use Rattle.weights.specs.declared.TheConstants.{MAX}
 use Rattle.weights.proofs.Appended.{get-front, get-last}
 use Rattle.weights.proofs.Binomials.{binomial-zero, binomial-pascal, binomial-over, binomial-left_out, binomial-all}
 use Rattle.label_network.specs.LabelSteps.{AreBinomials, capped}
+use Rattle.label_network.proofs.Rows.{any_default}
 
 pub capped-small : (n : ℕ) → n ≤ MAX → capped n ≡ n
 capped-small n h = omega arith
@@ -99,11 +97,6 @@ module _ (width row place : ℕ) (table : List ℕ) (w : AreBinomials width (row
           rw (one, two) (binomial-pascal r p)
 
 -- what is read
-any_default : (xs : List ℕ) (i d e : ℕ) → i < length xs → get_or xs i d ≡ get_or xs i e
-any_default [] i d e h = absurd (omega (arith, h))
-any_default (x ∷ xs) zero d e h = refl
-any_default (x ∷ xs) (suc i) d e h = any_default xs i d e (omega (arith, h))
-
 row_within : (n most width : ℕ) → n < most → n * width + width ≤ most * width
 row_within n zero width h = absurd (omega (arith, h))
 row_within zero (suc most) width h = omega arith
@@ -119,11 +112,7 @@ read-left_out width most table w n k j x h few e i fits at =
     let turned : binomial n j ≡ binomial n k = ap (binomial n) e ∙ binomial-left_out n k few in
     read width most table w n j x h i (omega (arith, turned, fits)) at ∙ turned
 
-pub rest-le : (i : ℕ) (xs : List ℕ) → sum (drop i xs) ≤ sum xs
-rest-le i xs = omega (arith, sum_by-take-drop (λ v. v) xs i)
-
 -- the last factor of a product of binomials is 1
 pub last-factor : (product left c rest all : ℕ) → c ≡ left → product * binomial left c * rest ≡ all → product * rest ≡ all
 last-factor product left c rest all e h =
-    let one : binomial left c ≡ 1 = ap (binomial left) e ∙ binomial-all left in
-    (let same : product * 1 * rest ≡ product * rest = omega arith in sym same) ∙ ap (λ b. product * b * rest) (sym one) ∙ h
+    (let same : product * 1 * rest ≡ product * rest = omega arith in sym same) ∙ ap (λ b. product * b * rest) (sym (ap (binomial left) e ∙ binomial-all left)) ∙ h

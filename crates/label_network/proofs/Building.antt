@@ -4,7 +4,7 @@ use Rattle.std.specs.Prelude.{ℤ, pos, replicate}
 use Rattle.std.specs.Int.{int_min, int_max}
 use Rattle.std.proofs.lemmas.List.{get_or-append_right, length-replicate}
 use Rattle.std.proofs.lemmas.Bool.Decides.{eqb_tells}
-use Rattle.std.proofs.Math.Nat.{mul-le-mul}
+use Rattle.std.proofs.Math.Nat.{mul-le-mul, le_refl}
 use Rattle.label_network.specs.LaterSums.{total_score, part_sum, later_scores}
 use Rattle.label_network.specs.LaterSteps.{IsRow}
 use Rattle.label_network.specs.LaterTables.{IsPartTable, IsTable, IsTotals, IsCounted}
@@ -53,11 +53,7 @@ table-more f stages width g table row h k w r t = record {
     there : (i j : ℕ) → g ≤ i → i ≤ stages → j < width → get_or (table ++ row) ((stages - i) * width + j) (pos 0) ≡ f i j
     there i j a b c =
         let one : (stages - i) + 1 ≤ suc stages - g = omega (arith, a, b) in
-        let two : ((stages - i) + 1) * width ≤ (suc stages - g) * width = mul-le-mul one (same width) in
-        front table row ((stages - i) * width + j) (pos 0) (omega (arith, t.long, two, more-times (stages - i) width, c)) ∙ t.each i j a b c
-      where
-        same : (n : ℕ) → n ≤ n
-        same n = omega arith
+        front table row ((stages - i) * width + j) (pos 0) (omega (arith, t.long, (mul-le-mul one (le_refl width)), more-times (stages - i) width, c)) ∙ t.each i j a b c
 
 pub table-first : (f : ℕ → ℕ → ℤ) (stages width : ℕ) (row : List ℤ) → length row ≡ width → ((j : ℕ) → j < width → get_or row j (pos 0) ≡ f stages j) → IsTable f stages width stages row
 table-first f stages width row w r = record {

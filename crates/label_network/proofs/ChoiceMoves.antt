@@ -2,15 +2,15 @@
 use Rattle.std.proofs.Common.{◌≡◌, ℕ, zero, suc, ◌+◌, ◌-◌, ◌<◌, ◌≤◌, List, [], ◌∷◌, ◌++◌, length, get_or, take, drop, set, min, Some, None, refl, sym, ◌∙◌, ap, arith, lt-ltb, le-ltb, add-one, drop-cons, append_assoc, take-suc-set, true, nat_le}
 use Rattle.std.specs.List.{sum, Contains}
 use Rattle.std.proofs.lemmas.List.Sums.{sum_by-cons, sum_by-drop_more, sum_by-take-drop}
-use Rattle.std.proofs.lemmas.List.Elements.{All-contains, All-from_recursion}
 use Rattle.weights.specs.Grouped.{fits, choices}
 use Rattle.label_network.specs.ChoiceOrder.{later_choices}
 use Rattle.std.specs.Prelude.{ℤ}
 use Rattle.label_network.specs.LabelSteps.{AreSizes, least}
 use Rattle.label_network.proofs.ChoiceSteps.{after_or, choice_after, choices_from}
 use Rattle.label_network.specs.Meanings.{sizes_in}
-use Rattle.weights.proofs.ChoiceLists.{IsChoice, choices-each}
+use Rattle.weights.proofs.ChoiceLists.{IsChoice}
 use Rattle.label_network.proofs.LaterChoices.{next-later}
+use Rattle.label_network.proofs.Narrowing.{chosen}
 use Rattle.std.proofs.lemmas.List.{take_all, length-drop, length-set, append-nil}
 use Rattle.std.proofs.Math.ListN.{drop_of_length-le}
 use borrow.Rule.Slice.PartMut.{put_mid}
@@ -43,20 +43,17 @@ place_next i r x h l e =
     ∙ ap (λ c. after_or (choice_after c (drop (i + 1) r) (drop (i + 1) x)) (get_or x i 0) (sum (drop i x)) (get_or r i 0) (drop (i + 1) r)) all
     ∙ ap (λ o. after_or o (get_or x i 0) (sum (drop i x)) (get_or r i 0) (drop (i + 1) r)) e
 
-pub is_choice : (c : ℕ) (r x : List ℕ) → Contains (choices c r) x → IsChoice c r x
-is_choice c r x a = All-contains (IsChoice c r) (choices c r) x (All-from_recursion _ _ (choices-each c r)) a
-
 -- no further one
 pub last_choice : (c : ℕ) (r x : List ℕ) → Contains (choices c r) x → choice_after (sum x) r x ≡ None → later_choices c r x ≡ []
 last_choice c r x a e =
-    let o : IsChoice c r x = is_choice c r x a in
+    let o : IsChoice c r x = chosen c r x a in
     next-later c r x o ∙ ap (choices_from c r) (ap (λ n. choice_after n r x) (sym o.whole) ∙ e)
 
 -- the one that changes place i
 pub changed : (c : ℕ) (r x : List ℕ) (i : ℕ) → Contains (choices c r) x → i < length x → choice_after (sum (drop (i + 1) x)) (drop (i + 1) r) (drop (i + 1) x) ≡ None → get_or x i 0 < sum (drop i x) → get_or x i 0 < get_or r i 0 →
     (y : List ℕ) → y ≡ take i x ++ (get_or x i 0 + 1) ∷ least (sum (drop i x) - (get_or x i 0 + 1)) (drop (i + 1) r) → later_choices c r x ≡ y ∷ later_choices c r y
 changed c r x i a h e p q y same =
-    let o : IsChoice c r x = is_choice c r x a in
+    let o : IsChoice c r x = chosen c r x a in
     let here : choice_after (sum (drop i x)) (drop i r) (drop i x) ≡ Some ((get_or x i 0 + 1) ∷ least (sum (drop i x) - (get_or x i 0 + 1)) (drop (i + 1) r)) =
     place_next i r x h o.long e ∙ rw (lt-ltb (get_or x i 0) (min (sum (drop i x)) (get_or r i 0)) (omega arith)) refl in
     next-later c r x o

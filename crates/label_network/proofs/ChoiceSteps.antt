@@ -6,8 +6,7 @@ use Rattle.label_network.specs.LabelSteps.{least}
 -- the choice after a choice, where there is one: by a later row, or by one more of this row
 abbrev pub after_or : Option (List ℕ) → ℕ → ℕ → ℕ → List ℕ → Option (List ℕ)
 after_or (Some y) a c r rs = Some (a ∷ y)
-after_or None a c r rs =
-    if nat_lt a (min c r) then Some ((a + 1) ∷ least (c - (a + 1)) rs) else None
+after_or None a c r rs = if nat_lt a (min c r) then Some ((a + 1) ∷ least (c - (a + 1)) rs) else None
 
 abbrev pub choice_after : ℕ → List ℕ → List ℕ → Option (List ℕ)
 choice_after c [] x = None

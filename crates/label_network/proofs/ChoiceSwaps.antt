@@ -1,5 +1,6 @@
 -- Two neighbouring rows may change places: the choices for a column change theirs alike.
 use Rattle.std.proofs.Common.{◌≡◌, ℕ, zero, suc, ◌+◌, ◌-◌, ◌*◌, ◌<◌, ◌≤◌, List, [], ◌∷◌, length, min, Bool, true, false, cond, refl, sym, ◌∙◌, ap, subst, arith, nat_eq, nat_le, inl, inr, ◌&&◌}
+use Rattle.std.proofs.Math.Nat.{mul_left_comm}
 use Rattle.std.specs.List.{sum_by, range_with_len, Contains}
 use Rattle.std.specs.Cmp.Lexicographic.{pointwise}
 use Rattle.std.proofs.lemmas.List.Sums.{sum_by-cons}
@@ -109,13 +110,10 @@ minus-swap zero (r ∷ q ∷ rs) (a ∷ []) e = absurd (omega arith)
 minus-swap zero (r ∷ q ∷ rs) (a ∷ b ∷ x) e = refl
 minus-swap (suc i) (r ∷ rs) (a ∷ x) e = ap (λ s. (r - a) ∷ s) (minus-swap i rs x (omega arith))
 
-three : (a b c : ℕ) → a * (b * c) ≡ b * (a * c)
-three a b c = grind arith
-
 pub factorials-swap : (i : ℕ) (x : List ℕ) → factorials (swap_at i x) ≡ factorials x
 factorials-swap i [] = refl
 factorials-swap zero (a ∷ []) = refl
-factorials-swap zero (a ∷ b ∷ x) = three (factorial b) (factorial a) (factorials x)
+factorials-swap zero (a ∷ b ∷ x) = mul_left_comm (factorial b) (factorial a) (factorials x)
 factorials-swap (suc i) (a ∷ x) = ap (λ n. factorial a * n) (factorials-swap i x)
 
 pub total-swap : (i : ℕ) (x : List ℕ) → total (swap_at i x) ≡ total x

@@ -4,7 +4,7 @@ use Rattle.std.specs.Prelude.{ℤ, pos, ◌+ℤ◌, ◌*ℤ◌, unsigned_abs, re
 use Rattle.std.proofs.lemmas.Bool.{cases_lt}
 use Rattle.std.proofs.lemmas.Int.{ints, clamps}
 use Rattle.std.proofs.lemmas.List.{length-replicate}
-use Rattle.std.proofs.Math.Nat.{mul-le-mul}
+use Rattle.std.proofs.Math.Nat.{mul-le-mul, le_refl}
 use Rattle.weights.specs.declared.TheConstants.{MAX}
 use Rattle.label_network.specs.declared.ends.End.{End}
 use Rattle.label_network.specs.declared.ends.End.TheVariants.{Least, Greatest}
@@ -53,15 +53,9 @@ module _ (x : ℤ) (xs : List ℤ) where
 
   room : (i count : ℕ) → i < count → absolute_sum (replicate count x ++ xs) < 2 ^ 127 → unsigned_abs x + absolute_sum (replicate i x ++ xs) < 2 ^ 127
   room i count h small =
-      let one = sizes-block i x xs in
-      let two = sizes-block count x xs in
-      let three : (i + 1) * unsigned_abs x ≤ count * unsigned_abs x = mul-le-mul (omega (arith, h)) (same (unsigned_abs x)) in
-      let four : (i + 1) * unsigned_abs x ≡ i * unsigned_abs x + unsigned_abs x = more i (unsigned_abs x) in
-      omega (arith, small, one, two, three, four)
+      let three : (i + 1) * unsigned_abs x ≤ count * unsigned_abs x = mul-le-mul (omega (arith, h)) (le_refl (unsigned_abs x)) in
+      omega (arith, small, (sizes-block i x xs), (sizes-block count x xs), three, (more i (unsigned_abs x)))
     where
-      same : (n : ℕ) → n ≤ n
-      same n = omega arith
-
       more : (i n : ℕ) → (i + 1) * n ≡ i * n + n
       more i n = omega arith
 
@@ -81,8 +75,7 @@ module _ (x : ℤ) (xs : List ℤ) where
 
   pub total-more : (count : ℕ) (t s : ℤ) → t ≡ total_score xs → s ≡ t +ℤ (pos count *ℤ x) → s ≡ total_score (replicate count x ++ xs)
   total-more count t s e f =
-      let block = total-block count x xs in
-      omega (arith, ints, e, f, block)
+      omega (arith, ints, e, f, (total-block count x xs))
 
   pub total-fits : (count : ℕ) (t : ℤ) → t ≡ total_score xs → absolute_sum (replicate count x ++ xs) < 2 ^ 127 → unsigned_abs t + count * unsigned_abs x ≤ MAX
   total-fits count t e small = rw e (omega (arith, small, total-size xs, sizes-block count x xs))

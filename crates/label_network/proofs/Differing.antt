@@ -24,8 +24,7 @@ counts-itself : (xs : List (List ℕ)) (x : List ℕ) → Contains xs x → 1 �
 counts-itself [] x c = absurd (omega (arith, c.1))
 counts-itself (y ∷ xs) x (zero, below, e) = omega (arith, once-where x y e, grown x y xs)
 counts-itself (y ∷ xs) x (suc k, below, e) =
-    let later : 1 ≤ count_by (pointwise nat_eq x) xs = counts-itself xs x (k, omega (arith, below), e) in
-    omega (arith, later, grown x y xs)
+    omega (arith, (counts-itself xs x (k, omega (arith, below), e)), grown x y xs)
 
 -- lists that are each counted at most once differ
 differing : (xs : List (List ℕ)) → All (λ x. count_by (pointwise nat_eq x) xs ≤ 1) xs → AllPairs ◌≢◌ xs
@@ -35,9 +34,8 @@ differing (x ∷ xs) once =
   where
     head : All (λ y. x ≢ y) xs
     head k d within same =
-        let later : 1 ≤ count_by (pointwise nat_eq x) xs = counts-itself xs x (k, within, get_or_default xs k x d within ∙ sym same) in
         let most : count_by (pointwise nat_eq x) (x ∷ xs) ≤ 1 = once 0 d (omega arith) in
-        absurd (omega (arith, once-where x x refl, later, most, grown x x xs))
+        absurd (omega (arith, once-where x x refl, (counts-itself xs x (k, within, get_or_default xs k x d within ∙ sym same)), most, grown x x xs))
 
     tail : All (λ y. count_by (pointwise nat_eq y) xs ≤ 1) xs
     tail k d within =

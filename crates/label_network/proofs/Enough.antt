@@ -8,7 +8,7 @@ use Rattle.weights.specs.Grouped.{fits}
 use Rattle.weights.proofs.Sized.{first_and}
 use Rattle.label_network.specs.LaterTables.{IsTabled}
 use Rattle.label_network.specs.LinearSteps.{HasTails}
-use Rattle.label_network.proofs.Rearranging.{get-within}
+use Rattle.label_network.proofs.Rows.{get-within}
 
 fits-sum : (r s : List ℕ) → fits r s ≡ true → sum r ≤ sum s
 fits-sum [] [] f = omega arith

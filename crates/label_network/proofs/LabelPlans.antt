@@ -1,10 +1,9 @@
 -- The rooms of labels: their ways are the tables of counts, which give the labellings; and what a reached room has.
-use Rattle.std.proofs.Common.{◌≡◌, ◌≢◌, ℕ, zero, suc, ◌+◌, ◌-◌, ◌*◌, ◌<◌, ◌≤◌, ◌^◌, List, [], ◌∷◌, map, drop, length, get_or, true, refl, sym, ◌∙◌, ap, subst, arith, add-one, drop-cons, drop_of_length-le, mul-one}
+use Rattle.std.proofs.Common.{◌≡◌, ◌≢◌, ℕ, zero, suc, ◌+◌, ◌-◌, ◌*◌, ◌<◌, ◌≤◌, List, [], ◌∷◌, map, drop, length, true, refl, sym, ◌∙◌, ap, subst, arith, add-one, drop-cons, drop_of_length-le, mul-one}
 use Rattle.std.specs.Prelude.{ℤ, pos, slice_index}
 use Rattle.std.specs.List.{sum_by, sum, Contains}
 use Rattle.std.proofs.lemmas.Bool.{lt-ltb}
 use Rattle.std.proofs.lemmas.List.Sums.{sum_by-drop_more, sum_by-take-drop}
-use Rattle.weights.specs.declared.TheConstants.{MAX}
 use Rattle.weights.specs.Grouped.{choices, columns_of, fits, minus, tables, table_weight}
 use Rattle.weights.specs.Labellings.{labellings, number_of_labellings}
 use Rattle.weights.proofs.ChoiceLists.{IsChoice}
@@ -18,7 +17,7 @@ use Rattle.stage_network.specs.Network.{IsReached}
 use Rattle.room_network.specs.Plans.{Plan, IsPlan, alone, way_weight}
 use Rattle.room_network.proofs.RoomKeys.{KeepsWidth, is_allowed}
 use Rattle.label_network.specs.LabelRooms.{GivesLabellings, IsLabelled, label_floor, label_plan}
-use Rattle.label_network.specs.LabelSteps.{AreLabels, AreSizes, IsHeld, least}
+use Rattle.label_network.specs.LabelSteps.{ChoiceSeat, RoomSeat, AreLabels, least}
 use Rattle.label_network.specs.Meanings.{sizes_in}
 use Rattle.label_network.proofs.Differing.{choices-differ}
 use Rattle.label_network.proofs.LaterChoices.{least-first}
@@ -82,12 +81,10 @@ module _ (columns rows : List ℕ) where
       left = subst (AreLeft columns rows 0) (sym (sizes-back rows)) (left-first columns rows level);
     })
     left_room (suc g) room (j, c, r, before, o, e) =
-        let past : IsLeftRoom g j = left_room g j r in
         let sizes : sizes_in room ≡ minus (sizes_in j) c = ap sizes_in e ∙ sizes-back (minus (sizes_in j) c) in
-        let next : AreLeft columns rows (g + 1) (minus (sizes_in j) c) = left-next columns rows level g (sizes_in j) c before past.left (chosen (slice_index columns g) (sizes_in j) c (is_allowed plan g j c before o)) in
         record {
           held = e ∙ ap (map pos) (sym sizes);
-          left = rw (sizes, ← add-one) next;
+          left = rw (sizes, ← add-one) (left-next columns rows level g (sizes_in j) c before (left_room g j r).left (chosen (slice_index columns g) (sizes_in j) c (is_allowed plan g j c before o)));
         }
 
     -- what remains of a room weighs as many labellings as its sizes have
@@ -103,9 +100,7 @@ module _ (columns rows : List ℕ) where
 
     enough : (g : ℕ) (room : List ℤ) → IsReached (alone plan) g room → g < length columns → slice_index columns g ≤ sum (sizes_in room)
     enough g room r before =
-        let left : AreLeft columns rows g (sizes_in room) = (left_room g room r).left in
-        let more : sum (drop g columns) ≡ get_or columns g 0 + sum (drop (g + 1) columns) = sum_by-drop_more (λ x. x) columns g 0 before in
-        omega (arith, more, left.whole)
+        omega (arith, (sum_by-drop_more (λ x. x) columns g 0 before), ((left_room g room r).left).whole)
 
     -- the first choice is one, and the others come after it
     first_is : (g : ℕ) (room : List ℤ) → IsReached (alone plan) g room → g < length columns → plan.floor.choices g room ≡ least (slice_index columns g) (sizes_in room) ∷ plan.floor.later g room (least (slice_index columns g) (sizes_in room))
@@ -125,18 +120,7 @@ module _ (columns rows : List ℕ) where
   }
 
   module _ (width : ℕ) (a : AreLabels columns rows width) where
-    -- what the bodies read of a reached room
-    pub record RoomParts (g : ℕ) (room : List ℤ) : Type 0 where
-      pub long : length room ≡ length rows
-      pub few : length room ≤ 8
-      pub sizes : AreSizes room
-      pub small : sum (sizes_in room) < 2 ^ 64
-      pub held : IsHeld width (sizes_in room)
-      pub fits : number_of_labellings (sizes_in room) ≤ MAX
-      pub enough : g < length columns → slice_index columns g ≤ sum (sizes_in room)
-      pub first : g < length columns → plan.floor.choices g room ≡ least (slice_index columns g) (sizes_in room) ∷ plan.floor.later g room (least (slice_index columns g) (sizes_in room))
-
-    pub room_parts : (g : ℕ) (room : List ℤ) → IsReached (alone plan) g room → RoomParts g room
+    pub room_parts : (g : ℕ) (room : List ℤ) → IsReached (alone plan) g room → RoomSeat columns rows width g room
     room_parts g room r =
         let s : IsLabelled columns rows = a.sound in
         let h : IsLeftRoom g room = left_room s.level g room r in
@@ -149,23 +133,18 @@ module _ (columns rows : List ℕ) where
           small = omega (arith, less, s.units);
           held = held-within width rows (sizes_in room) h.left.within a.held;
           fits = omega (arith, fewer-labellings (sizes_in room) rows h.left.within, s.total);
+          total = rest_is s.level g room r;
           enough = enough s.level g room r;
           first = first_is s.level g room r;
         }
 
-    -- and of a choice there
-    pub record ChoiceParts (g : ℕ) (room : List ℤ) (c : List ℕ) : Type 0 where
-      pub choice : IsChoice (slice_index columns g) (sizes_in room) c
-      pub held : IsHeld width c
-      pub fits : number_of_labellings c ≤ MAX
-
-    pub choice_parts : (g : ℕ) (room : List ℤ) (c : List ℕ) → IsReached (alone plan) g room → Contains (plan.floor.choices g room) c → ChoiceParts g room c
-    choice_parts g room c r o =
-        let h : IsLeftRoom g room = left_room a.sound.level g room r in
+    pub choice_seat : (g : ℕ) (room : List ℤ) (c : List ℕ) → IsReached (alone plan) g room → Contains (plan.floor.choices g room) c → ChoiceSeat columns width g room c
+    choice_seat g room c r o =
         let here : IsChoice (slice_index columns g) (sizes_in room) c = chosen (slice_index columns g) (sizes_in room) c o in
-        let within : fits c rows ≡ true = fits-chain c (sizes_in room) rows here.fitting h.left.within in
+        let within : fits c rows ≡ true = fits-chain c (sizes_in room) rows here.fitting (left_room a.sound.level g room r).left.within in
         record {
-          choice = here;
+          whole = sym here.whole;
+          fitting = here.fitting;
           held = held-within width rows c within a.held;
-          fits = omega (arith, fewer-labellings c rows within, a.sound.total);
+          small = omega (arith, fewer-labellings c rows within, a.sound.total);
         }

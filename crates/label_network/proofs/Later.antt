@@ -1,14 +1,14 @@
 -- The later scores from one column to the next.
-use Rattle.std.proofs.Common.{◌≡◌, ℕ, suc, ◌+◌, ◌<◌, List, [], ◌∷◌, ◌++◌, length, drop, true, refl, ap, arith, get_or, add-one, drop-cons, length-append, nat_le, drop_of_length-le}
+use Rattle.std.proofs.Common.{◌≡◌, ℕ, ◌+◌, ◌<◌, List, [], ◌∷◌, ◌++◌, length, drop, true, refl, arith, add-one, drop-cons, length-append, drop_of_length-le}
 use Rattle.std.specs.Prelude.{ℤ, pos, replicate, slice_index, slice_index_or}
 use Rattle.std.specs.List.{sum}
 use Rattle.std.proofs.lemmas.List.{length-replicate, length-drop}
 use Rattle.std.proofs.lemmas.List.Sums.{sum_by-cons, sum_by-drop_more}
 use Rattle.weights.specs.Grouped.{fits}
-use Rattle.weights.proofs.Sized.{first_and}
 use Rattle.label_network.specs.LaterSums.{subjects, later_scores}
 use Rattle.label_network.specs.Meanings.{Meaning}
 use Rattle.label_network.proofs.Narrowing.{IsLeft}
+use Rattle.label_network.proofs.Rows.{fits-long}
 
 pub length-subjects : (ss : List ℤ) (cs : List ℕ) → length ss ≡ length cs → length (subjects ss cs) ≡ sum cs
 length-subjects [] [] e = refl
@@ -17,10 +17,7 @@ length-subjects (s ∷ ss) [] e = absurd (omega (arith, e))
 length-subjects (s ∷ ss) (c ∷ cs) e = omega (arith, length-append (replicate c s) (subjects ss cs), length-replicate c s, length-subjects ss cs (omega (arith, e)), sum_by-cons (λ v. v) c cs)
 
 pub fits-length : (r s : List ℕ) → fits r s ≡ true → length r ≡ length s
-fits-length [] [] h = refl
-fits-length [] (s ∷ ss) h = absurd (cc h)
-fits-length (r ∷ rs) [] h = absurd (cc h)
-fits-length (r ∷ rs) (s ∷ ss) h = ap suc (fits-length rs ss (first_and (nat_le r s) (fits rs ss) h).1)
+fits-length = fits-long
 
 module _ (scores : List ℤ) (columns : List ℕ) where
   pub later-next : (g : ℕ) → g < length columns → length scores ≡ length columns → later_scores scores columns g ≡ replicate (slice_index columns g) (slice_index_or scores g (pos 0)) ++ later_scores scores columns (g + 1)
@@ -40,5 +37,4 @@ module _ (scores : List ℤ) (columns : List ℕ) where
 -- what remains is what the column takes and the later subjects
 pub sizes-next : (m : Meaning) (scores : List ℤ) (g : ℕ) (r : List ℕ) → length scores ≡ length m.columns → g < length m.columns → IsLeft m g r → sum r ≡ slice_index m.columns g + length (later_scores scores m.columns (g + 1))
 sizes-next m scores g r e h l =
-    let more : sum (drop g m.columns) ≡ get_or m.columns g 0 + sum (drop (g + 1) m.columns) = sum_by-drop_more (λ v. v) m.columns g 0 h in
-    omega (arith, later-length scores m.columns (g + 1) e, more, l.whole)
+    omega (arith, later-length scores m.columns (g + 1) e, (sum_by-drop_more (λ v. v) m.columns g 0 h), l.whole)

@@ -63,8 +63,7 @@ part-arc e zero zero j v xs h i l = let same : j - 0 ≡ j = omega arith in rw (
 part-arc e zero (suc k) j v xs h i l = absurd (omega (arith, h))
 part-arc e (suc c) zero j v xs h i l =
     let rest = part-arc e c zero j v xs (omega arith) (omega arith) l in
-    let long : length (replicate c v ++ xs) ≡ length (replicate c v) + length xs = length-append (replicate c v) xs in
-    near-chain e _ _ _ (passed e j v (replicate c v ++ xs) (omega (arith, l, long))) rest
+    near-chain e _ _ _ (passed e j v (replicate c v ++ xs) (omega (arith, l, (length-append (replicate c v) xs)))) rest
 part-arc e (suc c) (suc k) zero v xs h i l = absurd (omega (arith, i))
 part-arc e (suc c) (suc k) (suc j) v xs h i l =
     let less : suc j - suc k ≡ j - k = omega arith in

@@ -38,11 +38,9 @@ by-tails u (w ∷ us) (m ∷ ms) ys l e =
     let whole : sum (m ∷ ms) ≡ m + sum ms = sum_by-cons (λ v. v) m ms in
     let here = paired-block m w (subjects us ms) ys (omega (arith, whole, e)) in
     let rest = by-tails w us ms (drop m ys) (omega (arith, l)) (omega (arith, whole, e, length-drop {A = ℤ})) in
-    let one = distribute w (total_score (take m ys)) (total_score (drop m ys)) in
-    let two = ap (λ t. w *ℤ t) (total-parts m ys) in
     let three = distribute_left (w -ℤ u) u (total_score ys) in
     let four : (w -ℤ u) +ℤ u ≡ w = omega (arith, ints) in
-    last _ _ _ _ _ _ _ _ _ here rest one two three (ap (λ n. n *ℤ total_score ys) four)
+    last _ _ _ _ _ _ _ _ _ here rest (distribute w (total_score (take m ys)) (total_score (drop m ys))) (ap (λ t. w *ℤ t) (total-parts m ys)) three (ap (λ n. n *ℤ total_score ys) four)
   where
     last : (p wt q wd t wy wu uy ww : ℤ) {s : ℤ} → p ≡ wt +ℤ q → q ≡ wd +ℤ t → s ≡ wt +ℤ wd → s ≡ wy → ww ≡ wu +ℤ uy → ww ≡ wy → p ≡ uy +ℤ (wu +ℤ t)
     last p wt q wd t wy wu uy ww {s} a b c d e f = omega (arith, ints, a, b, c, d, e, f)
@@ -52,10 +50,9 @@ tails-greatest : (u : ℤ) (us : List ℤ) (ms : List ℕ) (a : ℕ) (later : Li
 tails-greatest u [] ms a later e = refl
 tails-greatest u (w ∷ us) [] a later e = refl
 tails-greatest u (w ∷ us) (m ∷ ms) a later e =
-    let whole : sum (m ∷ ms) ≡ m + sum ms = sum_by-cons (λ v. v) m ms in
     let place : length later - sum (m ∷ ms) ≡ a = omega (arith, e) in
     let here : total_score (drop a (sort_up later)) ≡ greatest_sum (sum (m ∷ ms)) later = ap (λ n. total_score (drop n (sort_up later))) (sym place) ∙ sym (greatest_is (sum (m ∷ ms)) later (omega (arith, e))) in
-    rw (here, drop-drop m a (sort_up later)) (ap (λ t. ((w -ℤ u) *ℤ greatest_sum (sum (m ∷ ms)) later) +ℤ t) (tails-greatest w us ms (a + m) later (omega (arith, e, whole))))
+    rw (here, drop-drop m a (sort_up later)) (ap (λ t. ((w -ℤ u) *ℤ greatest_sum (sum (m ∷ ms)) later) +ℤ t) (tails-greatest w us ms (a + m) later (omega (arith, e, (sum_by-cons (λ v. v) m ms)))))
 
 total-append : (xs ys : List ℤ) → total_score (xs ++ ys) ≡ total_score xs +ℤ total_score ys
 total-append [] ys = plain (total_score ys)

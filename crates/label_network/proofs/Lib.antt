@@ -25,6 +25,7 @@ pub mod LeastPairing
 pub mod LinearSizes
 pub mod PairedUnits
 pub mod LinearNarrows
+pub mod LinearValues
 pub mod RowOrder
 pub mod Summing
 pub mod LinearPairings

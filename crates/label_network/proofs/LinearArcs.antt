@@ -39,8 +39,7 @@ row-steps u [] [] e = rw (zero-*ℤ u) refl
 row-steps u [] (x ∷ xs) e = absurd (omega (arith, e))
 row-steps u (w ∷ us) [] e = absurd (omega (arith, e))
 row-steps u (w ∷ us) (x ∷ xs) e =
-    let whole : pos (sum (x ∷ xs)) ≡ pos x +ℤ pos (sum xs) = ap pos (sum_by-cons (λ v. v) x xs) in
-    let both : pos (sum (x ∷ xs)) *ℤ w ≡ (pos x *ℤ w) +ℤ (pos (sum xs) *ℤ w) = ap (λ n. n *ℤ w) whole ∙ distribute_left (pos x) (pos (sum xs)) w in
+    let both : pos (sum (x ∷ xs)) *ℤ w ≡ (pos x *ℤ w) +ℤ (pos (sum xs) *ℤ w) = ap (λ n. n *ℤ w) (ap pos (sum_by-cons (λ v. v) x xs)) ∙ distribute_left (pos x) (pos (sum xs)) w in
     let apart : pos (sum (x ∷ xs)) *ℤ ((w -ℤ u) +ℤ u) ≡ (pos (sum (x ∷ xs)) *ℤ (w -ℤ u)) +ℤ (pos (sum (x ∷ xs)) *ℤ u) = distribute (pos (sum (x ∷ xs))) (w -ℤ u) u in
     let back : (w -ℤ u) +ℤ u ≡ w = omega (arith, ints) in
     let again : pos (sum (x ∷ xs)) *ℤ w ≡ (pos (sum (x ∷ xs)) *ℤ (w -ℤ u)) +ℤ (pos (sum (x ∷ xs)) *ℤ u) = ap (λ n. pos (sum (x ∷ xs)) *ℤ n) (sym back) ∙ apart in
@@ -57,8 +56,7 @@ near-times Greatest d a b h n = scale d b a h n
 one-step : (e : End) (d v a b : ℤ) (k : ℕ) → pos 0 ≤ℤ d → Nearer e a ((pos k *ℤ v) +ℤ b) → Nearer e (d *ℤ a) (((pos k *ℤ d) *ℤ v) +ℤ (d *ℤ b))
 one-step e d v a b k h n =
     let moved : d *ℤ (pos k *ℤ v) ≡ (pos k *ℤ d) *ℤ v = *ℤ_comm d (pos k *ℤ v) ∙ assoc-pos k v d ∙ ap (λ n. pos k *ℤ n) (*ℤ_comm v d) ∙ sym (assoc-pos k d v) in
-    let apart : d *ℤ ((pos k *ℤ v) +ℤ b) ≡ (d *ℤ (pos k *ℤ v)) +ℤ (d *ℤ b) = distribute d (pos k *ℤ v) b in
-    subst (Nearer e (d *ℤ a)) (apart ∙ ap (λ n. n +ℤ (d *ℤ b)) moved) (near-times e d a ((pos k *ℤ v) +ℤ b) h n)
+    subst (Nearer e (d *ℤ a)) ((distribute d (pos k *ℤ v) b) ∙ ap (λ n. n +ℤ (d *ℤ b)) moved) (near-times e d a ((pos k *ℤ v) +ℤ b) h n)
 
 near-nothing : (e : End) → Nearer e (pos 0) (pos 0 +ℤ pos 0)
 near-nothing Least = omega (arith, ints)
@@ -82,14 +80,10 @@ steps-arc e u (w ∷ us) [] (b ∷ x) c v later a f h l = absurd (cc f)
 steps-arc e u (w ∷ us) (m ∷ ms) [] c v later a f h l = absurd (cc f)
 steps-arc e u (w ∷ us) (m ∷ ms) (b ∷ x) c v later a f h l =
     let both = first_and (nat_le b m) (fits x ms) f in
-    let most : b ≤ m = leb-true b m both.0 in
     let xs : sum (b ∷ x) ≡ b + sum x = sum_by-cons (λ v. v) b x in
-    let rs : sum (m ∷ ms) ≡ m + sum ms = sum_by-cons (λ v. v) m ms in
-    let less : sum ((m - b) ∷ minus ms x) ≡ sum (m ∷ ms) - sum (b ∷ x) = sums-minus (m ∷ ms) (b ∷ x) f in
-    let part : sum (b ∷ x) + sum ((m - b) ∷ minus ms x) ≡ sum (m ∷ ms) = sum-minus (m ∷ ms) (b ∷ x) f in
-    let arc = rw (← less) at (part-arc e c (sum (b ∷ x)) (sum (m ∷ ms)) v later h (omega (arith, part)) (omega (arith, l))) in
+    let arc = rw (← (sums-minus (m ∷ ms) (b ∷ x) f)) at (part-arc e c (sum (b ∷ x)) (sum (m ∷ ms)) v later h (omega (arith, (sum-minus (m ∷ ms) (b ∷ x) f))) (omega (arith, l))) in
     let here = one-step e (w -ℤ u) v _ _ (sum (b ∷ x)) (omega (arith, ints, a.0)) arc in
-    let rest = steps-arc e w us ms x c v later a.1 both.1 (omega (arith, xs, h)) (omega (arith, xs, rs, l, most)) in
+    let rest = steps-arc e w us ms x c v later a.1 both.1 (omega (arith, xs, h)) (omega (arith, xs, (sum_by-cons (λ v. v) m ms), l, (leb-true b m both.0))) in
     let apart = distribute_left (pos (sum (b ∷ x)) *ℤ (w -ℤ u)) (row_steps w us x) v in
     near-both e _ _ ((pos (sum (b ∷ x)) *ℤ (w -ℤ u)) *ℤ v) ((w -ℤ u) *ℤ part_sum (better_of e) (sum ((m - b) ∷ minus ms x)) later) (row_steps w us x *ℤ v) (steps_by (part_sum (better_of e)) w us (minus ms x) later) _ here rest apart
 
@@ -106,13 +100,11 @@ total-block (suc c) v later = rw (more-times c v) (ap (λ t. v +ℤ t) (total-bl
 -- all that the choice adds is in the first row's score and the steps
 taken-sum : (u : ℤ) (us : List ℤ) (b : ℕ) (x : List ℕ) (c : ℕ) (v : ℤ) (later : List ℤ) → length us ≡ length x → sum (b ∷ x) ≡ c → (v *ℤ row_sum (u ∷ us) (b ∷ x)) +ℤ (u *ℤ total_score later) ≡ (row_steps u us x *ℤ v) +ℤ (u *ℤ total_score (replicate c v ++ later))
 taken-sum u us b x c v later l e =
-    let whole : pos c ≡ pos b +ℤ pos (sum x) = ap pos (sym e ∙ sum_by-cons (λ v. v) b x) in
-    let both : pos c *ℤ u ≡ (pos b *ℤ u) +ℤ (pos (sum x) *ℤ u) = ap (λ n. n *ℤ u) whole ∙ distribute_left (pos b) (pos (sum x)) u in
+    let both : pos c *ℤ u ≡ (pos b *ℤ u) +ℤ (pos (sum x) *ℤ u) = ap (λ n. n *ℤ u) (ap pos (sym e ∙ sum_by-cons (λ v. v) b x)) ∙ distribute_left (pos b) (pos (sum x)) u in
     let row : row_sum (u ∷ us) (b ∷ x) ≡ (pos c *ℤ u) +ℤ row_steps u us x = joined (pos b *ℤ u) (row_sum us x) (pos (sum x) *ℤ u) (row_steps u us x) (pos c *ℤ u) (row-steps u us x l) both in
-    let one : v *ℤ row_sum (u ∷ us) (b ∷ x) ≡ ((pos c *ℤ u) *ℤ v) +ℤ (row_steps u us x *ℤ v) = ap (λ n. v *ℤ n) row ∙ *ℤ_comm v ((pos c *ℤ u) +ℤ row_steps u us x) ∙ distribute_left (pos c *ℤ u) (row_steps u us x) v in
     let two : u *ℤ total_score (replicate c v ++ later) ≡ (u *ℤ (pos c *ℤ v)) +ℤ (u *ℤ total_score later) = ap (λ n. u *ℤ n) (total-block c v later) ∙ distribute u (pos c *ℤ v) (total_score later) in
     let moved : u *ℤ (pos c *ℤ v) ≡ (pos c *ℤ u) *ℤ v = *ℤ_comm u (pos c *ℤ v) ∙ assoc-pos c v u ∙ ap (λ n. pos c *ℤ n) (*ℤ_comm v u) ∙ sym (assoc-pos c u v) in
-    last _ _ _ _ _ _ one two moved
+    last _ _ _ _ _ _ (ap (λ n. v *ℤ n) row ∙ *ℤ_comm v ((pos c *ℤ u) +ℤ row_steps u us x) ∙ distribute_left (pos c *ℤ u) (row_steps u us x) v) two moved
   where
     joined : (a s b t c : ℤ) → s ≡ b +ℤ t → c ≡ a +ℤ b → a +ℤ s ≡ c +ℤ t
     joined a s b t c i j = omega (arith, ints, i, j)
@@ -126,10 +118,8 @@ added-arc end (u ∷ us) [] x c v later a l k f e s = absurd (omega (arith, l))
 added-arc end (u ∷ us) (m ∷ ms) [] c v later a l k f e s = absurd (omega (arith, k))
 added-arc end (u ∷ us) (m ∷ ms) (b ∷ x) c v later a l k f e s =
     let both = first_and (nat_le b m) (fits x ms) f in
-    let most : b ≤ m = leb-true b m both.0 in
     let xs : sum (b ∷ x) ≡ b + sum x = sum_by-cons (λ v. v) b x in
-    let rs : sum (m ∷ ms) ≡ m + sum ms = sum_by-cons (λ v. v) m ms in
-    let steps = steps-arc end u us ms x c v later a both.1 (omega (arith, xs, e)) (omega (arith, xs, rs, s, e, most)) in
+    let steps = steps-arc end u us ms x c v later a both.1 (omega (arith, xs, e)) (omega (arith, xs, (sum_by-cons (λ v. v) m ms), s, e, (leb-true b m both.0))) in
     let taken = taken-sum u us b x c v later (omega (arith, l, k)) e in
     near-moved end _ (row_steps u us x *ℤ v) (steps_by (part_sum (better_of end)) u us (minus ms x) later) (v *ℤ row_sum (u ∷ us) (b ∷ x)) (u *ℤ total_score later) (u *ℤ total_score (replicate c v ++ later)) steps taken
 

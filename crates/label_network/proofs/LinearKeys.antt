@@ -1,9 +1,10 @@
 -- What the measure of sums of products knows at each of its keys.
-use Rattle.std.proofs.Common.{◌≡◌, ℕ, zero, suc, ◌+◌, ◌-◌, ◌*◌, ◌^◌, ◌<◌, ◌≤◌, ◌⊎◌, List, [], ◌∷◌, length, get_or, take, drop, refl, sym, ◌∙◌, ap, subst, arith, inl, inr}
+use Rattle.std.proofs.Common.{◌≡◌, ℕ, zero, suc, ◌+◌, ◌-◌, ◌*◌, ◌^◌, ◌<◌, ◌≤◌, ◌⊎◌, List, length, get_or, take, drop, sym, ◌∙◌, ap, subst, arith, inl, inr}
 use Rattle.std.specs.Prelude.{ℤ, unsigned_abs, slice_index}
 use Rattle.std.specs.List.{sum, Contains}
-use Rattle.std.proofs.Math.Nat.{mul-le-mul, mul-le-mul_left}
+use Rattle.std.proofs.Math.Nat.{mul-le-mul, mul-le-mul_left, le_refl}
 use Rattle.std.proofs.lemmas.Bool.{cases_lt}
+use Rattle.std.proofs.lemmas.List.{length-map}
 use Rattle.std.proofs.lemmas.List.Sums.{sum_by-take-drop, sum_by-drop_more}
 use Rattle.weights.specs.declared.TheConstants.{MAX}
 use Rattle.stage_network.specs.declared.verdicts.Judge.{Judge}
@@ -20,7 +21,8 @@ use Rattle.label_network.specs.declared.linear.LinearMeasure.{LinearMeasure}
 use Rattle.label_network.specs.LaterSums.{later_scores}
 use Rattle.weights.specs.Numbers.{absolute_sum}
 use Rattle.label_network.specs.Linear.{row_sum, least_paired, greatest_paired, score_of, column_sum, linear_meaning, linear_numbers, greatest_sizes}
-use Rattle.label_network.specs.LinearSteps.{least_added, greatest_added, picked, order_of, ordered_scores, whole_reach, HasTails, ArePlaces, IsLinearMeasure}
+use Rattle.label_network.specs.LinearSteps.{least_added, greatest_added, picked, order_of, ordered_scores, whole_reach, AreAddable, HasTails, ArePlaces, IsLinearMeasure}
+use Rattle.label_network.proofs.Rows.{length-abs}
 use Rattle.label_network.proofs.Sizes.{sizes-of_pos}
 use Rattle.label_network.proofs.Narrowing.{IsLeft, chosen}
 use Rattle.label_network.proofs.Ascending.{ascending, order-inside}
@@ -32,10 +34,6 @@ use Rattle.label_network.proofs.Stages.{sizes-some}
 use Rattle.label_network.proofs.Later.{later-next}
 use Rattle.label_network.proofs.OverRooms.{over_number, over_place}
 use Rattle.label_network.proofs.LinearNarrows.{IsPartial, least-stepwise, greatest-stepwise, linear_measure, reached_left, reached_partial, rows-level, ordered-whole, low-small, high-small, low-rule, high-rule, choice-level, column-small}
-
-sizes-long : (zs : List ℤ) → length (sizes_in zs) ≡ length zs
-sizes-long [] = refl
-sizes-long (z ∷ zs) = ap suc (sizes-long zs)
 
 pub reached-stage : (m : Meaning) (g : ℕ) (r : List ℕ) (p : List ℤ) → LabelReached m g r p → g ≤ length m.columns
 reached-stage m zero r p a = omega arith
@@ -75,7 +73,7 @@ module _ (m : LinearMeasure) where
   reach-small : whole_reach ordered_us ≤ 3 * greatest_score us
   reach-small = subst (λ vs. whole_reach vs ≤ 3 * greatest_score us) (sym h.ordered_is) (reach-within (ordered_scores us) (greatest_score us) (ascending us) (picked-within (order_of us) us))
 
-  pub steps-fit : whole_reach ordered_us < 2 ^ 127
+  steps-fit : whole_reach ordered_us < 2 ^ 127
   steps-fit = omega (arith, reach-small, h.linear.scores_fit)
 
   module _ (g : ℕ) (f p : List ℤ) (r : AreReached (over_rooms meaning) g f p) where
@@ -92,15 +90,15 @@ module _ (m : LinearMeasure) where
     sizes-few = omega (arith, left.whole, h.linear.level, h.linear.units, sum_by-take-drop (λ v. v) columns g)
 
     rows-long : length f ≡ length us
-    rows-long = sym (sizes-long f) ∙ rows-level us rows scores columns judge h.linear g (sizes_in f) left
+    rows-long = sym (length-abs f) ∙ rows-level us rows scores columns judge h.linear g (sizes_in f) left
 
-    pub places : ArePlaces order f
+    places : ArePlaces order f
     places = record {
       inside = λ i l. subst (λ js. get_or js i 0 < length f) (sym h.order_is) (omega (arith, rows-long, order-inside us i (omega (arith, l, ap length h.order_is))));
       sizes = sizes-of_pos (sizes_in f) sizes-few f a.whole;
     }
 
-    pub whole : sum (picked order (sizes_in f)) ≡ length (later_scores scores columns g)
+    whole : sum (picked order (sizes_in f)) ≡ length (later_scores scores columns g)
     whole = ap (λ js. sum (picked js (sizes_in f))) h.order_is ∙ ordered-whole us rows scores columns judge h.linear g (sizes_in f) left
 
     parted : (k : ℕ) → (sum (drop k (picked order rows)) ≤ width - 1) ⊎ (sum (take k (picked order rows)) ≤ width - 1)
@@ -110,7 +108,7 @@ module _ (m : LinearMeasure) where
         by (inl many) = inr (h.enough.each k many)
         by (inr few) = inl few
 
-    pub tails : 1 ≤ width → HasTails width (picked order (sizes_in f)) (later_scores scores columns g)
+    tails : 1 ≤ width → HasTails width (picked order (sizes_in f)) (later_scores scores columns g)
     tails some =
         let back : (width - 1) + 1 ≡ width = omega (arith, some) in
         subst (λ n. HasTails n (picked order (sizes_in f)) (later_scores scores columns g)) back
@@ -119,14 +117,22 @@ module _ (m : LinearMeasure) where
     later-within : absolute_sum (later_scores scores columns g) ≤ absolute_sum (later_scores scores columns 0)
     later-within = sizes-some g scores columns
 
-    pub added-fits : whole_reach ordered_us * absolute_sum (later_scores scores columns g) < 2 ^ 127
+    added-fits : whole_reach ordered_us * absolute_sum (later_scores scores columns g) < 2 ^ 127
     added-fits =
-        let one : whole_reach ordered_us * absolute_sum (later_scores scores columns g) ≤ (3 * greatest_score us) * absolute_sum (later_scores scores columns 0) = mul-le-mul reach-small later-within in
-        let two : (3 * greatest_score us) * absolute_sum (later_scores scores columns 0) ≡ 3 * (greatest_score us * absolute_sum (later_scores scores columns 0)) = grouped (greatest_score us) (absolute_sum (later_scores scores columns 0)) in
-        omega (arith, one, two, h.linear.sums_fit)
+        omega (arith, (mul-le-mul reach-small later-within), (grouped (greatest_score us) (absolute_sum (later_scores scores columns 0))), h.linear.sums_fit)
       where
         grouped : (m s : ℕ) → (3 * m) * s ≡ 3 * (m * s)
         grouped m s = omega arith
+
+    pub addable : AreAddable ordered_us order width f (later_scores scores columns g)
+    addable = record {
+      level = ap length h.ordered_is ∙ length-map (order_of us) (score_of us) ∙ sym (ap length h.order_is);
+      places = places;
+      whole = whole;
+      tails = tails m.later.right.wide;
+      steps = steps-fit;
+      small = added-fits;
+    }
 
     -- the ends that are built row by row
     pub least-built : least_added ordered_us (picked order (sizes_in f)) (later_scores scores columns g) ≡ least_paired us (sizes_in f) (later_scores scores columns g)
@@ -185,14 +191,10 @@ module _ (m : LinearMeasure) where
 
     pub column-fits : unsigned_abs (score_of scores g) * unsigned_abs (row_sum us x) ≤ MAX
     column-fits =
-        let most : unsigned_abs (score_of scores g) * unsigned_abs (row_sum us x) ≤ unsigned_abs (score_of scores g) * (greatest_score us * slice_index columns g) = mul-le-mul_left (unsigned_abs (score_of scores g)) (rw (← whole) (row-size us x (greatest_score us) (same (greatest_score us)))) in
+        let most : unsigned_abs (score_of scores g) * unsigned_abs (row_sum us x) ≤ unsigned_abs (score_of scores g) * (greatest_score us * slice_index columns g) = mul-le-mul_left (unsigned_abs (score_of scores g)) (rw (← whole) (row-size us x (greatest_score us) (le_refl (greatest_score us)))) in
         let split : absolute_sum (later_scores scores columns g) ≡ slice_index columns g * unsigned_abs (score_of scores g) + absolute_sum (later_scores scores columns (g + 1)) = ap absolute_sum (later-next scores columns g before h.linear.long) ∙ sizes-block (slice_index columns g) (score_of scores g) (later_scores scores columns (g + 1)) in
-        let all : greatest_score us * absolute_sum (later_scores scores columns g) ≡ unsigned_abs (score_of scores g) * (greatest_score us * slice_index columns g) + greatest_score us * absolute_sum (later_scores scores columns (g + 1)) = ap (λ n. greatest_score us * n) split ∙ apart (greatest_score us) (slice_index columns g) (unsigned_abs (score_of scores g)) (absolute_sum (later_scores scores columns (g + 1))) in
         let part : greatest_score us * absolute_sum (later_scores scores columns g) ≤ greatest_score us * absolute_sum (later_scores scores columns 0) = mul-le-mul_left (greatest_score us) (sizes-some g scores columns) in
-        omega (arith, most, all, part, h.linear.sums_fit)
+        omega (arith, most, (ap (λ n. greatest_score us * n) split ∙ apart (greatest_score us) (slice_index columns g) (unsigned_abs (score_of scores g)) (absolute_sum (later_scores scores columns (g + 1)))), part, h.linear.sums_fit)
       where
-        same : (n : ℕ) → n ≤ n
-        same n = omega arith
-
         apart : (m c v s : ℕ) → m * (c * v + s) ≡ v * (m * c) + m * s
         apart m c v s = omega arith

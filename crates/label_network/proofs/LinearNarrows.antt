@@ -1,8 +1,9 @@
 -- The interval of a sum of products narrows along every choice, and nothing in it passes a limit.
 use Rattle.std.proofs.Common.{◌≡◌, ℕ, ◌+◌, ◌*◌, ◌<◌, ◌≤◌, List, [], ◌∷◌, length, refl, sym, ◌∙◌, ap, arith}
+use Rattle.std.proofs.Math.IntN.{+ℤ_idr}
 use Rattle.std.specs.Prelude.{ℤ, pos, ◌+ℤ◌, ◌*ℤ◌, ◌≤ℤ◌, int_le, unsigned_abs, slice_index}
 use Rattle.std.specs.List.{sum}
-use Rattle.std.proofs.Math.Nat.{mul-le-mul_left}
+use Rattle.std.proofs.Math.Nat.{mul-le-mul_left, le_refl}
 use Rattle.std.proofs.lemmas.Int.{ints, unsigned_abs-mul}
 use Rattle.stage_network.specs.declared.verdicts.Judge.{Judge}
 use Rattle.stage_network.specs.Judged.{JudgeFits}
@@ -20,7 +21,8 @@ use Rattle.label_network.proofs.Absolute.{size-plus, sizes-block}
 use Rattle.label_network.proofs.Ascending.{ascending, each-once}
 use Rattle.label_network.proofs.Rearranging.{picked-minus, picked-fits, picked-sum, picked-row, picked-length, picked_scores-length}
 use Rattle.label_network.proofs.LinearArcs.{least-added, greatest-added}
-use Rattle.label_network.proofs.Later.{fits-length, later-length, later-next, later-end, sizes-next}
+use Rattle.label_network.proofs.Rows.{fits-long}
+use Rattle.label_network.proofs.Later.{later-length, later-next, later-end, sizes-next}
 use Rattle.label_network.proofs.LinearSizes.{row-size, picked-within, least-added-size, greatest-added-size}
 use Rattle.label_network.proofs.Narrowing.{IsLeft, IsNarrowing, left-next, reached-left, reached-kept, measured}
 use Rattle.label_network.proofs.PairedUnits.{least_paired_is, greatest_paired_is, paired-none}
@@ -37,14 +39,11 @@ pub record IsPartial (us scores : List ℤ) (columns : List ℕ) (g : ℕ) (r : 
   pub one : length p ≡ 1
   pub small : unsigned_abs (so_far p) + greatest_score us * absolute_sum (later_scores scores columns g) ≤ greatest_sizes us scores columns
 
-plus-zero : (t : ℤ) → t +ℤ pos 0 ≡ t
-plus-zero t = omega (arith, ints)
-
 module _ (us : List ℤ) (rows : List ℕ) (scores : List ℤ) (columns : List ℕ) (judge : Judge) (h : IsLinear us rows scores columns judge) where
   -- the sizes that remain, in the order of the rows
   module _ (g : ℕ) (r : List ℕ) (l : IsLeft (linear_meaning us rows scores columns judge) g r) where
     pub rows-level : length r ≡ length us
-    rows-level = fits-length r rows l.within ∙ sym h.wide
+    rows-level = fits-long r rows l.within ∙ sym h.wide
 
     pub ordered-level : length (ordered_scores us) ≡ length (ordered us r)
     ordered-level = picked_scores-length (order_of us) us ∙ sym (picked-length (order_of us) r)
@@ -110,10 +109,9 @@ module _ (us : List ℤ) (rows : List ℕ) (scores : List ℤ) (columns : List �
 
     pub rising : (p : List ℤ) → linear_low us scores columns g r p ≤ℤ linear_low us scores columns (g + 1) (minus r x) ((so_far p +ℤ column_sum us scores g x) ∷ [])
     rising p =
-        let here = least-stepwise g r l ∙ ap (λ later. least_added (ordered_scores us) (ordered us r) later) (later-next scores columns g before h.long) in
         let next = least-stepwise (g + 1) (minus r x) next-left ∙ ap (λ ms. least_added (ordered_scores us) ms (later_scores scores columns (g + 1))) (picked-minus (order_of us) r x c.fitting) in
         let arc = least-added (ordered_scores us) (ordered us r) (ordered us x) (slice_index columns g) (score_of scores g) (later_scores scores columns (g + 1)) (ascending us) (ordered-level g r l) choice-ordered (picked-fits (order_of us) r x c.fitting) choice-sum arc-sizes in
-        rw (here, next) (omega (arith, ints, arc, column-ordered))
+        rw ((least-stepwise g r l ∙ ap (λ later. least_added (ordered_scores us) (ordered us r) later) (later-next scores columns g before h.long)), next) (omega (arith, ints, arc, column-ordered))
 
     pub falling : (p : List ℤ) → linear_high us scores columns (g + 1) (minus r x) ((so_far p +ℤ column_sum us scores g x) ∷ []) ≤ℤ linear_high us scores columns g r p
     falling p =
@@ -124,18 +122,12 @@ module _ (us : List ℤ) (rows : List ℕ) (scores : List ℤ) (columns : List �
 
     -- what it adds
     pub row-small : unsigned_abs (row_sum us x) ≤ greatest_score us * slice_index columns g
-    row-small = rw (← c.whole) (row-size us x (greatest_score us) (least (greatest_score us)))
-      where
-        least : (n : ℕ) → n ≤ n
-        least n = omega arith
+    row-small = rw (← c.whole) (row-size us x (greatest_score us) (le_refl (greatest_score us)))
 
     pub column-small : unsigned_abs (column_sum us scores g x) + greatest_score us * absolute_sum (later_scores scores columns (g + 1)) ≤ greatest_score us * absolute_sum (later_scores scores columns g)
     column-small =
-        let times : unsigned_abs (column_sum us scores g x) ≡ unsigned_abs (score_of scores g) * unsigned_abs (row_sum us x) = unsigned_abs-mul (score_of scores g) (row_sum us x) in
-        let most : unsigned_abs (score_of scores g) * unsigned_abs (row_sum us x) ≤ unsigned_abs (score_of scores g) * (greatest_score us * slice_index columns g) = mul-le-mul_left (unsigned_abs (score_of scores g)) row-small in
         let split : absolute_sum (later_scores scores columns g) ≡ slice_index columns g * unsigned_abs (score_of scores g) + absolute_sum (later_scores scores columns (g + 1)) = ap absolute_sum (later-next scores columns g before h.long) ∙ sizes-block (slice_index columns g) (score_of scores g) (later_scores scores columns (g + 1)) in
-        let all : greatest_score us * absolute_sum (later_scores scores columns g) ≡ unsigned_abs (score_of scores g) * (greatest_score us * slice_index columns g) + greatest_score us * absolute_sum (later_scores scores columns (g + 1)) = ap (λ n. greatest_score us * n) split ∙ apart (greatest_score us) (slice_index columns g) (unsigned_abs (score_of scores g)) (absolute_sum (later_scores scores columns (g + 1))) in
-        omega (arith, times, most, all)
+        omega (arith, (unsigned_abs-mul (score_of scores g) (row_sum us x)), (mul-le-mul_left (unsigned_abs (score_of scores g)) row-small), (ap (λ n. greatest_score us * n) split ∙ apart (greatest_score us) (slice_index columns g) (unsigned_abs (score_of scores g)) (absolute_sum (later_scores scores columns (g + 1)))))
       where
         apart : (m c v s : ℕ) → m * (c * v + s) ≡ v * (m * c) + m * s
         apart m c v s = omega arith
@@ -151,8 +143,8 @@ module _ (us : List ℤ) (rows : List ℕ) (scores : List ℤ) (columns : List �
     keeps = λ g r x p before l c k. keeping g r x before l c p k;
     rises = λ g r x p before l c k. rising g r x before l c p;
     falls = λ g r x p before l c k. falling g r x before l c p;
-    low_end = λ r p l k. rw (later-end scores columns h.long, paired-none (in_order int_le (subjects us r))) (plus-zero (so_far p));
-    high_end = λ r p l k. rw (later-end scores columns h.long, paired-none (in_order int_le (subjects us r))) (plus-zero (so_far p));
+    low_end = λ r p l k. rw (later-end scores columns h.long, paired-none (in_order int_le (subjects us r))) (+ℤ_idr (so_far p));
+    high_end = λ r p l k. rw (later-end scores columns h.long, paired-none (in_order int_le (subjects us r))) (+ℤ_idr (so_far p));
   }
 
   first-partial : IsPartial us scores columns 0 rows (pos 0 ∷ [])

@@ -2,7 +2,7 @@
 use Rattle.std.proofs.Common.{◌≡◌, ℕ, zero, suc, ◌+◌, ◌*◌, ◌≤◌, List, [], ◌∷◌, ◌++◌, length, refl, sym, ◌∙◌, ap, arith}
 use Rattle.std.specs.Prelude.{ℤ, pos, ◌+ℤ◌, ◌*ℤ◌, ◌≤ℤ◌, int_le, nat_abs, unsigned_abs, replicate, reverse}
 use Rattle.std.specs.List.{sum}
-use Rattle.std.proofs.Math.Nat.{mul-le-mul, mul-le-mul_left}
+use Rattle.std.proofs.Math.Nat.{mul-le-mul, mul-le-mul_left, le_refl, mul-add, mul_comm}
 use Rattle.std.proofs.lemmas.Int.{ints, unsigned_abs-mul}
 use Rattle.std.proofs.lemmas.List.{reverse-append}
 use Rattle.std.proofs.lemmas.List.Sums.{sum_by-cons}
@@ -18,9 +18,6 @@ use Rattle.label_network.proofs.Absolute.{size-plus}
 use Rattle.label_network.proofs.Sorting.{sort_up}
 use Rattle.label_network.proofs.LeastPairing.{least_pairing_is, greatest_pairing_is}
 
-same : (n : ℕ) → n ≤ n
-same n = omega arith
-
 pub score-within : (us : List ℤ) (i : ℕ) → unsigned_abs (score_of us i) ≤ greatest_score us
 score-within [] i = omega arith
 score-within (u ∷ us) zero = omega arith
@@ -35,17 +32,9 @@ pub row-size : (us : List ℤ) (xs : List ℕ) (m : ℕ) → greatest_score us �
 row-size [] xs m h = omega arith
 row-size (u ∷ us) [] m h = omega arith
 row-size (u ∷ us) (x ∷ xs) m h =
-    let one : unsigned_abs (pos x *ℤ u) ≡ x * unsigned_abs u = unsigned_abs-mul (pos x) u in
     let two : x * unsigned_abs u ≤ x * m = mul-le-mul_left x (omega (arith, h)) in
-    let all : m * sum (x ∷ xs) ≡ m * x + m * sum xs = ap (λ n. m * n) (sum_by-cons (λ v. v) x xs) ∙ apart m x (sum xs) in
-    let turn : x * m ≡ m * x = turned x m in
-    omega (arith, one, two, all, turn, size-plus (pos x *ℤ u) (row_sum us xs), row-size us xs m (omega (arith, h)))
-  where
-    apart : (m x y : ℕ) → m * (x + y) ≡ m * x + m * y
-    apart m x y = omega arith
-
-    turned : (x m : ℕ) → x * m ≡ m * x
-    turned x m = omega arith
+    let all : m * sum (x ∷ xs) ≡ m * x + m * sum xs = ap (λ n. m * n) (sum_by-cons (λ v. v) x xs) ∙ mul-add m x (sum xs) in
+    omega (arith, (unsigned_abs-mul (pos x) u), two, all, (mul_comm x m), size-plus (pos x *ℤ u) (row_sum us xs), row-size us xs m (omega (arith, h)))
 
 -- the steps of ascending scores
 climbed : (u : ℤ) (us : List ℤ) (m : ℕ) → Climbs u us → unsigned_abs u ≤ m → greatest_score us ≤ m → (pos (reach u us) +ℤ u) ≤ℤ pos m
@@ -63,13 +52,8 @@ paired-size : (xs ys : List ℤ) (m : ℕ) → greatest_score xs ≤ m → unsig
 paired-size [] ys m h = omega arith
 paired-size (x ∷ xs) [] m h = omega arith
 paired-size (x ∷ xs) (y ∷ ys) m h =
-    let one : unsigned_abs (x *ℤ y) ≡ unsigned_abs x * unsigned_abs y = unsigned_abs-mul x y in
-    let two : unsigned_abs x * unsigned_abs y ≤ m * unsigned_abs y = mul-le-mul (omega (arith, h)) (same (unsigned_abs y)) in
-    let all : m * (unsigned_abs y + absolute_sum ys) ≡ m * unsigned_abs y + m * absolute_sum ys = apart m (unsigned_abs y) (absolute_sum ys) in
-    omega (arith, one, two, all, size-plus (x *ℤ y) (paired xs ys), paired-size xs ys m (omega (arith, h)))
-  where
-    apart : (m x y : ℕ) → m * (x + y) ≡ m * x + m * y
-    apart m x y = omega arith
+    let two : unsigned_abs x * unsigned_abs y ≤ m * unsigned_abs y = mul-le-mul (omega (arith, h)) (le_refl (unsigned_abs y)) in
+    omega (arith, (unsigned_abs-mul x y), two, (mul-add m (unsigned_abs y) (absolute_sum ys)), size-plus (x *ℤ y) (paired xs ys), paired-size xs ys m (omega (arith, h)))
 
 units-within : (c : ℕ) (s : ℤ) (xs : List ℤ) (m : ℕ) → unsigned_abs s ≤ m → greatest_score xs ≤ m → greatest_score (replicate c s ++ xs) ≤ m
 units-within zero s xs m h g = g

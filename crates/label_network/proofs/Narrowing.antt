@@ -1,5 +1,5 @@
 -- What each choice keeps, and what narrows along each choice, makes a measure.
-use Rattle.std.proofs.Common.{◌≡◌, ℕ, zero, suc, ◌+◌, ◌-◌, ◌<◌, ◌≤◌, List, [], ◌∷◌, length, get_or, drop, true, refl, sym, subst, arith, add-one, nat_le}
+use Rattle.std.proofs.Common.{◌≡◌, ℕ, zero, suc, ◌+◌, ◌-◌, ◌<◌, List, [], ◌∷◌, length, drop, true, refl, sym, subst, arith, add-one, nat_le}
 use Rattle.std.specs.Prelude.{ℤ, ◌≤ℤ◌, slice_index}
 use Rattle.std.specs.List.{sum, Contains}
 use Rattle.std.proofs.lemmas.Bool.{le-leb, leb-true}
@@ -19,10 +19,8 @@ minus-within [] (a ∷ x) s f h = absurd (cc f)
 minus-within (r ∷ rs) [] s f h = absurd (cc f)
 minus-within (r ∷ rs) (a ∷ x) [] f h = absurd (cc h)
 minus-within (r ∷ rs) (a ∷ x) (s ∷ ss) f h =
-    let one = first_and (nat_le a r) (fits x rs) f in
     let two = first_and (nat_le r s) (fits rs ss) h in
-    let most : r ≤ s = leb-true r s two.0 in
-    rw (le-leb (r - a) s (omega (arith, most)), minus-within rs x ss one.1 two.1) refl
+    rw (le-leb (r - a) s (omega (arith, (leb-true r s two.0))), minus-within rs x ss (first_and (nat_le a r) (fits x rs) f).1 two.1) refl
 
 pub fits-self : (r : List ℕ) → fits r r ≡ true
 fits-self [] = refl
@@ -50,9 +48,8 @@ module _ (columns rows : List ℕ) (level : sum columns ≡ sum rows) where
 
   pub left-next : (g : ℕ) (r x : List ℕ) → g < length columns → AreLeft columns rows g r → IsChoice (slice_index columns g) r x → AreLeft columns rows (g + 1) (minus r x)
   left-next g r x h l c =
-      let more : sum (drop g columns) ≡ get_or columns g 0 + sum (drop (g + 1) columns) = sum_by-drop_more (λ v. v) columns g 0 h in
       record {
-        whole = omega (arith, more, l.whole, c.whole, sum-minus r x c.fitting);
+        whole = omega (arith, (sum_by-drop_more (λ v. v) columns g 0 h), l.whole, c.whole, sum-minus r x c.fitting);
         within = minus-within r x rows c.fitting l.within;
       }
 

@@ -1,9 +1,8 @@
 -- A table's statistic is the same whichever order its rows are taken in.
-use Rattle.std.proofs.Common.{◌≡◌, ℕ, zero, suc, ◌+◌, ◌-◌, ◌*◌, List, [], ◌∷◌, length, get_or, map, true, refl, ◌∙◌, ap, sym, arith, nat_le, le-leb, ◌≤◌}
+use Rattle.std.proofs.Common.{◌≡◌, ℕ, zero, suc, ◌+◌, ◌-◌, ◌*◌, List, [], ◌∷◌, length, get_or, map, true, refl, ◌∙◌, ap, sym, arith, nat_le, le-leb}
 use Rattle.std.specs.Prelude.{ℤ, pos, negsuc, ◌+ℤ◌, ◌*ℤ◌}
 use Rattle.std.specs.List.{sum, sum_by, range_with_len}
 use Rattle.std.proofs.Math.IntN.{pos-*ℤ-pos}
-use Rattle.std.proofs.lemmas.Bool.{leb-true}
 use Rattle.std.proofs.lemmas.Int.{ints}
 use Rattle.std.proofs.lemmas.List.{ext_get_or}
 use Rattle.std.proofs.lemmas.List.FromFn.{get_or-map-range_with_len, length-map-range_with_len}
@@ -13,13 +12,7 @@ use Rattle.weights.proofs.Sized.{first_and}
 use Rattle.completion_bounds.proofs.Products.{distribute}
 use Rattle.label_network.specs.Linear.{row_sum, score_of}
 use Rattle.label_network.specs.LinearSteps.{picked, picked_scores}
-
-pub get-within : (r x : List ℕ) (i : ℕ) → fits x r ≡ true → get_or x i 0 ≤ get_or r i 0
-get-within [] [] i f = omega arith
-get-within [] (a ∷ x) i f = absurd (cc f)
-get-within (r ∷ rs) [] i f = absurd (cc f)
-get-within (r ∷ rs) (a ∷ x) zero f = leb-true a r (first_and (nat_le a r) (fits x rs) f).0
-get-within (r ∷ rs) (a ∷ x) (suc i) f = get-within rs x i (first_and (nat_le a r) (fits x rs) f).1
+use Rattle.label_network.proofs.Rows.{get-within}
 
 pub get-minus : (r x : List ℕ) (i : ℕ) → fits x r ≡ true → get_or (minus r x) i 0 ≡ get_or r i 0 - get_or x i 0
 get-minus [] [] i f = refl
@@ -76,8 +69,7 @@ in-parts : (us : List ℤ) (xs : List ℕ) → row_sum us xs +ℤ pos (weighed d
 in-parts [] xs = refl
 in-parts (u ∷ us) [] = refl
 in-parts (u ∷ us) (x ∷ xs) =
-    let here : (pos x *ℤ u) +ℤ pos (x * down u) ≡ pos (x * up u) = sym (ap (λ n. (pos x *ℤ u) +ℤ n) (pos-*ℤ-pos x (down u))) ∙ sym (distribute (pos x) u (pos (down u))) ∙ ap (λ n. pos x *ℤ n) (apart u) ∙ pos-*ℤ-pos x (up u) in
-    omega (arith, ints, here, in-parts us xs)
+    omega (arith, ints, (sym (ap (λ n. (pos x *ℤ u) +ℤ n) (pos-*ℤ-pos x (down u))) ∙ sym (distribute (pos x) u (pos (down u))) ∙ ap (λ n. pos x *ℤ n) (apart u) ∙ pos-*ℤ-pos x (up u)), in-parts us xs)
 
 weighed-picked : (f : ℤ → ℕ) (order : List ℕ) (us : List ℤ) (xs : List ℕ) → weighed f (picked_scores order us) (picked order xs) ≡ sum_by (λ i. get_or xs i 0 * f (score_of us i)) order
 weighed-picked f [] us xs = refl

@@ -93,11 +93,10 @@ width-next rows (suc i) later width h w size wide e f =
     let more : sum (drop i rows) ≡ get_or rows i 0 + sum (drop (i + 1) rows) = sum_by-drop_more (λ v. v) rows i 0 before in
     let rest : later ≡ sum (drop (i + 1) rows) = rw add-one w.rest in
     let here : size ≡ get_or rows i 0 = rw back at e in
-    let whole = sum_by-take-drop (λ v. v) rows i in
     rw back (record {
       within = omega (arith, before);
       some = omega (arith, w.some, f);
-      few = omega (arith, w.few, f, rest, more, whole);
+      few = omega (arith, w.few, f, rest, more, (sum_by-take-drop (λ v. v) rows i));
       rest = omega (arith, rest, here, more);
       each = λ j g l v. by j g l v (cases_lt i j);
     })
@@ -117,9 +116,8 @@ width-room rows zero later width h w = absurd (omega (arith, h))
 width-room rows (suc i) later width h w =
     let back : suc i - 1 ≡ i = omega arith in
     let before : i < length rows = omega (arith, w.within) in
-    let more : sum (drop i rows) ≡ get_or rows i 0 + sum (drop (i + 1) rows) = sum_by-drop_more (λ v. v) rows i 0 before in
     let rest : later ≡ sum (drop (i + 1) rows) = rw add-one w.rest in
-    rw back (omega (arith, rest, more, sum_by-take-drop (λ v. v) rows i))
+    rw back (omega (arith, rest, (sum_by-drop_more (λ v. v) rows i 0 before), sum_by-take-drop (λ v. v) rows i))
 
 -- a list that was written to its end
 pub written : {X : Type 0} (xs goal : List X) (i : ℕ) → length xs ≡ i → length goal ≡ i → take i xs ≡ take i goal → xs ≡ goal
@@ -139,7 +137,7 @@ sum-more xs i h = omega (arith, sum_by-take-drop (λ v. v) xs i, sum_by-take-dro
 pub sum-front : (xs : List ℕ) (i : ℕ) → sum (take i xs) ≤ sum xs
 sum-front xs i = omega (arith, sum_by-take-drop (λ v. v) xs i)
 
-any_default : (xs : List ℕ) (i d e : ℕ) → i < length xs → get_or xs i d ≡ get_or xs i e
+pub any_default : (xs : List ℕ) (i d e : ℕ) → i < length xs → get_or xs i d ≡ get_or xs i e
 any_default [] i d e h = absurd (omega (arith, h))
 any_default (x ∷ xs) zero d e h = refl
 any_default (x ∷ xs) (suc i) d e h = any_default xs i d e (omega (arith, h))

@@ -62,8 +62,7 @@ fewer-labellings (a ∷ x) [] f = absurd (cc f)
 fewer-labellings (a ∷ x) (b ∷ r) f =
     let both = first_and (nat_le a b) (fits x r) f in
     let less : sum x ≤ sum r = omega (arith, sum-minus r x both.1) in
-    let ways : binomial (a + sum x) a ≤ binomial (b + sum r) b = fewer-ways a b (sum x) (sum r) (leb-true a b both.0) less in
-    rw (number_of_labellings-cons a x, number_of_labellings-cons b r) (mul-le-mul ways (fewer-labellings x r both.1))
+    rw (number_of_labellings-cons a x, number_of_labellings-cons b r) (mul-le-mul (fewer-ways a b (sum x) (sum r) (leb-true a b both.0) less) (fewer-labellings x r both.1))
 
 binomial-one : binomial (1 + 0) 1 * 1 ≡ 1
 binomial-one = rw (binomial-all 1) refl

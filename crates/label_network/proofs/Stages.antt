@@ -1,5 +1,5 @@
 -- The later scores of one stage after another are no more than all of them.
-use Rattle.std.proofs.Common.{◌≡◌, ℕ, zero, suc, ◌+◌, ◌<◌, ◌≤◌, ◌^◌, List, [], ◌∷◌, ◌++◌, length, get_or, drop, arith}
+use Rattle.std.proofs.Common.{◌≡◌, ℕ, zero, suc, ◌+◌, ◌<◌, ◌≤◌, ◌^◌, List, [], ◌∷◌, ◌++◌, length, drop, arith}
 use Rattle.std.specs.Prelude.{ℤ, pos, replicate, slice_index, slice_index_or}
 use Rattle.std.specs.List.{sum}
 use Rattle.std.proofs.lemmas.List.Sums.{sum_by-take-drop, sum_by-drop_more}
@@ -24,14 +24,11 @@ module _ (scores : List ℤ) (columns : List ℕ) (e : length scores ≡ length 
 
   pub count-fits : (g before : ℕ) → g < length columns → before ≡ length (later_scores scores columns (g + 1)) → sum columns < 2 ^ 64 → before + slice_index columns g < 2 ^ 64
   count-fits g before h b few =
-      let more : sum (drop g columns) ≡ get_or columns g 0 + sum (drop (g + 1) columns) = sum_by-drop_more (λ v. v) columns g 0 h in
-      let all = sum_by-take-drop (λ v. v) columns g in
-      omega (arith, few, b, later-length scores columns (g + 1) e, more, all)
+      omega (arith, few, b, later-length scores columns (g + 1) e, (sum_by-drop_more (λ v. v) columns g 0 h), (sum_by-take-drop (λ v. v) columns g))
 
   pub count-next : (g before : ℕ) → g < length columns → before ≡ length (later_scores scores columns (g + 1)) → before + slice_index columns g ≡ length (later_scores scores columns g)
   count-next g before h b =
-      let more : sum (drop g columns) ≡ get_or columns g 0 + sum (drop (g + 1) columns) = sum_by-drop_more (λ v. v) columns g 0 h in
-      omega (arith, b, later-length scores columns (g + 1) e, later-length scores columns g e, more)
+      omega (arith, b, later-length scores columns (g + 1) e, later-length scores columns g e, (sum_by-drop_more (λ v. v) columns g 0 h))
 
   pub next-small : (g : ℕ) → g < length columns → absolute_sum (later_scores scores columns 0) < 2 ^ 127 → absolute_sum (replicate (slice_index columns g) (slice_index_or scores g (pos 0)) ++ later_scores scores columns (g + 1)) < 2 ^ 127
   next-small g h small = rw (← later-next scores columns g h e) (later-small g (2 ^ 127) small)

@@ -1,9 +1,15 @@
 -- Words for the bodies: the next choice, sizes in a room, and tables of binomials.
-use Rattle.std.specs.Prelude.{◌≡◌, ℕ, ◌+◌, ◌-◌, ◌*◌, ◌^◌, ◌<◌, ◌≤◌, ℤ, pos, nat_abs, List, [], ◌∷◌, length, drop, get_or, min}
+use Rattle.std.specs.Prelude.{◌≡◌, ℕ, ◌+◌, ◌-◌, ◌*◌, ◌^◌, ◌<◌, ◌≤◌, ℤ, pos, nat_abs, List, [], ◌∷◌, length, drop, get_or, min, slice_index, true}
 use Rattle.std.specs.List.{sum}
 use Rattle.weights.specs.Numbers.{binomial}
 use Rattle.weights.specs.declared.TheConstants.{MAX}
-use Rattle.label_network.specs.LabelRooms.{IsLabelled}
+use Rattle.weights.specs.Grouped.{choices, fits}
+use Rattle.weights.specs.Labellings.{number_of_labellings}
+use Rattle.stage_network.specs.Completions.{total_weight}
+use Rattle.room_network.specs.Plans.{alone}
+use Rattle.label_network.specs.ChoiceOrder.{later_choices}
+use Rattle.label_network.specs.LabelRooms.{IsLabelled, label_plan}
+use Rattle.label_network.specs.Meanings.{sizes_in}
 
 -- the first choice, which takes as little as it can from each row in turn
 abbrev pub least : ℕ → List ℕ → List ℕ
@@ -37,3 +43,29 @@ pub record AreBinomials (width long : ℕ) (table : List ℕ) : Type 0 where
 pub record AreLabels (columns rows : List ℕ) (width : ℕ) : Type 0 where
   pub sound : IsLabelled columns rows
   pub held : IsHeld width rows
+
+-- What is known of a room that is reached: its sizes, and that their labellings pass no limit.
+-- Where a column is still to come, they are enough for it, and the first choice is one.
+pub record RoomSeat (columns rows : List ℕ) (width g : ℕ) (room : List ℤ) : Type 0 where
+  pub long : length room ≡ length rows
+  pub few : length room ≤ 8
+  pub sizes : AreSizes room
+  pub small : sum (sizes_in room) < 2 ^ 64
+  pub held : IsHeld width (sizes_in room)
+  pub fits : number_of_labellings (sizes_in room) ≤ MAX
+  pub total : total_weight (alone (label_plan columns rows)) g room
+      ≡ number_of_labellings (sizes_in room)
+  pub enough : g < length columns → slice_index columns g ≤ sum (sizes_in room)
+  pub first : g < length columns
+      → choices (slice_index columns g) (sizes_in room)
+      ≡ least (slice_index columns g) (sizes_in room)
+      ∷ later_choices (slice_index columns g) (sizes_in room)
+      (least (slice_index columns g) (sizes_in room))
+
+-- and of a choice there
+pub record ChoiceSeat (columns : List ℕ) (width g : ℕ) (room : List ℤ) (c : List ℕ)
+    : Type 0 where
+  pub whole : slice_index columns g ≡ sum c
+  pub fitting : fits c (sizes_in room) ≡ true
+  pub held : IsHeld width c
+  pub small : number_of_labellings c ≤ MAX

@@ -4,7 +4,7 @@ ghost use Rattle.std.specs.List.{sum};
 ghost use Rattle.label_network.specs.Meanings.{sizes_in};
 ghost use Rattle.label_network.specs.LaterSums.{later_scores};
 ghost use Rattle.weights.specs.Numbers.{absolute_sum};
-ghost use Rattle.label_network.specs.LinearSteps.{picked, least_added, greatest_added, whole_reach, HasTails, ArePlaces};
+ghost use Rattle.label_network.specs.LinearSteps.{picked, least_added, greatest_added, AreAddable, ArePlaces};
 
 use crate::later_scores::LaterScores;
 use stage_network::Interval;
@@ -61,18 +61,9 @@ impl LaterScores {
         remaining: &[i128],
     ) -> Interval
         requires stage { stage ≤ length self.now.columns.items }
-        requires level { length rows.now ≡ length order.now }
-        requires places { ArePlaces order.now remaining.now }
-        requires whole { let later =
+        requires addable { let later =
             later_scores self.now.scores.items self.now.columns.items stage in
-            sum (picked order.now (sizes_in remaining.now)) ≡ length later }
-        requires tails { let later =
-            later_scores self.now.scores.items self.now.columns.items stage in
-            HasTails self.now.width (picked order.now (sizes_in remaining.now)) later }
-        requires steps { whole_reach rows.now < 2 ^ 127 }
-        requires small { let later =
-            later_scores self.now.scores.items self.now.columns.items stage in
-            whole_reach rows.now * absolute_sum later < 2 ^ 127 }
+            AreAddable rows.now order.now self.now.width remaining.now later }
         ensures low { let later =
             later_scores self.now.scores.items self.now.columns.items stage in
             result.low ≡ least_added rows.now (picked order.now (sizes_in remaining.now)) later }

@@ -1,7 +1,9 @@
 // The rooms of labels over columns.
-ghost use Rattle.std.specs.Prelude.{◌≡◌, IfOk};
-ghost use Rattle.label_network.specs.LabelRooms.{GivesLabellings, IsLabelled};
-ghost use Rattle.label_network.specs.LabelSteps.{AreLabels};
+ghost use Rattle.std.specs.Prelude.{◌≡◌, ◌<◌, length, slice_index, Contains, IfOk};
+ghost use Rattle.stage_network.specs.Network.{IsReached};
+ghost use Rattle.room_network.specs.Plans.{alone};
+ghost use Rattle.label_network.specs.LabelRooms.{GivesLabellings, IsLabelled, label_plan};
+ghost use Rattle.label_network.specs.LabelSteps.{AreLabels, ChoiceSeat, RoomSeat};
 
 use crate::binomials::Binomials;
 use crate::choice_order::{first_counts, next_counts};
@@ -46,6 +48,35 @@ impl LabelRooms {
     pub fn grouping_law(&self)
         ensures { GivesLabellings self.now.columns.items self.now.rows.items }
     {}
+
+    // What is known of a room that is reached. It does nothing.
+    #[inline(always)]
+    fn seat(&self, _stage: usize, _room: &[i128])
+        requires { let plan = label_plan self.now.columns.items self.now.rows.items in
+            IsReached (alone plan) _stage _room.now }
+        ensures { RoomSeat self.now.columns.items self.now.rows.items self.now.binomials.width
+            _stage _room.now }
+    {}
+
+    // And of a choice there.
+    #[inline(always)]
+    fn choice_seat(&self, _stage: usize, _room: &[i128], _choice: &[u64])
+        requires reached { let plan = label_plan self.now.columns.items self.now.rows.items in
+            IsReached (alone plan) _stage _room.now }
+        requires allowed { let plan = label_plan self.now.columns.items self.now.rows.items in
+            Contains (plan.floor.choices _stage _room.now) _choice.now }
+        ensures { ChoiceSeat self.now.columns.items self.now.binomials.width _stage _room.now
+            _choice.now }
+    {}
+
+    // How many subjects the column of a stage has.
+    #[inline(always)]
+    fn column(&self, stage: usize) -> u64
+        requires { stage < length self.now.columns.items }
+        ensures { result ≡ slice_index self.now.columns.items stage }
+    {
+        self.columns.as_slice()[stage]
+    }
 }
 
 impl Rooms for LabelRooms {
@@ -74,22 +105,27 @@ impl Rooms for LabelRooms {
 
     #[inline(always)]
     fn first_choice(&self, stage: usize, room: &[i128], choice: &mut [u64]) {
-        first_counts(self.columns[stage], room, choice);
+        self.seat(stage, room);
+        first_counts(self.column(stage), room, choice);
     }
 
     #[inline(always)]
     fn next_choice(&self, stage: usize, room: &[i128], choice: &mut [u64]) -> bool {
-        next_counts(self.columns[stage], room, choice)
+        self.seat(stage, room);
+        next_counts(self.column(stage), room, choice)
     }
 
     #[inline(always)]
     fn cross(&self, stage: usize, room: &[i128], choice: &[u64], next: &mut [i128]) -> u128 {
+        self.seat(stage, room);
+        self.choice_seat(stage, room, choice);
         take_away(room, choice, next);
-        weight_in(&self.binomials, self.columns[stage], choice)
+        weight_in(&self.binomials, self.column(stage), choice)
     }
 
     #[inline(always)]
-    fn rest(&self, _stage: usize, room: &[i128]) -> u128 {
+    fn rest(&self, stage: usize, room: &[i128]) -> u128 {
+        self.seat(stage, room);
         rest_in(&self.binomials, room)
     }
 }

@@ -1,5 +1,5 @@
 -- What each test of labellings has.
-use Rattle.std.proofs.Common.{◌≡◌, ◌≤◌, ℕ, List, Err, Some, None, inl, refl, sym, ◌∙◌, ap, subst, arith}
+use Rattle.std.proofs.Common.{◌≡◌, ◌≤◌, ℕ, List, cond, Err, Some, None, inl, refl, sym, ◌∙◌, ap, subst, arith}
 use Rattle.weights.specs.declared.wide.PrepareFault.{PrepareFault}
 use Rattle.weights.specs.declared.wide.PrepareFault.TheVariants.{TooWide, NoMemory}
 use Rattle.weights.specs.declared.wide.WideOf.TheVariants.{Total, Statistic}
@@ -7,17 +7,23 @@ use Rattle.weights.specs.declared.TheConstants.{MAX}
 use Rattle.std.specs.Prelude.{ℤ, Contains}
 use Rattle.weights.specs.declared.rules.Rule.TheVariants.{Far}
 use Rattle.weights.specs.declared.tails.Tail.{Tail}
-use Rattle.weights.specs.Conditional.{total}
+use Rattle.weights.specs.declared.tails.Tail.TheVariants.{Less, Greater, Two}
+use Rattle.std.specs.List.{count_by}
+use Rattle.weights.specs.Conditional.{is_extreme, numerator, total}
 use Rattle.weights.specs.Frames.{IsShown, RulesFit}
 use Rattle.weights.specs.Labellings.{labellings, number_of_labellings}
-use Rattle.weights.specs.Rules.{RuleFits}
+use Rattle.weights.specs.Rules.{RuleFits, passes, rule_of}
 use Rattle.weights.specs.Wide.{Prepares, too_wide}
 use Rattle.weights.proofs.Centred.{IsCentred, all-weigh, bound-wide, measured-is, not-wide, rule-fits, rules-fit, shown, total-wide}
 use Rattle.weights.proofs.FirstLabel.{number_of_labellings-positive}
-use Rattle.weights.proofs.Sums.{sum_by-one}
+use Rattle.weights.proofs.ByRule.{is_extreme-by_rule}
+use Rattle.weights.proofs.Chosen.{one_if}
+use Rattle.weights.proofs.Members.{IsLabelling, labelling_from}
+use Rattle.weights.proofs.Sums.{sum_by-filter, sum_by-one, sum_by-same_where}
+use Rattle.enumerate.proofs.JoinedMembers.{each-labelling}
 use Rattle.stage_network.specs.declared.verdicts.Judge.{Judge}
 use Rattle.stage_network.specs.Follows.{Follows}
-use Rattle.stage_network.specs.Judged.{JudgeFits, judge_of}
+use Rattle.stage_network.specs.Judged.{JudgeFits, judge_of, rule_in}
 use Rattle.stage_network.proofs.Following.{judge-fits}
 use Rattle.label_network.proofs.Endings.{labelling_value}
 use Rattle.label_network.specs.LabelNetwork.{label_network}
@@ -72,3 +78,25 @@ pub label-refused : {V : Type 0} (says : V → LabelTest) (value : V) (fault : P
 label-refused says value (TooWide Total) fits is = absurd is
 label-refused says value (TooWide Statistic) fits is = bound-wide (label_test (says value)) (total-of (says value)) fits is
 label-refused says value NoMemory fits is = tt
+
+-- where the statistic of each labelling is a value that is found otherwise, so are the numerators
+module _ (t : LabelTest) (value : List ℕ → ℤ) (same : (xs : List ℕ) → IsLabelling t.sizes xs → t.statistic xs ≡ value xs) where
+  pub numerator-by : (tail : Tail) → numerator (label_test t) tail ≡ count_by (λ xs. passes (rule_in (judge_of (label_test t)) tail) (value xs)) (labellings t.sizes)
+  numerator-by tail =
+      sum_by-filter (λ xs. 1) (is_extreme (label_test t) tail) (labellings t.sizes)
+      ∙ sum_by-same_where (IsLabelling t.sizes) (λ xs. cond (is_extreme (label_test t) tail xs) 1 0) (λ xs. cond (passes (rule_in (judge_of (label_test t)) tail) (value xs)) 1 0) each (labellings t.sizes) (each-labelling t.sizes)
+    where
+      same-rule : (tail : Tail) → rule_of (label_test t) tail ≡ rule_in (judge_of (label_test t)) tail
+      same-rule Less = refl
+      same-rule Greater = refl
+      same-rule Two = refl
+
+      each : (xs : List ℕ) → IsLabelling t.sizes xs → one_if (is_extreme (label_test t) tail xs) ≡ one_if (passes (rule_in (judge_of (label_test t)) tail) (value xs))
+      each xs l = ap one_if (
+          is_extreme-by_rule (label_test t) tail xs
+          ∙ ap (passes (rule_of (label_test t) tail)) (measured-is (label_test t) refl tail xs ∙ same xs l)
+          ∙ ap (λ rule. passes rule (value xs)) (same-rule tail)
+          )
+
+  pub fit-by : (judge : Judge) → judge ≡ judge_of (label_test t) → IsWithin t → (xs : List ℕ) → Contains (labellings t.sizes) xs → JudgeFits judge (value xs)
+  fit-by judge e within xs c = label-judge t within judge e (value xs) (subst (RuleFits (Far t.factor t.centre 0)) (same xs (labelling_from t.sizes xs c)) (within.fits xs c))

@@ -1,6 +1,8 @@
 // A test of labellings that can be answered.
 ghost use Rattle.std.specs.Prelude.{◌≡◌};
+ghost use Rattle.weights.specs.Frames.{IsFrameOf};
 ghost use Rattle.weights.specs.Labellings.{number_of_labellings};
+ghost use Rattle.labelled.specs.LabelTests.{label_test};
 
 use crate::statistic::LabelStatistic;
 use enumerate::{Plain, first_labelling, next_labelling};
@@ -53,6 +55,14 @@ impl<S: LabelStatistic> Labelled<S> {
             total,
             two: Rule::far(factor, centre, value),
         };
+        Labelled { statistic, frame }
+    }
+
+    /// The test of a statistic, of which this is to be said.
+    pub fn framed(statistic: S, frame: Frame) -> Labelled<S>
+        requires { IsFrameOf (label_test (S.says statistic)) frame }
+        ensures { result ≡ statistic }
+    {
         Labelled { statistic, frame }
     }
 }

@@ -1,5 +1,4 @@
 mod MarkSums
-mod Different
 mod MarkNetwork
 mod FittingSamples
 mod Vectors

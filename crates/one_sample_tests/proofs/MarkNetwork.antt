@@ -26,7 +26,7 @@ use Rattle.stage_network.proofs.Bridge.{choices-before}
 use Rattle.stage_network.proofs.Steps.{passing, passing-step}
 use Rattle.one_sample_tests.specs.SignNetwork.{choices_from, group_at, mark_addends}
 use Rattle.one_sample_tests.specs.SampleSteps.{AreStages, sizes_in}
-use Rattle.one_sample_tests.proofs.Different.{choices-different}
+use Rattle.stage_network.proofs.Ranges.{range-different}
 use Rattle.one_sample_tests.proofs.MarkSums.{all_plus, binomial-small, by_plus, over-same, over_marks, subjects_of}
 
 drop-head : (g : ℕ) (groups : List Tie) (t : Tie) (ts : List Tie) → drop g groups ≡ t ∷ ts → (group_at groups g ≡ t) × (drop (g + 1) groups ≡ ts)
@@ -169,7 +169,7 @@ module _ (groups : List Tie) (judge : Judge) where
       slots_some = omega arith;
       slots_few = omega arith;
       some_choice = λ g h e. no-choice ((group_at groups g).count) e;
-      different = λ g h. choices-different 0 ((group_at groups g).count + 1);
+      different = λ g h. range-different 0 ((group_at groups g).count + 1);
       weighty = λ g c h m. binomial-positive (group_at groups g).count (slice_index c 0) (choice-within g c m);
       fits = omega (arith, total-from groups 0 refl, total);
       between = λ g h. all_weaker (λ c. slice_index c 0 < 0 + ((group_at groups g).count + 1)) (AddsBetween a g) (λ c l. adds-between g c (omega (arith, l))) (choices_from 0 ((group_at groups g).count + 1)) (choice-one 0 ((group_at groups g).count + 1));

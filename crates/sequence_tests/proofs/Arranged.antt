@@ -1,6 +1,6 @@
 -- Counts moved behind the others where none of some sizes remain: what choices, weights and pairs
 -- of the sizes are of the sizes without the zeros.
-use Rattle.std.proofs.Common.{◌≡◌, ℕ, zero, suc, ◌+◌, ◌-◌, ◌*◌, ◌≤◌, List, [], ◌∷◌, ◌++◌, map, length, min, Bool, true, false, cond, refl, sym, ◌∙◌, ap, arith, nat_eq, nat_le, length-append, append-nil, append_assoc}
+use Rattle.std.proofs.Common.{◌≡◌, ℕ, zero, suc, ◌+◌, ◌-◌, ◌*◌, ◌≤◌, List, [], ◌∷◌, ◌++◌, map, length, min, Bool, true, false, cond, refl, sym, ◌∙◌, ap, arith, nat_eq, nat_le, length-append, append-nil, append_assoc, one-mul}
 use Rattle.std.specs.Prelude.{replicate}
 use Rattle.std.specs.List.{flat_map, sum, range_with_len}
 use Rattle.std.proofs.lemmas.List.{map-append, replicate-append-replicate}
@@ -134,10 +134,7 @@ minus-arranged (suc r ∷ rs) (b ∷ s) (a ∷ x) e f = ap (λ zs. (b - a) ∷ z
 
 pub labellings-some : (xs : List ℕ) → number_of_labellings (some xs) ≡ number_of_labellings xs
 labellings-some [] = refl
-labellings-some (zero ∷ xs) = labellings-some xs ∙ sym (number_of_labellings-cons 0 xs ∙ ap (λ b. b * number_of_labellings xs) (binomial-zero (0 + sum xs)) ∙ once (number_of_labellings xs))
-  where
-    once : (n : ℕ) → 1 * n ≡ n
-    once n = omega arith
+labellings-some (zero ∷ xs) = labellings-some xs ∙ sym (number_of_labellings-cons 0 xs ∙ ap (λ b. b * number_of_labellings xs) (binomial-zero (0 + sum xs)) ∙ one-mul (number_of_labellings xs))
 labellings-some (suc c ∷ xs) = number_of_labellings-cons (suc c) (some xs) ∙ ap (λ s. binomial (suc c + s) (suc c) * number_of_labellings (some xs)) (sum-some xs) ∙ ap (λ n. binomial (suc c + sum xs) (suc c) * n) (labellings-some xs) ∙ sym (number_of_labellings-cons (suc c) xs)
 
 pub labellings-arranged : (r x : List ℕ) → fits x r ≡ true → number_of_labellings (arranged r x) ≡ number_of_labellings x
@@ -165,10 +162,7 @@ rises-arranged (zero ∷ rs) (zero ∷ x) (zero ∷ y) e g f h =
     let two : fits y rs ≡ true = (first_and (nat_le 0 0) (fits y rs) h).1 in
     rises-end (arranged rs x) (arranged rs y) (length-arranged rs x (omega (arith, e)) ∙ sym (length-arranged rs y (omega (arith, g))))
     ∙ rises-arranged rs x y (omega (arith, e)) (omega (arith, g)) one two
-    ∙ sym (none (sum y) (rises x y))
-  where
-    none : (s n : ℕ) → 0 * s + n ≡ n
-    none s n = omega arith
+    ∙ omega arith
 rises-arranged (suc r ∷ rs) (a ∷ x) (b ∷ y) e g f h =
     let one : fits x rs ≡ true = (first_and (nat_le a (suc r)) (fits x rs) f).1 in
     let two : fits y rs ≡ true = (first_and (nat_le b (suc r)) (fits y rs) h).1 in

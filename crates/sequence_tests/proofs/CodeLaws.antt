@@ -67,12 +67,9 @@ last-within (suc c ∷ xs) =
 fewer-units : (c s m : ℕ) → m < 2 ^ s → 2 ^ c * (1 + 2 * m) < 2 ^ (suc c + s)
 fewer-units c s m h =
     let most : 2 ^ c * (2 + 2 * m) ≤ 2 ^ c * (2 * 2 ^ s) = mul-le-mul_left (2 ^ c) (omega (arith, h)) in
-    let whole : 2 ^ (suc c + s) ≡ 2 ^ c * (2 * 2 ^ s) = pow-add 2 (suc c) s ∙ rw (pow-succ' 2 c) (turned (2 ^ c) (2 ^ s)) in
+    let whole : 2 ^ (suc c + s) ≡ 2 ^ c * (2 * 2 ^ s) = pow-add 2 (suc c) s ∙ rw (pow-succ' 2 c) (omega arith) in
     let some_bit : 0 < 2 ^ c = pow_pos c in
     rw whole (omega (arith, most, some_bit))
-  where
-    turned : (a b : ℕ) → 2 * a * b ≡ a * (2 * b)
-    turned a b = omega arith
 
 marks-below : (xs : List ℕ) → marks xs < 2 ^ sum xs
 marks-below [] = omega arith
@@ -90,29 +87,20 @@ unfolding count_trailing_zeros
 trailing c zero z h = absurd (omega (arith, h))
 trailing zero (suc k) z h = let last : 2 ^ 0 * (1 + 2 * z) % 2 ≡ 1 = omega arith in rw last refl
 trailing (suc c) (suc k) z h =
-    let bits : 2 ^ suc c * (1 + 2 * z) ≡ 2 * (2 ^ c * (1 + 2 * z)) = rw (pow-succ' 2 c) (moved (2 ^ c) (1 + 2 * z)) in
+    let bits : 2 ^ suc c * (1 + 2 * z) ≡ 2 * (2 ^ c * (1 + 2 * z)) = rw (pow-succ' 2 c) (omega arith) in
     let last : 2 ^ suc c * (1 + 2 * z) % 2 ≡ 0 = omega (arith, bits) in
     let front : 2 ^ suc c * (1 + 2 * z) / 2 ≡ 2 ^ c * (1 + 2 * z) = omega (arith, bits) in
     rw (last, front, trailing c k z (omega (arith, h))) refl
-  where
-    moved : (a b : ℕ) → 2 * a * b ≡ 2 * (a * b)
-    moved a b = omega arith
 
 marked-some : (c z : ℕ) → 0 < 2 ^ c * (1 + 2 * z)
-marked-some c z = some (2 ^ c) z (pow_pos c)
-  where
-    some : (a z : ℕ) → 0 < a → 0 < a * (1 + 2 * z)
-    some a z h = omega (arith, h)
+marked-some c z = omega (arith, pow_pos c)
 
 counts-marked : (m c z : ℕ) → c < 128 → counts_in (suc m) (2 ^ c * (1 + 2 * z)) ≡ suc c ∷ counts_in m z
 counts-marked m c z h =
     let bits : ℕ = 2 ^ c * (1 + 2 * z) in
     let first : first_count bits ≡ suc c = rw (ne_eqb bits 0 (λ e. omega (arith, e, marked-some c z)), trailing c 128 z h) (add-one c) in
-    let later : later_bits bits ≡ z = rw (trailing c 128 z h, mul-div_cancel_left (1 + 2 * z) (pow_pos c)) (half z) in
+    let later : later_bits bits ≡ z = rw (trailing c 128 z h, mul-div_cancel_left (1 + 2 * z) (pow_pos c)) (omega arith) in
     rw (first, later) refl
-  where
-    half : (z : ℕ) → (1 + 2 * z) / 2 ≡ z
-    half z = omega arith
 
 counts-none : (m : ℕ) → counts_in m 0 ≡ replicate m 0
 counts-none zero = refl
@@ -139,30 +127,21 @@ read-code m xs long few = ap (counts_in m) (code-marks xs) ∙ read-marks m xs (
 pub marks-at : (xs : List ℕ) (i : ℕ) → i < length xs → with_count (get_or xs i 0) (marks (drop (i + 1) xs)) ≡ marks (drop i xs)
 marks-at xs i h = let split : drop i xs ≡ get_or xs i 0 ∷ drop (i + 1) xs = rw add-one (drop-cons xs i 0 h) in sym (ap marks split)
 
-between : (a b c : ℕ) → a < b → b ≤ c → a < c
-between a b c h l = omega (arith, h, l)
-
-pub below : (a b c : ℕ) → a ≤ b → b < c → a < c
-below a b c h l = omega (arith, h, l)
-
 pub marks-small : (xs : List ℕ) (i : ℕ) → sum xs ≤ 120 → marks (drop i xs) < 2 ^ 120
 marks-small xs i h =
     let part : sum (drop i xs) ≤ 120 = omega (arith, h, sum_by-take-drop (λ v. v) xs i) in
     let most : 2 ^ sum (drop i xs) ≤ 2 ^ 120 = pow-le-pow_right (omega arith) part in
-    between (marks (drop i xs)) (2 ^ sum (drop i xs)) (2 ^ 120) (marks-below (drop i xs)) most
+    omega (arith, marks-below (drop i xs), most)
 
 pub code-small : (xs : List ℕ) → sum xs ≤ 120 → code xs < 2 ^ 120
-code-small xs h = below (code xs) (marks xs) (2 ^ 120) (omega (arith, code-marks xs)) (marks-small xs 0 h)
+code-small xs h = omega (arith, code-marks xs, marks-small xs 0 h)
 
 pub last-small : (units : ℕ) → units ≤ 120 → last_mark units < 2 ^ 120
 last-small zero h = lit≤ tt
 last-small (suc n) h =
     let few : n ≤ 119 = omega (arith, h) in
     let most : 2 ^ n ≤ 2 ^ 119 = pow-le-pow_right (omega arith) few in
-    half (2 ^ n) most
-  where
-    half : (a : ℕ) → a ≤ 2 ^ 119 → a < 2 ^ 120
-    half a h = omega (arith, h)
+    omega (arith, most)
 
 -- one count after another is read
 pub read-next : (m i bits : ℕ) (counts goal : List ℕ) → i < m → length counts ≡ m → take i counts ++ counts_in (m - i) bits ≡ goal → take (i + 1) (set counts i (first_count bits)) ++ counts_in (m - (i + 1)) (later_bits bits) ≡ goal

@@ -1,5 +1,5 @@
 -- Pairs of subjects counted one by one, and by how often each second value occurs.
-use Rattle.std.proofs.Common.{◌≡◌, ℕ, zero, suc, ◌+◌, ◌*◌, ◌<◌, ◌≤◌, List, [], ◌∷◌, map, cond, refl, sym, ◌∙◌, ap, arith, nat_eq, nat_le, le-leb, inl, inr}
+use Rattle.std.proofs.Common.{◌≡◌, ℕ, zero, suc, ◌+◌, ◌*◌, ◌<◌, List, [], ◌∷◌, map, cond, refl, sym, ◌∙◌, ap, arith, mul-one, nat_eq, nat_le, le-leb, inl, inr}
 use Rattle.std.specs.List.{sum, sum_by, AllByRecursion, range_with_len}
 use Rattle.std.proofs.lemmas.Bool.{lt-ltb, le-ltb}
 use Rattle.std.proofs.lemmas.Bool.Decides.{eqb_tells, leb_tells}
@@ -18,24 +18,12 @@ crossed f xs ys = sum_by (λ x. sum_by (λ y. f x y) ys) xs
 -- what is added where a label is at least s: the one of s itself, and those above
 at-least : (s x : ℕ) (h : ℕ → ℕ) → cond (nat_le s x) (h x) 0 ≡ cond (nat_eq x s) 1 0 * h s + cond (nat_le (s + 1) x) (h x) 0
 at-least s x h = elim (eqb_tells x s) [
-  | inl e ↦ rw (e.0, e.1, le-leb s s (omega arith), lt-leb (s + 1) s (omega arith)) (once (h s))
+  | inl e ↦ rw (e.0, e.1, le-leb s s (omega arith), lt-leb (s + 1) s (omega arith)) (omega arith)
   | inr e ↦ elim (leb_tells s x) [
-    | inl l ↦ rw (e.0, l.0, le-leb (s + 1) x (apart s x l.1 e.1)) (none (h s) (h x))
-    | inr l ↦ rw (e.0, l.0, lt-leb (s + 1) x (omega (arith, l.1))) (none (h s) 0)
+    | inl l ↦ rw (e.0, l.0, le-leb (s + 1) x (omega (arith, l.1, e.1))) (omega arith)
+    | inr l ↦ rw (e.0, l.0, lt-leb (s + 1) x (omega (arith, l.1))) (omega arith)
   ]
 ]
-  where
-    once : (n : ℕ) → n ≡ 1 * n + 0
-    once n = omega arith
-
-    none : (n m : ℕ) → m ≡ 0 * n + m
-    none n m = omega arith
-
-    apart : (s x : ℕ) → s ≤ x → (x ≡ s → ⊥) → s + 1 ≤ x
-    apart s x l e = elim (leb_tells (s + 1) x) [
-      | inl m ↦ m.1
-      | inr m ↦ absurd (e (omega (arith, l, m.1)))
-    ]
 
 none-below : (s : ℕ) (h : ℕ → ℕ) (xs : List ℕ) → AllByRecursion (λ x. x < s + 0) xs → sum_by (λ x. cond (nat_le s x) (h x) 0) xs ≡ 0
 none-below s h xs a =
@@ -58,11 +46,8 @@ counted-from zero s xs a = sym (none-below s (λ x. 1) xs a)
 counted-from (suc n) s xs a =
     sum-first (count_of s xs) (map (λ i. count_of i xs) (range_with_len (s + 1) n))
     ∙ ap (λ m. count_of s xs + m) (counted-from n (s + 1) xs (below-next s n xs a))
-    ∙ ap (λ m. m + sum_by (λ x. cond (nat_le (s + 1) x) 1 0) xs) (sym (all (count_of s xs)))
+    ∙ ap (λ m. m + sum_by (λ x. cond (nat_le (s + 1) x) 1 0) xs) (sym (mul-one (count_of s xs)))
     ∙ sym (split s (λ x. 1) xs)
-  where
-    all : (m : ℕ) → m * 1 ≡ m
-    all m = omega arith
 
 less-is : (x y : ℕ) → one_where_less x y ≡ cond (nat_le (x + 1) y) 1 0
 less-is x y = elim (leb_tells (x + 1) y) [

@@ -28,24 +28,12 @@ use Rattle.sequence_tests.proofs.RunWriting.{written}
 
 -- ---- the numbers of few rows
 
-product-few : (a b : ℕ) → a + b ≤ 10000 → a * b ≤ 100000000
-product-few a b h =
+pub centre-few : (a b : ℕ) → a + b ≤ 10000 → (a + b) + 2 * (a * b) ≤ 200010000
+centre-few a b h =
     let one : a ≤ 10000 = omega (arith, h) in
     let two : b ≤ 10000 = omega (arith, h) in
     let most : a * b ≤ 10000 * 10000 = mul-le-mul one two in
-    omega (arith, most)
-
-pub centre-few : (a b : ℕ) → a + b ≤ 10000 → (a + b) + 2 * (a * b) ≤ 200010000
-centre-few a b h = omega (arith, h, product-few a b h)
-
--- a number of runs of few rows
-pub count-fits : (rows centre n : ℕ) → rows ≤ 10000 → centre ≤ 200010000 → n ≤ 40000 → RuleFits (Far rows (pos centre) 0) (pos n)
-count-fits rows centre n few near h =
-    let most : rows * n ≤ 10000 * 40000 = mul-le-mul few h in
-    far_natural-fits rows centre n (omega (arith, few)) (omega (arith, near)) (omega (arith, most))
-
-small-bound : (n : ℕ) → n ≤ 10000 → 2 * (n * n) ≤ MAX
-small-bound n h = let most : n * n ≤ 10000 * 10000 = mul-le-mul h h in omega (arith, most)
+    omega (arith, h, most)
 
 -- ---- of a sequence
 
@@ -56,9 +44,9 @@ module _ (sequence : Sequence) where
   pub labels-below : All (λ label. label < 2) sequence.members
   labels-below = subst (λ k. All (λ label. label < k) sequence.members) sequence.two sequence.labels_exist
 
-  pub are-runs : (sizes : List ℕ) → sizes ≡ sequence.sizes → number_of_labellings sequence.sizes ≤ MAX → AreRuns (sequence_data_of sequence) sizes
-  are-runs sizes e fits = record {
-    sizes_are = e ∙ sizes-are;
+  pub are-runs : number_of_labellings sequence.sizes ≤ MAX → AreRuns (sequence_data_of sequence) sequence.sizes
+  are-runs fits = record {
+    sizes_are = sizes-are;
     labels = labels-below;
     few = sequence.few_enough;
     total_fits = subst (λ ns. number_of_labellings ns ≤ MAX) sizes-are fits;
@@ -78,13 +66,13 @@ module _ (s : SequenceData) (sizes : List ℕ) (r : AreRuns s sizes) where
   rows-few = omega (arith, rows-are, r.few)
 
   pub bound-fits : (runs_says s).bound ≤ MAX
-  bound-fits = small-bound (length s.members) r.few
+  bound-fits = omega (arith, mul-le-mul r.few r.few)
 
   centre-near : length s.members + 2 * (rows_with s 0 * rows_with s 1) ≤ 200010000
   centre-near = subst (λ n. n + 2 * (rows_with s 0 * rows_with s 1) ≤ 200010000) rows-are (centre-few (rows_with s 0) (rows_with s 1) rows-few)
 
   runs-fit : (n : ℕ) → n ≤ 40000 → RuleFits (Far (length s.members) (pos (length s.members + 2 * (rows_with s 0 * rows_with s 1))) 0) (pos n)
-  runs-fit n h = count-fits (length s.members) (length s.members + 2 * (rows_with s 0 * rows_with s 1)) n r.few centre-near h
+  runs-fit n h = far_natural-fits (length s.members) (length s.members + 2 * (rows_with s 0 * rows_with s 1)) n (omega (arith, r.few)) (omega (arith, centre-near)) (omega (arith, mul-le-mul r.few h))
 
   member-long : (xs : List ℕ) → IsLabelling (row_counts s) xs → length xs ≡ rows_with s 0 + rows_with s 1
   member-long xs l = l.over.long ∙ sum-two (rows_with s 0) (rows_with s 1)

@@ -1,5 +1,5 @@
 -- What holds of a test of Kendall's K whose total passes no limit.
-use Rattle.std.proofs.Common.{◌≡◌, ℕ, ◌*◌, ◌<◌, ◌≤◌, List, [], length, inl, refl, sym, ◌∙◌, ap, subst, arith, lit≤}
+use Rattle.std.proofs.Common.{◌≡◌, ℕ, ◌<◌, ◌≤◌, List, [], length, inl, refl, sym, ◌∙◌, ap, subst, arith, lit≤}
 use Rattle.std.specs.Prelude.{ℤ, pos, unsigned_abs}
 use Rattle.std.specs.List.{All, AllByRecursion, sum}
 use Rattle.std.proofs.Math.Nat.{mul-le-mul}
@@ -25,7 +25,6 @@ use Rattle.stage_network.specs.Follows.{Follows}
 use Rattle.stage_network.specs.Judged.{judge_of}
 use Rattle.stage_network.specs.declared.verdicts.Judge.{Judge}
 use Rattle.room_network.proofs.RoomFollows.{room_follows}
-use Rattle.room_network.proofs.RoomKeys.{KeepsWidth}
 use Rattle.label_network.specs.LabelRooms.{label_weight}
 use Rattle.labelled.specs.LabelTests.{IsSound, IsWithin}
 use Rattle.labelled.proofs.LabelLaws.{label-judge}
@@ -36,7 +35,6 @@ use Rattle.pooled_columns.proofs.TieColumns.{grouped}
 use Rattle.weights.specs.Grouped.{columns_of}
 use Rattle.sequence_tests.specs.Kendall.{kendall_statistic, place_among, places_of, twin_says, twin_subjects, twin_test}
 use Rattle.sequence_tests.specs.KendallNetwork.{twin_meaning, twin_stages}
-use Rattle.sequence_tests.specs.KendallRooms.{kendall_floor}
 use Rattle.sequence_tests.specs.KendallSteps.{AreTwins, IsKendall}
 use Rattle.sequence_tests.proofs.KendallNarrows.{kendall_measure}
 use Rattle.sequence_tests.proofs.KendallPlans.{moved, twins_give}
@@ -46,12 +44,6 @@ use Rattle.sequence_tests.proofs.Places.{groups-few, places-below, places-counte
 
 pub value-fits : (v : ℤ) → unsigned_abs v ≤ 14400 → RuleFits (Far 1 (pos 0) 0) v
 value-fits v h = far-fits 1 (pos 0) v (lit≤ tt) (omega (arith, h))
-
-small-square : (n : ℕ) → n ≤ 120 → n * n ≤ MAX
-small-square n h = let most = mul-le-mul h h in omega (arith, most)
-
-width-kept : (columns rows : List ℕ) → KeepsWidth (kendall_floor columns rows)
-width-kept columns rows = record { first_long = refl; next_long = λ g room c e. refl }
 
 module _ (twins : TwinData) where
   abbrev firsts : List ℤ
@@ -101,7 +93,7 @@ module _ (twins : TwinData) where
     }
 
     pub bound-fits : (twin_says twins).bound ≤ MAX
-    bound-fits = small-square (length firsts) firsts-few
+    bound-fits = omega (arith, mul-le-mul firsts-few firsts-few)
 
     module _ (fits : number_of_labellings (column_sizes twins.second) ≤ MAX) where
       within : IsWithin (twin_says twins)
@@ -130,7 +122,7 @@ module _ (twins : TwinData) where
 
       follows : (tail : Tail) → Follows (twin_test twins) tail (twin_stages twins)
       follows tail =
-          room_follows (twin_meaning twins) label_weight (width-kept (column_sizes firsts) rows) (kendall_measure (column_sizes firsts) rows (judge_of (twin_test twins)) (are-twins fits)) (twin_test twins) tail (λ xs. moved rows (columns_of (length rows) (column_sizes firsts) xs)) (record {
+          room_follows (twin_meaning twins) label_weight (record { first_long = refl; next_long = λ g room c e. refl }) (kendall_measure (column_sizes firsts) rows (judge_of (twin_test twins)) (are-twins fits)) (twin_test twins) tail (λ xs. moved rows (columns_of (length rows) (column_sizes firsts) xs)) (record {
             judge_is = refl;
             gives = twins_give (column_sizes firsts) rows (are-twins fits);
             values = λ xs o.

@@ -9,7 +9,6 @@ use Rattle.std.proofs.lemmas.List.Sums.{sum_by-drop_more}
 use Rattle.weights.specs.Grouped.{minus}
 use Rattle.weights.proofs.ChoiceLists.{IsChoice}
 use Rattle.weights.proofs.Sized.{sum-minus}
-use Rattle.weights.specs.declared.TheConstants.{MAX}
 use Rattle.stage_network.specs.Judged.{JudgeFits}
 use Rattle.stage_network.specs.Network.{IsReached}
 use Rattle.stage_network.specs.declared.verdicts.Judge.{Judge}
@@ -17,7 +16,7 @@ use Rattle.room_network.specs.Meanings.{AreReached, IsMeasure}
 use Rattle.room_network.specs.Plans.{alone}
 use Rattle.room_network.specs.Numbers.{IsNumber, IsOutcome, so_far}
 use Rattle.room_network.specs.declared.numbers.Operation.TheVariants.{Sum}
-use Rattle.sequence_tests.specs.KendallNetwork.{added, kendall_meaning, kendall_numbers, open_pairs, pairs_among, rises, turn}
+use Rattle.sequence_tests.specs.KendallNetwork.{added, kendall_meaning, kendall_numbers, open_pairs, rises, turn}
 use Rattle.sequence_tests.specs.KendallRooms.{counts_left, kendall_floor, kendall_plan}
 use Rattle.sequence_tests.specs.KendallSteps.{AreTwins, IsKendall}
 use Rattle.sequence_tests.proofs.CodeLaws.{sum-first}
@@ -29,10 +28,7 @@ rises-most [] [] = omega arith
 rises-most [] (b ∷ y) = omega arith
 rises-most (a ∷ x) [] = omega arith
 rises-most (a ∷ x) (b ∷ y) =
-    rw (sum-first a x, sum-first b y) (four a b (sum x) (sum y) (rises x y) (rises y x) (rises-most x y))
-  where
-    four : (a b s t u v : ℕ) → u + v ≤ s * t → (a * t + u) + (b * s + v) ≤ (a + s) * (b + t)
-    four a b s t u v h = omega (arith, h)
+    rw (sum-first a x, sum-first b y) (omega (arith, rises-most x y))
 
 turn-low : (x y : List ℕ) → (pos 0 -ℤ pos (sum x * sum y)) ≤ℤ turn x y
 turn-low x y = omega (arith, ints, rises-most x y)
@@ -40,20 +36,13 @@ turn-low x y = omega (arith, ints, rises-most x y)
 turn-high : (x y : List ℕ) → turn x y ≤ℤ pos (sum x * sum y)
 turn-high x y = omega (arith, ints, rises-most x y)
 
-pub pairs-few : (cs : List ℕ) → pairs_among cs ≤ sum cs * sum cs
-pairs-few [] = omega arith
-pairs-few (c ∷ cs) = rw (sum-first c cs) (more c (sum cs) (pairs_among cs) (pairs-few cs))
-  where
-    more : (c s n : ℕ) → n ≤ s * s → c * s + n ≤ (c + s) * (c + s)
-    more c s n h = omega (arith, h)
-
-pub all-pairs : (cs : List ℕ) → sum cs ≤ 120 → pairs_among cs ≤ 14400
-all-pairs cs h = omega (arith, pairs-few cs, mul-le-mul h h)
+all-pairs : (cs : List ℕ) → sum cs ≤ 120 → rises cs cs ≤ 14400
+all-pairs cs h = omega (arith, rises-most cs cs, mul-le-mul h h)
 
 open-next : (columns : List ℕ) (g : ℕ) → g < length columns → open_pairs columns g ≡ slice_index columns g * sum (drop (g + 1) columns) + open_pairs columns (g + 1)
 open-next columns g h =
     let split : drop g columns ≡ get_or columns g 0 ∷ drop (g + 1) columns = rw add-one (drop-cons columns g 0 h) in
-    ap pairs_among split
+    ap (λ cs. rises cs cs) split
 
 open-end : (columns : List ℕ) (g : ℕ) → length columns ≤ g → open_pairs columns g ≡ 0
 open-end columns g h = rw (drop_of_length-le columns {i = g} h) refl
@@ -76,10 +65,7 @@ module _ (columns rows : List ℕ) (judge : Judge) where
     chosen = choice columns rows a g room r c o
 
     pub turn-few : unsigned_abs (added columns (length rows) g room c) ≤ 14400
-    turn-few = bound (turn c (minus left c)) (sum c * sum (minus left c)) (turn-low c (minus left c)) (turn-high c (minus left c)) (mul-le-mul (choice-few columns rows a g room r c o) (after-few columns rows a g room r c o))
-      where
-        bound : (t : ℤ) (m : ℕ) → (pos 0 -ℤ pos m) ≤ℤ t → t ≤ℤ pos m → m ≤ 120 * 120 → unsigned_abs t ≤ 14400
-        bound t m l u e = omega (arith, ints, l, u, e)
+    turn-few = omega (arith, ints, turn-low c (minus left c), turn-high c (minus left c), mul-le-mul (choice-few columns rows a g room r c o) (after-few columns rows a g room r c o))
 
     placed : sum c * sum (minus left c) ≡ slice_index columns g * sum (drop (g + 1) columns)
     placed =
@@ -91,28 +77,16 @@ module _ (columns rows : List ℕ) (judge : Judge) where
     narrower = rw placed (open-next columns g before)
 
     pub rising : (s : ℤ) → (s +ℤ (pos 0 -ℤ pos (open_pairs columns g))) ≤ℤ ((s +ℤ added columns (length rows) g room c) +ℤ (pos 0 -ℤ pos (open_pairs columns (g + 1))))
-    rising s = low s (turn c (minus left c)) (sum c * sum (minus left c)) (open_pairs columns g) (open_pairs columns (g + 1)) narrower (turn-low c (minus left c))
-      where
-        low : (s t : ℤ) (m e f : ℕ) → e ≡ m + f → (pos 0 -ℤ pos m) ≤ℤ t → (s +ℤ (pos 0 -ℤ pos e)) ≤ℤ ((s +ℤ t) +ℤ (pos 0 -ℤ pos f))
-        low s t m e f h l = omega (arith, ints, h, l)
+    rising s = omega (arith, ints, narrower, turn-low c (minus left c))
 
     pub falling : (s : ℤ) → ((s +ℤ added columns (length rows) g room c) +ℤ pos (open_pairs columns (g + 1))) ≤ℤ (s +ℤ pos (open_pairs columns g))
-    falling s = high s (turn c (minus left c)) (sum c * sum (minus left c)) (open_pairs columns g) (open_pairs columns (g + 1)) narrower (turn-high c (minus left c))
-      where
-        high : (s t : ℤ) (m e f : ℕ) → e ≡ m + f → t ≤ℤ pos m → ((s +ℤ t) +ℤ pos f) ≤ℤ (s +ℤ pos e)
-        high s t m e f h l = omega (arith, ints, h, l)
+    falling s = omega (arith, ints, narrower, turn-high c (minus left c))
 
   less-none : (s : ℤ) → s +ℤ (pos 0 -ℤ pos (open_pairs columns (length columns))) ≡ s
-  less-none s = rw (open-end columns (length columns) (omega arith)) (none s)
-    where
-      none : (s : ℤ) → s +ℤ (pos 0 -ℤ pos 0) ≡ s
-      none s = omega (arith, ints)
+  less-none s = rw (open-end columns (length columns) (omega arith)) (omega (arith, ints))
 
   more-none : (s : ℤ) → s +ℤ pos (open_pairs columns (length columns)) ≡ s
-  more-none s = rw (open-end columns (length columns) (omega arith)) (none s)
-    where
-      none : (s : ℤ) → s +ℤ pos 0 ≡ s
-      none s = omega (arith, ints)
+  more-none s = rw (open-end columns (length columns) (omega arith)) (omega (arith, ints))
 
   module _ (a : AreTwins columns rows) where
     pub kendall_measure : IsMeasure (kendall_meaning columns rows judge)
@@ -133,26 +107,17 @@ module _ (columns rows : List ℕ) (judge : Judge) where
     partial-within (suc g) room p (s, q, c, r, before, o, e, f) =
         let past = partial-within g s q r in
         let at : IsReached (alone (kendall_plan columns rows)) g s = room-reached g s q r in
-        rw (f, ← add-one) (within (so_far q) (added columns (length rows) g s c) (open_pairs columns g) (open_pairs columns (g + 1)) (open_pairs columns 0) past (rising a g s at before c o (so_far q)) (falling a g s at before c o (so_far q)))
-      where
-        within : (s t : ℤ) (e f all : ℕ) → unsigned_abs s + e ≤ all → (s +ℤ (pos 0 -ℤ pos e)) ≤ℤ ((s +ℤ t) +ℤ (pos 0 -ℤ pos f)) → ((s +ℤ t) +ℤ pos f) ≤ℤ (s +ℤ pos e) → unsigned_abs (s +ℤ t) + f ≤ all
-        within s t e f all h l u = omega (arith, ints, h, l, u)
+        rw (f, ← add-one) (omega (arith, ints, past, rising a g s at before c o (so_far q), falling a g s at before c o (so_far q)))
 
     module _ (g : ℕ) (room p : List ℤ) (r : AreReached (kendall_meaning columns rows judge) g room p) where
       partial-few : unsigned_abs (so_far p) + open_pairs columns g ≤ 14400
       partial-few = omega (arith, partial-within g room p r, all-pairs columns columns-few)
 
       low-outcome : ((v : ℤ) → unsigned_abs v ≤ 14400 → JudgeFits judge v) → IsOutcome Sum judge (so_far p) (pos 0 -ℤ pos (open_pairs columns g))
-      low-outcome fits = record { fits = (less (so_far p) (open_pairs columns g) partial-few).0; ruled = fits _ ((less (so_far p) (open_pairs columns g) partial-few).1) }
-        where
-          less : (s : ℤ) (a : ℕ) → unsigned_abs s + a ≤ 14400 → (unsigned_abs s + unsigned_abs (pos 0 -ℤ pos a) ≤ MAX) × (unsigned_abs (s +ℤ (pos 0 -ℤ pos a)) ≤ 14400)
-          less s a m = (omega (arith, ints, m), omega (arith, ints, m))
+      low-outcome fits = record { fits = omega (arith, ints, partial-few); ruled = fits _ (omega (arith, ints, partial-few)) }
 
       high-outcome : ((v : ℤ) → unsigned_abs v ≤ 14400 → JudgeFits judge v) → IsOutcome Sum judge (so_far p) (pos (open_pairs columns g))
-      high-outcome fits = record { fits = (more (so_far p) (open_pairs columns g) partial-few).0; ruled = fits _ ((more (so_far p) (open_pairs columns g) partial-few).1) }
-        where
-          more : (s : ℤ) (a : ℕ) → unsigned_abs s + a ≤ 14400 → (unsigned_abs s + unsigned_abs (pos a) ≤ MAX) × (unsigned_abs (s +ℤ pos a) ≤ 14400)
-          more s a m = (omega (arith, m), omega (arith, ints, m))
+      high-outcome fits = record { fits = omega (arith, ints, partial-few); ruled = fits _ (omega (arith, ints, partial-few)) }
 
   pub kendall_number : IsKendall columns rows judge → IsNumber (kendall_floor columns rows) (kendall_numbers columns rows judge)
   kendall_number h = record {

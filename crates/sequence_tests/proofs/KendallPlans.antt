@@ -1,5 +1,5 @@
 -- The rooms of Kendall's test: their ways are the tables of counts, but for the order of the counts that are 0; and what a reached room has.
-use Rattle.std.proofs.Common.{◌≡◌, ◌≢◌, ℕ, zero, suc, ◌+◌, ◌-◌, ◌*◌, ◌<◌, ◌≤◌, List, [], ◌∷◌, map, drop, length, get_or, true, refl, sym, ◌∙◌, ap, subst, arith, add-one, drop-cons, drop_of_length-le, mul-one}
+use Rattle.std.proofs.Common.{◌≡◌, ◌≢◌, ℕ, zero, suc, ◌+◌, ◌-◌, ◌*◌, ◌<◌, ◌≤◌, List, [], ◌∷◌, map, drop, length, get_or, true, refl, sym, ◌∙◌, ap, subst, arith, add-one, drop-cons, drop_of_length-le, mul-one, one-mul}
 use Rattle.std.specs.Prelude.{ℤ, pos, slice_index}
 use Rattle.std.specs.List.{sum_by, sum, Contains}
 use Rattle.std.proofs.lemmas.Bool.{lt-ltb}
@@ -42,9 +42,6 @@ left-code r c e f =
 abbrev pub moved : List ℕ → List (List ℕ) → List (List ℕ)
 moved r [] = []
 moved r (c ∷ w) = arranged r c ∷ moved (minus r c) w
-
-once : (n : ℕ) → n ≡ 1 * n
-once n = omega arith
 
 module _ (columns rows : List ℕ) where
   abbrev plan : Plan
@@ -117,7 +114,7 @@ module _ (columns rows : List ℕ) where
       law = λ f.
           ways_are (length columns - 0) 0 rows f (omega arith) for-first
           ∙ grouping columns rows (λ w. f (moved rows w)) a.level
-          ∙ sum_by-same _ _ (λ xs. once (f (moved rows (columns_of (length rows) columns xs)))) (labellings rows);
+          ∙ sum_by-same _ _ (λ xs. sym (one-mul (f (moved rows (columns_of (length rows) columns xs))))) (labellings rows);
     }
 
     -- what a reached room has
@@ -204,9 +201,6 @@ module _ (columns rows : List ℕ) where
 
         pub after-few : sum (minus left c) ≤ 120
         after-few = omega (arith, sum-minus left c choice.fitting, left-few)
-
-        pub choice-fits : number_of_labellings c ≤ MAX
-        choice-fits = omega (arith, fewer-labellings c left choice.fitting, left-fits)
 
     pub plan_sound : IsPlan plan
     plan_sound = record {

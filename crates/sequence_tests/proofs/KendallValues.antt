@@ -1,6 +1,6 @@
 -- Kendall's K of a labelling is what its stages add one after another.
-use Rattle.std.proofs.Common.{◌≡◌, ℕ, zero, suc, ◌+◌, ◌-◌, ◌<◌, ◌≤◌, List, [], ◌∷◌, ◌++◌, map, length, take, drop, Bool, true, false, cond, refl, sym, ◌∙◌, ap, arith, le-leb, length-append, suc-add}
-use Rattle.std.specs.Prelude.{ℤ, pos, ◌+ℤ◌, ◌-ℤ◌, ◌<ℤ◌, ◌≤ℤ◌, replicate, int_lt}
+use Rattle.std.proofs.Common.{◌≡◌, ℕ, zero, suc, ◌+◌, ◌-◌, ◌<◌, ◌≤◌, List, [], ◌∷◌, ◌++◌, map, length, take, drop, Bool, true, false, cond, refl, sym, ◌∙◌, ap, arith, le-leb, length-append, drop-drop}
+use Rattle.std.specs.Prelude.{ℤ, pos, ◌+ℤ◌, ◌-ℤ◌, ◌<ℤ◌, replicate, int_lt}
 use Rattle.std.specs.List.{sum, sum_by, AllByRecursion}
 use Rattle.std.proofs.lemmas.Int.{ints}
 use Rattle.std.proofs.lemmas.List.{length-drop, length-replicate, length-take, take-append-drop}
@@ -28,27 +28,13 @@ use Rattle.sequence_tests.proofs.CodeLaws.{sum-first}
 use Rattle.sequence_tests.proofs.CountedPairs.{crossed, falls-are, rises-are}
 use Rattle.sequence_tests.proofs.KendallPlans.{AreFor, counts-are, moved, next-is}
 
-abbrev pub pairs_of : List ℤ → List ℕ → List Subject
-pairs_of [] xs = []
-pairs_of (v ∷ firsts) [] = []
-pairs_of (v ∷ firsts) (x ∷ xs) = record { value = v; label = x } ∷ pairs_of firsts xs
-
-pub paired-are : (firsts : List ℤ) (xs : List ℕ) → paired_subjects firsts xs ≡ pairs_of firsts xs
-unfolding paired_subjects
-paired-are [] xs = refl
-paired-are (v ∷ firsts) [] = refl
-paired-are (v ∷ firsts) (x ∷ xs) = ap (λ ss. record { value = v; label = x } ∷ ss) (paired-are firsts xs)
-
 -- ---- subjects in two parts
 
 over-parts : (f : ℕ → ℕ → ℕ) (ps bs : List Subject) → over_pairs f (ps ++ bs) (ps ++ bs) ≡ (over_pairs f ps ps + over_pairs f ps bs) + (over_pairs f bs ps + over_pairs f bs bs)
 over-parts f ps bs =
     sum_by-append (λ (a : Subject). sum_by (λ (b : Subject). cond (int_lt a.value b.value) (f a.label b.label) 0) (ps ++ bs)) ps bs
-    ∙ both (split ps) (split bs)
+    ∙ cc (split ps, split bs)
   where
-    both : {a b c d : ℕ} → a ≡ c → b ≡ d → a + b ≡ c + d
-    both e f = omega (arith, e, f)
-
     split : (cs : List Subject) → over_pairs f cs (ps ++ bs) ≡ over_pairs f cs ps + over_pairs f cs bs
     split cs =
         sum_by-same _ (λ (a : Subject). sum_by (λ (b : Subject). cond (int_lt a.value b.value) (f a.label b.label) 0) ps + sum_by (λ (b : Subject). cond (int_lt a.value b.value) (f a.label b.label) 0) bs)
@@ -75,30 +61,33 @@ over-alike b P Q each f ps bs one other =
     out true = refl
     out false = sum_by-zero ps
 
-twins-block : (c : ℕ) (v : ℤ) (rest : List ℤ) (xs : List ℕ) → c ≤ length xs → pairs_of (replicate c v ++ rest) xs ≡ pairs_of (replicate c v) (take c xs) ++ pairs_of rest (drop c xs)
+twins-block : (c : ℕ) (v : ℤ) (rest : List ℤ) (xs : List ℕ) → c ≤ length xs → paired_subjects (replicate c v ++ rest) xs ≡ paired_subjects (replicate c v) (take c xs) ++ paired_subjects rest (drop c xs)
+unfolding paired_subjects
 twins-block zero v rest xs h = refl
 twins-block (suc c) v rest [] h = absurd (omega (arith, h))
 twins-block (suc c) v rest (x ∷ xs) h = ap (λ ts. record { value = v; label = x } ∷ ts) (twins-block c v rest xs (omega (arith, h)))
 
-twins-all : (P : ℤ → Type 0) (firsts : List ℤ) (xs : List ℕ) → AllByRecursion P firsts → AllByRecursion (λ t. P t.value) (pairs_of firsts xs)
+twins-all : (P : ℤ → Type 0) (firsts : List ℤ) (xs : List ℕ) → AllByRecursion P firsts → AllByRecursion (λ t. P t.value) (paired_subjects firsts xs)
+unfolding paired_subjects
 twins-all P [] xs a = tt
 twins-all P (v ∷ firsts) [] a = tt
 twins-all P (v ∷ firsts) (x ∷ xs) a = (a.0, twins-all P firsts xs a.1)
 
 -- sums over the second values
-seconds : (h : ℕ → ℕ) (firsts : List ℤ) (xs : List ℕ) → length xs ≡ length firsts → sum_by (λ (t : Subject). h t.label) (pairs_of firsts xs) ≡ sum_by h xs
+seconds : (h : ℕ → ℕ) (firsts : List ℤ) (xs : List ℕ) → length xs ≡ length firsts → sum_by (λ (t : Subject). h t.label) (paired_subjects firsts xs) ≡ sum_by h xs
+unfolding paired_subjects
 seconds h [] [] e = refl
 seconds h [] (x ∷ xs) e = absurd (omega (arith, e))
 seconds h (v ∷ firsts) [] e = absurd (omega (arith, e))
 seconds h (v ∷ firsts) (x ∷ xs) e =
-    sum_by-cons (λ (t : Subject). h t.label) (record { value = v; label = x }) (pairs_of firsts xs)
+    sum_by-cons (λ (t : Subject). h t.label) (record { value = v; label = x }) (paired_subjects firsts xs)
     ∙ ap (λ n. h x + n) (seconds h firsts xs (omega (arith, e)))
     ∙ sym (sum_by-cons h x xs)
 
 all-crossed : (f : ℕ → ℕ → ℕ) (firsts lasts : List ℤ) (xs ys : List ℕ) → length xs ≡ length firsts → length ys ≡ length lasts
-    → sum_by (λ (a : Subject). sum_by (λ (b : Subject). f a.label b.label) (pairs_of lasts ys)) (pairs_of firsts xs) ≡ crossed f xs ys
+    → sum_by (λ (a : Subject). sum_by (λ (b : Subject). f a.label b.label) (paired_subjects lasts ys)) (paired_subjects firsts xs) ≡ crossed f xs ys
 all-crossed f firsts lasts xs ys e g =
-    sum_by-same _ (λ (a : Subject). sum_by (λ y. f a.label y) ys) (λ a. seconds (λ y. f a.label y) lasts ys g) (pairs_of firsts xs)
+    sum_by-same _ (λ (a : Subject). sum_by (λ y. f a.label y) ys) (λ a. seconds (λ y. f a.label y) lasts ys g) (paired_subjects firsts xs)
     ∙ seconds (λ x. sum_by (λ y. f x y) ys) firsts xs e
 
 -- ---- from one stage to the next
@@ -127,36 +116,25 @@ abbrev pub by_stages : (ℕ → ℕ → ℕ) → List ℕ → List ℕ → ℕ
 by_stages f [] xs = 0
 by_stages f (c ∷ columns) xs = crossed f (take c xs) (drop c xs) + by_stages f columns (drop c xs)
 
-not-less : (v w : ℤ) → w ≤ℤ v → int_lt v w ≡ false
-not-less v w h = test-not_less v w h
-
-pub pairs-are : (f : ℕ → ℕ → ℕ) (ts : List Tie) (xs : List ℕ) → IsAscending ts → length xs ≡ sum (counts_in ts) → over_pairs f (pairs_of (values_of_ties ts) xs) (pairs_of (values_of_ties ts) xs) ≡ by_stages f (counts_in ts) xs
+pub pairs-are : (f : ℕ → ℕ → ℕ) (ts : List Tie) (xs : List ℕ) → IsAscending ts → length xs ≡ sum (counts_in ts) → over_pairs f (paired_subjects (values_of_ties ts) xs) (paired_subjects (values_of_ties ts) xs) ≡ by_stages f (counts_in ts) xs
+unfolding paired_subjects
 pairs-are f [] xs up long = refl
 pairs-are f (t ∷ ts) xs up long =
     let c : ℕ = t.count in
     let enough : c + sum (counts_in ts) ≡ length xs = omega (arith, long, sum-first c (counts_in ts)) in
-    let here : List Subject = pairs_of (replicate c t.value) (take c xs) in
-    let there : List Subject = pairs_of (values_of_ties ts) (drop c xs) in
+    let here : List Subject = paired_subjects (replicate c t.value) (take c xs) in
+    let there : List Subject = paired_subjects (values_of_ties ts) (drop c xs) in
     let alike = twins-all (λ v. v ≡ t.value) (replicate c t.value) (take c xs) (all-replicate (λ v. v ≡ t.value) c t.value refl) in
     let later = twins-all (λ w. t.value <ℤ w) (values_of_ties ts) (drop c xs) (all-later (λ w. t.value <ℤ w) ts up.0) in
-    let tied = over-alike false (λ v. v ≡ t.value) (λ v. v ≡ t.value) (λ v w p q. not-less v w (turned v w (p ∙ sym q))) f here here alike alike in
+    let tied = over-alike false (λ v. v ≡ t.value) (λ v. v ≡ t.value) (λ v w p q. test-not_less v w (omega (arith, ints, p, q))) f here here alike alike in
     let risen = over-alike true (λ v. v ≡ t.value) (λ w. t.value <ℤ w) (λ v w p q. test-less v w (rw p q)) f here there alike later in
-    let fallen = over-alike false (λ w. t.value <ℤ w) (λ v. v ≡ t.value) (λ v w p q. not-less v w (weaker v w (rw q p))) f there here later alike in
+    let fallen = over-alike false (λ w. t.value <ℤ w) (λ v. v ≡ t.value) (λ v w p q. test-not_less v w (omega (arith, ints, p, q))) f there here later alike in
     let here_long : length (take c xs) ≡ length (replicate c t.value) = omega (arith, enough, length-take c xs, length-replicate c t.value) in
     let there_long : length (drop c xs) ≡ length (values_of_ties ts) = omega (arith, enough, length-drop c xs, length-values ts) in
     let rest_long : length (drop c xs) ≡ sum (counts_in ts) = omega (arith, enough, length-drop c xs) in
     ap (λ tw. over_pairs f tw tw) (twins-block c t.value (values_of_ties ts) xs (omega (arith, enough)))
     ∙ over-parts f here there
-    ∙ gathered _ _ _ _ _ _ tied (risen ∙ all-crossed f (replicate c t.value) (values_of_ties ts) (take c xs) (drop c xs) here_long there_long) fallen (pairs-are f ts (drop c xs) up.1 rest_long)
-  where
-    turned : (a b : ℤ) → a ≡ b → b ≤ℤ a
-    turned a b h = omega (arith, ints, h)
-
-    weaker : (a b : ℤ) → b <ℤ a → b ≤ℤ a
-    weaker a b h = omega (arith, ints, h)
-
-    gathered : (a b c d m n : ℕ) → a ≡ 0 → b ≡ m → c ≡ 0 → d ≡ n → (a + b) + (c + d) ≡ m + n
-    gathered a b c d m n e f g h = omega (arith, e, f, g, h)
+    ∙ omega (arith, tied, risen ∙ all-crossed f (replicate c t.value) (values_of_ties ts) (take c xs) (drop c xs) here_long there_long, fallen, pairs-are f ts (drop c xs) up.1 rest_long)
 
 -- ---- counts that are placed and that remain
 
@@ -197,21 +175,9 @@ module _ (columns rows : List ℕ) (judge : Judge) where
   turn-is : (xs ys : List ℕ) → AllByRecursion (λ x. x < k) xs → AllByRecursion (λ y. y < k) ys → turn (counts_of k xs) (counts_of k ys) ≡ pos (crossed one_where_less xs ys) -ℤ pos (crossed one_where_greater xs ys)
   turn-is xs ys a b = rw (rises-are k xs ys a b, falls-are k xs ys a b) refl
 
-  drop-head : (g c : ℕ) (cs : List ℕ) → drop g columns ≡ c ∷ cs → drop (g + 1) columns ≡ cs
-  drop-head g c cs e = from g columns e
-    where
-      from : (g : ℕ) (zs : List ℕ) → drop g zs ≡ c ∷ cs → drop (g + 1) zs ≡ cs
-      from zero [] e = absurd (cc e)
-      from zero (z ∷ zs) e = ap (drop 1) e
-      from (suc g) [] e = absurd (cc e)
-      from (suc g) (z ∷ zs) e = rw (suc-add g 1) (from g zs e)
-
   value-from : (cs : List ℕ) (g : ℕ) (q : List ℤ) (xs : List ℕ) → drop g columns ≡ cs → length xs ≡ sum cs → length xs ≤ 120 → AllByRecursion (λ x. x < k) xs
       → so_far (partial_after (kendall_meaning columns rows judge) g (room_of_counts (counts_of k xs)) q (moved (counts_of k xs) (columns_of k cs xs))) ≡ so_far q +ℤ (pos (by_stages one_where_less cs xs) -ℤ pos (by_stages one_where_greater cs xs))
-  value-from [] g q xs d long few a = plus-zero (so_far q)
-    where
-      plus-zero : (s : ℤ) → s ≡ s +ℤ (pos 0 -ℤ pos 0)
-      plus-zero s = omega (arith, ints)
+  value-from [] g q xs d long few a = omega (arith, ints)
   value-from (c ∷ cs) g q xs d long few a =
       let r : List ℕ = counts_of k xs in
       let x : List ℕ = counts_of k (take c xs) in
@@ -227,22 +193,15 @@ module _ (columns rows : List ℕ) (judge : Judge) where
       let t : ℤ = added columns k g (room_of_counts r) (arranged r x) in
       ap (λ room. so_far (partial_after (kendall_meaning columns rows judge) (g + 1) room ((so_far q +ℤ t) ∷ []) (moved (minus r x) (columns_of k cs (drop c xs))))) next
       ∙ ap (λ s. so_far (partial_after (kendall_meaning columns rows judge) (g + 1) (room_of_counts z) ((so_far q +ℤ t) ∷ []) (moved s (columns_of k cs (drop c xs))))) both.1
-      ∙ value-from cs (g + 1) ((so_far q +ℤ t) ∷ []) (drop c xs) (drop-head g c cs d) (omega (arith, enough, length-drop c xs)) (omega (arith, few, length-drop c xs)) (all-drop (λ x. x < k) c xs a)
-      ∙ joined (so_far q) t (crossed one_where_less (take c xs) (drop c xs)) (crossed one_where_greater (take c xs) (drop c xs)) (by_stages one_where_less cs (drop c xs)) (by_stages one_where_greater cs (drop c xs)) add
-    where
-      joined : (s t : ℤ) (a b c d : ℕ) → t ≡ pos a -ℤ pos b → (s +ℤ t) +ℤ (pos c -ℤ pos d) ≡ s +ℤ (pos (a + c) -ℤ pos (b + d))
-      joined s t a b c d e = omega (arith, ints, e)
+      ∙ value-from cs (g + 1) ((so_far q +ℤ t) ∷ []) (drop c xs) (sym (drop-drop 1 g columns) ∙ ap (drop 1) d) (omega (arith, enough, length-drop c xs)) (omega (arith, few, length-drop c xs)) (all-drop (λ x. x < k) c xs a)
+      ∙ omega (arith, ints, add)
 
   pub value-is : (ts : List Tie) (xs : List ℕ) → columns ≡ counts_in ts → IsAscending ts → length xs ≡ sum (counts_in ts) → length xs ≤ 120 → AllByRecursion (λ x. x < k) xs → counts_of k xs ≡ rows
       → kendall_statistic (values_of_ties ts) xs ≡ way_value (kendall_meaning columns rows judge) (moved rows (columns_of k columns xs))
   value-is ts xs e up long few below counted =
-      ap (λ ss. pos (over_pairs one_where_less ss ss) -ℤ pos (over_pairs one_where_greater ss ss)) (paired-are (values_of_ties ts) xs)
-      ∙ ap (λ n. pos n -ℤ pos (over_pairs one_where_greater (pairs_of (values_of_ties ts) xs) (pairs_of (values_of_ties ts) xs))) (pairs-are one_where_less ts xs up long)
+      ap (λ n. pos n -ℤ pos (over_pairs one_where_greater (paired_subjects (values_of_ties ts) xs) (paired_subjects (values_of_ties ts) xs))) (pairs-are one_where_less ts xs up long)
       ∙ ap (λ n. pos (by_stages one_where_less (counts_in ts) xs) -ℤ pos n) (pairs-are one_where_greater ts xs up long)
       ∙ sym (ap (λ r. so_far (partial_after (kendall_meaning columns rows judge) 0 (room_of_counts r) (pos 0 ∷ []) (moved r (columns_of k columns xs)))) (sym counted)
       ∙ ap (λ cs. so_far (partial_after (kendall_meaning columns rows judge) 0 (room_of_counts (counts_of k xs)) (pos 0 ∷ []) (moved (counts_of k xs) (columns_of k cs xs)))) e
       ∙ value-from (counts_in ts) 0 (pos 0 ∷ []) xs e long few below
-      ∙ zero-plus (pos (by_stages one_where_less (counts_in ts) xs) -ℤ pos (by_stages one_where_greater (counts_in ts) xs)))
-    where
-      zero-plus : (z : ℤ) → pos 0 +ℤ z ≡ z
-      zero-plus z = omega (arith, ints)
+      ∙ omega (arith, ints))

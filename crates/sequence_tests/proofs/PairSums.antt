@@ -1,6 +1,6 @@
 -- Pairs of subjects one after another, and how large K is.
-use Rattle.std.proofs.Common.{◌≡◌, ℕ, zero, suc, ◌+◌, ◌*◌, ◌<◌, ◌≤◌, Bool, true, false, cond, List, [], ◌∷◌, length, get_or, take, refl, ◌∙◌, ap, arith}
-use Rattle.std.specs.Prelude.{ℤ, pos, ◌-ℤ◌, int_lt, nat_lt, unsigned_abs}
+use Rattle.std.proofs.Common.{◌≡◌, ℕ, zero, suc, ◌+◌, ◌*◌, ◌<◌, ◌≤◌, Bool, true, false, cond, List, [], ◌∷◌, length, get_or, take, refl, ap, arith}
+use Rattle.std.specs.Prelude.{ℤ, pos, int_lt, nat_lt, unsigned_abs}
 use Rattle.std.specs.List.{sum_by}
 use Rattle.std.proofs.Math.Nat.{mul-le-mul}
 use Rattle.std.proofs.lemmas.Int.{ints}
@@ -10,27 +10,22 @@ use Rattle.sample_reader.specs.PooledSample.{paired_subjects}
 use Rattle.sample_reader.specs.declared.subjects.Subject.{Subject}
 use Rattle.sequence_tests.specs.Kendall.{kendall_statistic, one_where_greater, one_where_less, over_pairs}
 use Rattle.sequence_tests.specs.KendallSteps.{ordered, pairs_with}
-use Rattle.sequence_tests.proofs.KendallValues.{paired-are, pairs_of}
 
 abbrev pub no_subject : Subject
 no_subject = record { value = pos 0; label = 0 }
 
 pub length-paired : (firsts : List ℤ) (xs : List ℕ) → length xs ≡ length firsts → length (paired_subjects firsts xs) ≡ length firsts
-length-paired firsts xs e = ap length (paired-are firsts xs) ∙ long firsts xs e
-  where
-    long : (firsts : List ℤ) (xs : List ℕ) → length xs ≡ length firsts → length (pairs_of firsts xs) ≡ length firsts
-    long [] xs e = refl
-    long (v ∷ firsts) [] e = absurd (omega (arith, e))
-    long (v ∷ firsts) (x ∷ xs) e = ap suc (long firsts xs (omega (arith, e)))
+unfolding paired_subjects
+length-paired [] xs e = refl
+length-paired (v ∷ firsts) [] e = absurd (omega (arith, e))
+length-paired (v ∷ firsts) (x ∷ xs) e = ap suc (length-paired firsts xs (omega (arith, e)))
 
 paired-at : (firsts : List ℤ) (xs : List ℕ) (i : ℕ) → length xs ≡ length firsts → i < length firsts → get_or (paired_subjects firsts xs) i no_subject ≡ record { value = get_or firsts i (pos 0); label = get_or xs i 0 }
-paired-at firsts xs i e h = ap (λ ss. get_or ss i no_subject) (paired-are firsts xs) ∙ at firsts xs i e h
-  where
-    at : (firsts : List ℤ) (xs : List ℕ) (i : ℕ) → length xs ≡ length firsts → i < length firsts → get_or (pairs_of firsts xs) i no_subject ≡ record { value = get_or firsts i (pos 0); label = get_or xs i 0 }
-    at [] xs i e h = absurd (omega (arith, h))
-    at (v ∷ firsts) [] i e h = absurd (omega (arith, e))
-    at (v ∷ firsts) (x ∷ xs) zero e h = refl
-    at (v ∷ firsts) (x ∷ xs) (suc i) e h = at firsts xs i (omega (arith, e)) (omega (arith, h))
+unfolding paired_subjects
+paired-at [] xs i e h = absurd (omega (arith, h))
+paired-at (v ∷ firsts) [] i e h = absurd (omega (arith, e))
+paired-at (v ∷ firsts) (x ∷ xs) zero e h = refl
+paired-at (v ∷ firsts) (x ∷ xs) (suc i) e h = paired-at firsts xs i (omega (arith, e)) (omega (arith, h))
 
 module _ (rises : Bool) (firsts : List ℤ) (xs : List ℕ) (long : length xs ≡ length firsts) where
   abbrev ss : List Subject
@@ -60,10 +55,7 @@ module _ (rises : Bool) (firsts : List ℤ) (xs : List ℕ) (long : length xs �
 
 pub sum-few : {X : Type 0} (f : X → ℕ) (n : ℕ) → ((x : X) → f x ≤ n) → (xs : List X) → sum_by f xs ≤ n * length xs
 sum-few f n each [] = omega arith
-sum-few f n each (x ∷ xs) = omega (arith, sum_by-cons f x xs, each x, sum-few f n each xs, more n (length xs))
-  where
-    more : (n m : ℕ) → n * suc m ≡ n + n * m
-    more n m = omega arith
+sum-few f n each (x ∷ xs) = omega (arith, sum_by-cons f x xs, each x, sum-few f n each xs)
 
 one-at-most : (x y : ℕ) → one_where_less x y ≤ 1
 one-at-most x y = by (nat_lt x y)
@@ -75,28 +67,21 @@ one-at-most x y = by (nat_lt x y)
 over-few : (f : ℕ → ℕ → ℕ) → ((x y : ℕ) → f x y ≤ 1) → (ps bs : List Subject) (n : ℕ) → length ps ≤ n → length bs ≤ n → over_pairs f ps bs ≤ n * n
 over-few f each ps bs n h l =
     let inner : (a : Subject) → sum_by (λ (b : Subject). cond (int_lt a.value b.value) (f a.label b.label) 0) bs ≤ n = λ a. omega (arith, sum-few (λ (b : Subject). cond (int_lt a.value b.value) (f a.label b.label) 0) 1 (λ b. by (int_lt a.value b.value) a.label b.label) bs, l) in
-    omega (arith, sum-few (λ (a : Subject). sum_by (λ (b : Subject). cond (int_lt a.value b.value) (f a.label b.label) 0) bs) n inner ps, mul-le-mul (same n) h)
+    let same : n ≤ n = omega arith in
+    omega (arith, sum-few (λ (a : Subject). sum_by (λ (b : Subject). cond (int_lt a.value b.value) (f a.label b.label) 0) bs) n inner ps, mul-le-mul same h)
   where
     by : (b : Bool) (x y : ℕ) → cond b (f x y) 0 ≤ 1
     by true x y = each x y
     by false x y = omega arith
 
-    same : (n : ℕ) → n ≤ n
-    same n = omega arith
-
 paired-few : (firsts : List ℤ) (xs : List ℕ) → length (paired_subjects firsts xs) ≤ length firsts
-paired-few firsts xs = omega (arith, ap length (paired-are firsts xs), few firsts xs)
-  where
-    few : (firsts : List ℤ) (xs : List ℕ) → length (pairs_of firsts xs) ≤ length firsts
-    few [] xs = omega arith
-    few (v ∷ firsts) [] = omega arith
-    few (v ∷ firsts) (x ∷ xs) = omega (arith, few firsts xs)
+unfolding paired_subjects
+paired-few [] xs = omega arith
+paired-few (v ∷ firsts) [] = omega arith
+paired-few (v ∷ firsts) (x ∷ xs) = omega (arith, paired-few firsts xs)
 
 pub statistic-few : (firsts : List ℤ) (xs : List ℕ) → length firsts ≤ 120 → unsigned_abs (kendall_statistic firsts xs) ≤ 14400
 statistic-few firsts xs few =
     let ss : List Subject = paired_subjects firsts xs in
     let most : length ss ≤ 120 = omega (arith, paired-few firsts xs, few) in
-    between (over_pairs one_where_less ss ss) (over_pairs one_where_greater ss ss) (over-few one_where_less one-at-most ss ss 120 most most) (over-few one_where_greater (λ x y. one-at-most y x) ss ss 120 most most)
-  where
-    between : (m n : ℕ) → m ≤ 120 * 120 → n ≤ 120 * 120 → unsigned_abs (pos m -ℤ pos n) ≤ 14400
-    between m n h l = omega (arith, ints, h, l)
+    omega (arith, ints, over-few one_where_less one-at-most ss ss 120 most most, over-few one_where_greater (λ x y. one-at-most y x) ss ss 120 most most)

@@ -1,6 +1,6 @@
 -- The place of a value among distinct ones: the number of its group.
 use Rattle.std.proofs.Common.{◌≡◌, ◌≢◌, ℕ, zero, suc, ◌+◌, ◌*◌, ◌<◌, ◌≤◌, List, [], ◌∷◌, length, map, get_or, refl, sym, ◌∙◌, ap, subst, arith, cond, nat_eq, eq-eqb, ne_eqb}
-use Rattle.std.specs.Prelude.{ℤ, pos, ◌<ℤ◌, ◌≤ℤ◌, int_lt}
+use Rattle.std.specs.Prelude.{ℤ, pos, ◌<ℤ◌, int_lt}
 use Rattle.std.specs.List.{All, AllByRecursion, HoldsAt, range_with_len, sum, sum_by}
 use Rattle.std.proofs.lemmas.Int.{ints}
 use Rattle.std.proofs.lemmas.List.{get_or_default, length-map}
@@ -31,26 +31,17 @@ value-above x (t ∷ ts) (suc i) h a = value-above x ts i (omega (arith, h)) a.1
 
 none-below : (v : ℤ) (ts : List Tie) → AllByRecursion (λ t. v <ℤ t.value) ts → place_among ts v ≡ 0
 none-below v [] a = refl
-none-below v (t ∷ ts) a = below v t ts ∙ rw (test-not_less t.value v (weaker v t.value a.0), none-below v ts a.1) refl
-  where
-    weaker : (a b : ℤ) → a <ℤ b → a ≤ℤ b
-    weaker a b h = omega (arith, ints, h)
+none-below v (t ∷ ts) a = below v t ts ∙ rw (test-not_less t.value v (omega (arith, ints, a.0)), none-below v ts a.1) refl
 
 pub place-found : (ts : List Tie) (v : ℤ) (i : ℕ) → IsAscending ts → i < length ts → HoldsAt (λ t. t.value ≡ v) ts i → i ≡ place_among ts v
 place-found ts v i up h found = sym (place ts i up h (found no_tie))
   where
-    alike : (a b : ℤ) → a ≡ b → b ≤ℤ a
-    alike a b e = omega (arith, ints, e)
-
     place : (ts : List Tie) (i : ℕ) → IsAscending ts → i < length ts → (get_or ts i no_tie).value ≡ v → place_among ts v ≡ i
     place [] i up h e = absurd (omega (arith, h))
-    place (t ∷ ts) zero up h e = below v t ts ∙ rw (test-not_less t.value v (alike t.value v e), none-below v ts (subst (λ x. AllByRecursion (λ u. x <ℤ u.value) ts) e up.0)) refl
+    place (t ∷ ts) zero up h e = below v t ts ∙ rw (test-not_less t.value v (omega (arith, ints, e)), none-below v ts (subst (λ x. AllByRecursion (λ u. x <ℤ u.value) ts) e up.0)) refl
     place (t ∷ ts) (suc i) up h e =
         let less : t.value <ℤ v = subst (λ x. t.value <ℤ x) e (value-above t.value ts i (omega (arith, h)) up.0) in
-        below v t ts ∙ rw (test-less t.value v less, place ts i up.1 (omega (arith, h)) e) (one i)
-      where
-        one : (n : ℕ) → 1 + n ≡ suc n
-        one n = omega arith
+        below v t ts ∙ rw (test-less t.value v less, place ts i up.1 (omega (arith, h)) e) (omega arith)
 
 -- ---- how many distinct values there are
 
@@ -83,26 +74,16 @@ AreNumbered p s (t ∷ ts) = (p t.value ≡ s) × AreNumbered p (s + 1) ts
 
 shifted : (p q : ℤ → ℕ) (s : ℕ) (ts : List Tie) → AllByRecursion (λ (u : Tie). q u.value ≡ 1 + p u.value) ts → AreNumbered p s ts → AreNumbered q (1 + s) ts
 shifted p q s [] a n = tt
-shifted p q s (t ∷ ts) a n = (a.0 ∙ ap (λ k. 1 + k) n.0, subst (λ k. AreNumbered q k ts) (swap s) (shifted p q (s + 1) ts a.1 n.1))
-  where
-    swap : (s : ℕ) → 1 + (s + 1) ≡ (1 + s) + 1
-    swap s = omega arith
+shifted p q s (t ∷ ts) a n =
+    let swap : 1 + (s + 1) ≡ (1 + s) + 1 = omega arith in
+    (a.0 ∙ ap (λ k. 1 + k) n.0, subst (λ k. AreNumbered q k ts) swap (shifted p q (s + 1) ts a.1 n.1))
 
 numbered : (ts : List Tie) → IsAscending ts → AreNumbered (place_among ts) 0 ts
 numbered [] up = tt
-numbered (t ∷ ts) up = (below t.value t ts ∙ rw (test-not_less t.value t.value (self t.value), none-below t.value ts up.0) refl, shifted (place_among ts) (place_among (t ∷ ts)) 0 ts later (numbered ts up.1))
+numbered (t ∷ ts) up = (below t.value t ts ∙ rw (test-not_less t.value t.value (omega (arith, ints)), none-below t.value ts up.0) refl, shifted (place_among ts) (place_among (t ∷ ts)) 0 ts later (numbered ts up.1))
   where
-    self : (v : ℤ) → v ≤ℤ v
-    self v = omega (arith, ints)
-
     later : AllByRecursion (λ (u : Tie). place_among (t ∷ ts) u.value ≡ 1 + place_among ts u.value) ts
     later = all-weaker (λ (u : Tie). t.value <ℤ u.value) (λ (u : Tie). place_among (t ∷ ts) u.value ≡ 1 + place_among ts u.value) (λ u h. below u.value t ts ∙ rw (test-less t.value u.value h) refl) ts up.0
-
-apart : (s i : ℕ) → i < s → s ≢ i
-apart s i h e = absurd (omega (arith, h, e))
-
-apart' : (s i : ℕ) → s < i → s ≢ i
-apart' s i h e = absurd (omega (arith, h, e))
 
 -- how many values have a place
 often : (ℤ → ℕ) → ℕ → List Tie → ℕ
@@ -113,29 +94,23 @@ unfolding often
 often-cons p i t ts = sum_by-cons (summed (λ v. cond (nat_eq (p v) i) 1 0)) t ts
 
 other : (p : ℤ → ℕ) (s i : ℕ) (t : Tie) (ts : List Tie) → p t.value ≡ s → s ≢ i → often p i (t ∷ ts) ≡ often p i ts
-other p s i t ts e ne = often-cons p i t ts ∙ rw (e, ne_eqb s i ne) (none t.count (often p i ts))
-  where
-    none : (c n : ℕ) → c * 0 + n ≡ n
-    none c n = omega arith
+other p s i t ts e ne = often-cons p i t ts ∙ rw (e, ne_eqb s i ne) (omega arith)
 
 none-before : (p : ℤ → ℕ) (s i : ℕ) (ts : List Tie) → i < s → AreNumbered p s ts → often p i ts ≡ 0
 unfolding often
 none-before p s i [] h n = refl
-none-before p s i (t ∷ ts) h n = other p s i t ts n.0 (apart s i h) ∙ none-before p (s + 1) i ts (omega (arith, h)) n.1
+none-before p s i (t ∷ ts) h n = other p s i t ts n.0 (omega arith) ∙ none-before p (s + 1) i ts (omega (arith, h)) n.1
 
 past : (p : ℤ → ℕ) (s : ℕ) (t : Tie) (ts : List Tie) → p t.value ≡ s → (n k : ℕ) → s < k → map (λ i. often p i (t ∷ ts)) (range_with_len k n) ≡ map (λ i. often p i ts) (range_with_len k n)
 past p s t ts e zero k h = refl
-past p s t ts e (suc n) k h = cc (other p s k t ts e (apart' s k h), past p s t ts e n (k + 1) (omega (arith, h)))
+past p s t ts e (suc n) k h = cc (other p s k t ts e (omega arith), past p s t ts e n (k + 1) (omega (arith, h)))
 
 counted : (p : ℤ → ℕ) (s : ℕ) (ts : List Tie) → AreNumbered p s ts → map (λ i. often p i ts) (range_with_len s (length ts)) ≡ map (λ (t : Tie). t.count) ts
 counted p s [] n = refl
 counted p s (t ∷ ts) n = cc (here, past p s t ts n.0 (length ts) (s + 1) (omega arith) ∙ counted p (s + 1) ts n.1)
   where
-    one : (c n : ℕ) → n ≡ 0 → c * 1 + n ≡ c
-    one c n e = omega (arith, e)
-
     here : often p s (t ∷ ts) ≡ t.count
-    here = often-cons p s t ts ∙ rw (n.0, eq-eqb s s refl) (one t.count (often p s ts) (none-before p (s + 1) s ts (omega arith) n.1))
+    here = often-cons p s t ts ∙ rw (n.0, eq-eqb s s refl) (omega (arith, none-before p (s + 1) s ts (omega arith) n.1))
 
 -- each as often as its group counts
 pub places-counted : (values : List ℤ) → counts_of (length (column_sizes values)) (places_of values) ≡ column_sizes values

@@ -1,12 +1,11 @@
 -- What the measure of runs knows at each of its keys.
-use Rattle.std.proofs.Common.{◌≡◌, ℕ, zero, suc, ◌+◌, ◌*◌, ◌≤◌, List, [], ◌∷◌, length, get_or, set, refl, sym, ◌∙◌, arith}
-use Rattle.std.specs.Prelude.{ℤ, pos, ◌+ℤ◌, nat_abs, unsigned_abs}
+use Rattle.std.proofs.Common.{◌≡◌, ℕ, zero, suc, ◌+◌, ◌*◌, ◌≤◌, List, [], ◌∷◌, length, get_or, set, refl, sym, ◌∙◌, ap, arith}
+use Rattle.std.specs.Prelude.{ℤ, pos, ◌+ℤ◌, nat_abs}
 use Rattle.std.specs.List.{sum}
 use Rattle.std.proofs.lemmas.Int.{ints, clamps}
 use Rattle.std.proofs.lemmas.List.{length-replicate}
 use Rattle.std.proofs.lemmas.List.Sums.{sum_by-take-drop}
 use Rattle.stage_network.specs.declared.verdicts.Judge.{Judge}
-use Rattle.stage_network.specs.Judged.{JudgeFits}
 use Rattle.room_network.specs.Meanings.{AreReached, IsMove}
 use Rattle.label_network.specs.LabelNetwork.{over_rooms}
 use Rattle.label_network.specs.Meanings.{IsPlace, sizes_in}
@@ -16,8 +15,8 @@ use Rattle.label_network.proofs.Narrowing.{IsLeft, chosen}
 use Rattle.label_network.proofs.Rows.{length-abs}
 use Rattle.label_network.proofs.Sizes.{sizes-of_pos}
 use Rattle.sequence_tests.specs.RunCounts.{firsts_in, last_in, least_to_come, most_to_come, runs_meaning, runs_outlook, runs_so_far, seconds_in}
-use Rattle.sequence_tests.specs.RunSteps.{AreRunNumbers, AreTwoSizes, IsRunning}
-use Rattle.sequence_tests.proofs.RunNarrows.{IsPartial, choice_long, reached_left, reached_partial, sum-ones, sum-two}
+use Rattle.sequence_tests.specs.RunSteps.{RunSeat, least_left, most_left, AreRunNumbers, AreTwoSizes, IsRunning}
+use Rattle.sequence_tests.proofs.RunNarrows.{IsPartial, reached_left, reached_partial, sum-ones, sum-two, two-of}
 
 -- the least and the greatest are few
 least-few : (last a b : ℕ) → least_to_come last a b ≤ 2
@@ -53,12 +52,6 @@ six_items (u ∷ v ∷ w ∷ x ∷ []) a b c d e f h = absurd (omega (arith, h))
 six_items (u ∷ v ∷ w ∷ x ∷ y ∷ []) a b c d e f h = absurd (omega (arith, h))
 six_items (u ∷ v ∷ w ∷ x ∷ y ∷ z ∷ s ∷ xs) a b c d e f h = absurd (omega (arith, h))
 
-both-few : (r : List ℕ) (n : ℕ) → length r ≡ 2 → sum r ≤ n → firsts_in r + seconds_in r ≤ n
-both-few [] n e h = absurd (omega (arith, e))
-both-few (x ∷ []) n e h = absurd (omega (arith, e))
-both-few (x ∷ y ∷ []) n e h = omega (arith, h, sum-two x y)
-both-few (x ∷ y ∷ z ∷ r) n e h = absurd (omega (arith, e))
-
 whole-sum : (s : ℤ) (n : ℕ) → s ≡ pos (nat_abs s) → s +ℤ pos n ≡ pos (nat_abs s + n)
 whole-sum s n e = omega (arith, ints, e)
 
@@ -92,22 +85,23 @@ module _ (a b : ℕ) (judge : Judge) (h : IsRunning a b judge) where
     two_sizes = record {
       two = sym (length-abs f) ∙ partial_is.sizes;
       sizes = sizes-of_pos (sizes_in f) (omega (arith, sizes-few)) f place.whole;
-      few = both-few (sizes_in f) 10000 partial_is.sizes sizes-few;
+      few = omega (arith, sizes-few, ap sum (two-of (sizes_in f) partial_is.sizes), sum-two (firsts_in (sizes_in f)) (seconds_in (sizes_in f)));
     }
 
-    pub low-fits : unsigned_abs (runs_so_far p) + least_to_come (last_in p) (firsts_in (sizes_in f)) (seconds_in (sizes_in f)) ≤ 40000
-    low-fits = omega (arith, numbers.few, least-few (last_in p) (firsts_in (sizes_in f)) (seconds_in (sizes_in f)))
-
-    pub high-fits : unsigned_abs (runs_so_far p) + most_to_come (last_in p) (firsts_in (sizes_in f)) (seconds_in (sizes_in f)) ≤ 40000
-    high-fits = omega (arith, numbers.few, two_sizes.few, most-few (last_in p) (firsts_in (sizes_in f)) (seconds_in (sizes_in f)))
-
-    pub low-rule : JudgeFits judge (runs_so_far p +ℤ pos (least_to_come (last_in p) (firsts_in (sizes_in f)) (seconds_in (sizes_in f))))
-    low-rule = rw (whole-sum (runs_so_far p) (least_to_come (last_in p) (firsts_in (sizes_in f)) (seconds_in (sizes_in f))) partial_is.runs) (h.rules_fit _ low-fits)
-
-    pub high-rule : JudgeFits judge (runs_so_far p +ℤ pos (most_to_come (last_in p) (firsts_in (sizes_in f)) (seconds_in (sizes_in f))))
-    high-rule = rw (whole-sum (runs_so_far p) (most_to_come (last_in p) (firsts_in (sizes_in f)) (seconds_in (sizes_in f))) partial_is.runs) (h.rules_fit _ high-fits)
+    pub run_seat : RunSeat judge f p
+    run_seat =
+        let low : nat_abs (runs_so_far p) + least_left f p ≤ 40000 = omega (arith, numbers.few, least-few (last_in p) (firsts_in (sizes_in f)) (seconds_in (sizes_in f))) in
+        let high : nat_abs (runs_so_far p) + most_left f p ≤ 40000 = omega (arith, numbers.few, two_sizes.few, most-few (last_in p) (firsts_in (sizes_in f)) (seconds_in (sizes_in f))) in
+        record {
+          numbers = numbers;
+          sizes = two_sizes;
+          low_fits = low;
+          high_fits = high;
+          low = rw (whole-sum (runs_so_far p) (least_left f p) partial_is.runs) (h.rules_fit _ low);
+          high = rw (whole-sum (runs_so_far p) (most_left f p) partial_is.runs) (h.rules_fit _ high);
+        }
 
   pub choice-long : (g : ℕ) (f : List ℤ) (c : List ℕ) (p : List ℤ) → IsMove (over_rooms (runs_meaning a b judge)) g f c p → length c ≡ 2
   choice-long g f c p v =
       let k : IsPartial g (sizes_in f) p = partial_is g f p v.reached in
-      choice_long a b judge g (sizes_in f) c v.before (chosen _ (sizes_in f) c v.allowed) k.sizes
+      (chosen _ (sizes_in f) c v.allowed).long ∙ k.sizes

@@ -1,28 +1,31 @@
 -- The interval of the number of runs narrows along every choice.
-use Rattle.std.proofs.Common.{◌≡◌, ℕ, zero, suc, ◌+◌, ◌-◌, ◌<◌, ◌≤◌, List, [], ◌∷◌, length, get_or, Bool, true, false, cond, refl, sym, ◌∙◌, ap, arith, nat_eq, nat_le}
-use Rattle.std.specs.Prelude.{ℤ, pos, ◌+ℤ◌, ◌≤ℤ◌, nat_abs, replicate, slice_index}
+use Rattle.std.proofs.Common.{◌≡◌, ℕ, zero, suc, ◌+◌, ◌-◌, ◌<◌, ◌≤◌, List, [], ◌∷◌, length, get_or, Bool, true, false, cond, refl, sym, ◌∙◌, ap, subst, arith, nat_eq, nat_le}
+use Rattle.std.specs.Prelude.{ℤ, pos, nat_abs, replicate, slice_index}
 use Rattle.std.specs.List.{sum}
 use Rattle.std.proofs.Math.Seq.{drop-length}
 use Rattle.std.proofs.lemmas.Int.{ints, clamps}
 use Rattle.std.proofs.lemmas.List.{get_or-replicate, length-replicate}
-use Rattle.std.proofs.lemmas.List.Sums.{sum_by-cons}
+use Rattle.std.proofs.lemmas.List.Folds.{sum_by-replicate}
 use Rattle.stage_network.specs.declared.verdicts.Judge.{Judge}
 use Rattle.weights.specs.Grouped.{fits, minus}
 use Rattle.weights.proofs.ChoiceLists.{IsChoice}
 use Rattle.weights.proofs.Sized.{first_and, length-minus}
 use Rattle.label_network.specs.Meanings.{AreReached, IsMeasure, Meaning}
 use Rattle.label_network.proofs.Narrowing.{IsLeft, IsNarrowing, measured, reached-kept, reached-left}
+use Rattle.sequence_tests.proofs.CodeLaws.{sum-first}
 use Rattle.sequence_tests.specs.RunCounts.{begins_run, firsts_in, label_in, last_in, least_to_come, most_to_come, runs_meaning, runs_so_far, seconds_in}
-
-pub sum-first : (x : ℕ) (xs : List ℕ) → sum (x ∷ xs) ≡ x + sum xs
-sum-first x xs = sum_by-cons (λ v. v) x xs
 
 pub sum-two : (a b : ℕ) → sum (a ∷ b ∷ []) ≡ a + b
 sum-two a b = omega (arith, sum-first a (b ∷ []), sum-first b [])
 
 pub sum-ones : (n : ℕ) → sum (replicate n 1) ≡ n
-sum-ones zero = refl
-sum-ones (suc n) = omega (arith, sum-first 1 (replicate n 1), sum-ones n)
+sum-ones n = omega (arith, sum_by-replicate (λ v. v) n 1)
+
+pub two-of : (r : List ℕ) → length r ≡ 2 → r ≡ firsts_in r ∷ seconds_in r ∷ []
+two-of [] e = absurd (omega (arith, e))
+two-of (x ∷ []) e = absurd (omega (arith, e))
+two-of (x ∷ y ∷ []) e = refl
+two-of (x ∷ y ∷ z ∷ r) e = absurd (omega (arith, e))
 
 -- ---- a row that gets the first label, or the second
 
@@ -89,10 +92,6 @@ label-few : (a b : ℕ) (c : List ℕ) → IsOne a b c → label_in c ≤ 1
 label-few a b c (one_first h e) = rw e (omega arith)
 label-few a b c (one_second h e) = rw e (omega arith)
 
-choice-two : (a b : ℕ) (c : List ℕ) → IsOne a b c → length c ≡ 2
-choice-two a b c (one_first h e) = ap length e
-choice-two a b c (one_second h e) = ap length e
-
 none-least : (last : ℕ) → least_to_come last 0 0 ≡ 0
 none-least zero = refl
 none-least (suc zero) = refl
@@ -103,24 +102,12 @@ none-most zero = refl
 none-most (suc zero) = refl
 none-most (suc (suc n)) = refl
 
-begins-few : (last x : ℕ) → begins_run last x ≤ 1
+pub begins-few : (last x : ℕ) → begins_run last x ≤ 1
 begins-few last x = by (nat_eq last x)
   where
     by : (b : Bool) → cond b 0 1 ≤ 1
     by true = omega arith
     by false = omega arith
-
-more-runs : (s : ℤ) (n g : ℕ) → s ≡ pos (nat_abs s) → n ≤ 1 → nat_abs s ≤ g → (s +ℤ pos n ≡ pos (nat_abs (s +ℤ pos n))) × (nat_abs (s +ℤ pos n) ≤ g + 1)
-more-runs s n g e h l = (omega (arith, ints, e), omega (arith, ints, e, h, l))
-
-risen : (s : ℤ) (m n k : ℕ) → m ≤ n + k → (s +ℤ pos m) ≤ℤ ((s +ℤ pos n) +ℤ pos k)
-risen s m n k h = omega (arith, ints, h)
-
-fallen : (s : ℤ) (m n k : ℕ) → n + k ≤ m → ((s +ℤ pos n) +ℤ pos k) ≤ℤ (s +ℤ pos m)
-fallen s m n k h = omega (arith, ints, h)
-
-ended : (n : ℕ) (s : ℤ) → n ≡ 0 → s +ℤ pos n ≡ s
-ended n s e = omega (arith, ints, e)
 
 -- a partial has a label, or 2, and no more runs than rows
 pub record IsPartial (g : ℕ) (r : List ℕ) (p : List ℤ) : Type 0 where
@@ -141,54 +128,37 @@ module _ (a b : ℕ) (judge : Judge) where
       get_or-replicate (a + b) g 1 0 (omega (arith, h, long))
 
   pub here : (g : ℕ) (r c : List ℕ) → g < length m.columns → IsChoice (slice_index m.columns g) r c → length r ≡ 2 → IsOne (firsts_in r) (seconds_in r) c
-  here g [] c h o e = absurd (omega (arith, e))
-  here g (x ∷ []) c h o e = absurd (omega (arith, e))
-  here g (x ∷ y ∷ []) c h o e = one_of x y c (rw (one-each g h) at o)
-  here g (x ∷ y ∷ z ∷ r) c h o e = absurd (omega (arith, e))
-
-  -- a choice counts for each of the two labels
-  pub choice_long : (g : ℕ) (r c : List ℕ) → g < length m.columns → IsChoice (slice_index m.columns g) r c → length r ≡ 2 → length c ≡ 2
-  choice_long g r c h o e = choice-two (firsts_in r) (seconds_in r) c (here g r c h o e)
+  here g r c h o e = one_of (firsts_in r) (seconds_in r) c (subst (λ s. IsChoice 1 s c) (two-of r e) (rw (one-each g h) at o))
 
   lows : (last : ℕ) (r c : List ℕ) → length r ≡ 2 → IsOne (firsts_in r) (seconds_in r) c → least_to_come last (firsts_in r) (seconds_in r) ≤ begins_run last (label_in c) + least_to_come (label_in c) (firsts_in (minus r c)) (seconds_in (minus r c))
-  lows last [] c e o = absurd (omega (arith, e))
-  lows last (x ∷ []) c e o = absurd (omega (arith, e))
-  lows last (x ∷ y ∷ []) c e o = low-step last x y c o
-  lows last (x ∷ y ∷ z ∷ r) c e o = absurd (omega (arith, e))
+  lows last r c e o = subst (λ s. least_to_come last (firsts_in r) (seconds_in r) ≤ begins_run last (label_in c) + least_to_come (label_in c) (firsts_in (minus s c)) (seconds_in (minus s c))) (sym (two-of r e)) (low-step last (firsts_in r) (seconds_in r) c o)
 
   highs : (last : ℕ) (r c : List ℕ) → length r ≡ 2 → IsOne (firsts_in r) (seconds_in r) c → begins_run last (label_in c) + most_to_come (label_in c) (firsts_in (minus r c)) (seconds_in (minus r c)) ≤ most_to_come last (firsts_in r) (seconds_in r)
-  highs last [] c e o = absurd (omega (arith, e))
-  highs last (x ∷ []) c e o = absurd (omega (arith, e))
-  highs last (x ∷ y ∷ []) c e o = high-step last x y c o
-  highs last (x ∷ y ∷ z ∷ r) c e o = absurd (omega (arith, e))
+  highs last r c e o = subst (λ s. begins_run last (label_in c) + most_to_come (label_in c) (firsts_in (minus s c)) (seconds_in (minus s c)) ≤ most_to_come last (firsts_in r) (seconds_in r)) (sym (two-of r e)) (high-step last (firsts_in r) (seconds_in r) c o)
 
   at_end : (r : List ℕ) → length r ≡ 2 → IsLeft m (length m.columns) r → (f : ℕ → ℕ → ℕ) → f 0 0 ≡ 0 → f (firsts_in r) (seconds_in r) ≡ 0
-  at_end [] e l f n = absurd (omega (arith, e))
-  at_end (x ∷ []) e l f n = absurd (omega (arith, e))
-  at_end (x ∷ y ∷ []) e l f n =
-      let none : sum (x ∷ y ∷ []) ≡ 0 = sym l.whole ∙ ap sum (drop-length m.columns) in
-      let one : x ≡ 0 = omega (arith, none, sum-two x y) in
-      let two : y ≡ 0 = omega (arith, none, sum-two x y) in
+  at_end r e l f n =
+      let none : firsts_in r + seconds_in r ≡ 0 = sym (sum-two (firsts_in r) (seconds_in r)) ∙ ap sum (sym (two-of r e)) ∙ sym l.whole ∙ ap sum (drop-length m.columns) in
+      let one : firsts_in r ≡ 0 = omega (arith, none) in
+      let two : seconds_in r ≡ 0 = omega (arith, none) in
       rw (one, two) n
-  at_end (x ∷ y ∷ z ∷ r) e l f n = absurd (omega (arith, e))
 
   runs_narrowing : IsNarrowing m IsPartial
   runs_narrowing = record {
     keeps = λ g r c p before l o k.
         let one = here g r c before o k.sizes in
-        let more = more-runs (runs_so_far p) (begins_run (last_in p) (label_in c)) g k.runs (begins-few (last_in p) (label_in c)) k.few in
         record {
           sizes = length-minus r c ∙ k.sizes;
           two = refl;
           last = refl;
           label = omega (arith, label-few (firsts_in r) (seconds_in r) c one);
-          runs = more.0;
-          few = more.1;
+          runs = omega (arith, ints, k.runs);
+          few = omega (arith, ints, k.runs, begins-few (last_in p) (label_in c), k.few);
         };
-    rises = λ g r c p before l o k. risen (runs_so_far p) _ _ _ (lows (last_in p) r c k.sizes (here g r c before o k.sizes));
-    falls = λ g r c p before l o k. fallen (runs_so_far p) _ _ _ (highs (last_in p) r c k.sizes (here g r c before o k.sizes));
-    low_end = λ r p l k. ended (least_to_come (last_in p) (firsts_in r) (seconds_in r)) (runs_so_far p) (at_end r k.sizes l (least_to_come (last_in p)) (none-least (last_in p)));
-    high_end = λ r p l k. ended (most_to_come (last_in p) (firsts_in r) (seconds_in r)) (runs_so_far p) (at_end r k.sizes l (most_to_come (last_in p)) (none-most (last_in p)));
+    rises = λ g r c p before l o k. omega (arith, ints, lows (last_in p) r c k.sizes (here g r c before o k.sizes));
+    falls = λ g r c p before l o k. omega (arith, ints, highs (last_in p) r c k.sizes (here g r c before o k.sizes));
+    low_end = λ r p l k. omega (arith, ints, at_end r k.sizes l (least_to_come (last_in p)) (none-least (last_in p)));
+    high_end = λ r p l k. omega (arith, ints, at_end r k.sizes l (most_to_come (last_in p)) (none-most (last_in p)));
   }
 
   first-partial : IsPartial 0 (a ∷ b ∷ []) (pos 2 ∷ pos 0 ∷ [])

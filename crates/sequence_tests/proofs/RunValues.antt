@@ -9,6 +9,7 @@ use Rattle.stage_network.specs.declared.verdicts.Judge.{Judge}
 use Rattle.label_network.proofs.Endings.{labelling_value, partial_after}
 use Rattle.label_network.specs.Meanings.{Meaning}
 use Rattle.sequence_tests.specs.RunCounts.{begins_run, label_in, runs_meaning, runs_so_far}
+use Rattle.sequence_tests.proofs.RunNarrows.{begins-few}
 use Rattle.sequence_tests.specs.Runs.{blocks, put_before, runs}
 
 -- the runs that labels begin after a label
@@ -37,11 +38,7 @@ put-count w x ys bs = by (nat_eq w x)
 put-few : (x : ℕ) (bs : List (List ℕ)) → length (put_before x bs) ≤ suc (length bs)
 put-few x [] = omega arith
 put-few x ([] ∷ bs) = omega arith
-put-few x ((y ∷ ys) ∷ bs) = by (nat_eq x y)
-  where
-    by : (b : Bool) → length (cond b ((x ∷ y ∷ ys) ∷ bs) ((x ∷ []) ∷ (y ∷ ys) ∷ bs)) ≤ suc (suc (length bs))
-    by true = omega arith
-    by false = omega arith
+put-few x ((y ∷ ys) ∷ bs) = omega (arith, put-count x y ys bs, begins-few x y)
 
 -- there are no more runs than rows
 pub runs-few : (xs : List ℕ) → runs xs ≤ length xs
@@ -79,28 +76,18 @@ module _ (a b : ℕ) (judge : Judge) where
 
   value-from : (xs : List ℕ) (g : ℕ) (r : List ℕ) (last : ℕ) (s : ℤ) → AllByRecursion (λ x. x < 2) xs
       → runs_so_far (partial_after m g r (pos last ∷ s ∷ []) (columns_of 2 (replicate (length xs) 1) xs)) ≡ s +ℤ pos (runs_after last xs)
-  value-from [] g r last s e = plus-zero s
-    where
-      plus-zero : (s : ℤ) → s ≡ s +ℤ pos 0
-      plus-zero s = omega (arith, ints)
+  value-from [] g r last s e = omega (arith, ints)
   value-from (x ∷ xs) g r last s e =
       ap (λ l. runs_so_far (partial_after m (g + 1) (minus r (counts_of 2 (x ∷ []))) (pos l ∷ (s +ℤ pos (begins_run last l)) ∷ []) (columns_of 2 (replicate (length xs) 1) xs))) (label-of x e.0)
       ∙ value-from xs (g + 1) (minus r (counts_of 2 (x ∷ []))) x (s +ℤ pos (begins_run last x)) e.1
-      ∙ moved s (begins_run last x) (runs_after x xs)
-    where
-      moved : (s : ℤ) (n k : ℕ) → (s +ℤ pos n) +ℤ pos k ≡ s +ℤ pos (n + k)
-      moved s n k = omega (arith, ints)
+      ∙ omega (arith, ints)
 
   -- its value is the number of runs
   pub value-is : (xs : List ℕ) → length xs ≡ a + b → AllByRecursion (λ x. x < 2) xs → pos (runs xs) ≡ labelling_value m xs
   value-is xs e below =
       sym (ap (λ n. runs_so_far (partial_after m 0 (a ∷ b ∷ []) (pos 2 ∷ pos 0 ∷ []) (columns_of 2 (replicate n 1) xs))) (sym e)
       ∙ value-from xs 0 (a ∷ b ∷ []) 2 (pos 0) below
-      ∙ zero-plus (runs_after 2 xs)
-      ∙ ap pos (runs-are xs below))
-    where
-      zero-plus : (n : ℕ) → pos 0 +ℤ pos n ≡ pos n
-      zero-plus n = omega (arith, ints)
+      ∙ omega (arith, ints, runs-are xs below))
 
 -- past the last label none begins
 pub none-to-come : (n last i : ℕ) (xs : List ℕ) → length xs ≤ i → n ≡ n + runs_after last (drop i xs)

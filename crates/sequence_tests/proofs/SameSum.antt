@@ -1,7 +1,7 @@
 -- The observed K is that of the two values of each subject, whichever is taken first.
 use Rattle.std.proofs.Common.{◌≡◌, ℕ, zero, suc, ◌+◌, ◌<◌, ◌≤◌, List, [], ◌∷◌, length, get_or, map, Bool, true, false, cond, refl, sym, ◌∙◌, ap, arith}
 use Rattle.std.specs.Prelude.{ℤ, pos, ◌-ℤ◌, ◌<ℤ◌, ◌≤ℤ◌, int_lt, nat_lt}
-use Rattle.std.specs.List.{All, AllByRecursion, sum_by}
+use Rattle.std.specs.List.{All, AllByRecursion, sum_by, zip}
 use Rattle.std.proofs.lemmas.Bool.{le-ltb, lt-ltb}
 use Rattle.std.proofs.lemmas.Int.{ints}
 use Rattle.std.proofs.lemmas.List.{get_or_default}
@@ -21,7 +21,6 @@ use Rattle.sample_reader.specs.Twins.{TwinData}
 use Rattle.sample_reader.specs.declared.subjects.Subject.{Subject}
 use Rattle.sequence_tests.specs.Kendall.{one_where_greater, one_where_less, over_pairs, place_among, places_of, twin_subjects, twin_test}
 use Rattle.sequence_tests.specs.TurnedTwins.{turned_twins}
-use Rattle.sequence_tests.proofs.KendallValues.{paired-are, pairs_of}
 use Rattle.sequence_tests.proofs.Places.{below, no_tie}
 
 -- ---- places are in the order of the values
@@ -29,14 +28,8 @@ use Rattle.sequence_tests.proofs.Places.{below, no_tie}
 marked : (t : Tie) (v w : ℤ) → v ≤ℤ w → one_if (int_lt t.value v) ≤ one_if (int_lt t.value w)
 marked t v w h = by (int_lt t.value v) refl
   where
-    chain : (a b c : ℤ) → a <ℤ b → b ≤ℤ c → a <ℤ c
-    chain a b c h k = omega (arith, ints, h, k)
-
-    one : (n : ℕ) → n ≡ 1 → 1 ≤ n
-    one n e = omega (arith, e)
-
     by : (b : Bool) → int_lt t.value v ≡ b → one_if b ≤ one_if (int_lt t.value w)
-    by true e = one (one_if (int_lt t.value w)) (ap one_if (test-less t.value w (chain t.value v w (less-from_test t.value v e) h)))
+    by true e = rw (test-less t.value w (omega (arith, ints, less-from_test t.value v e, h))) (omega arith)
     by false e = omega arith
 
 place-rises : (ts : List Tie) (v w : ℤ) → v ≤ℤ w → place_among ts v ≤ place_among ts w
@@ -47,23 +40,11 @@ place-rises (t ∷ ts) v w h = omega (arith, below v t ts, below w t ts, marked 
 place-above : (ts : List Tie) (v w : ℤ) (i : ℕ) → i < length ts → (get_or ts i no_tie).value ≡ v → v <ℤ w → place_among ts v < place_among ts w
 place-above [] v w i h e l = absurd (omega (arith, h))
 place-above (t ∷ ts) v w zero h e l =
-    let none : one_if (int_lt t.value v) ≡ 0 = ap one_if (test-not_less t.value v (alike t.value v e)) in
-    let one : one_if (int_lt t.value w) ≡ 1 = ap one_if (test-less t.value w (before t.value v w e l)) in
-    omega (arith, below v t ts, below w t ts, none, one, place-rises ts v w (weaker v w l))
-  where
-    alike : (a b : ℤ) → a ≡ b → b ≤ℤ a
-    alike a b e = omega (arith, ints, e)
-
-    before : (a b c : ℤ) → a ≡ b → b <ℤ c → a <ℤ c
-    before a b c e h = omega (arith, ints, e, h)
-
-    weaker : (a b : ℤ) → a <ℤ b → a ≤ℤ b
-    weaker a b h = omega (arith, ints, h)
+    let none : one_if (int_lt t.value v) ≡ 0 = ap one_if (test-not_less t.value v (omega (arith, ints, e))) in
+    let one : one_if (int_lt t.value w) ≡ 1 = ap one_if (test-less t.value w (omega (arith, ints, e, l))) in
+    omega (arith, below v t ts, below w t ts, none, one, place-rises ts v w (omega (arith, ints, l)))
 place-above (t ∷ ts) v w (suc i) h e l =
-    omega (arith, below v t ts, below w t ts, marked t v w (weaker v w l), place-above ts v w i (omega (arith, h)) e l)
-  where
-    weaker : (a b : ℤ) → a <ℤ b → a ≤ℤ b
-    weaker a b h = omega (arith, ints, h)
+    omega (arith, below v t ts, below w t ts, marked t v w (omega (arith, ints, l)), place-above ts v w i (omega (arith, h)) e l)
 
 -- a value whose place is before those of all greater ones
 abbrev IsPlaced : (ℤ → ℕ) → ℤ → Type 0
@@ -91,29 +72,25 @@ all-placed values = recursion_from_All (IsPlaced (place_among (tie_groups values
 abbrev Valued : Type 0
 Valued = ℤ × ℤ
 
-abbrev valued : List ℤ → List ℤ → List Valued
-valued [] ws = []
-valued (a ∷ vs) [] = []
-valued (a ∷ vs) (b ∷ ws) = (a, b) ∷ valued vs ws
-
-sums-placed : (f : ℤ → ℕ → ℕ) (p : ℤ → ℕ) (vs ws : List ℤ) → sum_by (λ (s : Subject). f s.value s.label) (pairs_of vs (map p ws)) ≡ sum_by (λ (z : Valued). f z.0 (p z.1)) (valued vs ws)
+sums-placed : (f : ℤ → ℕ → ℕ) (p : ℤ → ℕ) (vs ws : List ℤ) → sum_by (λ (s : Subject). f s.value s.label) (paired_subjects vs (map p ws)) ≡ sum_by (λ (z : Valued). f z.0 (p z.1)) (zip vs ws)
+unfolding paired_subjects
 sums-placed f p [] ws = refl
 sums-placed f p (a ∷ vs) [] = refl
 sums-placed f p (a ∷ vs) (b ∷ ws) =
-    sum_by-cons (λ (s : Subject). f s.value s.label) (record { value = a; label = p b }) (pairs_of vs (map p ws))
+    sum_by-cons (λ (s : Subject). f s.value s.label) (record { value = a; label = p b }) (paired_subjects vs (map p ws))
     ∙ ap (λ n. f a (p b) + n) (sums-placed f p vs ws)
-    ∙ sym (sum_by-cons (λ (z : Valued). f z.0 (p z.1)) (a, b) (valued vs ws))
+    ∙ sym (sum_by-cons (λ (z : Valued). f z.0 (p z.1)) (a, b) (zip vs ws))
 
-sums-swapped : (f : ℤ → ℤ → ℕ) (vs ws : List ℤ) → sum_by (λ (z : Valued). f z.0 z.1) (valued ws vs) ≡ sum_by (λ (z : Valued). f z.1 z.0) (valued vs ws)
+sums-swapped : (f : ℤ → ℤ → ℕ) (vs ws : List ℤ) → sum_by (λ (z : Valued). f z.0 z.1) (zip ws vs) ≡ sum_by (λ (z : Valued). f z.1 z.0) (zip vs ws)
 sums-swapped f [] [] = refl
 sums-swapped f [] (b ∷ ws) = refl
 sums-swapped f (a ∷ vs) [] = refl
 sums-swapped f (a ∷ vs) (b ∷ ws) =
-    sum_by-cons (λ (z : Valued). f z.0 z.1) (b, a) (valued ws vs)
+    sum_by-cons (λ (z : Valued). f z.0 z.1) (b, a) (zip ws vs)
     ∙ ap (λ n. f b a + n) (sums-swapped f vs ws)
-    ∙ sym (sum_by-cons (λ (z : Valued). f z.1 z.0) (a, b) (valued vs ws))
+    ∙ sym (sum_by-cons (λ (z : Valued). f z.1 z.0) (a, b) (zip vs ws))
 
-all-seconds : (P : ℤ → Type 0) (vs ws : List ℤ) → AllByRecursion P ws → AllByRecursion (λ (z : Valued). P z.1) (valued vs ws)
+all-seconds : (P : ℤ → Type 0) (vs ws : List ℤ) → AllByRecursion P ws → AllByRecursion (λ (z : Valued). P z.1) (zip vs ws)
 all-seconds P [] ws all = tt
 all-seconds P (a ∷ vs) [] all = tt
 all-seconds P (a ∷ vs) (b ∷ ws) all = (all.0, all-seconds P vs ws all.1)
@@ -138,43 +115,44 @@ values_rise zs = both_ways (λ z y. one_of (int_lt z.0 y.0) (int_lt z.1 y.1)) zs
 abbrev values_fall : List Valued → ℕ
 values_fall zs = both_ways (λ z y. one_of (int_lt z.0 y.0) (int_lt y.1 z.1)) zs
 
-over-placed : (f : ℕ → ℕ → ℕ) (p : ℤ → ℕ) (vs ws : List ℤ) → over_pairs f (pairs_of vs (map p ws)) (pairs_of vs (map p ws)) ≡ both_ways (λ z y. cond (int_lt z.0 y.0) (f (p z.1) (p y.1)) 0) (valued vs ws)
+over-placed : (f : ℕ → ℕ → ℕ) (p : ℤ → ℕ) (vs ws : List ℤ) → over_pairs f (paired_subjects vs (map p ws)) (paired_subjects vs (map p ws)) ≡ both_ways (λ z y. cond (int_lt z.0 y.0) (f (p z.1) (p y.1)) 0) (zip vs ws)
 over-placed f p vs ws =
-    sum_by-same _ (λ (s : Subject). sum_by (λ (y : Valued). cond (int_lt s.value y.0) (f s.label (p y.1)) 0) (valued vs ws)) (λ s. sums-placed (λ v l. cond (int_lt s.value v) (f s.label l) 0) p vs ws) (pairs_of vs (map p ws))
-    ∙ sums-placed (λ v l. sum_by (λ (y : Valued). cond (int_lt v y.0) (f l (p y.1)) 0) (valued vs ws)) p vs ws
+    sum_by-same _ (λ (s : Subject). sum_by (λ (y : Valued). cond (int_lt s.value y.0) (f s.label (p y.1)) 0) (zip vs ws)) (λ s. sums-placed (λ v l. cond (int_lt s.value v) (f s.label l) 0) p vs ws) (paired_subjects vs (map p ws))
+    ∙ sums-placed (λ v l. sum_by (λ (y : Valued). cond (int_lt v y.0) (f l (p y.1)) 0) (zip vs ws)) p vs ws
 
 module _ (p : ℤ → ℕ) (vs ws : List ℤ) (placed : AllByRecursion (IsPlaced p) ws) where
-  placed-rise : over_pairs one_where_less (pairs_of vs (map p ws)) (pairs_of vs (map p ws)) ≡ values_rise (valued vs ws)
+  placed-rise : over_pairs one_where_less (paired_subjects vs (map p ws)) (paired_subjects vs (map p ws)) ≡ values_rise (zip vs ws)
   placed-rise =
       over-placed one_where_less p vs ws
-      ∙ sum_by-same_where (λ (z : Valued). IsPlaced p z.1) _ (λ (z : Valued). sum_by (λ (y : Valued). one_of (int_lt z.0 y.0) (int_lt z.1 y.1)) (valued vs ws)) (λ z h.
-      sum_by-same _ (λ (y : Valued). one_of (int_lt z.0 y.0) (int_lt z.1 y.1)) (λ y. ap (λ b. one_of (int_lt z.0 y.0) b) (h y.1)) (valued vs ws)) (valued vs ws) (all-seconds (IsPlaced p) vs ws placed)
+      ∙ sum_by-same_where (λ (z : Valued). IsPlaced p z.1) _ (λ (z : Valued). sum_by (λ (y : Valued). one_of (int_lt z.0 y.0) (int_lt z.1 y.1)) (zip vs ws)) (λ z h.
+      sum_by-same _ (λ (y : Valued). one_of (int_lt z.0 y.0) (int_lt z.1 y.1)) (λ y. ap (λ b. one_of (int_lt z.0 y.0) b) (h y.1)) (zip vs ws)) (zip vs ws) (all-seconds (IsPlaced p) vs ws placed)
 
-  placed-fall : over_pairs one_where_greater (pairs_of vs (map p ws)) (pairs_of vs (map p ws)) ≡ values_fall (valued vs ws)
+  placed-fall : over_pairs one_where_greater (paired_subjects vs (map p ws)) (paired_subjects vs (map p ws)) ≡ values_fall (zip vs ws)
   placed-fall =
       over-placed one_where_greater p vs ws
-      ∙ sum_by-same _ (λ (z : Valued). sum_by (λ (y : Valued). one_of (int_lt z.0 y.0) (int_lt y.1 z.1)) (valued vs ws)) (λ z.
-      sum_by-same_where (λ (y : Valued). IsPlaced p y.1) _ (λ (y : Valued). one_of (int_lt z.0 y.0) (int_lt y.1 z.1)) (λ y h. ap (λ b. one_of (int_lt z.0 y.0) b) (h z.1)) (valued vs ws) (all-seconds (IsPlaced p) vs ws placed)) (valued vs ws)
+      ∙ sum_by-same _ (λ (z : Valued). sum_by (λ (y : Valued). one_of (int_lt z.0 y.0) (int_lt y.1 z.1)) (zip vs ws)) (λ z.
+      sum_by-same_where (λ (y : Valued). IsPlaced p y.1) _ (λ (y : Valued). one_of (int_lt z.0 y.0) (int_lt y.1 z.1)) (λ y h. ap (λ b. one_of (int_lt z.0 y.0) b) (h z.1)) (zip vs ws) (all-seconds (IsPlaced p) vs ws placed)) (zip vs ws)
 
-both-swapped : (f : ℤ → ℤ → ℤ → ℤ → ℕ) (vs ws : List ℤ) → both_ways (λ z y. f z.0 z.1 y.0 y.1) (valued ws vs) ≡ both_ways (λ z y. f z.1 z.0 y.1 y.0) (valued vs ws)
+both-swapped : (f : ℤ → ℤ → ℤ → ℤ → ℕ) (vs ws : List ℤ) → both_ways (λ z y. f z.0 z.1 y.0 y.1) (zip ws vs) ≡ both_ways (λ z y. f z.1 z.0 y.1 y.0) (zip vs ws)
 both-swapped f vs ws =
-    sum_by-same _ (λ (z : Valued). sum_by (λ (y : Valued). f z.0 z.1 y.1 y.0) (valued vs ws)) (λ z. sums-swapped (λ v w. f z.0 z.1 v w) vs ws) (valued ws vs)
-    ∙ sums-swapped (λ v w. sum_by (λ (y : Valued). f v w y.1 y.0) (valued vs ws)) vs ws
+    sum_by-same _ (λ (z : Valued). sum_by (λ (y : Valued). f z.0 z.1 y.1 y.0) (zip vs ws)) (λ z. sums-swapped (λ v w. f z.0 z.1 v w) vs ws) (zip ws vs)
+    ∙ sums-swapped (λ v w. sum_by (λ (y : Valued). f v w y.1 y.0) (zip vs ws)) vs ws
 
-rise-swapped : (vs ws : List ℤ) → values_rise (valued ws vs) ≡ values_rise (valued vs ws)
+rise-swapped : (vs ws : List ℤ) → values_rise (zip ws vs) ≡ values_rise (zip vs ws)
 rise-swapped vs ws =
     both-swapped (λ a b c d. one_of (int_lt a c) (int_lt b d)) vs ws
-    ∙ sum_by-same _ (λ (z : Valued). sum_by (λ (y : Valued). one_of (int_lt z.0 y.0) (int_lt z.1 y.1)) (valued vs ws)) (λ z. sum_by-same _ (λ (y : Valued). one_of (int_lt z.0 y.0) (int_lt z.1 y.1)) (λ y. one-of (int_lt z.1 y.1) (int_lt z.0 y.0)) (valued vs ws)) (valued vs ws)
+    ∙ sum_by-same _ (λ (z : Valued). sum_by (λ (y : Valued). one_of (int_lt z.0 y.0) (int_lt z.1 y.1)) (zip vs ws)) (λ z. sum_by-same _ (λ (y : Valued). one_of (int_lt z.0 y.0) (int_lt z.1 y.1)) (λ y. one-of (int_lt z.1 y.1) (int_lt z.0 y.0)) (zip vs ws)) (zip vs ws)
 
-fall-swapped : (vs ws : List ℤ) → values_fall (valued ws vs) ≡ values_fall (valued vs ws)
+fall-swapped : (vs ws : List ℤ) → values_fall (zip ws vs) ≡ values_fall (zip vs ws)
 fall-swapped vs ws =
     both-swapped (λ a b c d. one_of (int_lt a c) (int_lt d b)) vs ws
-    ∙ sum_by-same _ (λ (z : Valued). sum_by (λ (y : Valued). one_of (int_lt y.0 z.0) (int_lt z.1 y.1)) (valued vs ws)) (λ z. sum_by-same _ (λ (y : Valued). one_of (int_lt y.0 z.0) (int_lt z.1 y.1)) (λ y. one-of (int_lt z.1 y.1) (int_lt y.0 z.0)) (valued vs ws)) (valued vs ws)
-    ∙ sum_by-swap (λ (z : Valued) (y : Valued). one_of (int_lt y.0 z.0) (int_lt z.1 y.1)) (valued vs ws) (valued vs ws)
+    ∙ sum_by-same _ (λ (z : Valued). sum_by (λ (y : Valued). one_of (int_lt y.0 z.0) (int_lt z.1 y.1)) (zip vs ws)) (λ z. sum_by-same _ (λ (y : Valued). one_of (int_lt y.0 z.0) (int_lt z.1 y.1)) (λ y. one-of (int_lt z.1 y.1) (int_lt y.0 z.0)) (zip vs ws)) (zip vs ws)
+    ∙ sum_by-swap (λ (z : Valued) (y : Valued). one_of (int_lt y.0 z.0) (int_lt z.1 y.1)) (zip vs ws) (zip vs ws)
 
 -- ---- the observed labelling
 
-paired-again : (ss : List Subject) → pairs_of (values_of ss) (labels_of ss) ≡ ss
+paired-again : (ss : List Subject) → paired_subjects (values_of ss) (labels_of ss) ≡ ss
+unfolding paired_subjects
 paired-again [] = refl
 paired-again (s ∷ ss) = ap (λ rest. s ∷ rest) (paired-again ss)
 
@@ -184,20 +162,19 @@ over-ordered f ss =
     ∙ sum_by-same _ (λ (a : Subject). sum_by (λ (b : Subject). cond (int_lt a.value b.value) (f a.label b.label) 0) ss) (λ a. sum_by-in_order may_precede (λ (b : Subject). cond (int_lt a.value b.value) (f a.label b.label) 0) ss) ss
 
 abbrev value_sum : List ℤ → List ℤ → ℤ
-value_sum vs ws = pos (values_rise (valued vs ws)) -ℤ pos (values_fall (valued vs ws))
+value_sum vs ws = pos (values_rise (zip vs ws)) -ℤ pos (values_fall (zip vs ws))
 
 observed-is : (t : TwinData) → observed_statistic (twin_test t) ≡ value_sum t.first t.second
 observed-is t =
     let ss : List Subject = twin_subjects t in
     let places : List ℕ = places_of t.second in
     let placed = all-placed t.second in
-    let as_paired = λ (f : ℕ → ℕ → ℕ). over-ordered f (paired_subjects t.first places) ∙ ap (λ ts. over_pairs f ts ts) (paired-are t.first places) in
-    ap (λ ts. pos (over_pairs one_where_less ts ts) -ℤ pos (over_pairs one_where_greater ts ts)) (paired-are (values_of ss) (labels_of ss) ∙ paired-again ss)
-    ∙ ap (λ n. pos n -ℤ pos (over_pairs one_where_greater ss ss)) (as_paired one_where_less ∙ placed-rise (place_among (tie_groups t.second)) t.first t.second placed)
-    ∙ ap (λ n. pos (values_rise (valued t.first t.second)) -ℤ pos n) (as_paired one_where_greater ∙ placed-fall (place_among (tie_groups t.second)) t.first t.second placed)
+    ap (λ ts. pos (over_pairs one_where_less ts ts) -ℤ pos (over_pairs one_where_greater ts ts)) (paired-again ss)
+    ∙ ap (λ n. pos n -ℤ pos (over_pairs one_where_greater ss ss)) (over-ordered one_where_less (paired_subjects t.first places) ∙ placed-rise (place_among (tie_groups t.second)) t.first t.second placed)
+    ∙ ap (λ n. pos (values_rise (zip t.first t.second)) -ℤ pos n) (over-ordered one_where_greater (paired_subjects t.first places) ∙ placed-fall (place_among (tie_groups t.second)) t.first t.second placed)
 
 pub observed-turned : (t : TwinData) → observed_statistic (twin_test t) ≡ observed_statistic (twin_test (turned_twins t))
 observed-turned t =
     observed-is t
-    ∙ sym (observed-is (turned_twins t) ∙ ap (λ n. pos n -ℤ pos (values_fall (valued t.second t.first))) (rise-swapped t.first t.second)
-    ∙ ap (λ n. pos (values_rise (valued t.first t.second)) -ℤ pos n) (fall-swapped t.first t.second))
+    ∙ sym (observed-is (turned_twins t) ∙ ap (λ n. pos n -ℤ pos (values_fall (zip t.second t.first))) (rise-swapped t.first t.second)
+    ∙ ap (λ n. pos (values_rise (zip t.first t.second)) -ℤ pos n) (fall-swapped t.first t.second))

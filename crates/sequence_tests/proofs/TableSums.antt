@@ -1,8 +1,10 @@
 -- K of a labelling is K of its table, and K of a table is K of the table turned.
+use Rattle.sample_reader.specs.PooledSample.{paired_subjects}
 use Rattle.std.proofs.Common.{◌≡◌, ℕ, zero, suc, ◌+◌, ◌*◌, ◌<◌, List, [], ◌∷◌, length, map, take, drop, refl, sym, ◌∙◌, ap, arith}
 use Rattle.std.specs.Prelude.{ℤ, pos, ◌-ℤ◌, replicate}
 use Rattle.std.specs.List.{AllByRecursion, range_with_len, sum}
 use Rattle.std.proofs.lemmas.List.{length-drop, take-append-drop}
+use Rattle.std.proofs.lemmas.List.Folds.{sum_by-replicate}
 use Rattle.completion_bounds.proofs.Factorials.{total, total-is}
 use Rattle.midranks.specs.Ties.{IsAscending}
 use Rattle.midranks.specs.declared.ties.Tie.{Tie}
@@ -16,21 +18,20 @@ use Rattle.turned_tables.proofs.TurnedLines.{AreLong, across, across-fronted, le
 use Rattle.sequence_tests.specs.Kendall.{kendall_statistic, one_where_greater, one_where_less, over_pairs}
 use Rattle.sequence_tests.specs.KendallNetwork.{rises}
 use Rattle.sequence_tests.proofs.CodeLaws.{sum-first}
-use Rattle.sequence_tests.proofs.CountedPairs.{falls-are, rises-are}
-use Rattle.sequence_tests.proofs.KendallValues.{all-drop, all-take, by_stages, counts_in, paired-are, pairs-are, pairs_of, values_of_ties}
+use Rattle.sequence_tests.proofs.CountedPairs.{crossed, falls-are, rises-are}
+use Rattle.sequence_tests.proofs.KendallValues.{all-drop, all-take, by_stages, counts_in, pairs-are, values_of_ties}
 
--- the pairs of a subject of a column and one of a later column whose row is greater, or less, of a
--- table of so many rows
-abbrev pub rising : ℕ → List (List ℕ) → ℕ
-rising k [] = 0
-rising k (x ∷ w) = rises x (across k w) + rising k w
+-- what each column and the later ones add, of a table of so many rows
+abbrev over_later : (List ℕ → List ℕ → ℕ) → ℕ → List (List ℕ) → ℕ
+over_later f k [] = 0
+over_later f k (x ∷ w) = f x (across k w) + over_later f k w
 
-abbrev pub falling : ℕ → List (List ℕ) → ℕ
-falling k [] = 0
-falling k (x ∷ w) = rises (across k w) x + falling k w
+-- the pairs whose row is less for the later subject
+abbrev falls : List ℕ → List ℕ → ℕ
+falls x y = rises y x
 
 abbrev pub table_sum : ℕ → List (List ℕ) → ℤ
-table_sum k w = pos (rising k w) -ℤ pos (falling k w)
+table_sum k w = pos (over_later rises k w) -ℤ pos (over_later falls k w)
 
 -- ---- of a labelling
 
@@ -48,28 +49,20 @@ across-columns k (c ∷ cs) xs e =
     ap (plus (counts_of k (take c xs))) (across-columns k cs (drop c xs) (rest-long c cs xs e))
     ∙ sym (counts_of-append k (take c xs) (drop c xs)) ∙ ap (counts_of k) (take-append-drop c xs)
 
-rising-columns : (k : ℕ) (cs xs : List ℕ) → length xs ≡ sum cs → AllByRecursion (λ x. x < k) xs → by_stages one_where_less cs xs ≡ rising k (columns_of k cs xs)
-rising-columns k [] xs e a = refl
-rising-columns k (c ∷ cs) xs e a =
+over-columns : (f : List ℕ → List ℕ → ℕ) (h : ℕ → ℕ → ℕ) (k : ℕ) → ((xs ys : List ℕ) → AllByRecursion (λ x. x < k) xs → AllByRecursion (λ y. y < k) ys → f (counts_of k xs) (counts_of k ys) ≡ crossed h xs ys)
+    → (cs xs : List ℕ) → length xs ≡ sum cs → AllByRecursion (λ x. x < k) xs → by_stages h cs xs ≡ over_later f k (columns_of k cs xs)
+over-columns f h k each [] xs e a = refl
+over-columns f h k each (c ∷ cs) xs e a =
     let long = rest-long c cs xs e in
     let later = all-drop (λ x. x < k) c xs a in
-    ap (λ n. n + by_stages one_where_less cs (drop c xs)) (sym (ap (rises (counts_of k (take c xs))) (across-columns k cs (drop c xs) long) ∙ rises-are k (take c xs) (drop c xs) (all-take (λ x. x < k) c xs a) later))
-    ∙ ap (λ n. rises (counts_of k (take c xs)) (across k (columns_of k cs (drop c xs))) + n) (rising-columns k cs (drop c xs) long later)
-
-falling-columns : (k : ℕ) (cs xs : List ℕ) → length xs ≡ sum cs → AllByRecursion (λ x. x < k) xs → by_stages one_where_greater cs xs ≡ falling k (columns_of k cs xs)
-falling-columns k [] xs e a = refl
-falling-columns k (c ∷ cs) xs e a =
-    let long = rest-long c cs xs e in
-    let later = all-drop (λ x. x < k) c xs a in
-    ap (λ n. n + by_stages one_where_greater cs (drop c xs)) (sym (ap (λ v. rises v (counts_of k (take c xs))) (across-columns k cs (drop c xs) long) ∙ falls-are k (take c xs) (drop c xs) (all-take (λ x. x < k) c xs a) later))
-    ∙ ap (λ n. rises (across k (columns_of k cs (drop c xs))) (counts_of k (take c xs)) + n) (falling-columns k cs (drop c xs) long later)
+    ap (λ n. n + by_stages h cs (drop c xs)) (sym (ap (f (counts_of k (take c xs))) (across-columns k cs (drop c xs) long) ∙ each (take c xs) (drop c xs) (all-take (λ x. x < k) c xs a) later))
+    ∙ ap (λ n. f (counts_of k (take c xs)) (across k (columns_of k cs (drop c xs))) + n) (over-columns f h k each cs (drop c xs) long later)
 
 -- of subjects in ascending groups of first values
 pub table-is : (ts : List Tie) (k : ℕ) (xs : List ℕ) → IsAscending ts → length xs ≡ sum (counts_in ts) → AllByRecursion (λ x. x < k) xs → kendall_statistic (values_of_ties ts) xs ≡ table_sum k (columns_of k (counts_in ts) xs)
 table-is ts k xs up long below =
-    ap (λ ss. pos (over_pairs one_where_less ss ss) -ℤ pos (over_pairs one_where_greater ss ss)) (paired-are (values_of_ties ts) xs)
-    ∙ ap (λ n. pos n -ℤ pos (over_pairs one_where_greater (pairs_of (values_of_ties ts) xs) (pairs_of (values_of_ties ts) xs))) (pairs-are one_where_less ts xs up long ∙ rising-columns k (counts_in ts) xs long below)
-    ∙ ap (λ n. pos (rising k (columns_of k (counts_in ts) xs)) -ℤ pos n) (pairs-are one_where_greater ts xs up long ∙ falling-columns k (counts_in ts) xs long below)
+    ap (λ n. pos n -ℤ pos (over_pairs one_where_greater (paired_subjects (values_of_ties ts) xs) (paired_subjects (values_of_ties ts) xs))) (pairs-are one_where_less ts xs up long ∙ over-columns rises one_where_less k (rises-are k) (counts_in ts) xs long below)
+    ∙ ap (λ n. pos (over_later rises k (columns_of k (counts_in ts) xs)) -ℤ pos n) (pairs-are one_where_greater ts xs up long ∙ over-columns falls one_where_greater k (falls-are k) (counts_in ts) xs long below)
 
 -- ---- of a table turned
 
@@ -79,64 +72,50 @@ sum-plus [] (b ∷ y) e = absurd (omega (arith, e))
 sum-plus (a ∷ x) [] e = absurd (omega (arith, e))
 sum-plus (a ∷ x) (b ∷ y) e = omega (arith, sum-first (a + b) (plus x y), sum-first a x, sum-first b y, sum-plus x y (omega (arith, e)))
 
-sum-zeros : (n : ℕ) → sum (replicate n 0) ≡ 0
-sum-zeros zero = refl
-sum-zeros (suc n) = omega (arith, sum-first 0 (replicate n 0), sum-zeros n)
-
 -- all cells by the rows and by the columns
 sum-across : (n : ℕ) (lines : List (List ℕ)) → AreLong n lines → sum (across n lines) ≡ sum (map total lines)
-sum-across n [] a = sum-zeros n
+sum-across n [] a = omega (arith, sum_by-replicate (λ v. v) n 0)
 sum-across n (line ∷ lines) a =
     sum-plus line (across n lines) (a.0 ∙ sym (length-across n lines a.1))
     ∙ omega (arith, total-is line, sum-across n lines a.1, sum-first (total line) (map total lines))
 
-rising-fronted : (n : ℕ) (x : List ℕ) (lines : List (List ℕ)) → length x ≡ length lines → AreLong n lines → rising (suc n) (fronted x lines) ≡ rises x (map total lines) + rising n lines
+rising-fronted : (n : ℕ) (x : List ℕ) (lines : List (List ℕ)) → length x ≡ length lines → AreLong n lines → over_later rises (suc n) (fronted x lines) ≡ rises x (map total lines) + over_later rises n lines
 rising-fronted n [] [] e a = refl
 rising-fronted n [] (line ∷ lines) e a = absurd (omega (arith, e))
 rising-fronted n (b ∷ x) [] e a = absurd (omega (arith, e))
 rising-fronted n (b ∷ x) (line ∷ lines) e a =
-    ap (λ v. rises (b ∷ line) v + rising (suc n) (fronted x lines)) (across-fronted n x lines (omega (arith, e)))
-    ∙ regroup b (sum (across n lines)) (sum (map total lines)) (rises line (across n lines)) (rises x (map total lines)) (rising n lines) (rising (suc n) (fronted x lines)) (sum-across n lines a.1) (rising-fronted n x lines (omega (arith, e)) a.1)
+    ap (λ v. rises (b ∷ line) v + over_later rises (suc n) (fronted x lines)) (across-fronted n x lines (omega (arith, e)))
+    ∙ regroup b (sum (across n lines)) (sum (map total lines)) (rises line (across n lines)) (rises x (map total lines)) (over_later rises n lines) (over_later rises (suc n) (fronted x lines)) (sum-across n lines a.1) (rising-fronted n x lines (omega (arith, e)) a.1)
   where
     regroup : (b s t u v r q : ℕ) → s ≡ t → q ≡ v + r → (b * s + u) + q ≡ (b * t + v) + (u + r)
     regroup b s t u v r q e f = rw (e, f) (omega arith)
 
-falling-fronted : (n : ℕ) (x : List ℕ) (lines : List (List ℕ)) → length x ≡ length lines → AreLong n lines → falling (suc n) (fronted x lines) ≡ rises (map total lines) x + falling n lines
+falling-fronted : (n : ℕ) (x : List ℕ) (lines : List (List ℕ)) → length x ≡ length lines → AreLong n lines → over_later falls (suc n) (fronted x lines) ≡ rises (map total lines) x + over_later falls n lines
 falling-fronted n [] [] e a = refl
 falling-fronted n [] (line ∷ lines) e a = absurd (omega (arith, e))
 falling-fronted n (b ∷ x) [] e a = absurd (omega (arith, e))
 falling-fronted n (b ∷ x) (line ∷ lines) e a =
-    ap (λ v. rises v (b ∷ line) + falling (suc n) (fronted x lines)) (across-fronted n x lines (omega (arith, e)))
-    ∙ regroup (total x) (sum x) (total line) (sum line) (rises (across n lines) line) (rises (map total lines) x) (falling n lines) (falling (suc n) (fronted x lines)) (total-is x) (total-is line) (falling-fronted n x lines (omega (arith, e)) a.1)
+    ap (λ v. rises v (b ∷ line) + over_later falls (suc n) (fronted x lines)) (across-fronted n x lines (omega (arith, e)))
+    ∙ regroup (total x) (sum x) (total line) (sum line) (rises (across n lines) line) (rises (map total lines) x) (over_later falls n lines) (over_later falls (suc n) (fronted x lines)) (total-is x) (total-is line) (falling-fronted n x lines (omega (arith, e)) a.1)
   where
     regroup : (p q s t u v r m : ℕ) → p ≡ q → s ≡ t → m ≡ v + r → (p * t + u) + m ≡ (s * q + v) + (u + r)
     regroup p q s t u v r m e f g = rw (e, f, g) (grind arith)
 
-rising-none : (k : ℕ) → rising 0 (replicate k []) ≡ 0
-rising-none zero = refl
-rising-none (suc k) = omega (arith, rising-none k)
+none-rise : (x : List ℕ) → rises x [] ≡ 0
+none-rise [] = refl
+none-rise (a ∷ x) = refl
 
-falling-none : (k : ℕ) → falling 0 (replicate k []) ≡ 0
-falling-none zero = refl
-falling-none (suc k) = omega (arith, none (across 0 (replicate k [])), falling-none k)
-  where
-    none : (x : List ℕ) → rises x [] ≡ 0
-    none [] = refl
-    none (a ∷ x) = refl
+over-none : (f : List ℕ → List ℕ → ℕ) → ((x : List ℕ) → f [] x ≡ 0) → (k : ℕ) → over_later f 0 (replicate k []) ≡ 0
+over-none f none zero = refl
+over-none f none (suc k) = omega (arith, none (across 0 (replicate k [])), over-none f none k)
 
-rising-turned : (k : ℕ) (w : List (List ℕ)) → AreLong k w → rising (length w) (turned k w) ≡ rising k w
-rising-turned k [] a = rising-none k
-rising-turned k (x ∷ w) a =
-    rising-fronted (length w) x (turned k w) (level-turned k x w a) (long-turned k w)
-    ∙ ap (λ v. rises x v + rising (length w) (turned k w)) (totals-turned k w a.1)
-    ∙ ap (λ n. rises x (across k w) + n) (rising-turned k w a.1)
-
-falling-turned : (k : ℕ) (w : List (List ℕ)) → AreLong k w → falling (length w) (turned k w) ≡ falling k w
-falling-turned k [] a = falling-none k
-falling-turned k (x ∷ w) a =
-    falling-fronted (length w) x (turned k w) (level-turned k x w a) (long-turned k w)
-    ∙ ap (λ v. rises v x + falling (length w) (turned k w)) (totals-turned k w a.1)
-    ∙ ap (λ n. rises (across k w) x + n) (falling-turned k w a.1)
+over-turned : (f : List ℕ → List ℕ → ℕ) → ((x : List ℕ) → f [] x ≡ 0) → ((n : ℕ) (x : List ℕ) (lines : List (List ℕ)) → length x ≡ length lines → AreLong n lines → over_later f (suc n) (fronted x lines) ≡ f x (map total lines) + over_later f n lines)
+    → (k : ℕ) (w : List (List ℕ)) → AreLong k w → over_later f (length w) (turned k w) ≡ over_later f k w
+over-turned f none front k [] a = over-none f none k
+over-turned f none front k (x ∷ w) a =
+    front (length w) x (turned k w) (level-turned k x w a) (long-turned k w)
+    ∙ ap (λ v. f x v + over_later f (length w) (turned k w)) (totals-turned k w a.1)
+    ∙ ap (λ n. f x (across k w) + n) (over-turned f none front k w a.1)
 
 pub sum-turned : (k : ℕ) (w : List (List ℕ)) → AreLong k w → table_sum (length w) (turned k w) ≡ table_sum k w
-sum-turned k w a = ap (λ n. pos n -ℤ pos (falling (length w) (turned k w))) (rising-turned k w a) ∙ ap (λ n. pos (rising k w) -ℤ pos n) (falling-turned k w a)
+sum-turned k w a = ap (λ n. pos n -ℤ pos (over_later falls (length w) (turned k w))) (over-turned rises (λ x. refl) rising-fronted k w a) ∙ ap (λ n. pos (over_later rises k w) -ℤ pos n) (over-turned falls none-rise falling-fronted k w a)

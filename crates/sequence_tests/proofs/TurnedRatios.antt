@@ -1,5 +1,5 @@
 -- What is counted in Kendall's test is what is counted in the test turned, in the ratio of the totals.
-use Rattle.std.proofs.Common.{◌≡◌, ℕ, zero, suc, ◌+◌, ◌*◌, ◌/◌, ◌<◌, ◌≤◌, List, [], ◌∷◌, length, map, Bool, true, false, cond, refl, sym, ◌∙◌, ap, arith}
+use Rattle.std.proofs.Common.{◌≡◌, ℕ, zero, suc, ◌+◌, ◌*◌, ◌/◌, ◌<◌, ◌≤◌, List, [], ◌∷◌, length, map, Bool, true, false, cond, refl, sym, ◌∙◌, ap, arith, mul_comm}
 use Rattle.std.specs.Prelude.{ℤ, pos, ◌<ℤ◌}
 use Rattle.std.specs.List.{AllByRecursion, sum_by}
 use Rattle.std.specs.Ordering.{int_eq}
@@ -76,13 +76,10 @@ gives t u here there tail part e a b p =
       is_part = record {
         some = some;
         within = omega (arith, there_part, of, numerator-within v tail);
-        whole = no-rest (numerator (twin_test t) tail) there.total (here.total * part) some (ratio ∙ swapped part here.total);
+        whole = no-rest (numerator (twin_test t) tail) there.total (here.total * part) some (ratio ∙ mul_comm part here.total);
       };
       law = λ n f. cancel n (numerator (twin_test t) tail) there.total some (f ∙ sym ratio);
     }
-  where
-    swapped : (a b : ℕ) → a * b ≡ b * a
-    swapped a b = grind arith
 
 -- ---- the distribution
 
@@ -101,13 +98,9 @@ module _ (all of : ℕ) (some : 0 < of) where
   ratio-is : (l : Line) → IsRatio l → (l.weight * all / of) * of ≡ l.weight * all
   ratio-is l i = ap (λ n. n * of) (quotient i.count of (l.weight * all) some i.ratio) ∙ i.ratio
 
-  above-all : (v : ℤ) (lines : List Line) → AllByRecursion (λ m. v <ℤ m.value) lines → AllByRecursion (λ m. v <ℤ m.value) (map (weighed_line all of) lines)
-  above-all v [] a = tt
-  above-all v (l ∷ lines) a = (a.0, above-all v lines a.1)
-
   weighed-ascending : (lines : List Line) → IsAscending lines → IsAscending (map (weighed_line all of) lines)
   weighed-ascending [] a = tt
-  weighed-ascending (l ∷ lines) a = (above-all l.value lines a.0, weighed-ascending lines a.1)
+  weighed-ascending (l ∷ lines) a = (all_map (λ (m : Line). l.value <ℤ m.value) (weighed_line all of) lines a.0, weighed-ascending lines a.1)
 
   weighed-positive : 0 < all → (lines : List Line) → AllByRecursion IsRatio lines → AllByRecursion (λ l. 1 ≤ l.weight) lines → AllByRecursion (λ l. 1 ≤ l.weight) (map (weighed_line all of) lines)
   weighed-positive other [] a h = tt

@@ -33,7 +33,7 @@ use Rattle.turned_tables.proofs.Shapes.{wide-table}
 use Rattle.turned_tables.proofs.Weighed.{weights-turned}
 use Rattle.sequence_tests.specs.Kendall.{kendall_statistic, place_among, places_of, twin_says, twin_subjects, twin_test}
 use Rattle.sequence_tests.specs.TurnedTwins.{turned_twins}
-use Rattle.sequence_tests.proofs.KendallValues.{paired-are, pairs_of, values_of_ties}
+use Rattle.sequence_tests.proofs.KendallValues.{values_of_ties}
 use Rattle.sequence_tests.proofs.Places.{sizes-sum}
 use Rattle.sequence_tests.proofs.TableSums.{sum-turned, table-is, table_sum}
 
@@ -66,11 +66,12 @@ passing-turned p columns rows level =
 
 -- ---- the subjects' first values
 
-values-paired : (f : ℤ → ℕ) (vs : List ℤ) (xs : List ℕ) → length xs ≡ length vs → sum_by (λ (s : Subject). f s.value) (pairs_of vs xs) ≡ sum_by f vs
+values-paired : (f : ℤ → ℕ) (vs : List ℤ) (xs : List ℕ) → length xs ≡ length vs → sum_by (λ (s : Subject). f s.value) (paired_subjects vs xs) ≡ sum_by f vs
+unfolding paired_subjects
 values-paired f [] xs e = refl
 values-paired f (v ∷ vs) [] e = absurd (omega (arith, e))
 values-paired f (v ∷ vs) (x ∷ xs) e =
-    sum_by-cons (λ (s : Subject). f s.value) (record { value = v; label = x }) (pairs_of vs xs)
+    sum_by-cons (λ (s : Subject). f s.value) (record { value = v; label = x }) (paired_subjects vs xs)
     ∙ ap (λ n. f v + n) (values-paired f vs xs (omega (arith, e)))
     ∙ sym (sum_by-cons f v vs)
 
@@ -89,7 +90,6 @@ module _ (t : TwinData) where
     first-sums f =
         sum_by-map f (λ (s : Subject). s.value) (twin_subjects t)
         ∙ sum_by-in_order may_precede (λ (s : Subject). f s.value) (paired_subjects t.first (places_of t.second))
-        ∙ ap (sum_by (λ (s : Subject). f s.value)) (paired-are t.first (places_of t.second))
         ∙ values-paired f t.first (places_of t.second) (length-map t.second (place_among (tie_groups t.second)) ∙ long)
 
     same-groups : tie_groups firsts ≡ tie_groups t.first

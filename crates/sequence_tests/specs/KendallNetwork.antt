@@ -27,14 +27,9 @@ rises (a ∷ here) (b ∷ later) = a * sum later + rises here later
 abbrev pub turn : List ℕ → List ℕ → ℤ
 turn here later = pos (rises here later) -ℤ pos (rises later here)
 
--- the pairs of subjects of two columns
-abbrev pub pairs_among : List ℕ → ℕ
-pairs_among [] = 0
-pairs_among (c ∷ columns) = c * sum columns + pairs_among columns
-
 -- the pairs of subjects not yet placed before stage g that have distinct first values
 abbrev pub open_pairs : List ℕ → ℕ → ℕ
-open_pairs columns g = pairs_among (drop g columns)
+open_pairs columns g = rises (drop g columns) (drop g columns)
 
 -- what a choice adds
 abbrev pub added : List ℕ → ℕ → ℕ → List ℤ → List ℕ → ℤ

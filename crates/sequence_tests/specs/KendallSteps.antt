@@ -1,13 +1,17 @@
 -- Words for the bodies of Kendall's test.
-use Rattle.std.specs.Prelude.{◌≡◌, ℕ, ◌^◌, ◌<◌, ◌≤◌, ℤ, pos, Bool, List, length, int_lt, slice_index_or, unsigned_abs, if◌then◌else◌}
+use Rattle.std.specs.Prelude.{◌≡◌, ℕ, ◌^◌, ◌<◌, ◌≤◌, ℤ, pos, Bool, true, List, ◌∷◌, length, int_lt, slice_index, slice_index_or, unsigned_abs, if◌then◌else◌}
 use Rattle.std.specs.List.{sum, sum_by}
 use Rattle.weights.specs.declared.TheConstants.{MAX}
+use Rattle.weights.specs.Grouped.{fits, minus}
 use Rattle.weights.specs.Labellings.{number_of_labellings}
 use Rattle.sample_reader.specs.declared.subjects.Subject.{Subject}
+use Rattle.stage_network.specs.Completions.{total_weight}
 use Rattle.stage_network.specs.Judged.{JudgeFits}
 use Rattle.stage_network.specs.declared.verdicts.Judge.{Judge}
+use Rattle.room_network.specs.Plans.{alone}
+use Rattle.label_network.specs.LabelSteps.{IsHeld, least}
 use Rattle.sequence_tests.specs.Kendall.{one_where_greater, one_where_less}
-use Rattle.sequence_tests.specs.KendallRooms.{code_in}
+use Rattle.sequence_tests.specs.KendallRooms.{code_in, counts_left, kendall_floor, kendall_plan}
 
 -- few subjects and labellings
 pub record AreTwins (columns rows : List ℕ) : Type 0 where
@@ -47,3 +51,25 @@ ordered rises x y = if rises then one_where_less x y else one_where_greater x y
 abbrev pub pairs_with : Bool → ℤ → ℕ → List Subject → ℕ
 pairs_with rises v x subjects =
     sum_by (λ b. if int_lt v b.value then ordered rises x b.label else 0) subjects
+
+-- what is known of a room that is reached, and of what is left there
+pub record TwinSeat (columns rows : List ℕ) (g : ℕ) (room : List ℤ) : Type 0 where
+  pub coded : IsCoded columns g room
+  pub some : AreSome rows (counts_left columns (length rows) g room)
+  pub held : (width : ℕ) → IsHeld width rows
+      → IsHeld width (counts_left columns (length rows) g room)
+  pub rest : total_weight (alone (kendall_plan columns rows)) g room
+      ≡ number_of_labellings (counts_left columns (length rows) g room)
+  pub enough : g < length columns
+      → slice_index columns g ≤ sum (counts_left columns (length rows) g room)
+  pub first : g < length columns → let floor = kendall_floor columns rows in
+      let x = least (slice_index columns g) (counts_left columns (length rows) g room) in
+      floor.choices g room ≡ x ∷ floor.later g room x
+
+-- and of a choice there
+pub record TwinChoice (columns rows : List ℕ) (g : ℕ) (room : List ℤ) (x : List ℕ) : Type 0 where
+  pub whole : slice_index columns g ≡ sum x
+  pub fitting : fits x (counts_left columns (length rows) g room) ≡ true
+  pub some : AreSome rows x
+  pub after : AreSome rows (minus (counts_left columns (length rows) g room) x)
+  pub held : (width : ℕ) → IsHeld width rows → IsHeld width x

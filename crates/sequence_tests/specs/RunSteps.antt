@@ -1,5 +1,5 @@
 -- Words for the bodies of the runs test.
-use Rattle.std.specs.Prelude.{◌≡◌, ℕ, ◌+◌, ◌*◌, ◌<◌, ◌≤◌, ℤ, pos, nat_abs, List, length, get_or}
+use Rattle.std.specs.Prelude.{◌≡◌, ℕ, ◌+◌, ◌*◌, ◌<◌, ◌≤◌, ℤ, pos, ◌+ℤ◌, nat_abs, List, length, get_or}
 use Rattle.std.specs.List.{All}
 use Rattle.stage_network.specs.declared.verdicts.Judge.{Judge}
 use Rattle.stage_network.specs.Judged.{JudgeFits}
@@ -10,7 +10,7 @@ use Rattle.label_network.specs.LabelSteps.{AreSizes}
 use Rattle.label_network.specs.Meanings.{sizes_in}
 use Rattle.sample_reader.specs.Sequences.{SequenceData}
 use Rattle.sequence_tests.specs.Runs.{row_counts}
-use Rattle.sequence_tests.specs.RunCounts.{firsts_in, last_in, runs_so_far, seconds_in}
+use Rattle.sequence_tests.specs.RunCounts.{firsts_in, last_in, least_to_come, most_to_come, runs_so_far, seconds_in}
 
 -- a partial has a label, or 2, and a number of runs
 pub record AreRunNumbers (p : List ℤ) : Type 0 where
@@ -26,10 +26,28 @@ pub record AreTwoSizes (remaining : List ℤ) : Type 0 where
   pub sizes : AreSizes remaining
   pub few : firsts_in (sizes_in remaining) + seconds_in (sizes_in remaining) ≤ MOST_ROWS
 
+-- the least and the greatest number of runs that can still begin
+abbrev pub least_left : List ℤ → List ℤ → ℕ
+least_left remaining partial = let left = sizes_in remaining in
+    least_to_come (last_in partial) (firsts_in left) (seconds_in left)
+
+abbrev pub most_left : List ℤ → List ℤ → ℕ
+most_left remaining partial = let left = sizes_in remaining in
+    most_to_come (last_in partial) (firsts_in left) (seconds_in left)
+
 -- few rows, and rules of which no number of runs passes a limit
 pub record IsRunning (a b : ℕ) (judge : Judge) : Type 0 where
   pub few : a + b ≤ MOST_ROWS
   pub rules_fit : (n : ℕ) → n ≤ 4 * MOST_ROWS → JudgeFits judge (pos n)
+
+-- what is known of a key, and of the runs that can still begin there
+pub record RunSeat (judge : Judge) (remaining partial : List ℤ) : Type 0 where
+  pub numbers : AreRunNumbers partial
+  pub sizes : AreTwoSizes remaining
+  pub low_fits : nat_abs (runs_so_far partial) + least_left remaining partial ≤ 4 * MOST_ROWS
+  pub high_fits : nat_abs (runs_so_far partial) + most_left remaining partial ≤ 4 * MOST_ROWS
+  pub low : JudgeFits judge (runs_so_far partial +ℤ pos (least_left remaining partial))
+  pub high : JudgeFits judge (runs_so_far partial +ℤ pos (most_left remaining partial))
 
 abbrev pub sequence_of : List (List ℕ) → List ℕ → SequenceData
 sequence_of labels members = record { labels = labels; members = members }

@@ -3,7 +3,8 @@ ghost use Rattle.std.specs.Prelude.{◌≡◌, ◌≤◌, [], ◌∷◌, length,
 ghost use Rattle.std.specs.List.{sum, Contains};
 ghost use Rattle.weights.specs.Grouped.{choices, fits, minus};
 ghost use Rattle.label_network.specs.ChoiceOrder.{later_choices};
-ghost use Rattle.label_network.specs.LabelSteps.{least};
+ghost use Rattle.label_network.specs.LabelSteps.{AreSizes, least};
+ghost use Rattle.label_network.specs.Meanings.{sizes_in};
 
 use label_network::{first_counts, next_counts, write_sizes};
 
@@ -17,6 +18,16 @@ pub(crate) fn take_choice(counts: &mut [u64], choice: &[u64])
     }
 }
 
+// Writes counts as the numbers of a key.
+fn write_counts(counts: &[u64], sizes: &mut [i128])
+    requires few { sum counts.now ≤ 120 }
+    requires room { length sizes.old ≡ length counts.now }
+    ensures sizes { AreSizes sizes.new }
+    ensures read { sizes_in sizes.new ≡ counts.now }
+{
+    write_sizes(counts, sizes);
+}
+
 /// Writes the first choice of so many subjects.
 pub(crate) fn first_choice(total: u64, counts: &[u64], choice: &mut [u64])
     requires few { sum counts.now ≤ 120 }
@@ -27,7 +38,7 @@ pub(crate) fn first_choice(total: u64, counts: &[u64], choice: &mut [u64])
 {
     let mut numbers = [0i128; 120];
     let sizes = &mut numbers[..counts.len()];
-    write_sizes(counts, sizes);
+    write_counts(counts, sizes);
     first_counts(total, sizes, choice);
 }
 
@@ -41,6 +52,6 @@ pub(crate) fn next_choice(total: u64, counts: &[u64], choice: &mut [u64]) -> boo
 {
     let mut numbers = [0i128; 120];
     let sizes = &mut numbers[..counts.len()];
-    write_sizes(counts, sizes);
+    write_counts(counts, sizes);
     next_counts(total, sizes, choice)
 }

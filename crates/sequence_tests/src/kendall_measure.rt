@@ -64,7 +64,8 @@ impl NumberMeasure for KendallMeasure {
         turn(choice, left)
     }
 
-    fn later(&self, stage: usize, _room: &[i128]) -> Interval {
+    fn later(&self, stage: usize, room: &[i128]) -> Interval {
+        self.counts.seat(stage, room);
         let open = open_pairs(self.counts.columns.as_slice(), stage);
         Interval {
             low: -open,

@@ -60,28 +60,31 @@ impl Rooms for KendallRooms {
     fn first_choice(&self, stage: usize, room: &[i128], choice: &mut [u64]) {
         let mut numbers = [0u64; 120];
         let counts = &mut numbers[..self.counts.rows.len()];
+        self.counts.seat(stage, room);
         self.counts.read_left(stage, room, counts);
-        first_choice(self.counts.columns[stage], counts, choice);
+        first_choice(self.counts.column(stage), counts, choice);
     }
 
     fn next_choice(&self, stage: usize, room: &[i128], choice: &mut [u64]) -> bool {
         let mut numbers = [0u64; 120];
         let counts = &mut numbers[..self.counts.rows.len()];
         self.counts.read_left(stage, room, counts);
-        next_choice(self.counts.columns[stage], counts, choice)
+        next_choice(self.counts.column(stage), counts, choice)
     }
 
     fn cross(&self, stage: usize, room: &[i128], choice: &[u64], next: &mut [i128]) -> u128 {
         let mut numbers = [0u64; 120];
         let counts = &mut numbers[..self.counts.rows.len()];
+        self.counts.choice_seat(stage, room, choice);
         self.counts.read_after(stage, room, choice, counts);
         next[0] = code_of(counts);
-        weight_in(&self.binomials, self.counts.columns[stage], choice)
+        weight_in(&self.binomials, self.counts.column(stage), choice)
     }
 
     fn rest(&self, stage: usize, room: &[i128]) -> u128 {
         let mut numbers = [0u64; 120];
         let counts = &mut numbers[..self.counts.rows.len()];
+        self.counts.seat(stage, room);
         self.counts.read_left(stage, room, counts);
         self.binomials.labellings(counts, total_of(counts))
     }

@@ -1,11 +1,15 @@
 // The measure of the runs test.
-ghost use Rattle.std.specs.Prelude.{◌≡◌, ◌+◌, ◌*◌, ◌≤◌, length, pos, ◌+ℤ◌, slice_index_or};
+ghost use Rattle.std.specs.Prelude.{◌≡◌, ◌+◌, ◌*◌, ◌≤◌, ◌/◌, length, pos, ◌+ℤ◌, slice_index_or, unsigned_abs};
 ghost use Rattle.record_reader.specs.declared.TheConstants.{MOST_ROWS};
+ghost use Rattle.weights.specs.declared.TheConstants.{MAX};
+ghost use Rattle.room_network.specs.Meanings.{AreReached};
+ghost use Rattle.label_network.specs.LabelNetwork.{over_rooms};
 ghost use Rattle.label_network.specs.Meanings.{sizes_in};
 ghost use Rattle.sequence_tests.specs.RunCounts.{begins_run, firsts_in, last_in, least_to_come};
-ghost use Rattle.sequence_tests.specs.RunCounts.{most_after, most_to_come, runs_meaning};
+ghost use Rattle.sequence_tests.specs.RunCounts.{most_after, most_to_come, runs_meaning, runs_outlook};
 ghost use Rattle.sequence_tests.specs.RunCounts.{runs_so_far, seconds_in};
-ghost use Rattle.sequence_tests.specs.RunSteps.{AreRunNumbers, AreTwoSizes, IsRunning};
+ghost use Rattle.sequence_tests.specs.RunSteps.{AreRunNumbers, AreTwoSizes, IsRunning, RunSeat};
+ghost use Rattle.sequence_tests.specs.RunSteps.{least_left, most_left};
 
 use label_network::read_sizes;
 use room_network::Measure;
@@ -36,6 +40,14 @@ impl RunCounts {
             judge,
         }
     }
+
+    // What is known of a key that is reached. It does nothing.
+    #[inline(always)]
+    fn seat(&self, _stage: usize, _remaining: &[i128], _partial: &[i128])
+        requires { let m = runs_meaning self.now.first self.now.second self.now.judge in
+            AreReached (over_rooms m) _stage _remaining.now _partial.now }
+        ensures { RunSeat self.now.judge _remaining.now _partial.now }
+    {}
 }
 
 // The least number of runs that begin after a label, where so many rows are left of each.
@@ -116,6 +128,34 @@ fn after_last(outlook: &[i128], partial: &[i128]) -> Interval
     }
 }
 
+// The same by what is to come after it.
+#[inline(always)]
+fn left_after(outlook: &[i128], _remaining: &[i128], partial: &[i128]) -> Interval
+    requires outlook { let left = sizes_in _remaining.now in
+        outlook.now ≡ runs_outlook (firsts_in left) (seconds_in left) }
+    requires partial { AreRunNumbers partial.now }
+    ensures low { result.low ≡ pos (least_left _remaining.now partial.now) }
+    ensures high { result.high ≡ pos (most_left _remaining.now partial.now) }
+{
+    after_last(outlook, partial)
+}
+
+// The runs so far with those.
+#[inline(always)]
+fn with_left(partial: &[i128], left: Interval) -> Interval
+    requires partial { AreRunNumbers partial.now }
+    requires low { unsigned_abs left.low ≤ MAX / 2 }
+    requires high { unsigned_abs left.high ≤ MAX / 2 }
+    ensures low { result.low ≡ runs_so_far partial.now +ℤ left.low }
+    ensures high { result.high ≡ runs_so_far partial.now +ℤ left.high }
+{
+    let so_far = runs_so_far(partial);
+    Interval {
+        low: plus(so_far, left.low),
+        high: plus(so_far, left.high),
+    }
+}
+
 #[inline(always)]
 fn runs_so_far(partial: &[i128]) -> i128
     requires { AreRunNumbers partial.now }
@@ -147,8 +187,6 @@ fn with_label(partial: &[i128], label: u64) -> i128
 }
 
 impl Measure for RunCounts {
-    ghost use Rattle.label_network.specs.LabelNetwork.{over_rooms};
-
     ghost meaning = { λ m. over_rooms (runs_meaning m.first m.second m.judge) };
 
     fn slots(&self) -> usize {
@@ -200,19 +238,15 @@ impl Measure for RunCounts {
     #[inline(always)]
     fn verdict_by(
         &self,
-        _stage: usize,
-        _remaining: &[i128],
+        stage: usize,
+        remaining: &[i128],
         outlook: &[i128],
         partial: &[i128],
         tail: Tail,
     ) -> Verdict {
-        let runs = after_last(outlook, partial);
-        let so_far = runs_so_far(partial);
-        let interval = Interval {
-            low: plus(so_far, runs.low),
-            high: plus(so_far, runs.high),
-        };
-        self.judge.verdict(tail, interval)
+        self.seat(stage, remaining, partial);
+        let left = left_after(outlook, remaining, partial);
+        self.judge.verdict(tail, with_left(partial, left))
     }
 
     #[inline(always)]

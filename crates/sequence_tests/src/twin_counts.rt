@@ -1,11 +1,11 @@
 // How many subjects have each distinct value, and what is left of them before a stage.
-ghost use Rattle.std.specs.Prelude.{◌≡◌, ◌≤◌, length, IfOk};
+ghost use Rattle.std.specs.Prelude.{◌≡◌, ◌<◌, ◌≤◌, length, slice_index, IfOk};
 ghost use Rattle.std.specs.List.{Contains};
 ghost use Rattle.weights.specs.Grouped.{minus};
 ghost use Rattle.stage_network.specs.Network.{IsReached};
 ghost use Rattle.room_network.specs.Plans.{alone};
 ghost use Rattle.sequence_tests.specs.KendallRooms.{code_in, counts_left, kendall_floor, kendall_plan};
-ghost use Rattle.sequence_tests.specs.KendallSteps.{AreSome, AreTwins, IsCode, IsCoded};
+ghost use Rattle.sequence_tests.specs.KendallSteps.{AreSome, AreTwins, IsCode, IsCoded, TwinChoice, TwinSeat};
 
 use crate::codes::read_code;
 use crate::counts::take_choice;
@@ -49,6 +49,34 @@ impl TwinCounts {
         })
     }
 
+    /// The column of a stage.
+    #[inline(always)]
+    pub(crate) fn column(&self, stage: usize) -> u64
+        requires { stage < length self.now.columns.items }
+        ensures { result ≡ slice_index self.now.columns.items stage }
+    {
+        self.columns[stage]
+    }
+
+    /// What is known of a room that is reached. It does nothing.
+    #[inline(always)]
+    pub(crate) fn seat(&self, _stage: usize, _room: &[i128])
+        requires { let plan = kendall_plan self.now.columns.items self.now.rows.items in
+            IsReached (alone plan) _stage _room.now }
+        ensures { TwinSeat self.now.columns.items self.now.rows.items _stage _room.now }
+    {}
+
+    /// And of a choice there. It does nothing.
+    #[inline(always)]
+    pub(crate) fn choice_seat(&self, _stage: usize, _room: &[i128], _choice: &[u64])
+        requires reached { let plan = kendall_plan self.now.columns.items self.now.rows.items in
+            IsReached (alone plan) _stage _room.now }
+        requires allowed { let floor = kendall_floor self.now.columns.items self.now.rows.items in
+            Contains (floor.choices _stage _room.now) _choice.now }
+        ensures { TwinChoice self.now.columns.items self.now.rows.items _stage _room.now
+            _choice.now }
+    {}
+
     /// Writes the counts that are left before a stage.
     pub fn read_left(&self, stage: usize, room: &[i128], counts: &mut [u64])
         requires reached { let plan = kendall_plan self.now.columns.items self.now.rows.items in
@@ -58,6 +86,7 @@ impl TwinCounts {
             counts.new ≡ counts_left self.now.columns.items m stage room.now }
         ensures some { AreSome self.now.rows.items counts.new }
     {
+        self.seat(stage, room);
         read_room(self.columns.as_slice(), stage, room, counts);
     }
 
@@ -73,6 +102,7 @@ impl TwinCounts {
         ensures some { AreSome self.now.rows.items counts.new }
         ensures chosen { AreSome self.now.rows.items choice.now }
     {
+        self.choice_seat(stage, room, choice);
         self.read_left(stage, room, counts);
         take_choice(counts, choice);
     }

@@ -1,5 +1,5 @@
 -- What the choices of a column come to with what they leave: the tables of two columns.
-use Rattle.std.proofs.Common.{◌≡◌, ℕ, ◌+◌, ◌-◌, ◌*◌, ◌≤◌, List, [], ◌∷◌, ◌++◌, length, map, filter, Bool, true, false, cond, refl, sym, ◌∙◌, ap, subst, arith, nat_eq, nat_le, mul_assoc, append_assoc}
+use Rattle.std.proofs.Common.{◌≡◌, ℕ, ◌+◌, ◌-◌, ◌*◌, ◌≤◌, List, [], ◌∷◌, ◌++◌, map, filter, Bool, true, false, cond, refl, sym, ◌∙◌, ap, subst, arith, nat_eq, nat_le, mul_assoc, append_assoc, mul-one}
 use Rattle.std.specs.Prelude.{ℤ, pos, ◌^◌, ◌<◌, if◌then◌else◌}
 use Rattle.std.specs.List.{sum, sum_by, AllByRecursion, Contains}
 use Rattle.std.specs.Cmp.Lexicographic.{pointwise}
@@ -23,7 +23,7 @@ use Rattle.completion_bounds.proofs.TableWeights.{labellings-parts, sum-falling,
 use Rattle.stage_network.proofs.Bounds.{term-le-sum_by}
 use Rattle.stage_network.proofs.OpenKeys.{all_filter}
 use Rattle.label_network.specs.ChoiceOrder.{later_choices}
-use Rattle.label_network.specs.LabelSteps.{AreSizes, IsHeld, least}
+use Rattle.label_network.specs.LabelSteps.{least}
 use Rattle.label_network.specs.Meanings.{sizes_in}
 use Rattle.label_network.proofs.ChoiceSwaps.{labellings-swap}
 use Rattle.label_network.proofs.LabelPlans.{sizes-back}
@@ -32,13 +32,10 @@ use Rattle.label_network.proofs.Rows.{length-abs, length-pos}
 use Rattle.label_network.proofs.Sizes.{fewer-labellings, held-within, sizes-of_pos}
 use Rattle.sorted_tables.specs.ChoiceLines.{choice_line, choice_lines}
 use Rattle.sorted_tables.specs.GatheredChoices.{gathered, gathered_weight, is_gathered}
-use Rattle.sorted_tables.specs.SortedSteps.{IsGatheredChoice, IsRoomFor}
+use Rattle.sorted_tables.specs.SortedSteps.{ChoiceSeat, IsGatheredChoice, IsRoomFor}
 use Rattle.sorted_tables.proofs.GatheredChoices.{first-gathered, later-each}
 use Rattle.sorted_tables.proofs.GatheredSums.{choice-among, labellings-gathered, left-gathered, once, sum-weights}
 use Rattle.sorted_tables.proofs.Reordering.{even-order}
-
-pub times-one : (a : ℕ) → a * 1 ≡ a
-times-one a = omega arith
 
 -- the number of labellings does not see the order of the sizes
 pub labellings-falling : (r : List ℕ) → number_of_labellings (falling r) ≡ number_of_labellings r
@@ -70,11 +67,11 @@ last-each : (f : ℕ → ℕ) (c : ℕ) (r : List ℕ) → sum r ≡ c → (x : 
 last-each f c r e x o =
     let all : ℕ = number_of_labellings r * f (number_of_labellings r) in
     let same : x ≡ r = whole-choice r x o.fitting (o.whole ∙ sym e) in
-    let weight : number_of_labellings (gathered r x) * 1 ≡ number_of_labellings r = times-one (number_of_labellings (gathered r x)) ∙ labellings-gathered r x ∙ ap number_of_labellings same in
+    let weight : number_of_labellings (gathered r x) * 1 ≡ number_of_labellings r = mul-one (number_of_labellings (gathered r x)) ∙ labellings-gathered r x ∙ ap number_of_labellings same in
     let shown : one_if (pointwise nat_eq r x) ≡ 1 = ap (λ y. one_if (pointwise nat_eq r y)) same ∙ ap one_if (same_refl r) in
     ap (λ n. number_of_labellings x * f n) weight
     ∙ ap (λ n. n * f (number_of_labellings r)) (ap number_of_labellings same)
-    ∙ sym (ap (λ k. all * k) shown ∙ times-one all)
+    ∙ sym (ap (λ k. all * k) shown ∙ mul-one all)
 
 -- so the last column has one table
 pub last-column : (f : ℕ → ℕ) (c : ℕ) (r : List ℕ) → sum r ≡ c → completed f (c ∷ []) r ≡ number_of_labellings r * f (number_of_labellings r)
@@ -84,7 +81,7 @@ last-column f c r e =
     ∙ sum_by-same_where (IsChoice c r) _ (λ x. all * one_if (pointwise nat_eq r x)) (last-each f c r e) (choices c r) (choices-each c r)
     ∙ sum_by-scaled all (λ x. one_if (pointwise nat_eq r x)) (choices c r)
     ∙ ap (λ k. all * k) (once c r r (record { long = refl; whole = e; fitting = fits-self r }))
-    ∙ times-one all
+    ∙ mul-one all
 
 two-each : (f : ℕ → ℕ) (a b : ℕ) (r : List ℕ) → sum r ≡ a + b → (x : List ℕ) → IsChoice a r x → gathered_weight r x * completed (λ v. f (number_of_labellings x * v)) (b ∷ []) (falling (minus r x)) ≡ (gathered_weight r x * number_of_labellings (minus r x)) * f (number_of_labellings x * number_of_labellings (minus r x))
 two-each f a b r e x o =
@@ -141,7 +138,7 @@ module _ (a : ℕ) (r : List ℕ) (enough : a ≤ sum r) where
   pub lines-weigh : sum_by (λ (l : Line). l.weight * 1) (choice_lines a r) ≡ number_of_labellings r
   lines-weigh =
       sum_by-map (λ (l : Line). l.weight * 1) (choice_line r) (filter (is_gathered r) (choices a r))
-      ∙ sum_by-same _ _ (λ y. times-one (gathered_weight r y * number_of_labellings (minus r y))) (filter (is_gathered r) (choices a r))
+      ∙ sum_by-same _ _ (λ y. mul-one (gathered_weight r y * number_of_labellings (minus r y))) (filter (is_gathered r) (choices a r))
       ∙ gathered-ways
 
 -- as they are listed
@@ -188,50 +185,34 @@ module _ (column : ℕ) (r : List ℕ) where
   pub listing-done : (lines : List Line) (x : List ℕ) → IsListing column r lines false x → lines ≡ choice_lines column r
   listing-done lines x is = sym (append-nil lines) ∙ is.listed
 
--- what the bodies read of a choice and of what it leaves
-module _ (width column : ℕ) (room : List ℤ) (x : List ℕ) (h : IsRoomFor width column room) (o : IsGatheredChoice column room x) where
-  pub choice-is : IsChoice column (sizes_in room) x
-  choice-is = chosen column (sizes_in room) x o.allowed
-
-  left-within : fits (minus (sizes_in room) x) (sizes_in room) ≡ true
-  left-within = minus-within (sizes_in room) x (sizes_in room) choice-is.fitting (fits-self (sizes_in room))
-
-  pub choice-held : IsHeld width x
-  choice-held = held-within width (sizes_in room) x choice-is.fitting h.held
-
-  pub choice-few : number_of_labellings x ≤ MAX
-  choice-few = omega (arith, fewer-labellings x (sizes_in room) choice-is.fitting, h.fits)
-
-  pub product-few : number_of_labellings x * number_of_labellings (minus (sizes_in room) x) ≤ MAX
-  product-few = omega (arith, labellings-parts (sizes_in room) x (within column (sizes_in room) x choice-is), h.fits)
-
-  pub line-few : gathered_weight (sizes_in room) x * number_of_labellings (minus (sizes_in room) x) ≤ MAX
-  line-few = omega (arith, line-fits column (sizes_in room) h.enough x o.allowed o.gathered, h.fits)
-
-  pub gathered-few : gathered_weight (sizes_in room) x ≤ MAX
-  gathered-few =
-      let some : 1 ≤ number_of_labellings (minus (sizes_in room) x) = number_of_labellings-positive (minus (sizes_in room) x) in
-      let one : gathered_weight (sizes_in room) x * 1 ≤ gathered_weight (sizes_in room) x * number_of_labellings (minus (sizes_in room) x) = mul-le-mul_left (gathered_weight (sizes_in room) x) some in
-      omega (arith, one, line-few)
-
-  module _ (left : List ℤ) (e : left ≡ map pos (minus (sizes_in room) x)) where
-    pub sizes-left : sizes_in left ≡ minus (sizes_in room) x
-    sizes-left = ap sizes_in e ∙ sizes-back (minus (sizes_in room) x)
-
-    pub left-few : length left ≤ 8
-    left-few = omega (arith, ap length e, length-pos (minus (sizes_in room) x), length-minus (sizes_in room) x, length-abs room, h.few)
-
-    pub left-sizes : AreSizes left
-    left-sizes = sizes-of_pos (minus (sizes_in room) x) (omega (arith, h.small, sum-minus (sizes_in room) x choice-is.fitting)) left e
-
-    pub left-small : sum (sizes_in left) < 2 ^ 64
-    left-small = rw sizes-left (omega (arith, h.small, sum-minus (sizes_in room) x choice-is.fitting))
-
-    pub left-held : IsHeld width (sizes_in left)
-    left-held = rw sizes-left (held-within width (sizes_in room) (minus (sizes_in room) x) left-within h.held)
-
-    pub left-fits : number_of_labellings (sizes_in left) ≤ MAX
-    left-fits = rw sizes-left (omega (arith, fewer-labellings (minus (sizes_in room) x) (sizes_in room) left-within, h.fits))
+-- what is known of a choice, and of the room that it leaves
+pub choice-seat : (width column : ℕ) (room : List ℤ) (x : List ℕ) → IsRoomFor width column room → IsGatheredChoice column room x → ChoiceSeat width column room x
+choice-seat width column room x h o =
+    let sizes : List ℕ = sizes_in room in
+    let left : List ℕ = minus sizes x in
+    let c : IsChoice column sizes x = chosen column sizes x o.allowed in
+    let inside : fits left sizes ≡ true = minus-within sizes x sizes c.fitting (fits-self sizes) in
+    let read : sizes_in (map pos left) ≡ left = sizes-back left in
+    let small : sum left < 2 ^ 64 = omega (arith, h.small, sum-minus sizes x c.fitting) in
+    let line : gathered_weight sizes x * number_of_labellings left ≤ MAX = omega (arith, line-fits column sizes h.enough x o.allowed o.gathered, h.fits) in
+    record {
+      whole = sym c.whole;
+      fitting = c.fitting;
+      held = held-within width sizes x c.fitting h.held;
+      few = omega (arith, fewer-labellings x sizes c.fitting, h.fits);
+      gathered_few = omega (arith, mul-le-mul_left (gathered_weight sizes x) (number_of_labellings-positive left), line);
+      product_few = omega (arith, labellings-parts sizes x (within column sizes x c), h.fits);
+      line_few = line;
+      read = read;
+      left = record {
+        few = omega (arith, length-pos left, length-minus sizes x, length-abs room, h.few);
+        sizes = sizes-of_pos left small (map pos left) refl;
+        small = rw read small;
+        held = rw read (held-within width sizes left inside h.held);
+        fits = rw read (omega (arith, fewer-labellings left sizes inside, h.fits));
+        enough = omega arith;
+      };
+    }
 
 -- the choice that is listed next is one that stands for others
 pub listing-choice : (column : ℕ) (room : List ℤ) (lines : List Line) (x : List ℕ) → IsListing column (sizes_in room) lines true x → IsGatheredChoice column room x

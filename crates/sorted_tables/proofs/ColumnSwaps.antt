@@ -52,7 +52,7 @@ minus-minus (q ∷ rs) [] (b ∷ y) = refl
 minus-minus (q ∷ rs) (a ∷ x) [] = refl
 minus-minus (q ∷ rs) (a ∷ x) (b ∷ y) = ap (λ n. n ∷ minus (minus rs x) y) (one_size q a b) ∙ ap (λ s. ((q - b) - a) ∷ s) (minus-minus rs x y)
 
-factors : (u v t : ℕ) → u * (v * t) ≡ v * (u * t)
+pub factors : (u v t : ℕ) → u * (v * t) ≡ v * (u * t)
 factors u v t = grind arith
 
 -- tables of two columns and more, by the first two

@@ -122,9 +122,9 @@ run-swap q (s ∷ rs) j h = by (nat_eq s q) refl j h (λ i l. run-swap q rs i l)
     by true e zero h rest = let same : s ≡ q = eqb-true s q e in rw same refl
     by true e (suc i) h rest = subst (λ t. swap_at (suc i) (q ∷ t ∷ rs) ≡ q ∷ t ∷ rs) (sym (eqb-true s q e)) (ap (λ ks. q ∷ ks) (rest i (omega (arith, h))))
 
-run-long : (q : ℕ) (rs : List ℕ) → run q rs ≤ length rs
-run-long q [] = omega arith
-run-long q (s ∷ rs) = by (nat_eq s q) (run-long q rs)
+pub run-within : (q : ℕ) (rs : List ℕ) → run q rs ≤ length rs
+run-within q [] = omega arith
+run-within q (s ∷ rs) = by (nat_eq s q) (run-within q rs)
   where
     by : (t : Bool) → run q rs ≤ length rs → cond t (suc (run q rs)) 0 ≤ suc (length rs)
     by true h = omega (arith, h)
@@ -149,7 +149,7 @@ module _ (c q a : ℕ) (rs x : List ℕ) where
       ∙ swapped_choices (λ d. one_if (is_gathered_into (q ∷ rs) (a ∷ x) d) * one_if (nat_eq a (get_or d (suc j) 0))) j c (q ∷ rs)
       ∙ sum_by-same_where (IsChoice c (q ∷ rs)) _ (λ d. one_if (is_gathered_into (q ∷ rs) (a ∷ x) d) * one_if (nat_eq a (get_or d j 0))) (λ d o.
       ap (λ y. one_if (pointwise nat_eq y (a ∷ x)) * one_if (nat_eq a (get_or (swap_at j d) (suc j) 0))) (gathered-swap j (q ∷ rs) d same o.long)
-      ∙ ap (λ n. one_if (is_gathered_into (q ∷ rs) (a ∷ x) d) * one_if (nat_eq a n)) (swap-get j d (omega (arith, h, run-long q rs, o.long)))) (choices c (q ∷ rs)) (choices-each c (q ∷ rs))
+      ∙ ap (λ n. one_if (is_gathered_into (q ∷ rs) (a ∷ x) d) * one_if (nat_eq a n)) (swap-get j d (omega (arith, h, run-within q rs, o.long)))) (choices c (q ∷ rs)) (choices-each c (q ∷ rs))
 
   placed-all : (j : ℕ) → j ≤ run q rs → placed j ≡ placed 0
   placed-all zero h = refl

@@ -1,6 +1,7 @@
 -- Steps of the loops that move on to the next choice that stands for others.
-use Rattle.std.proofs.Common.{◌≡◌, ℕ, zero, suc, ◌+◌, ◌-◌, ◌*◌, ◌<◌, ◌≤◌, List, [], ◌∷◌, ◌++◌, length, filter, get_or, take, drop, set, min, max, Some, None, false, cond, refl, sym, ◌∙◌, ap, subst, arith, add-one, drop-cons, append_assoc, drop_of_length-le, take-suc-set, nat_eq, nat_lt, lt-ltb, le-ltb, ◌⊎◌, inl, inr}
+use Rattle.std.proofs.Common.{◌≡◌, ℕ, zero, suc, ◌+◌, ◌-◌, ◌*◌, ◌<◌, ◌≤◌, List, [], ◌∷◌, ◌++◌, length, filter, get_or, take, drop, set, min, max, Some, None, Bool, true, false, cond, refl, sym, ◌∙◌, ap, subst, arith, add-one, drop-cons, append_assoc, drop_of_length-le, take-suc-set, nat_eq, nat_lt, lt-ltb, le-ltb, ◌⊎◌, inl, inr}
 use Rattle.std.specs.List.{sum}
+use Rattle.std.proofs.Math.Seq.{drop-length}
 use Rattle.std.proofs.lemmas.Bool.{and_right, cases_lt, le-leb, lt-leb}
 use Rattle.std.proofs.lemmas.List.{append-nil, length-drop, length-set}
 use borrow.Rule.Slice.PartMut.{put_mid}
@@ -9,11 +10,11 @@ use Rattle.weights.proofs.ChoiceLists.{IsChoice}
 use Rattle.weights.proofs.Filters.{all_weaker}
 use Rattle.label_network.specs.ChoiceOrder.{later_choices}
 use Rattle.sorted_tables.specs.GatheredChoices.{is_gathered}
-use Rattle.sorted_tables.specs.SortedSteps.{raised, run}
+use Rattle.sorted_tables.specs.SortedSteps.{raised, run, stands_again}
 use Rattle.label_network.proofs.ChoiceMoves.{fits-drop, put_back}
 use Rattle.sorted_tables.proofs.GatheredChoices.{later-each}
-use Rattle.sorted_tables.proofs.GatheredForms.{Rise, less-not}
-use Rattle.sorted_tables.proofs.GatheredLoops.{run-at, run_from, stands_again}
+use Rattle.sorted_tables.proofs.GatheredForms.{Rise, less-not, risen-gathered}
+use Rattle.sorted_tables.proofs.GatheredLoops.{run-at, run-long, run_from}
 use Rattle.sorted_tables.proofs.RisingChoices.{AnyIs, IsLeast, after-choice, fits_behind, kept-after, kept_from, least-is, none-behind, raised_after, raised_or, filter-same_where}
 
 -- ---- the rows after the one that takes one more
@@ -26,34 +27,27 @@ pub record IsRaising (q a c : ℕ) (rows counts : List ℕ) (i later size least 
   pub most : left ≤ sum (drop i rows)
   pub same : take i counts ++ raised size least left (drop i rows) ≡ raised q a c rows
 
-module _ (q a c : ℕ) (rows counts : List ℕ) (i later size least left : ℕ) (k : IsRaising q a c rows counts i later size least left) (before : i < length rows) where
-  abbrev pub here : ℕ
-  here = max (cond (nat_eq (get_or rows i 0) size) least 0) (left - sum (drop (i + 1) rows))
-
-  split : drop i rows ≡ get_or rows i 0 ∷ drop (i + 1) rows
-  split = rw add-one (drop-cons rows i 0 before)
-
-  least-here : IsLeast size least left (get_or rows i 0) (drop (i + 1) rows) here
-  least-here = least-is size least left (get_or rows i 0) (drop (i + 1) rows) k.few (subst (λ rs. least * run size rs ≤ left) split k.enough) (subst (λ rs. left ≤ sum rs) split k.most)
-
-  pub raised-more : later ≡ get_or rows i 0 + sum (drop (i + 1) rows)
-  raised-more = k.rest ∙ sum_by-drop_more (λ v. v) rows i 0 before
-
-  pub raised-few : (b : ℕ) → b ≡ here → b ≤ min left (get_or rows i 0)
-  raised-few b e = rw e least-here.few
-
-  pub raise-step : (b : ℕ) → b ≡ here → IsRaising q a c rows (set counts i b) (i + 1) (later - get_or rows i 0) (get_or rows i 0) b (left - b)
-  raise-step b e =
-      let front : take (i + 1) (set counts i b) ≡ take i counts ++ b ∷ [] = rw add-one (take-suc-set counts i b (omega (arith, before, k.long))) in
-      let first : raised size least left (drop i rows) ≡ b ∷ raised (get_or rows i 0) b (left - b) (drop (i + 1) rows) = rw (split, e) refl in
+pub raise-step : {q a c : ℕ} {rows counts : List ℕ} {i later size least left floor gap b : ℕ} → IsRaising q a c rows counts i later size least left → i < length rows → floor ≡ cond (nat_eq (get_or rows i 0) size) least 0 → gap ≡ left - (later - get_or rows i 0) → b ≡ max floor gap
+    → (b ≤ left) × IsRaising q a c rows (set counts i b) (i + 1) (later - get_or rows i 0) (get_or rows i 0) b (left - b)
+raise-step {rows = rows} {counts = counts} {i = i} {later = later} {size = size} {least = least} {left = left} {b = b} k before floor_is gap_is b_is =
+    let row : ℕ = get_or rows i 0 in
+    let split : drop i rows ≡ row ∷ drop (i + 1) rows = rw add-one (drop-cons rows i 0 before) in
+    let more : later ≡ row + sum (drop (i + 1) rows) = k.rest ∙ sum_by-drop_more (λ v. v) rows i 0 before in
+    let e : b ≡ max (cond (nat_eq row size) least 0) (left - sum (drop (i + 1) rows)) = omega (arith, floor_is, gap_is, b_is, more) in
+    let here : IsLeast size least left row (drop (i + 1) rows) b = rw e (least-is size least left row (drop (i + 1) rows) k.few (subst (λ rs. least * run size rs ≤ left) split k.enough) (subst (λ rs. left ≤ sum rs) split k.most)) in
+    let few = here.few in
+    let front : take (i + 1) (set counts i b) ≡ take i counts ++ b ∷ [] = rw add-one (take-suc-set counts i b (omega (arith, before, k.long))) in
+    let first : raised size least left (drop i rows) ≡ b ∷ raised row b (left - b) (drop (i + 1) rows) = rw (split, e) refl in (
+      omega (arith, few),
       record {
         long = length-set counts i b ∙ k.long;
-        rest = omega (arith, raised-more);
-        few = rw e (let few = least-here.few in omega (arith, few));
-        enough = rw e least-here.enough;
-        most = rw e least-here.most;
+        rest = omega (arith, more);
+        few = omega (arith, few);
+        enough = here.enough;
+        most = here.most;
         same = rw (front, append_assoc) (rw (← first) k.same);
-      }
+      },
+    )
 
 -- ---- which row that is
 
@@ -93,12 +87,16 @@ not-raised a c q rs (inr h) = elim (cases_lt a c) [
 ]
 
 -- what is known where rows are searched from the last one on
-pub record IsSearched (rows before counts : List ℕ) (i later equal : ℕ) : Type 0 where
+pub record IsSearched (c : ℕ) (r before counts : List ℕ) (i later equal : ℕ) : Type 0 where
+  pub choice : IsChoice c r before
+  pub short : length r ≤ 8
+  pub rises : Rise r before
   pub kept : counts ≡ before
   pub within : i ≤ length counts
   pub rest : later ≡ sum (drop i counts)
-  pub equal_is : equal ≡ run_from (drop i rows)
-  pub none : raised_after later (drop i rows) (drop i counts) ≡ None
+  pub equal_is : equal ≡ run_from (drop i r)
+  pub equal_few : equal ≤ 8
+  pub none : raised_after later (drop i r) (drop i counts) ≡ None
 
 -- those that stand for others, after one
 
@@ -113,9 +111,6 @@ rise-behind-none (q ∷ rs) (a ∷ x) h = (less-not q 0 a 0 (omega arith), h)
 gathered-after : (c : ℕ) (r x : List ℕ) → IsChoice c r x → Rise r x → filter (is_gathered r) (later_choices c r x) ≡ kept_from 0 0 c r (raised_after c r x)
 gathered-after c r x o h = sym (behind-none c r x o) ∙ kept-after 0 0 c r x o (rise-behind-none r x h)
 
-pub last-gathered : (c : ℕ) (r x : List ℕ) → IsChoice c r x → Rise r x → raised_after (sum x) r x ≡ None → filter (is_gathered r) (later_choices c r x) ≡ []
-last-gathered c r x o h e = gathered-after c r x o h ∙ ap (kept_from 0 0 c r) (ap (λ n. raised_after n r x) (sym o.whole) ∙ e)
-
 pub changed-gathered : (c : ℕ) (r x y : List ℕ) → IsChoice c r x → Rise r x → raised_after (sum x) r x ≡ Some y → filter (is_gathered r) (later_choices c r x) ≡ y ∷ filter (is_gathered r) (later_choices c r y)
 changed-gathered c r x y o h e =
     let found : raised_after c r x ≡ Some y = ap (λ n. raised_after n r x) (sym o.whole) ∙ e in
@@ -129,9 +124,32 @@ put-end a xs ys h =
     let none : drop (length xs - a) (drop a xs) ≡ [] = drop_of_length-le (drop a xs) {i = length xs - a} (omega (arith, length-drop {A = ℕ})) in
     ap (λ zs. take a xs ++ (ys ++ zs)) none ∙ ap (λ zs. take a xs ++ zs) (append-nil ys)
 
-module _ (c : ℕ) (r before x : List ℕ) (i later equal more : ℕ) (o : IsChoice c r before) (k : IsSearched r before x i later equal) (some : 0 < i) (more_is : more ≡ cond (stands_again r (i - 1)) (equal + 1) 1) where
+pub searched-first : {c : ℕ} {r x : List ℕ} → IsChoice c r x → is_gathered r x ≡ true → length r ≤ 8 → IsSearched c r x x (length x) 0 0
+searched-first {r = r} {x = x} o g short =
+    let rows : drop (length x) r ≡ [] = ap (λ n. drop n r) o.long ∙ drop-length r in
+    let counts : drop (length x) x ≡ [] = drop-length x in
+    record {
+      choice = o;
+      short = short;
+      rises = risen-gathered r x o.long g;
+      kept = refl;
+      within = omega arith;
+      rest = rw counts refl;
+      equal_is = rw rows refl;
+      equal_few = omega arith;
+      none = rw rows refl;
+    }
+
+-- no row takes one more
+pub last-gathered : {c : ℕ} {r before x : List ℕ} {i later equal : ℕ} → IsSearched c r before x i later equal → i ≡ 0 → filter (is_gathered r) (later_choices c r before) ≡ []
+last-gathered {c = c} {r = r} {before = before} {later = later} k start =
+    let rest : later ≡ sum before = rw (start, k.kept) at k.rest in
+    let none : raised_after later r before ≡ None = rw (start, k.kept) at k.none in
+    gathered-after c r before k.choice k.rises ∙ ap (kept_from 0 0 c r) (ap (λ n. raised_after n r before) (sym (rest ∙ k.choice.whole)) ∙ none)
+
+module _ {c : ℕ} {r before x : List ℕ} {i later equal : ℕ} (k : IsSearched c r before x i later equal) (some : 0 < i) where
   choice : IsChoice c r x
-  choice = subst (IsChoice c r) (sym k.kept) o
+  choice = subst (IsChoice c r) (sym k.kept) k.choice
 
   back : (i - 1) + 1 ≡ i
   back = omega (arith, some)
@@ -142,14 +160,7 @@ module _ (c : ℕ) (r before x : List ℕ) (i later equal more : ℕ) (o : IsCho
   split_rows : drop (i - 1) r ≡ get_or r (i - 1) 0 ∷ drop (i - 1 + 1) r
   split_rows = rw add-one (drop-cons r (i - 1) 0 (omega (arith, inside, choice.long)))
 
-  more-run : more ≡ run (get_or r (i - 1) 0) (drop (i - 1 + 1) r) + 1
-  more-run =
-      more_is
-      ∙ ap (λ n. cond (stands_again r (i - 1)) (n + 1) 1) (k.equal_is ∙ ap (λ n. run_from (drop n r)) (sym back))
-      ∙ sym (run-at r (i - 1) (omega (arith, inside, choice.long)))
-      ∙ ap run_from split_rows
-
-  pub rest-here : later ≡ sum (drop (i - 1 + 1) x)
+  rest-here : later ≡ sum (drop (i - 1 + 1) x)
   rest-here = k.rest ∙ ap (λ n. sum (drop n x)) (sym back)
 
   pub sum-here : later + get_or x (i - 1) 0 ≡ sum (drop (i - 1) x)
@@ -164,42 +175,56 @@ module _ (c : ℕ) (r before x : List ℕ) (i later equal more : ℕ) (o : IsCho
   place : raised_after (sum (drop (i - 1) x)) (drop (i - 1) r) (drop (i - 1) x) ≡ raised_or None (get_or x (i - 1) 0) (later + get_or x (i - 1) 0) (get_or r (i - 1) 0) (drop (i - 1 + 1) r)
   place = place-raised (i - 1) r x inside choice.long none-here ∙ ap (λ n. raised_or None (get_or x (i - 1) 0) n (get_or r (i - 1) 0) (drop (i - 1 + 1) r)) (sym sum-here)
 
-  module _ (few : (get_or x (i - 1) 0 + 1) * more ≤ later + get_or x (i - 1) 0) where
-    few-run : (get_or x (i - 1) 0 + 1) * (run (get_or r (i - 1) 0) (drop (i - 1 + 1) r) + 1) ≤ later + get_or x (i - 1) 0
-    few-run = subst (λ n. (get_or x (i - 1) 0 + 1) * n ≤ later + get_or x (i - 1) 0) more-run few
+  module _ {again : Bool} {more : ℕ} (again_is : again ≡ stands_again r (i - 1)) (more_is : more ≡ cond again (equal + 1) 1) where
+    more-run : more ≡ run (get_or r (i - 1) 0) (drop (i - 1 + 1) r) + 1
+    more-run =
+        more_is
+        ∙ ap (λ t. cond t (equal + 1) 1) again_is
+        ∙ ap (λ n. cond (stands_again r (i - 1)) (n + 1) 1) (k.equal_is ∙ ap (λ n. run_from (drop n r)) (sym back))
+        ∙ sym (run-at r (i - 1) (omega (arith, inside, choice.long)))
+        ∙ ap run_from split_rows
 
-    pub one-here : get_or x (i - 1) 0 + 1 ≤ later + get_or x (i - 1) 0
-    one-here = omega (arith, few-run, spread (get_or x (i - 1) 0) (run (get_or r (i - 1) 0) (drop (i - 1 + 1) r)))
+    module _ (few : (get_or x (i - 1) 0 + 1) * more ≤ later + get_or x (i - 1) 0) where
+      few-run : (get_or x (i - 1) 0 + 1) * (run (get_or r (i - 1) 0) (drop (i - 1 + 1) r) + 1) ≤ later + get_or x (i - 1) 0
+      few-run = subst (λ n. (get_or x (i - 1) 0 + 1) * n ≤ later + get_or x (i - 1) 0) more-run few
 
-    pub enough-here : (get_or x (i - 1) 0 + 1) * run (get_or r (i - 1) 0) (drop (i - 1 + 1) r) ≤ later + get_or x (i - 1) 0 - (get_or x (i - 1) 0 + 1)
-    enough-here = omega (arith, few-run, spread (get_or x (i - 1) 0) (run (get_or r (i - 1) 0) (drop (i - 1 + 1) r)))
+      pub one-here : get_or x (i - 1) 0 + 1 ≤ later + get_or x (i - 1) 0
+      one-here = omega (arith, few-run, spread (get_or x (i - 1) 0) (run (get_or r (i - 1) 0) (drop (i - 1 + 1) r)))
 
-    pub found : Rise r before → get_or x (i - 1) 0 < get_or r (i - 1) 0 → (new : List ℕ)
-        → new ≡ raised (get_or r (i - 1) 0) (get_or x (i - 1) 0 + 1) (later + get_or x (i - 1) 0 - (get_or x (i - 1) 0 + 1)) (drop (i - 1 + 1) r)
-        → (y : List ℕ) → y ≡ put_mid (i - 1 + 1) (length (set x (i - 1) (get_or x (i - 1) 0 + 1)) - (i - 1 + 1)) (set x (i - 1) (get_or x (i - 1) 0 + 1)) new
-        → filter (is_gathered r) (later_choices c r before) ≡ y ∷ filter (is_gathered r) (later_choices c r y)
-    found h less new new_is y y_is =
-        let whole : y ≡ take (i - 1) x ++ (get_or x (i - 1) 0 + 1) ∷ new =
-        y_is
-        ∙ put-end (i - 1 + 1) (set x (i - 1) (get_or x (i - 1) 0 + 1)) new (omega (arith, inside, length-set x (i - 1) (get_or x (i - 1) 0 + 1)))
-        ∙ put_back x new (i - 1) (get_or x (i - 1) 0 + 1) inside in
-        let next : raised_after (sum (drop (i - 1) x)) (drop (i - 1) r) (drop (i - 1) x) ≡ Some ((get_or x (i - 1) 0 + 1) ∷ new) =
-        place
-        ∙ here-raised (get_or x (i - 1) 0) (later + get_or x (i - 1) 0) (get_or r (i - 1) 0) (drop (i - 1 + 1) r) less few-run
-        ∙ ap (λ zs. Some ((get_or x (i - 1) 0 + 1) ∷ zs)) (sym new_is) in
-        let all : raised_after (sum before) r before ≡ Some y =
-        ap (λ z. raised_after (sum z) r z) (sym k.kept)
-        ∙ prefix-raised (i - 1) r x ((get_or x (i - 1) 0 + 1) ∷ new) (omega (arith, inside)) choice.long next
-        ∙ ap Some (sym whole) in
-        changed-gathered c r before y o h all
+      pub enough-here : (get_or x (i - 1) 0 + 1) * run (get_or r (i - 1) 0) (drop (i - 1 + 1) r) ≤ later + get_or x (i - 1) 0 - (get_or x (i - 1) 0 + 1)
+      enough-here = omega (arith, few-run, spread (get_or x (i - 1) 0) (run (get_or r (i - 1) 0) (drop (i - 1 + 1) r)))
 
-  pub passed : (get_or r (i - 1) 0 ≤ get_or x (i - 1) 0) ⊎ (later + get_or x (i - 1) 0 < (get_or x (i - 1) 0 + 1) * more) → IsSearched r before x (i - 1) (later + get_or x (i - 1) 0) more
-  passed t =
-      let full : (get_or r (i - 1) 0 ≤ get_or x (i - 1) 0) ⊎ (later + get_or x (i - 1) 0 < (get_or x (i - 1) 0 + 1) * (run (get_or r (i - 1) 0) (drop (i - 1 + 1) r) + 1)) = subst (λ n. (get_or r (i - 1) 0 ≤ get_or x (i - 1) 0) ⊎ (later + get_or x (i - 1) 0 < (get_or x (i - 1) 0 + 1) * n)) more-run t in
-      record {
-        kept = k.kept;
-        within = omega (arith, inside);
-        rest = sum-here;
-        equal_is = more-run ∙ ap run_from (sym split_rows);
-        none = ap (λ n. raised_after n (drop (i - 1) r) (drop (i - 1) x)) sum-here ∙ place ∙ not-raised (get_or x (i - 1) 0) (later + get_or x (i - 1) 0) (get_or r (i - 1) 0) (drop (i - 1 + 1) r) full;
-      }
+      pub found : get_or x (i - 1) 0 < get_or r (i - 1) 0 → (new : List ℕ)
+          → new ≡ raised (get_or r (i - 1) 0) (get_or x (i - 1) 0 + 1) (later + get_or x (i - 1) 0 - (get_or x (i - 1) 0 + 1)) (drop (i - 1 + 1) r)
+          → (y : List ℕ) → y ≡ put_mid (i - 1 + 1) (length (set x (i - 1) (get_or x (i - 1) 0 + 1)) - (i - 1 + 1)) (set x (i - 1) (get_or x (i - 1) 0 + 1)) new
+          → filter (is_gathered r) (later_choices c r before) ≡ y ∷ filter (is_gathered r) (later_choices c r y)
+      found less new new_is y y_is =
+          let whole : y ≡ take (i - 1) x ++ (get_or x (i - 1) 0 + 1) ∷ new =
+          y_is
+          ∙ put-end (i - 1 + 1) (set x (i - 1) (get_or x (i - 1) 0 + 1)) new (omega (arith, inside, length-set x (i - 1) (get_or x (i - 1) 0 + 1)))
+          ∙ put_back x new (i - 1) (get_or x (i - 1) 0 + 1) inside in
+          let next : raised_after (sum (drop (i - 1) x)) (drop (i - 1) r) (drop (i - 1) x) ≡ Some ((get_or x (i - 1) 0 + 1) ∷ new) =
+          place
+          ∙ here-raised (get_or x (i - 1) 0) (later + get_or x (i - 1) 0) (get_or r (i - 1) 0) (drop (i - 1 + 1) r) less few-run
+          ∙ ap (λ zs. Some ((get_or x (i - 1) 0 + 1) ∷ zs)) (sym new_is) in
+          let all : raised_after (sum before) r before ≡ Some y =
+          ap (λ z. raised_after (sum z) r z) (sym k.kept)
+          ∙ prefix-raised (i - 1) r x ((get_or x (i - 1) 0 + 1) ∷ new) (omega (arith, inside)) choice.long next
+          ∙ ap Some (sym whole) in
+          changed-gathered c r before y k.choice k.rises all
+
+    pub passed : (get_or r (i - 1) 0 ≤ get_or x (i - 1) 0) ⊎ (later + get_or x (i - 1) 0 < (get_or x (i - 1) 0 + 1) * more) → IsSearched c r before x (i - 1) (later + get_or x (i - 1) 0) more
+    passed t =
+        let full : (get_or r (i - 1) 0 ≤ get_or x (i - 1) 0) ⊎ (later + get_or x (i - 1) 0 < (get_or x (i - 1) 0 + 1) * (run (get_or r (i - 1) 0) (drop (i - 1 + 1) r) + 1)) = subst (λ n. (get_or r (i - 1) 0 ≤ get_or x (i - 1) 0) ⊎ (later + get_or x (i - 1) 0 < (get_or x (i - 1) 0 + 1) * n)) more-run t in
+        let equal_is : more ≡ run_from (drop (i - 1) r) = more-run ∙ ap run_from (sym split_rows) in
+        record {
+          choice = k.choice;
+          short = k.short;
+          rises = k.rises;
+          kept = k.kept;
+          within = omega (arith, inside);
+          rest = sum-here;
+          equal_is = equal_is;
+          equal_few = omega (arith, equal_is, run-long (drop (i - 1) r), length-drop {A = ℕ}, k.short);
+          none = ap (λ n. raised_after n (drop (i - 1) r) (drop (i - 1) x)) sum-here ∙ place ∙ not-raised (get_or x (i - 1) 0) (later + get_or x (i - 1) 0) (get_or r (i - 1) 0) (drop (i - 1 + 1) r) full;
+        }

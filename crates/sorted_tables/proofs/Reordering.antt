@@ -1,4 +1,5 @@
 -- An order comes of neighbours that change places, one pair after another.
+use Rattle.std.proofs.lemmas.List.{map-id}
 use Rattle.std.proofs.Common.{◌≡◌, ℕ, zero, suc, ◌*◌, ◌≤◌, List, [], ◌∷◌, ◌++◌, map, length, Bool, true, false, cond, refl, sym, ◌∙◌, ap, arith, nat_le}
 use Rattle.std.specs.List.{AllByRecursion}
 use Rattle.std.specs.List.Sorted.{IsPermutation, IsSorted}
@@ -11,8 +12,8 @@ use Rattle.weights.proofs.OneOrder.{IsInOrder, IsOrder, order-is}
 use Rattle.weights.proofs.Sums.{sum_by-same}
 use Rattle.completion_bounds.proofs.FallingSizes.{Rises, rises}
 use Rattle.stage_network.proofs.Swaps.{length-swap, swap_at}
+use Rattle.sorted_tables.proofs.ColumnSwaps.{factors, column_swap}
 use Rattle.sorted_tables.specs.SortedRooms.{rising}
-use Rattle.sorted_tables.proofs.ColumnSwaps.{column_swap}
 use Rattle.label_network.proofs.ChoiceSwaps.{labellings-swap}
 use Rattle.sorted_tables.proofs.RowSwaps.{row_swap}
 
@@ -73,12 +74,8 @@ map-twice : {X : Type 0} (f g : X → X) (xs : List X) → map f (map g xs) ≡ 
 map-twice f g [] = refl
 map-twice f g (x ∷ xs) = ap (λ ys. f (g x) ∷ ys) (map-twice f g xs)
 
-map-same : {X : Type 0} (xs : List X) → map (λ x. x) xs ≡ xs
-map-same [] = refl
-map-same (x ∷ xs) = ap (λ ys. x ∷ ys) (map-same xs)
-
 pub row_swaps : (is cs r : List ℕ) (f : List (List ℕ) → ℕ) → by_columns cs (swaps is r) f ≡ by_columns cs r (λ w. f (map (swaps is) w))
-row_swaps [] cs r f = sum_by-same _ _ (λ w. ap (λ u. table_weight w * f u) (sym (map-same w))) (tables cs r)
+row_swaps [] cs r f = sum_by-same _ _ (λ w. ap (λ u. table_weight w * f u) (sym (map-id w))) (tables cs r)
 row_swaps (i ∷ is) cs r f =
     row_swaps is cs (swap_at i r) f
     ∙ row_swap i cs r (λ w. f (map (swaps is) w))
@@ -95,9 +92,6 @@ weight-rows is [] = refl
 weight-rows is (x ∷ w) =
     ap (λ n. n * table_weight (map (swaps is) w)) (even-swaps number_of_labellings labellings-swap is x)
     ∙ ap (λ n. number_of_labellings x * n) (weight-rows is w)
-
-factors : (u v t : ℕ) → u * (v * t) ≡ v * (u * t)
-factors u v t = grind arith
 
 weight-swap : (i : ℕ) (w : List (List ℕ)) → table_weight (swap_at i w) ≡ table_weight w
 weight-swap i [] = refl

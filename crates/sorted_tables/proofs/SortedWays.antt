@@ -1,5 +1,6 @@
 -- The ways through sorted rooms are the tables, each with its columns put in the order in which the sizes stand.
-use Rattle.std.proofs.Common.{◌≡◌, ℕ, zero, suc, ◌+◌, ◌-◌, ◌*◌, ◌<◌, List, [], ◌∷◌, map, drop, length, refl, sym, ◌∙◌, ap, arith, add-one, drop-cons, drop_of_length-le, mul_assoc, lt-ltb}
+use Rattle.std.proofs.lemmas.List.{length-map}
+use Rattle.std.proofs.Common.{◌≡◌, ℕ, zero, suc, ◌+◌, ◌-◌, ◌*◌, ◌<◌, List, [], ◌∷◌, map, drop, length, refl, sym, ◌∙◌, ap, arith, add-one, drop-cons, drop_of_length-le, mul_assoc, lt-ltb, one-mul}
 use Rattle.std.specs.Prelude.{ℤ, pos, slice_index}
 use Rattle.std.specs.List.{filter, sum_by, sum}
 use Rattle.weights.specs.Grouped.{choices, columns_of, minus, table_weight}
@@ -28,10 +29,6 @@ sorted_way zero r w = []
 sorted_way (suc n) r [] = []
 sorted_way (suc n) r (x ∷ w) = gathered r x ∷ sorted_way n (falling (minus r x)) (map (fallen (minus r x)) w)
 
-length-map : {X Y : Type 0} (f : X → Y) (xs : List X) → length (map f xs) ≡ length xs
-length-map f [] = refl
-length-map f (x ∷ xs) = ap suc (length-map f xs)
-
 pub weight-sorted : (n : ℕ) (r : List ℕ) (w : List (List ℕ)) → length w ≡ n → table_weight (sorted_way n r w) ≡ table_weight w
 weight-sorted zero r [] e = refl
 weight-sorted zero r (x ∷ w) e = absurd (omega (arith, e))
@@ -39,7 +36,7 @@ weight-sorted (suc n) r [] e = absurd (omega (arith, e))
 weight-sorted (suc n) r (x ∷ w) e =
     ap (λ v. v * table_weight (sorted_way n (falling (minus r x)) (map (fallen (minus r x)) w))) (labellings-gathered r x)
     ∙ ap (λ v. number_of_labellings x * v)
-    (weight-sorted n (falling (minus r x)) (map (fallen (minus r x)) w) (length-map (fallen (minus r x)) w ∙ (let less : length w ≡ n = omega (arith, e) in less))
+    (weight-sorted n (falling (minus r x)) (map (fallen (minus r x)) w) (length-map w (fallen (minus r x)) ∙ omega (arith, e))
     ∙ weight-rows (ordering is_at_least (minus r x)) w)
 
 -- the tables of rows in falling order
@@ -94,9 +91,6 @@ abbrev cut_in_order : List ℕ → List ℕ → List ℕ → List (List ℕ)
 cut_in_order columns rows xs =
     sorted_way (length columns) (falling rows) (map (fallen rows) (swaps (ordering nat_le columns) (columns_of (length rows) columns xs)))
 
-once : (n : ℕ) → n ≡ 1 * n
-once n = omega arith
-
 long_columns : (k : ℕ) (cs xs : List ℕ) → length (columns_of k cs xs) ≡ length cs
 long_columns k [] xs = refl
 long_columns k (c ∷ cs) xs = ap suc (long_columns k cs (drop c xs))
@@ -116,13 +110,13 @@ module _ (columns rows : List ℕ) where
       ∙ ap (λ cs. by_columns cs rows (λ w. f (sorted_way n (falling rows) (map (fallen rows) w)))) (sym (ordered nat_le columns))
       ∙ column_swaps (ordering nat_le columns) columns rows (λ w. f (sorted_way n (falling rows) (map (fallen rows) w)))
       ∙ grouping columns rows (λ w. f (sorted_way n (falling rows) (map (fallen rows) (swaps (ordering nat_le columns) w)))) level
-      ∙ sum_by-same _ _ (λ xs. once (f (cut_in_order columns rows xs))) (labellings rows)
+      ∙ sum_by-same _ _ (λ xs. sym (one-mul (f (cut_in_order columns rows xs)))) (labellings rows)
 
   cut-weighs : (xs : List ℕ) → table_weight (cut_in_order columns rows xs) ≡ table_weight (columns_of (length rows) columns xs)
   cut-weighs xs =
       let table : List (List ℕ) = columns_of (length rows) columns xs in
       let turned : List (List ℕ) = swaps (ordering nat_le columns) table in
-      weight-sorted (length columns) (falling rows) (map (fallen rows) turned) (length-map (fallen rows) turned ∙ length-swaps (ordering nat_le columns) table ∙ long_columns (length rows) columns xs)
+      weight-sorted (length columns) (falling rows) (map (fallen rows) turned) (length-map turned (fallen rows) ∙ length-swaps (ordering nat_le columns) table ∙ long_columns (length rows) columns xs)
       ∙ weight-rows (ordering is_at_least rows) turned
       ∙ weight-columns (ordering nat_le columns) table
 

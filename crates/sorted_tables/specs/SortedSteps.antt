@@ -1,14 +1,17 @@
 -- What the bodies of sorted rooms keep, and words for them.
-use Rattle.std.specs.Prelude.{◌≡◌, ℕ, suc, ◌-◌, ◌^◌, ◌<◌, ◌≤◌, ℤ, List, [], ◌∷◌, length, max, nat_eq, true, if◌then◌else◌}
+use Rattle.std.specs.Prelude.{◌≡◌, ℕ, suc, ◌+◌, ◌-◌, ◌*◌, ◌^◌, ◌<◌, ◌≤◌, ◌&&◌, ℤ, pos, Bool, List, [], ◌∷◌, get_or, length, map, max, nat_eq, nat_lt, slice_index, true, if◌then◌else◌}
 use Rattle.std.specs.List.{count_by, sum, Contains}
 use Rattle.weights.specs.declared.TheConstants.{MAX}
-use Rattle.weights.specs.Grouped.{choices}
+use Rattle.weights.specs.Grouped.{choices, fits, minus}
 use Rattle.weights.specs.Labellings.{number_of_labellings}
 use Rattle.completion_bounds.specs.Fillings.{falling}
+use Rattle.stage_network.specs.Completions.{total_weight}
+use Rattle.room_network.specs.Plans.{alone}
 use Rattle.label_network.specs.LabelRooms.{IsLabelled}
-use Rattle.label_network.specs.LabelSteps.{AreSizes, IsHeld}
+use Rattle.label_network.specs.LabelSteps.{AreSizes, IsHeld, least}
 use Rattle.label_network.specs.Meanings.{sizes_in}
-use Rattle.sorted_tables.specs.GatheredChoices.{is_gathered, is_gathered_into}
+use Rattle.sorted_tables.specs.GatheredChoices.{gathered_weight, is_gathered, is_gathered_into}
+use Rattle.sorted_tables.specs.SortedRooms.{sorted_floor, sorted_plan}
 
 pub record AreSorted (columns rows : List ℕ) (width : ℕ) : Type 0 where
   pub sound : IsLabelled columns rows
@@ -23,6 +26,11 @@ gathered_count rows into = count_by (is_gathered_into rows into) (choices (sum i
 abbrev pub run : ℕ → List ℕ → ℕ
 run size [] = 0
 run size (row ∷ rows) = if nat_eq row size then suc (run size rows) else 0
+
+-- whether a number stands again right behind a place
+abbrev pub stands_again : List ℕ → ℕ → Bool
+stands_again xs i =
+    nat_lt (i + 1) (length xs) && nat_eq (get_or xs (i + 1) 0) (get_or xs i 0)
 
 -- the first choice behind a row of a size that gets so many: as little as can be to each row in
 -- turn, and to one of the size of the row before no less than that one gets
@@ -45,3 +53,26 @@ pub record IsRoomFor (width column : ℕ) (room : List ℤ) : Type 0 where
 pub record IsGatheredChoice (column : ℕ) (room : List ℤ) (choice : List ℕ) : Type 0 where
   pub allowed : Contains (choices column (sizes_in room)) choice
   pub gathered : is_gathered (sizes_in room) choice ≡ true
+
+-- what is known of a room that is reached, and before the last stage of it for its column
+pub record RoomSeat (columns rows : List ℕ) (width g : ℕ) (room : List ℤ) : Type 0 where
+  pub long : length room ≡ length rows
+  pub fits : IsRoomFor width 0 room
+  pub rest : total_weight (alone (sorted_plan columns rows)) g room
+      ≡ number_of_labellings (sizes_in room)
+  pub before : g < length columns → IsRoomFor width (slice_index columns g) room
+  pub first : g < length columns → let x = least (slice_index columns g) (sizes_in room) in
+      (sorted_floor columns rows).choices g room ≡ x ∷ (sorted_floor columns rows).later g room x
+
+-- and of such a choice for it, and of the room that it leaves
+pub record ChoiceSeat (width column : ℕ) (room : List ℤ) (x : List ℕ) : Type 0 where
+  pub whole : column ≡ sum x
+  pub fitting : fits x (sizes_in room) ≡ true
+  pub held : IsHeld width x
+  pub few : number_of_labellings x ≤ MAX
+  pub gathered_few : gathered_weight (sizes_in room) x ≤ MAX
+  pub product_few : number_of_labellings x * number_of_labellings (minus (sizes_in room) x) ≤ MAX
+  pub line_few : let left = number_of_labellings (minus (sizes_in room) x) in
+      gathered_weight (sizes_in room) x * left ≤ MAX
+  pub read : sizes_in (map pos (minus (sizes_in room) x)) ≡ minus (sizes_in room) x
+  pub left : IsRoomFor width 0 (map pos (minus (sizes_in room) x))

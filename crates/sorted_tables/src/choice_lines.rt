@@ -4,12 +4,20 @@ ghost use Rattle.weights.specs.Grouped.{minus};
 ghost use Rattle.weights.specs.Labellings.{number_of_labellings};
 ghost use Rattle.label_network.specs.Meanings.{sizes_in};
 ghost use Rattle.sorted_tables.specs.ChoiceLines.{choice_line, choice_lines};
-ghost use Rattle.sorted_tables.specs.SortedSteps.{IsGatheredChoice, IsRoomFor};
+ghost use Rattle.sorted_tables.specs.SortedSteps.{ChoiceSeat, IsGatheredChoice, IsRoomFor};
 
 use crate::gathering::{next_gathered, weight_gathered};
 use label_network::{Binomials, first_counts, rest_in, take_away, weight_in};
 use std::alloc::Global;
 use weights::{Line, NoMemory};
+
+// What is known of a choice. It does nothing.
+#[inline(always)]
+pub(crate) fn choice_seat(_binomials: &Binomials, _column: u64, _room: &[i128], _choice: &[u64])
+    requires room { IsRoomFor _binomials.now.width _column _room.now }
+    requires choice { IsGatheredChoice _column _room.now _choice.now }
+    ensures { ChoiceSeat _binomials.now.width _column _room.now _choice.now }
+{}
 
 // How many labellings there are of what a choice leaves.
 fn left_of(binomials: &Binomials, column: u64, room: &[i128], choice: &[u64]) -> u128
@@ -17,6 +25,7 @@ fn left_of(binomials: &Binomials, column: u64, room: &[i128], choice: &[u64]) ->
     requires choice { IsGatheredChoice column room.now choice.now }
     ensures { result ≡ number_of_labellings (minus (sizes_in room.now) choice.now) }
 {
+    choice_seat(binomials, column, room, choice);
     let mut numbers = [0i128; 8];
     let left = &mut numbers[..room.len()];
     take_away(room, choice, left);
@@ -29,6 +38,7 @@ fn line_of(binomials: &Binomials, column: u64, room: &[i128], choice: &[u64]) ->
     requires choice { IsGatheredChoice column room.now choice.now }
     ensures { result ≡ choice_line (sizes_in room.now) choice.now }
 {
+    choice_seat(binomials, column, room, choice);
     let left = left_of(binomials, column, room, choice);
     let here = weight_in(binomials, column, choice);
     let all = weight_gathered(binomials, column, room, choice);

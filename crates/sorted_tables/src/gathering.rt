@@ -1,6 +1,6 @@
 // Choices that stand for all that differ from them in the order of rows of equal size alone.
 ghost use Rattle.std.specs.Prelude.{◌≡◌, ◌+◌, ◌*◌, ◌^◌, ◌<◌, ◌≤◌, ◌&&◌, [], ◌∷◌, filter, length};
-ghost use Rattle.std.specs.Prelude.{get_or, nat_eq, nat_lt, true, if◌then◌else◌};
+ghost use Rattle.std.specs.Prelude.{nat_eq, true, if◌then◌else◌};
 ghost use Rattle.std.specs.List.{sum, Contains};
 ghost use Rattle.weights.specs.Grouped.{choices};
 ghost use Rattle.weights.specs.declared.TheConstants.{MAX};
@@ -8,7 +8,7 @@ ghost use Rattle.label_network.specs.ChoiceOrder.{later_choices};
 ghost use Rattle.label_network.specs.LabelSteps.{AreSizes, IsHeld};
 ghost use Rattle.label_network.specs.Meanings.{sizes_in};
 ghost use Rattle.sorted_tables.specs.GatheredChoices.{gathered_weight, is_gathered};
-ghost use Rattle.sorted_tables.specs.SortedSteps.{gathered_count, raised, run};
+ghost use Rattle.sorted_tables.specs.SortedSteps.{gathered_count, raised, run, stands_again};
 
 use label_network::{Binomials, read_sizes, weight_in};
 use weights::total_of;
@@ -16,10 +16,36 @@ use weights::total_of;
 // Whether there is a row after this one, of the same number.
 fn goes_on(numbers: &[u64], i: usize) -> bool
     requires { i < length numbers.now }
-    ensures { let same = nat_eq (get_or numbers.now (i + 1) 0) (get_or numbers.now i 0) in
-        result ≡ (nat_lt (i + 1) (length numbers.now) && same) }
+    ensures { result ≡ stands_again numbers.now i }
 {
     i + 1 < numbers.len() && numbers[i + 1] == numbers[i]
+}
+
+// How many rows of one kind there are from a row on, by those after it.
+#[inline(always)]
+fn count_on(goes_on: bool, count: u64) -> u64
+    requires { count ≤ 8 }
+    ensures { result ≡ if goes_on then count + 1 else 1 }
+{
+    if goes_on { count + 1 } else { 1 }
+}
+
+// Whether there is a row after this one, of the same size and with the same count.
+#[inline(always)]
+fn both_go_on(rows: &[u64], counts: &[u64], i: usize) -> bool
+    requires rows { i < length rows.now }
+    requires counts { i < length counts.now }
+    ensures { result ≡ (stands_again rows.now i && stands_again counts.now i) }
+{
+    goes_on(rows, i) && goes_on(counts, i)
+}
+
+// What a row gets at least, by the one before it.
+#[inline(always)]
+fn floor_of(size: u64, before: u64, count: u64) -> u64
+    ensures { result ≡ if nat_eq size before then count else 0 }
+{
+    if size == before { count } else { 0 }
 }
 
 // Writes the first choice that stands for others behind a row of a size that gets so many: as few
@@ -38,7 +64,7 @@ fn raise_counts(total: u64, size: u64, least: u64, rows: &[u64], counts: &mut [u
     let mut count = least;
     for i in 0..rows.len() {
         later -= rows[i];
-        let floor = if rows[i] == before { count } else { 0 };
+        let floor = floor_of(rows[i], before, count);
         count = floor.max(left.saturating_sub(later));
         before = rows[i];
         counts[i] = count;
@@ -69,7 +95,7 @@ pub(crate) fn next_gathered(total: u64, sizes: &[i128], counts: &mut [u64]) -> b
     while i > 0 {
         i -= 1;
         later += counts[i];
-        equal = if goes_on(rows, i) { equal + 1 } else { 1 };
+        equal = count_on(goes_on(rows, i), equal);
         let needed = (counts[i] as u128 + 1) * equal as u128;
         if counts[i] < rows[i] && needed <= later as u128 {
             counts[i] += 1;
@@ -102,13 +128,8 @@ fn count_gathered(rows: &[u64], counts: &[u64]) -> u64
     let mut i = counts.len();
     while i > 0 {
         i -= 1;
-        let size_goes_on = goes_on(rows, i);
-        equal = if size_goes_on { equal + 1 } else { 1 };
-        alike = if size_goes_on && goes_on(counts, i) {
-            alike + 1
-        } else {
-            1
-        };
+        equal = count_on(goes_on(rows, i), equal);
+        alike = count_on(both_go_on(rows, counts, i), alike);
         orders *= equal;
         alike_orders *= alike;
     }

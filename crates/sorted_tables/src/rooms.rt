@@ -1,5 +1,5 @@
 // The rooms of labels whose sizes stand in falling order.
-ghost use Rattle.std.specs.Prelude.{◌≡◌, ◌<◌, ℕ, List, IfOk, length, slice_index};
+ghost use Rattle.std.specs.Prelude.{◌≡◌, ◌<◌, ℕ, List, Contains, IfOk, length, slice_index};
 ghost use Rattle.std.specs.List.{sum};
 ghost use Rattle.completion_bounds.specs.Fillings.{falling};
 ghost use Rattle.stage_network.specs.Network.{IsReached};
@@ -7,10 +7,10 @@ ghost use Rattle.room_network.specs.Plans.{alone};
 ghost use Rattle.label_network.specs.LabelRooms.{IsLabelled};
 ghost use Rattle.label_network.specs.Meanings.{sizes_in};
 ghost use Rattle.sorted_tables.specs.ChoiceLines.{choice_lines};
-ghost use Rattle.sorted_tables.specs.SortedRooms.{GivesTables, sorted_plan};
-ghost use Rattle.sorted_tables.specs.SortedSteps.{AreSorted};
+ghost use Rattle.sorted_tables.specs.SortedRooms.{GivesTables, sorted_floor, sorted_plan};
+ghost use Rattle.sorted_tables.specs.SortedSteps.{AreSorted, IsGatheredChoice, RoomSeat};
 
-use crate::choice_lines::list_choices;
+use crate::choice_lines::{choice_seat, list_choices};
 use crate::gathering::{next_gathered, weight_gathered};
 use crate::orders::fall_away;
 use label_network::{Binomials, first_counts, rest_in, write_sizes};
@@ -65,8 +65,36 @@ impl SortedRooms {
         ensures { let column = slice_index self.now.columns.items stage in
             IfOk result (λ lines. lines.items ≡ choice_lines column (sizes_in room.now)) }
     {
-        list_choices(alloc, &self.binomials, self.columns[stage], room)
+        self.seat(stage, room);
+        list_choices(alloc, &self.binomials, self.column(stage), room)
     }
+
+    // The column of a stage.
+    #[inline(always)]
+    fn column(&self, stage: usize) -> u64
+        requires { stage < length self.now.columns.items }
+        ensures { result ≡ slice_index self.now.columns.items stage }
+    {
+        self.columns[stage]
+    }
+
+    // What is known of a room that is reached. It does nothing.
+    #[inline(always)]
+    fn seat(&self, _stage: usize, _room: &[i128])
+        requires { let plan = sorted_plan self.now.columns.items self.now.rows.items in
+            IsReached (alone plan) _stage _room.now }
+        ensures { RoomSeat self.now.columns.items self.now.rows.items self.now.binomials.width
+            _stage _room.now }
+    {}
+
+    // And of a choice there.
+    #[inline(always)]
+    fn choice_at(&self, _stage: usize, _room: &[i128], _choice: &[u64])
+        requires { let floor = sorted_floor self.now.columns.items self.now.rows.items in
+            Contains (floor.choices _stage _room.now) _choice.now }
+        ensures { let column = slice_index self.now.columns.items _stage in
+            IsGatheredChoice column _room.now _choice.now }
+    {}
 }
 
 /// The rows of a table may stand in any order, and so may its columns. The ways through the rooms
@@ -101,21 +129,29 @@ impl Rooms for SortedRooms {
 
     #[inline(always)]
     fn first_choice(&self, stage: usize, room: &[i128], choice: &mut [u64]) {
-        first_counts(self.columns[stage], room, choice);
+        self.seat(stage, room);
+        first_counts(self.column(stage), room, choice);
     }
 
     #[inline(always)]
     fn next_choice(&self, stage: usize, room: &[i128], choice: &mut [u64]) -> bool {
-        next_gathered(self.columns[stage], room, choice)
+        self.seat(stage, room);
+        self.choice_at(stage, room, choice);
+        next_gathered(self.column(stage), room, choice)
     }
 
     fn cross(&self, stage: usize, room: &[i128], choice: &[u64], next: &mut [i128]) -> u128 {
+        self.seat(stage, room);
+        self.choice_at(stage, room, choice);
+        let column = self.column(stage);
+        choice_seat(&self.binomials, column, room, choice);
         fall_away(room, choice, next);
-        weight_gathered(&self.binomials, self.columns[stage], room, choice)
+        weight_gathered(&self.binomials, column, room, choice)
     }
 
     #[inline(always)]
-    fn rest(&self, _stage: usize, room: &[i128]) -> u128 {
+    fn rest(&self, stage: usize, room: &[i128]) -> u128 {
+        self.seat(stage, room);
         rest_in(&self.binomials, room)
     }
 }

@@ -37,11 +37,9 @@ sum-small x y m n h i = grind (arith, ints)
 pub later-small : (f : ℕ → ℤ) (size : ℕ → ℕ) → ((g : ℕ) → nat_abs (f g) ≤ size g) → (m g : ℕ) → nat_abs (over_stages f m g) + over_earlier size g ≤ over_earlier size (g + m)
 later-small f size small zero g = omega (arith, over_earlier-≤ size g 0)
 later-small f size small (suc m) g =
-    let one : nat_abs (f g +ℤ over_stages f m (g + 1)) ≤ size g + nat_abs (over_stages f m (g + 1)) = sum-small (f g) (over_stages f m (g + 1)) (size g) (nat_abs (over_stages f m (g + 1))) (small g) (omega arith) in
-    let rest : nat_abs (over_stages f m (g + 1)) + over_earlier size (g + 1) ≤ over_earlier size (g + 1 + m) = later-small f size small m (g + 1) in
     let here : over_earlier size (g + 1) ≡ over_earlier size (suc g) = ap (over_earlier size) (let z : g + 1 ≡ suc g = omega arith in z) in
     let there : over_earlier size (g + 1 + m) ≡ over_earlier size (g + suc m) = ap (over_earlier size) (let z : g + 1 + m ≡ g + suc m = omega arith in z) in
-    omega (arith, one, rest, here, there)
+    omega (arith, sum-small (f g) (over_stages f m (g + 1)) (size g) (nat_abs (over_stages f m (g + 1))) (small g) (omega arith), later-small f size small m (g + 1), here, there)
 
 zeros-small : (n : ℕ) → AllByRecursion (λ z. nat_abs z ≤ 0) (replicate n (pos 0))
 zeros-small zero = tt

@@ -62,12 +62,10 @@ module _ (arcs : List Arc) (y : Arc) where
 
   place-past : (t a : ℕ) → y.target ≢ t → IsPlace arcs t (length arcs) a → IsPlace (arcs ++ y ∷ []) t (length arcs + 1) a
   place-past t a ne p =
-      let other : nat_eq y.target t ≡ false = not_eq y.target t ne in
-      let last : bucket t (y ∷ []) ≡ [] = rw other refl in
       record {
         low = omega (arith, p.low);
         all = ap (bucket t) (take-append-le a arcs (y ∷ []) p.low) ∙ p.all ∙ ap (bucket t) (take_all (length arcs) arcs (omega arith))
-            ∙ sym (ap (bucket t) whole ∙ filter-append (λ (a : Arc). nat_eq a.target t) arcs (y ∷ []) ∙ ap (λ zs. bucket t arcs ++ zs) last ∙ append-nil (bucket t arcs));
+            ∙ sym (ap (bucket t) whole ∙ filter-append (λ (a : Arc). nat_eq a.target t) arcs (y ∷ []) ∙ ap (λ zs. bucket t arcs ++ zs) (rw (not_eq y.target t ne) refl) ∙ append-nil (bucket t arcs));
         here = λ i d e. ap (λ (w : Arc). w.target) (get_or_append_left arcs (y ∷ []) d i (omega (arith, p.low, e))) ∙ p.here i d e;
       }
 
@@ -86,7 +84,7 @@ targets-more : (t : ℕ) (arcs : List Arc) (y : Arc) → AllByRecursion (λ (a :
 targets-more t [] y a h = (h, tt)
 targets-more t (w ∷ arcs) y a h = (a.0, targets-more t arcs y a.1 h)
 
-last_or_before : (i n : ℕ) → i < n + 1 → (i ≡ n) ⊎ (i < n)
+pub last_or_before : (i n : ℕ) → i < n + 1 → (i ≡ n) ⊎ (i < n)
 last_or_before i n h = grind arith
 
 pub linked-more : (arcs : List Arc) (nexts heads : List ℕ) → IsLinked arcs nexts heads → IsLinked arcs nexts (heads ++ 0 ∷ [])
@@ -107,11 +105,9 @@ linked-push arcs nexts heads y l same there =
     record {
       targets = rw size (targets-more (length heads) arcs y l.targets there);
       firsts = λ t h.
-          let low : t < length heads = omega (arith, h, size) in
-          let more : length (arcs ++ y ∷ []) ≡ length arcs + 1 = length_push arcs y in
-          rw more (elim (cases_eq t y.target) [
+          rw (length_push arcs y) (elim (cases_eq t y.target) [
             | inl e ↦ rw e (rw (get_or-set_same heads y.target (length arcs + 1) 0 there) (place-here arcs y))
-            | inr ne ↦ rw (get_or-set_other heads y.target t (length arcs + 1) 0 ne) (place-past arcs y t (get_or heads t 0) (λ e. ne (sym e)) (l.firsts t low))
+            | inr ne ↦ rw (get_or-set_other heads y.target t (length arcs + 1) 0 ne) (place-past arcs y t (get_or heads t 0) (λ e. ne (sym e)) (l.firsts t (omega (arith, h, size))))
           ]);
       others = λ i d h. elim (last_or_before i (length arcs) (omega (arith, h, length_push arcs y))) [
         | inl e ↦ rw (get_or_push arcs y d i (sym e), get_or_push nexts (get_or heads y.target 0) 0 i (same ∙ sym e)) (rw e (place-keeps arcs y y.target (length arcs) (get_or heads y.target 0) (omega arith) (l.firsts y.target there)))
@@ -121,7 +117,7 @@ linked-push arcs nexts heads y l same there =
 
 pub link-arcs : (width : ℕ) (choices : List ℕ) (links : List Link) (heads : List ℕ) → IsArcs width choices links heads → (choice : List ℕ) (a : Link) (n : ℕ) → length choice ≡ width → a.target < length heads → a.next ≡ get_or heads a.target 0 → n ≡ length links + 1 → IsArcs width (choices ++ choice) (links ++ a ∷ []) (set heads a.target n)
 link-arcs width choices links heads w choice a n wide there next count =
-    let nexts : List ℕ = map (λ (b : Link). b.next) links in
+    let nexts = map (λ (b : Link). b.next) links in
     let same : length nexts ≡ length (arcs_of width choices links) = length-map links (λ (b : Link). b.next) ∙ sym (length-arcs width choices links) in
     let more : n ≡ length (arcs_of width choices links) + 1 = omega (arith, count, length-arcs width choices links) in
     record {

@@ -42,6 +42,5 @@ total_weight-least n l g k r h = all_paths-least n l (n.count - g) g k r (omega 
 pub weights-le-weighted : (n : Network) → IsLawful n → (g : ℕ) → g ≤ n.count → (nodes : List Node) → AllReached n g nodes → weighted (λ k. 1) nodes ≤ weighted (total_weight n g) nodes
 weights-le-weighted n l g h [] r = omega arith
 weights-le-weighted n l g h (a ∷ nodes) r =
-    let here : a.weight * 1 ≤ a.weight * total_weight n g a.key = mul-le-mul_left a.weight (total_weight-least n l g a.key r.0 h) in
     rw (sum_by-cons (λ (b : Node). b.weight * 1) a nodes, sum_by-cons (λ (b : Node). b.weight * total_weight n g b.key) a nodes)
-    (omega (arith, here, weights-le-weighted n l g h nodes r.1))
+    (omega (arith, mul-le-mul_left a.weight (total_weight-least n l g a.key r.0 h), weights-le-weighted n l g h nodes r.1))

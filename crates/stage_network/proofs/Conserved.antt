@@ -1,7 +1,7 @@
 -- What a stage keeps: the summed weight of the extreme completions is what was closed and what is still open.
-use Rattle.std.proofs.Common.{◌≡◌, ◌≢◌, ℕ, ◌+◌, ◌*◌, ◌<◌, ◌≤◌, List, [], ◌∷◌, ◌++◌, map, Bool, true, false, cond, refl, sym, ◌∙◌, ap, arith}
+use Rattle.std.proofs.Common.{◌≡◌, ◌≢◌, ℕ, ◌+◌, ◌*◌, ◌<◌, ◌≤◌, List, [], ◌∷◌, Bool, true, false, cond, refl, sym, ◌∙◌, ap, arith}
 use Rattle.std.specs.Prelude.{ℤ}
-use Rattle.std.specs.List.{sum_by, filter, AllByRecursion, Contains}
+use Rattle.std.specs.List.{sum_by, Contains}
 use Rattle.std.proofs.lemmas.List.Sums.{sum_by-cons}
 use Rattle.std.proofs.lemmas.List.Elements.{recursion_from_All, All-contains_itself}
 use Rattle.std.proofs.Math.Nat.{mul_assoc}
@@ -16,6 +16,8 @@ use Rattle.stage_network.specs.NodeSteps.{successor, successors, closed_part, cl
 use Rattle.stage_network.specs.Opened.{is_open_for_some, is_undecided}
 use Rattle.stage_network.proofs.NodeSums.{open-for}
 use Rattle.stage_network.proofs.Steps.{sum_by-same, sum_by-scaled, sum_by-map, filter_all, filter_none, reached-next}
+pub use Rattle.weights.proofs.Sums.{sum_by-filter}
+pub use Rattle.weights.proofs.Filters.{all_append, all_map, all_weaker}
 
 -- one node's successors carry its sum to the next stage
 pub weighted-successors : (n : Network) (g : ℕ) (here later : List ℤ → ℕ) → ((k : List ℤ) → here k ≡ sum_by (λ c. n.weight g k c * later (n.next g k c)) (n.choices g k)) → (a : Node) → weighted later (successors n g a) ≡ a.weight * here a.key
@@ -24,13 +26,6 @@ weighted-successors n g here later step a =
     ∙ sum_by-same (λ c. (a.weight * n.weight g a.key c) * later (n.next g a.key c)) (λ c. a.weight * (n.weight g a.key c * later (n.next g a.key c))) (λ c. mul_assoc a.weight (n.weight g a.key c) (later (n.next g a.key c))) (n.choices g a.key)
     ∙ sum_by-scaled a.weight (λ c. n.weight g a.key c * later (n.next g a.key c)) (n.choices g a.key)
     ∙ ap (λ m. a.weight * m) (sym (step a.key))
-
-pub sum_by-filter : {X : Type 0} (f : X → ℕ) (p : X → Bool) (xs : List X) → sum_by f (filter p xs) ≡ sum_by (λ x. cond (p x) (f x) 0) xs
-sum_by-filter f p [] = refl
-sum_by-filter f p (x ∷ xs) = rw (sum_by-cons (λ x. cond (p x) (f x) 0) x xs) (elim (p x) as (λ b. sum_by f (cond b (x ∷ filter p xs) (filter p xs)) ≡ cond b (f x) 0 + sum_by (λ x. cond (p x) (f x) 0) xs) [
-  | true ↦ rw (sum_by-cons f x (filter p xs), sum_by-filter f p xs) refl
-  | false ↦ rw (sum_by-filter f p xs) (omega arith)
-])
 
 -- what is open, at this stage
 abbrev pub open_part : Network → ℕ → (List ℤ → ℕ) → Node → ℕ
@@ -59,19 +54,6 @@ split-extreme n l t g h (a ∷ nodes) r =
     by_verdict (is_open_for_some n g a.key) (n.verdict t g a.key) a.weight (extreme_weight n t g a.key) (total_weight n g a.key) (open-for n t g a.key) (inside-sum n l t g a.key r.0 h) (outside-sum n l t g a.key r.0 h) in
     rw (sum_by-cons (λ a. a.weight * extreme_weight n t g a.key) a nodes, sum_by-cons (closed_part n t g) a nodes, sum_by-cons (open_part n g (extreme_weight n t g)) a nodes)
     (omega (arith, here, split-extreme n l t g h nodes r.1))
-
--- the next stage's keys are reached
-pub all_append : {X : Type 0} (P : X → Type 0) (xs ys : List X) → AllByRecursion P xs → AllByRecursion P ys → AllByRecursion P (xs ++ ys)
-all_append P [] ys a b = b
-all_append P (x ∷ xs) ys a b = (a.0, all_append P xs ys a.1 b)
-
-pub all_map : {X Y : Type 0} (P : Y → Type 0) (f : X → Y) (xs : List X) → AllByRecursion (λ x. P (f x)) xs → AllByRecursion P (map f xs)
-all_map P f [] a = tt
-all_map P f (x ∷ xs) a = (a.0, all_map P f xs a.1)
-
-pub all_weaker : {X : Type 0} (P Q : X → Type 0) → ((x : X) → P x → Q x) → (xs : List X) → AllByRecursion P xs → AllByRecursion Q xs
-all_weaker P Q w [] a = tt
-all_weaker P Q w (x ∷ xs) a = (w x a.0, all_weaker P Q w xs a.1)
 
 pub successors-reached : (n : Network) (g : ℕ) → g < n.count → (a : Node) → IsReached n g a.key → AllReached n (g + 1) (successors n g a)
 successors-reached n g h a r =

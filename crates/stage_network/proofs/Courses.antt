@@ -1,5 +1,5 @@
 -- A sweep along its course, stage by stage: what comes there, what stays and what is closed.
-use Rattle.std.proofs.Common.{◌≡◌, ℕ, zero, suc, ◌+◌, ◌*◌, ◌<◌, ◌≤◌, List, [], ◌∷◌, Bool, false, cond, refl, sym, ◌∙◌, ap, subst, arith, take, length}
+use Rattle.std.proofs.Common.{◌≡◌, ℕ, zero, suc, ◌+◌, ◌*◌, ◌<◌, ◌≤◌, List, [], ◌∷◌, Bool, false, refl, sym, ◌∙◌, ap, subst, arith, take, length}
 use Rattle.std.specs.Prelude.{ℤ, map}
 use Rattle.std.specs.List.{filter, sum_by, flat_map, IsDistinct}
 use Rattle.std.specs.Set.{distinct_count}
@@ -65,7 +65,7 @@ module _ (n : Network) (lawful : IsLawful n) (limit : ℕ) (course : Course) (st
       let e : course.stage ≡ course.stage + 0 = omega arith in
       subst (λ g. AllReached n g course.nodes) e starts.reached
   arriving-reached (suc m) h =
-      let g : ℕ = course.stage + m in
+      let g = course.stage + m in
       let before : g < n.count = omega (arith, h, next-stage course.stage m) in
       let here : AllReached n g (arriving n course m) = arriving-reached m (omega (arith, before)) in
       subst (λ j. AllReached n j (arriving n course (suc m))) (next-stage course.stage m)
@@ -74,7 +74,7 @@ module _ (n : Network) (lawful : IsLawful n) (limit : ℕ) (course : Course) (st
   pub arriving-heavy : (m : ℕ) → course.stage + m ≤ n.count → AllHeavy (arriving n course m)
   arriving-heavy zero h = starts.heavy
   arriving-heavy (suc m) h =
-      let g : ℕ = course.stage + m in
+      let g = course.stage + m in
       let before : g < n.count = omega (arith, h, next-stage course.stage m) in
       let some : (a : Node) → Bool = λ a. stays n course.keep g a.key in
       successors-heavy n lawful g (staying n course.keep g (arriving n course m))
@@ -88,9 +88,9 @@ module _ (n : Network) (lawful : IsLawful n) (limit : ℕ) (course : Course) (st
       let e : course.stage + 0 ≡ course.stage = omega arith in
       ap (λ g. closed course.stage course.nodes + weighted (v g) (staying n course.keep g course.nodes)) e ∙ split course.stage course.nodes starts.within starts.reached
   conserved v closed step split (suc m) h =
-      let g : ℕ = course.stage + m in
+      let g = course.stage + m in
       let before : g < n.count = omega (arith, h, next-stage course.stage m) in
-      let all : List Node = arriving n course (suc m) in
+      let all = arriving n course (suc m) in
       let here = split (course.stage + suc m) all h (arriving-reached (suc m) h) in
       let on : weighted (v (course.stage + suc m)) all ≡ weighted (v (g + 1)) all = ap (λ j. weighted (v j) all) (sym (next-stage course.stage m)) in
       omega (arith, here, on, carried n g (v g) (v (g + 1)) (λ k. step g k before) (staying n course.keep g (arriving n course m)), conserved v closed step split m (omega (arith, before)))
@@ -103,16 +103,15 @@ module _ (n : Network) (lawful : IsLawful n) (limit : ℕ) (course : Course) (st
       split-le : (g : ℕ) (all : List Node) → weighted (closed_at n course.keep t g) all + weighted (total_weight n g) (staying n course.keep g all) ≤ weighted (total_weight n g) all
       split-le g all = omega (arith, weighted-filter (total_weight n g) (stays n course.keep g) all, parted n course.keep t g all)
   bounded t (suc m) h =
-      let g : ℕ = course.stage + m in
+      let g = course.stage + m in
       let before : g < n.count = omega (arith, h, next-stage course.stage m) in
-      let all : List Node = arriving n course (suc m) in
-      let j : ℕ = course.stage + suc m in
-      let on : weighted (total_weight n j) all ≡ weighted (total_weight n (g + 1)) all = ap (λ j. weighted (total_weight n j) all) (sym (next-stage course.stage m)) in
+      let all = arriving n course (suc m) in
+      let j = course.stage + suc m in
       omega (
         arith,
         weighted-filter (total_weight n j) (stays n course.keep j) all,
         parted n course.keep t j all,
-        on,
+        ap (λ j. weighted (total_weight n j) all) (sym (next-stage course.stage m)),
         carried n g (total_weight n g) (total_weight n (g + 1)) (λ k. total_weight-step n g k before) (staying n course.keep g (arriving n course m)),
         bounded t m (omega (arith, before)),
       )
@@ -138,19 +137,16 @@ module _ (n : Network) (lawful : IsLawful n) (limit : ℕ) (course : Course) (st
 
     came : (f : List ℤ → ℕ) → weighted f all ≡ weighted f (arriving n course (suc m))
     came f =
-        let here : ℕ = course.stage + m in
+        let here = course.stage + m in
         led-to f ∙ ap (λ j. weighted f (all_successors n j nodes)) at
         ∙ led n here nodes (staying n course.keep here (arriving n course m)) swept.told f
 
     pub next-light : (t : Tail) → (sum_for sums t).sum + weighted (total_weight n (g + 1)) all ≤ weighted (total_weight n course.stage) course.nodes
-    next-light t =
-        let total : weighted (total_weight n (g + 1)) all ≡ weighted (total_weight n g) nodes = all-total n g before nodes all led-to in
-        let same : weighted (total_weight n g) nodes ≡ weighted (total_weight n (course.stage + m)) nodes = ap (λ j. weighted (total_weight n j) nodes) at in
-        omega (arith, total, same, swept-light m sums nodes (omega (arith, at, before)) swept t)
+    next-light t = omega (arith, all-total n g before nodes all led-to, ap (λ j. weighted (total_weight n j) nodes) at, swept-light m sums nodes (omega (arith, at, before)) swept t)
 
     pub swept-next : (more : TailSums) (kept : List Node) → ((f : List ℤ → ℕ) → weighted f kept ≡ weighted f (staying n keep (g + 1) all)) → ((t : Tail) → (sum_for more t).sum ≡ (sum_for sums t).sum + weighted (closed_at n keep t (g + 1)) all) → ((t : Tail) → (sum_for more t).opened ≡ (sum_for sums t).opened + counted n keep t (g + 1) kept) → IsDistinct key_eq (keys kept) → AllHeavy kept → HasSwept n course (suc m) more kept
     swept-next more kept stay sum opened distinct heavy =
-        let next : ℕ = course.stage + suc m in
+        let next = course.stage + suc m in
         let left : (f : List ℤ → ℕ) → weighted f kept ≡ weighted f (staying n course.keep next (arriving n course (suc m))) = λ f.
         stay f ∙ ap (λ k. weighted f (staying n k (g + 1) all)) keeps ∙ ap (λ j. weighted f (staying n course.keep j all)) on
         ∙ told-filtered (stays n course.keep next) all (arriving n course (suc m)) came f in
@@ -180,7 +176,7 @@ sweeping-here n width step_width limit course sweep s before = record {
 
 pub sweeping-light : {C : Type 0} (n : Network) (width step_width limit : ℕ) (course : Course) (sweep : Sweep C) → IsSweeping n width step_width limit course sweep → weighted (λ k. 1) sweep.nodes.nodes ≤ MAX
 sweeping-light n width step_width limit course sweep s =
-    let nodes : List Node = sweep.nodes.nodes in
+    let nodes = sweep.nodes.nodes in
     omega (
       arith,
       weights-le-weighted n s.lawful sweep.stage s.within nodes (sweeping-nodes n width step_width limit course sweep s),
@@ -214,7 +210,7 @@ opened-first n tails t zero = omega arith
 opened-first n tails t (suc m) =
     let e : 0 + suc m ≡ suc m = omega arith in
     let free : List ℤ → Bool = is_open (asked tails n) t (suc m) in
-    let all : List Node = arriving n (first_course n (Open tails)) (suc m) in
+    let all = arriving n (first_course n (Open tails)) (suc m) in
     let here : counted_keys n (Open tails) t (0 + suc m) all ≡ distinct_count key_eq (filter free (reached_by_some (asked tails n) (suc m))) =
     ap (λ g. counted_keys n (Open tails) t g all) e ∙ ap (λ ks. distinct_count key_eq (filter free ks)) (keys-first n tails (suc m)) in
     omega (arith, here, opened-first n tails t m)
@@ -246,8 +242,7 @@ module _ (n : Network) (l : IsLawful n) (limit : ℕ) (tails : Tails) (stage : �
   swept-sum sums nodes swept t =
       let v : ℕ → List ℤ → ℕ = extreme_weight (asked tails n) t in
       let kept = conserved n l limit starting starts v (λ g all. weighted (closed_at n (Open tails) t g) all) (λ g k before. extreme_weight-step (asked tails n) t g k before) (λ g all. open-split n l tails t g all) m to-last in
-      let left : weighted (v (stage + m)) (staying n (Open tails) (stage + m) (arriving n starting m)) ≡ 0 = ap (weighted (v (stage + m))) none-left in
-      omega (arith, swept.sum t, kept, left)
+      omega (arith, swept.sum t, kept, ap (weighted (v (stage + m))) none-left)
 
 -- what was closed on the way from the first key, and what is left, is all that is extreme
 pub swept-kept : (n : Network) → IsLawful n → (limit : ℕ) (tails : Tails) → IsCourse n limit (first_course n (Open tails)) → (m : ℕ) → 0 + m ≤ n.count → (sums : TailSums) (nodes : List Node) → HasSwept n (first_course n (Open tails)) m sums nodes → (t : Tail) → (sum_for sums t).sum + weighted (extreme_weight (asked tails n) t (0 + m)) nodes ≡ extreme_weight (asked tails n) t 0 n.first
@@ -258,12 +253,10 @@ swept-kept n l limit tails starts m h sums nodes swept t =
 
 pub swept-last : (n : Network) → IsLawful n → (limit : ℕ) (keep : Kept) → IsCourse n limit (first_course n keep) → (sums : TailSums) (nodes : List Node) → HasSwept n (first_course n keep) n.count sums nodes → IsSwept n keep sums nodes
 swept-last n l limit (Open tails) starts sums nodes swept =
-    let keep : Kept = Open tails in
-    let course : Course = first_course n keep in
+    let course : Course = first_course n (Open tails) in
     let e : 0 + n.count ≡ n.count = omega arith in
-    let within : 0 + n.count ≤ n.count = omega arith in
-    let all : List Node = arriving n course n.count in
-    let reached : AllReached n n.count all = subst (λ g. AllReached n g all) e (arriving-reached n l limit course starts n.count within) in
+    let all = arriving n course n.count in
+    let reached : AllReached n n.count all = subst (λ g. AllReached n g all) e (arriving-reached n l limit course starts n.count (omega arith)) in
     λ t. (
       swept-sum n l limit tails 0 (node n.first 1 ∷ []) starts n.count e sums nodes swept t ∙ one (extreme_weight (asked tails n) t 0) n.first,
       (let free : List ℤ → Bool = is_open (asked tails n) t n.count in
@@ -276,5 +269,4 @@ swept-last n l limit All starts sums nodes swept = λ p.
     let within : 0 + n.count ≤ n.count = omega arith in
     let v : ℕ → List ℤ → ℕ = to_come n p in
     let kept = conserved n l limit course starts v (λ g all. 0) (λ g k before. to_come-step n p g before k) (λ g all h r. omega (arith, ap (weighted (v g)) (staying-none n g all))) n.count within in
-    let last : weighted (λ k. cond (p k) 1 0) nodes ≡ weighted (v (0 + n.count)) nodes = sym (to_come-last n p nodes) ∙ ap (λ g. weighted (v g) nodes) (sym e) in
-    omega (arith, last, swept.told (v (0 + n.count)), kept, no-sum n course n.count, one (v 0) n.first, to_come-first n p)
+    omega (arith, sym (to_come-last n p nodes) ∙ ap (λ g. weighted (v g) nodes) (sym e), swept.told (v (0 + n.count)), kept, no-sum n course n.count, one (v 0) n.first, to_come-first n p)

@@ -3,7 +3,7 @@ use Rattle.std.proofs.Common.{◌≡◌, ℕ, ◌+◌, ◌≤◌, List, [], ◌�
 use Rattle.std.specs.Prelude.{ℤ, ◌<ℤ◌, ◌≤ℤ◌, int_lt, if◌then◌else◌}
 use Rattle.std.specs.List.{sum_by, AllByRecursion}
 use Rattle.std.specs.Ordering.{int_eq}
-use Rattle.std.proofs.lemmas.Int.{ints, by_lt_z}
+use Rattle.std.proofs.lemmas.Int.{ints}
 use Rattle.std.proofs.lemmas.Bool.Decides.{Decides-int_eq}
 use Rattle.std.proofs.lemmas.List.Sums.{sum_by-cons}
 use Rattle.weights.specs.declared.lines.Line.{Line}
@@ -12,31 +12,7 @@ use Rattle.weights.proofs.Filters.{all_weaker, all_map}
 use Rattle.weights.proofs.Sums.{sum_by-same, sum_by-zero, sum_by-plus, sum_by-map}
 use Rattle.stage_network.specs.Lines.{IsAscending, IsSpreadOf}
 use Rattle.stage_network.specs.Follows.{statistic_sums}
-use Rattle.stage_network.proofs.LineSums.{lines-same}
-
--- comparing
-
-equal : (x y : ℤ) → int_eq x y ≡ true → x ≡ y
-equal x y e = (Decides-int_eq x y).0 e
-
-same-eq : (x : ℤ) → int_eq x x ≡ true
-same-eq x = (Decides-int_eq x x).1 refl
-
-unequal : (x y : ℤ) → (x ≡ y → ⊥) → int_eq x y ≡ false
-unequal x y ne = by (int_eq x y) refl
-  where
-    by : (b : Bool) → int_eq x y ≡ b → int_eq x y ≡ false
-    by true e = absurd (ne (equal x y e))
-    by false e = e
-
-less-known : (x y : ℤ) → int_lt x y ≡ true → x <ℤ y
-less-known x y e = grind (arith, ints)
-
-not_less-known : (x y : ℤ) → int_lt x y ≡ false → y ≤ℤ x
-not_less-known x y e = grind (arith, ints)
-
-compared : (x y : ℤ) → (x <ℤ y) ⊎ ((x ≡ y) ⊎ (y <ℤ x))
-compared x y = by_lt_z x y (λ l. inl l) (λ l. by_lt_z y x (λ m. inr (inr m)) (λ m. inr (inl (omega (arith, ints, l, m)))))
+use Rattle.stage_network.proofs.LineSums.{lines-same, equal, same-eq, unequal, less-known, not_less-known, compared}
 
 -- the distribution of a test is such a list
 
@@ -75,9 +51,7 @@ insert-ascending v (u ∷ vs) a = by (int_lt v u) (int_eq v u) refl refl (insert
     by : (b c : Bool) → int_lt v u ≡ b → int_eq v u ≡ c → IsAscendingValues (insert_value v vs) → IsAscendingValues (if b then v ∷ u ∷ vs else (if c then u ∷ vs else u ∷ insert_value v vs))
     by true c lt e rest = ((less-known v u lt, values-above-more v u vs (less-known v u lt) a.0), a)
     by false true lt e rest = a
-    by false false lt e rest =
-        let ne : v ≡ u → ⊥ = λ same. (let yes : int_eq v u ≡ true = (Decides-int_eq v u).1 same in cc) in
-        (insert-above u v vs (strictly (not_less-known v u lt) ne) a.0, rest)
+    by false false lt e rest = (insert-above u v vs (strictly (not_less-known v u lt) (λ same. (let yes : int_eq v u ≡ true = (Decides-int_eq v u).1 same in cc))) a.0, rest)
 
 values-ascending : (vs : List ℤ) → IsAscendingValues (ascending_values vs)
 unfolding IsAscendingValues
@@ -91,9 +65,7 @@ chosen x f vs = sum_by (λ v. cond (int_eq x v) (f v) 0) vs
 chosen-none : (x : ℤ) (f : ℤ → ℕ) (vs : List ℤ) → AllByRecursion (λ u. x <ℤ u) vs → chosen x f vs ≡ 0
 unfolding chosen
 chosen-none x f [] a = refl
-chosen-none x f (v ∷ vs) a =
-    let other : int_eq x v ≡ false = unequal x v (λ e. absurd (omega (arith, ints, a.0, e))) in
-    sum_by-cons (λ v. cond (int_eq x v) (f v) 0) v vs ∙ rw other (omega (arith, chosen-none x f vs a.1))
+chosen-none x f (v ∷ vs) a = sum_by-cons (λ v. cond (int_eq x v) (f v) 0) v vs ∙ rw (unequal x v (λ e. absurd (omega (arith, ints, a.0, e)))) (omega (arith, chosen-none x f vs a.1))
 
 -- inserting a value adds its term, unless it is there
 HasValue : ℤ → List ℤ → Type 0
@@ -110,13 +82,8 @@ chosen-once : (x : ℤ) (f : ℤ → ℕ) (vs : List ℤ) → IsAscendingValues 
 unfolding chosen IsAscendingValues HasValue
 chosen-once x f [] a h = absurd h
 chosen-once x f (v ∷ vs) a (inl e) =
-    let none : chosen x f vs ≡ 0 = chosen-none x f vs (subst (λ y. AllByRecursion (λ u. y <ℤ u) vs) (sym e) a.0) in
-    let same : int_eq x v ≡ true = (Decides-int_eq x v).1 e in
-    sum_by-cons (λ v. cond (int_eq x v) (f v) 0) v vs ∙ rw same (omega (arith, none, ap f e))
-chosen-once x f (v ∷ vs) a (inr h) =
-    let less : v <ℤ x = later v x vs a.0 h in
-    let other : int_eq x v ≡ false = unequal x v (λ e. absurd (omega (arith, ints, less, e))) in
-    sum_by-cons (λ v. cond (int_eq x v) (f v) 0) v vs ∙ rw other (omega (arith, chosen-once x f vs a.1 h))
+    sum_by-cons (λ v. cond (int_eq x v) (f v) 0) v vs ∙ rw ((Decides-int_eq x v).1 e) (omega (arith, chosen-none x f vs (subst (λ y. AllByRecursion (λ u. y <ℤ u) vs) (sym e) a.0), ap f e))
+chosen-once x f (v ∷ vs) a (inr h) = sum_by-cons (λ v. cond (int_eq x v) (f v) 0) v vs ∙ rw (unequal x v (λ e. absurd (omega (arith, ints, later v x vs a.0 h, e)))) (omega (arith, chosen-once x f vs a.1 h))
 
 insert-has : (x v : ℤ) (vs : List ℤ) → (x ≡ v) ⊎ HasValue x vs → HasValue x (insert_value v vs)
 unfolding HasValue
@@ -170,9 +137,7 @@ module _ {X : Type 0} (st : X → ℤ) (w : X → ℕ) where
   unfolding at_value
   own-weight [] a = tt
   own-weight (r ∷ rs) a = (
-    let own : int_eq (st r) (st r) ≡ true = same-eq (st r) in
-        let here : cond (int_eq (st r) (st r)) (w r) 0 ≡ w r = ap (λ b. cond b (w r) 0) own in
-        omega (arith, filter-cons w (λ s. int_eq (st s) (st r)) r rs, here, a.0),
+    omega (arith, filter-cons w (λ s. int_eq (st s) (st r)) r rs, ap (λ b. cond b (w r) 0) (same-eq (st r)), a.0),
     all_weaker (λ s. 1 ≤ at_value (st s) rs) (λ s. 1 ≤ at_value (st s) (r ∷ rs)) (λ s h. omega (arith, filter-cons w (λ t. int_eq (st t) (st s)) r rs, h)) rs (own-weight rs a.1),
   )
 
@@ -204,8 +169,8 @@ lines-ascending f (v ∷ vs) a = (all_map (λ (m : Line). v <ℤ m.value) (λ v.
 pub distribution-is : (test : ConditionalTest) → AllByRecursion (λ r. 1 ≤ test.weight r) test.reference → IsSpreadOf (statistic_sums test) (distribution test)
 unfolding at_value
 distribution-is test weighty =
-    let values : List ℤ = map test.statistic test.reference in
-    let ws : List ℤ = ascending_values values in
+    let values = map test.statistic test.reference in
+    let ws = ascending_values values in
     record {
       ascending = lines-ascending (λ v. at_value test.statistic test.weight v test.reference) ws (values-ascending values);
       positive = all_map (λ (l : Line). 1 ≤ l.weight) (value_weight test) ws

@@ -1,5 +1,5 @@
 -- The weights of the lines of a distribution fit, and so do the rules of its test.
-use Rattle.std.proofs.Common.{◌≡◌, ℕ, ◌≤◌, List, map, ◌∙◌, ap, arith}
+use Rattle.std.proofs.Common.{ℕ, ◌≤◌, List, map, ◌∙◌, ap, arith}
 use Rattle.std.specs.Prelude.{ℤ, pos, Contains}
 use Rattle.std.specs.List.{All, AllByRecursion, sum_by}
 use Rattle.std.proofs.lemmas.List.Elements.{All-contains_itself, All-from_recursion, recursion_from_All}
@@ -14,7 +14,7 @@ use Rattle.weights.proofs.Centred.{at_least-fits, at_most-fits}
 use Rattle.weights.proofs.Filters.{all_map, all_weaker}
 use Rattle.stage_network.specs.Network.{Network}
 use Rattle.stage_network.specs.Completions.{completions, ending_weight, path_weight, total_weight, value_weights}
-use Rattle.stage_network.specs.Lines.{IsSpreadOf, RuleFitsLines, TailsFit, WeightsFit, every, line_sum}
+use Rattle.stage_network.specs.Lines.{IsSpreadOf, RuleFitsLines, TailsFit, WeightsFit, every}
 use Rattle.stage_network.specs.Follows.{statistic_sums}
 use Rattle.stage_network.proofs.DistributionLines.{values-each}
 use Rattle.stage_network.proofs.Flat.{filter-every}
@@ -23,20 +23,16 @@ use Rattle.stage_network.proofs.Flat.{filter-every}
 
 pub network-weighs : (n : Network) → total_weight n 0 n.first ≤ MAX → (lines : List Line) → IsSpreadOf (value_weights n) lines → WeightsFit lines
 unfolding ending_weight total_weight
-network-weighs n fits lines s =
-    let all : line_sum every lines ≡ total_weight n 0 n.first = s.told every ∙ ap (sum_by (path_weight n 0 n.first)) (filter-every (completions n 0 n.first)) in
-    omega (arith, all, fits)
+network-weighs n fits lines s = omega (arith, s.told every ∙ ap (sum_by (path_weight n 0 n.first)) (filter-every (completions n 0 n.first)), fits)
 
 pub test-weighs : (test : ConditionalTest) → total test ≤ MAX → (lines : List Line) → IsSpreadOf (statistic_sums test) lines → WeightsFit lines
-test-weighs test fits lines s =
-    let all : line_sum every lines ≡ total test = s.told every ∙ ap (sum_by test.weight) (filter-every test.reference) in
-    omega (arith, all, fits)
+test-weighs test fits lines s = omega (arith, s.told every ∙ ap (sum_by test.weight) (filter-every test.reference), fits)
 
 -- what holds of the statistic of each rearrangement holds of the value of each line
 each-line : (test : ConditionalTest) (P : ℤ → Type 0) → ((r : List ℕ) → Contains test.reference r → P (test.statistic r)) → All (λ line. P line.value) (distribution test)
 each-line test P holds =
     let each : AllByRecursion (λ r. P (test.statistic r)) test.reference = all_weaker (Contains test.reference) (λ r. P (test.statistic r)) holds test.reference (recursion_from_All (Contains test.reference) test.reference (All-contains_itself test.reference)) in
-    let values : List ℤ = map test.statistic test.reference in
+    let values = map test.statistic test.reference in
     All-from_recursion (λ (line : Line). P line.value) (distribution test)
     (all_map (λ (line : Line). P line.value) (value_weight test) (ascending_values values) (values-each P values (all_map P test.statistic test.reference each)))
 

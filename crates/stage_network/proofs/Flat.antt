@@ -41,7 +41,7 @@ pub record IsJoined (a : Addends) (ps : Pieces) (P : ℕ → List ℕ → Type 0
 module _ (a : Addends) (ps : Pieces) (P : ℕ → List ℕ → Type 0) (measured : List ℕ → ℤ) (weight : List ℕ → ℕ) (j : IsJoined a ps P measured weight) where
   gathered_flat : (parts : List (List (List ℕ))) → AllParts P 0 parts → (p : ℤ → Bool) → gathered ps (λ k. p (value_of a.value k)) 0 (zeros a) parts ≡ sum_by weight (filter (λ r. p (measured r)) (map concat (product parts)))
   gathered_flat parts all p =
-      let first : List ℤ = zeros a in
+      let first = zeros a in
       sum_by-filter (product_weight ps.mass 0) (λ xs. p (value_of a.value (summed ps.added 0 first xs))) (product parts)
       ∙ sum_by-same_where (AllAt P 0) (λ xs. cond (p (value_of a.value (summed ps.added 0 first xs))) (product_weight ps.mass 0 xs) 0) (λ xs. cond (p (measured (concat xs))) (weight (concat xs)) 0)
       (λ xs h. ap (λ z. cond (p z) (product_weight ps.mass 0 xs) 0) (sym (j.measures xs h)) ∙ ap (λ n. cond (p (measured (concat xs))) n 0) (sym (j.weighs xs h)))

@@ -65,9 +65,8 @@ module _ (n : Network) (turned : List ℤ → List ℤ → Type 0) (fold : List 
   -- what a key is turned to has the same endings
   alike : (p : ℤ → Bool) (m g : ℕ) (k j : List ℤ) → g + m ≡ n.count → IsReached n g k → turned k j → ending p m g j ≡ ending p m g k
   alike p zero g k j e r u =
-      let here : IsReached n n.count k = subst (λ i. IsReached n i k) (let stage : g ≡ n.count = omega arith in stage) r in
       passing-last n (λ e. p (n.value e)) g j
-      ∙ ap (λ v. cond (p v) 1 0) (s.ends k j here u)
+      ∙ ap (λ v. cond (p v) 1 0) (s.ends k j (subst (λ i. IsReached n i k) (let stage : g ≡ n.count = omega arith in stage) r) u)
       ∙ sym (passing-last n (λ e. p (n.value e)) g k)
   alike p (suc m) g k j e r u =
       passing-step n (λ e. p (n.value e)) m g j
@@ -82,10 +81,9 @@ module _ (n : Network) (turned : List ℤ → List ℤ → Type 0) (fold : List 
   same : (p : ℤ → Bool) (m g : ℕ) (k : List ℤ) → g + m ≡ n.count → IsReached n g k → passing (folded fold n) (λ e. p (n.value e)) m g k ≡ ending p m g k
   same p zero g k e r = passing-last (folded fold n) (λ e. p (n.value e)) g k ∙ sym (passing-last n (λ e. p (n.value e)) g k)
   same p (suc m) g k e r =
-      let before : g < n.count = omega arith in
       passing-step (folded fold n) (λ e. p (n.value e)) m g k
       ∙ over_allowed (n.choices g k) _ (λ c. n.weight g k c * ending p m (g + 1) (n.next g k c)) (λ c o.
-      let next : IsReached n (g + 1) (n.next g k c) = reached-next n g k c r before o in
+      let next : IsReached n (g + 1) (n.next g k c) = reached-next n g k c r (omega arith) o in
       ap (λ w. n.weight g k c * w)
       (same p m (g + 1) (fold (n.next g k c)) (omega arith) (fold-stays (g + 1) (n.next g k c) next)
       ∙ even p m (g + 1) (n.next g k c) (omega arith) next))

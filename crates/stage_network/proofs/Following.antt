@@ -1,14 +1,17 @@
 -- The extreme weight of a network that follows a test is the test's numerator, and its spread the test's distribution.
-use Rattle.std.proofs.Common.{◌≡◌, ℕ, List, filter, refl, sym, ◌∙◌, ap, subst}
+use Rattle.std.proofs.Common.{◌≡◌, ℕ, List, cond, filter, refl, sym, ◌∙◌, ap, subst}
 use Rattle.std.specs.Prelude.{ℤ}
-use Rattle.std.specs.List.{sum_by}
+use Rattle.std.specs.List.{count_by, sum_by}
 use Rattle.weights.specs.declared.tails.Tail.{Tail}
 use Rattle.weights.specs.declared.tails.Tail.TheVariants.{Less, Greater, Two}
 use Rattle.weights.specs.declared.lines.Line.{Line}
-use Rattle.weights.specs.Conditional.{ConditionalTest, numerator, is_extreme, distribution, total}
+use Rattle.weights.specs.Conditional.{ConditionalTest, by_distance, numerator, is_extreme, distribution, total, unit_weight}
 use Rattle.weights.specs.Rules.{RuleFits, passes, measured, rule_of}
 use Rattle.weights.proofs.ByRule.{is_extreme-by_rule}
+use Rattle.weights.proofs.Centred.{measured-is}
+use Rattle.weights.proofs.Chosen.{one_if}
 use Rattle.weights.proofs.Filters.{filter-same}
+use Rattle.weights.proofs.Sums.{sum_by-filter, sum_by-same}
 use Rattle.stage_network.specs.declared.tail_sums.TailSum.{TailSum}
 use Rattle.stage_network.specs.declared.verdicts.Judge.{Judge}
 use Rattle.stage_network.specs.Network.{Network}
@@ -39,6 +42,15 @@ extreme-is test tail n f =
     extreme-passes n (judge_of test) f.intervals tail ∙ ap (λ rule. value_weights n (passes rule)) (rule-of test tail)
     ∙ f.ends (passes (rule_of test tail)) ∙ sym (numerator-by_rule test tail)
 
+-- where all rearrangements weigh 1, it counts those whose statistic passes the tail's rule
+pub numerator-counted : {q : ℕ} {c : ℤ} (test : ConditionalTest) → test.weight ≡ unit_weight → test.two_sided ≡ by_distance q c → (tail : Tail) → numerator test tail ≡ count_by (λ xs. passes (rule_in (judge_of test) tail) (test.statistic xs)) test.reference
+numerator-counted test weighs by tail =
+    ap (λ w. sum_by w (filter (is_extreme test tail) test.reference)) weighs ∙ sum_by-filter unit_weight (is_extreme test tail) test.reference
+    ∙ sum_by-same (λ xs. cond (is_extreme test tail xs) 1 0) (λ xs. cond (passes (rule_in (judge_of test) tail) (test.statistic xs)) 1 0) each test.reference
+  where
+    each : (xs : List ℕ) → one_if (is_extreme test tail xs) ≡ one_if (passes (rule_in (judge_of test) tail) (test.statistic xs))
+    each xs = ap one_if (is_extreme-by_rule test tail xs ∙ ap (passes (rule_of test tail)) (measured-is test by tail xs) ∙ ap (λ rule. passes rule (test.statistic xs)) (sym (rule-of test tail)))
+
 -- what is found of a tail
 pub tail_sum_is : (x : TailSum) (a b : ℕ) → x.sum ≡ a → x.opened ≡ b → x ≡ record { sum = a; opened = b }
 tail_sum_is x a b e f = rw (← e, ← f) refl
@@ -46,8 +58,7 @@ tail_sum_is x a b e f = rw (← e, ← f) refl
 -- the completions of the first key weigh as much as all rearrangements: each passes the test that is always true
 pub whole-is : (test : ConditionalTest) (tail : Tail) (n : Network) → Follows test tail n → total_weight n 0 n.first ≡ total test
 unfolding ending_weight total_weight
-whole-is test tail n f =
-    ap (sum_by (path_weight n 0 n.first)) (sym (filter-every (completions n 0 n.first))) ∙ f.ends every ∙ ap (sum_by test.weight) (filter-every test.reference)
+whole-is test tail n f = ap (sum_by (path_weight n 0 n.first)) (sym (filter-every (completions n 0 n.first))) ∙ f.ends every ∙ ap (sum_by test.weight) (filter-every test.reference)
 
 -- the lines of a network that follows a test are the test's distribution
 pub spread-follows : (test : ConditionalTest) → IsShown test → (n : Network) → Follows test (first_tail test) n → (lines : List Line) → IsSpreadOf (value_weights n) lines → lines ≡ distribution test

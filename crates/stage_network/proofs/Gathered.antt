@@ -12,11 +12,12 @@ use Rattle.stage_network.specs.NodeSteps.{successor, AllReached, AllHeavy, AreNo
 use Rattle.stage_network.proofs.Steps.{sum_by-flat_map, sum_by-same, reached-next}
 use Rattle.stage_network.specs.ArcSteps.{Arc, segment, arc_nodes, spread_out, bucket, firsts, IsFine, AllFine}
 use Rattle.node_pool.proofs.Puts.{unlike, alike}
-use Rattle.stage_network.proofs.Conserved.{sum_by-filter, all_append, all_map}
+use Rattle.weights.proofs.Sums.{sum_by-filter, sum_by-plus}
+use Rattle.weights.proofs.Filters.{all_append, all_map}
 use Rattle.stage_network.proofs.OpenKeys.{map-append, distinct_filter, keys-filter, all_filter, same-holds}
 use Rattle.stage_network.proofs.Bounds.{weights-le-weighted}
 use Rattle.stage_network.proofs.Stepping.{reached_at}
-use Rattle.stage_network.proofs.Roomwise.{sum_by-add, all_segment, heavy_at, heavy-arc}
+use Rattle.stage_network.proofs.Roomwise.{all_segment, heavy_at, heavy-arc}
 
 -- the arcs to the rooms below one more
 three : (a t x : ℕ) → cond (nat_lt a (t + 1)) x 0 ≡ cond (nat_lt a t) x 0 + cond (nat_eq a t) x 0
@@ -38,7 +39,7 @@ firsts-sum : (h : Arc → ℕ) (t : ℕ) (arcs : List Arc) → sum_by h (firsts 
 firsts-sum h t arcs =
     sum_by-filter h (λ a. nat_lt a.target (t + 1)) arcs
     ∙ sum_by-same _ (λ a. cond (nat_lt a.target t) (h a) 0 + cond (nat_eq a.target t) (h a) 0) (λ a. three a.target t (h a)) arcs
-    ∙ sum_by-add (λ a. cond (nat_lt a.target t) (h a) 0) (λ a. cond (nat_eq a.target t) (h a) 0) arcs
+    ∙ sum_by-plus (λ a. cond (nat_lt a.target t) (h a) 0) (λ a. cond (nat_eq a.target t) (h a) 0) arcs
     ∙ ap (λ m. m + sum_by (λ a. cond (nat_eq a.target t) (h a) 0) arcs) (sym (sum_by-filter h (λ a. nat_lt a.target t) arcs))
     ∙ ap (λ m. sum_by h (firsts t arcs) + m) (sym (sum_by-filter h (λ a. nat_eq a.target t) arcs))
 
@@ -182,8 +183,7 @@ kept-apart p kept work A B h d e a b =
 
 pub clash : (width : ℕ) (rooms : List Node) (t : ℕ) (e : Node) → IsDistinct key_eq (keys rooms) → t < length rooms → (x y : List ℤ) → (j : ℕ) × (j < t) × (take width x ≡ (get_or rooms j e).key) → take width y ≡ (get_or rooms t e).key → key_eq x y ≡ false
 clash width rooms t e d low x y a b = unlike x y (λ same.
-    let one : (get_or rooms a.0 e).key ≡ (get_or rooms t e).key = sym a.2 ∙ ap (take width) same ∙ b in
-    let yes : key_eq (get_or rooms a.0 e).key (get_or rooms t e).key ≡ true = alike _ _ one in
+    let yes : key_eq (get_or rooms a.0 e).key (get_or rooms t e).key ≡ true = alike _ _ (sym a.2 ∙ ap (take width) same ∙ b) in
     let no : key_eq (get_or rooms a.0 e).key (get_or rooms t e).key ≡ false = rooms-apart rooms a.0 t e d a.1 low in
     cc)
 

@@ -38,19 +38,18 @@ module _ (n : Network) (keep : Kept) (g : ℕ) (nodes : List Node) (arcs : List 
     -- one room more
     pub gathering-next : (room : ℕ) → room < length rooms → IsDistinct key_eq (keys rooms) → (was more : TailSums) (kept now work : List Node) → IsGathering n keep g nodes arcs room sums was kept → AllHeavy work → IsDistinct key_eq (keys work) → ((f : List ℤ → ℕ) → weighted f work ≡ weighted f (spread_out n g nodes (bucket room arcs))) → now ≡ kept ++ staying n keep (g + 1) work → ((t : Tail) → (sum_for more t).sum ≡ (sum_for was t).sum + weighted (closed_at n keep t (g + 1)) work) → ((t : Tail) → (sum_for more t).opened ≡ (sum_for was t).opened + counted n keep t (g + 1) work) → IsGathering n keep g nodes arcs (room + 1) sums more now
     gathering-next room low apart was more kept now work i heavy distinct told is sum opened =
-        let e : Node = node [] 0 in
-        let before : List Node = spread_out n g nodes (firsts room arcs) in
-        let here : List Node = spread_out n g nodes (bucket room arcs) in
-        let after : List Node = spread_out n g nodes (firsts (room + 1) arcs) in
+        let e = node [] 0 in
+        let before = spread_out n g nodes (firsts room arcs) in
+        let here = spread_out n g nodes (bucket room arcs) in
+        let after = spread_out n g nodes (firsts (room + 1) arcs) in
         let grown : (f : List ℤ → ℕ) → weighted f after ≡ weighted f before + weighted f here = λ f. firsts-more n g nodes f room arcs in
         let p : List ℤ → Bool = stays n keep (g + 1) in
-        let solid : AllHeavy before = spread-heavy n g width nodes rooms are (λ a. nat_lt a.target room) arcs fine in
         record {
           sum = λ t. omega (arith, sum t, i.sum t, told (closed_at n keep t (g + 1)), grown (closed_at n keep t (g + 1)));
           opened = λ t. omega (arith, opened t, i.opened t, ap (counted n keep t (g + 1)) is, counted-more n keep t (g + 1) kept work);
           told = λ f. ap (weighted f) is ∙ told-more p kept work before here after i.told told grown f;
           distinct = rw is (kept-apart p kept work _ _ (clash width rooms room e apart low) i.distinct distinct
-              (kept-holds _ p kept before i.heavy solid (spread-before n g width nodes rooms are e room arcs fine) i.told)
+              (kept-holds _ p kept before i.heavy (spread-heavy n g width nodes rooms are (λ a. nat_lt a.target room) arcs fine) (spread-before n g width nodes rooms are e room arcs fine) i.told)
               (filled-here n g width nodes rooms are room arcs fine work heavy told e));
           heavy = rw is (kept-heavy p kept work i.heavy heavy);
         }

@@ -21,10 +21,8 @@ far-same d a b x y reached within below passed =
 pub times-grown : (q d : ℕ) (x : ℤ) → pos q *ℤ (x +ℤ pos d) ≡ (pos q *ℤ x) +ℤ pos (q * d)
 times-grown zero d x = rw (zero-*ℤ (x +ℤ pos d), zero-*ℤ x) (let e : 0 * d ≡ 0 = omega arith in rw e refl)
 times-grown (suc q) d x =
-    let one : pos (suc q) *ℤ (x +ℤ pos d) ≡ (pos q *ℤ (x +ℤ pos d)) +ℤ (x +ℤ pos d) = suc_ℤ-*ℤ (pos q) (x +ℤ pos d) in
-    let two : pos (suc q) *ℤ x ≡ (pos q *ℤ x) +ℤ x = suc_ℤ-*ℤ (pos q) x in
     let more : suc q * d ≡ q * d + d = omega arith in
-    rw more (omega (arith, ints, one, two, times-grown q d x))
+    rw more (omega (arith, ints, suc_ℤ-*ℤ (pos q) (x +ℤ pos d), suc_ℤ-*ℤ (pos q) x, times-grown q d x))
 
 pub offset-grown : (q d : ℕ) (c x : ℤ) → offset q c (x +ℤ pos d) ≡ offset q c x +ℤ pos (q * d)
 offset-grown q d c x =

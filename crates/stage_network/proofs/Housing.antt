@@ -2,18 +2,16 @@
 use Rattle.std.proofs.Common.{◌≡◌, ℕ, zero, suc, ◌+◌, ◌-◌, ◌*◌, ◌<◌, ◌≤◌, List, [], ◌∷◌, ◌++◌, length, take, drop, get_or, refl, sym, ◌∙◌, ap, arith}
 use Rattle.std.specs.Prelude.{ℤ}
 use Rattle.std.specs.List.{AllByRecursion}
-use Rattle.std.proofs.lemmas.List.{length-append, length-drop, length-take-le, take-append-le, take_all, drop-append-le, drop_all}
+use Rattle.std.proofs.lemmas.List.{length-append, length-drop, length-take-le, drop-append-le, drop_all}
 use Rattle.node_pool.specs.Nodes.{Node, NodeRow, node}
 use Rattle.node_pool.specs.TableSteps.{key_at}
 use Rattle.node_pool.proofs.NodeLists.{key_at-more, key_at-new}
 use Rattle.stage_network.specs.StageSteps.{AreHoused, whole_nodes}
-use Rattle.stage_network.proofs.Roomwise.{all_at}
+use Rattle.stage_network.proofs.ArcLists.{choice-fits}
+use Rattle.stage_network.proofs.Roomwise.{all_at, front-room}
 
 pub room-fits : (width n i : ℕ) (rooms : List ℤ) → length rooms ≡ n * width → i < n → i * width + width ≤ length rooms
-room-fits width n i rooms long low = rw long (before width i n low)
-  where
-    before : (width i n : ℕ) → i < n → i * width + width ≤ n * width
-    before width i n h = grind arith
+room-fits width n i rooms long low = rw long (choice-fits width n i low)
 
 pub room-long : (width n i : ℕ) (rooms : List ℤ) → length rooms ≡ n * width → i < n → length (key_at width rooms i) ≡ width
 room-long width n i rooms long low = length-take-le width (drop (i * width) rooms) (omega (arith, length-drop (i * width) rooms, room-fits width n i rooms long low))
@@ -49,9 +47,6 @@ named-push : (n : ℕ) (homes : List ℕ) (h : ℕ) → AllByRecursion (λ h. h 
 named-push n [] h a low = (low, tt)
 named-push n (g ∷ homes) h a low = (a.0, named-push n homes h a.1 low)
 
-front-of : (r p : List ℤ) (width : ℕ) → length r ≡ width → take width (r ++ p) ≡ r
-front-of r p width e = take-append-le width r p (omega (arith, e)) ∙ take_all width r (omega (arith, e))
-
 behind-of : (r p : List ℤ) (width : ℕ) → length r ≡ width → drop width (r ++ p) ≡ p
 behind-of r p width e = drop-append-le width r p (omega (arith, e)) ∙ ap (λ x. x ++ p) (drop_all width r (omega (arith, e)))
 
@@ -71,7 +66,7 @@ module _ (width : ℕ) (rooms : List ℤ) (count : ℕ) (homes : List ℕ) (part
   pub whole-room : (i : ℕ) (d : Node) → i < length homes → take width (get_or (whole_nodes width rooms homes partials.nodes) i d).key ≡ key_at width rooms (get_or homes i 0)
   whole-room i d low =
       ap (λ (a : Node). take width a.key) (whole-at width rooms homes partials.nodes i d d housed.each low)
-      ∙ front-of (key_at width rooms (get_or homes i 0)) (get_or partials.nodes i d).key width (home-long i low)
+      ∙ front-room width (key_at width rooms (get_or homes i 0)) (get_or partials.nodes i d).key (home-long i low)
 
   pub whole-partial : (i : ℕ) (d : Node) → i < length homes → drop width (get_or (whole_nodes width rooms homes partials.nodes) i d).key ≡ (get_or partials.nodes i d).key
   whole-partial i d low =

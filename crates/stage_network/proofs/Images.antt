@@ -174,9 +174,8 @@ module _ (n q : Network) (t : Tail) (i : OpensImages n q t) where
   to_images (suc g) h k c =
       let before : g < q.count = omega arith in
       let from = flat_mapped_from (λ j. map (q.next g j) (q.choices g j)) k (filter (is_open q t g) (reached_openly q t g)) c in
-      let reached : IsReached q g from.0 = openly_reached g from.0 (omega arith) (filtered_from (is_open q t g) from.0 (reached_openly q t g) from.1).0 in
       let arc = mapped_from (q.next g from.0) k (q.choices g from.0) from.2 in
-      let moved = i.there g from.0 arc.0 reached before arc.1 in
+      let moved = i.there g from.0 arc.0 (openly_reached g from.0 (omega arith) (filtered_from (is_open q t g) from.0 (reached_openly q t g) from.1).0) before arc.1 in
       let led : Contains (map (n.next g (i.image g from.0)) (n.choices g (i.image g from.0))) (n.next g (i.image g from.0) moved.0) = Contains-map (n.next g (i.image g from.0)) moved.0 (n.choices g (i.image g from.0)) moved.1 in
       let all : Contains (reached_openly n t (suc g)) (n.next g (i.image g from.0) moved.0) = Contains-flat_map (λ j. map (n.next g j) (n.choices g j)) (i.image g from.0) _ (filter (is_open n t g) (reached_openly n t g)) (open_there g before (to_images g (omega arith)) from.0 from.1) led in
       subst (Contains (reached_openly n t (suc g))) (led_to g from.0 k arc.0 moved.0 arc.2 moved.2) all

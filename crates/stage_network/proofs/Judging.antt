@@ -1,6 +1,6 @@
 -- Verdicts by intervals are sound, and settled at the end; and where a rule fits the first key's interval, it fits every reached one's.
 use Rattle.std.proofs.Common.{◌≡◌, ◌≢◌, ℕ, zero, suc, ◌+◌, ◌-◌, ◌≤◌, ◌<◌, List, [], ◌∷◌, Bool, true, false, ◌⊎◌, inl, inr, refl, sym, ◌∙◌, ap, subst, arith, add-one}
-use Rattle.std.specs.Prelude.{ℤ, pos, negsuc, ◌+ℤ◌, ◌*ℤ◌, ◌≤ℤ◌, nat_abs, nat_le, filter}
+use Rattle.std.specs.Prelude.{ℤ, pos, negsuc, ◌*ℤ◌, ◌≤ℤ◌, nat_abs, nat_le, filter}
 use Rattle.std.specs.List.{AllByRecursion, Contains, sum_by}
 use Rattle.std.proofs.lemmas.Int.{ints}
 use Rattle.std.proofs.Math.IntN.{zero-*ℤ, suc_ℤ-*ℤ}
@@ -22,10 +22,7 @@ use Rattle.stage_network.proofs.Steps.{completions-keep, reached-next}
 -- a greater value, times q
 pub times-≤ : (q : ℕ) (x y : ℤ) → x ≤ℤ y → (pos q *ℤ x) ≤ℤ (pos q *ℤ y)
 times-≤ zero x y h = rw (zero-*ℤ x, zero-*ℤ y) (omega (arith, ints))
-times-≤ (suc q) x y h =
-    let one : pos (suc q) *ℤ x ≡ (pos q *ℤ x) +ℤ x = suc_ℤ-*ℤ (pos q) x in
-    let two : pos (suc q) *ℤ y ≡ (pos q *ℤ y) +ℤ y = suc_ℤ-*ℤ (pos q) y in
-    omega (arith, ints, one, two, times-≤ q x y h)
+times-≤ (suc q) x y h = omega (arith, ints, suc_ℤ-*ℤ (pos q) x, suc_ℤ-*ℤ (pos q) y, times-≤ q x y h)
 
 pub offset-≤ : (q : ℕ) (c x y : ℤ) → x ≤ℤ y → offset q c x ≤ℤ offset q c y
 offset-≤ q c x y h = omega (arith, ints, times-≤ q x y h)

@@ -52,3 +52,4 @@ pub mod RowCourses
 pub mod Gathering
 pub mod RowLines
 pub mod Folding
+pub mod Ranges

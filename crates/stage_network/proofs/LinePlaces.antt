@@ -6,16 +6,13 @@ use Rattle.std.proofs.lemmas.Int.{ints}
 use Rattle.std.specs.List.Sorted.{IsPartitionedBy, IsPartitionPoint}
 use Rattle.weights.specs.declared.lines.Line.{Line}
 use Rattle.stage_network.specs.Lines.{IsAscending, place_of}
-
--- a lesser value is below what a greater one is below
-known : (x y : ℤ) → int_lt x y ≡ true → x <ℤ y
-known x y e = grind (arith, ints)
+use Rattle.stage_network.proofs.LineSums.{less-known}
 
 shown : (x y : ℤ) → x <ℤ y → int_lt x y ≡ true
 shown x y h = grind (arith, ints)
 
 below-too : (a b v : ℤ) → a <ℤ b → int_lt b v ≡ true → int_lt a v ≡ true
-below-too a b v h e = let l : b <ℤ v = known b v e in shown a v (omega (arith, ints, h, l))
+below-too a b v h e = let l : b <ℤ v = less-known b v e in shown a v (omega (arith, ints, h, l))
 
 later-above : (x : ℤ) (v : ℤ) (lines : List Line) (j : ℕ) (d : Line) → AllByRecursion (λ m. x <ℤ m.value) lines → j < length lines → int_lt (get_or lines j d).value v ≡ true → int_lt x v ≡ true
 later-above x v [] j d a h e = absurd (omega (arith, h))

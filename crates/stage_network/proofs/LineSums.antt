@@ -7,30 +7,30 @@ use Rattle.std.proofs.lemmas.Int.{ints, by_lt_z}
 use Rattle.std.proofs.lemmas.Bool.Decides.{Decides-int_eq, Decides-eqb}
 use Rattle.std.proofs.lemmas.List.Sums.{sum_by-cons}
 use Rattle.weights.specs.declared.lines.Line.{Line}
-use Rattle.stage_network.specs.Lines.{IsAboveLast, place_of, add_line, with_weight, line_sum, every, IsAscending}
+use Rattle.stage_network.specs.Lines.{IsAboveLast, place_of, add_line, with_weight, line_sum, IsAscending}
 
 -- comparing
 
-equal : (x y : ℤ) → int_eq x y ≡ true → x ≡ y
+pub equal : (x y : ℤ) → int_eq x y ≡ true → x ≡ y
 equal x y e = (Decides-int_eq x y).0 e
 
-same-eq : (x : ℤ) → int_eq x x ≡ true
+pub same-eq : (x : ℤ) → int_eq x x ≡ true
 same-eq x = (Decides-int_eq x x).1 refl
 
-unequal : (x y : ℤ) → (x ≡ y → ⊥) → int_eq x y ≡ false
+pub unequal : (x y : ℤ) → (x ≡ y → ⊥) → int_eq x y ≡ false
 unequal x y ne = by (int_eq x y) refl
   where
     by : (b : Bool) → int_eq x y ≡ b → int_eq x y ≡ false
     by true e = absurd (ne (equal x y e))
     by false e = e
 
-less-known : (x y : ℤ) → int_lt x y ≡ true → x <ℤ y
+pub less-known : (x y : ℤ) → int_lt x y ≡ true → x <ℤ y
 less-known x y e = grind (arith, ints)
 
-not_less-known : (x y : ℤ) → int_lt x y ≡ false → y ≤ℤ x
+pub not_less-known : (x y : ℤ) → int_lt x y ≡ false → y ≤ℤ x
 not_less-known x y e = grind (arith, ints)
 
-compared : (x y : ℤ) → (x <ℤ y) ⊎ ((x ≡ y) ⊎ (y <ℤ x))
+pub compared : (x y : ℤ) → (x <ℤ y) ⊎ ((x ≡ y) ⊎ (y <ℤ x))
 compared x y = by_lt_z x y (λ l. inl l) (λ l. by_lt_z y x (λ m. inr (inr m)) (λ m. inr (inl (omega (arith, ints, l, m)))))
 
 -- where a value stands
@@ -67,14 +67,9 @@ add-other v w (l ∷ ls) d ne = by (int_lt l.value v) ne (add-other v w ls d)
     by true ne rest = ap (λ ms. l ∷ ms) (rest (λ h e. ne (omega arith) e))
     by false ne rest = rw (unequal l.value v (λ e. ne (omega arith) e)) refl
 
-pub line-≤ : (lines : List Line) (i : ℕ) (d : Line) → i < length lines → (slice_index_or lines i d).weight ≤ line_sum every lines
-line-≤ [] i d h = absurd (omega arith)
-line-≤ (l ∷ ls) zero d h = omega (arith, sum_by-cons (λ (m : Line). m.weight) l ls)
-line-≤ (l ∷ ls) (suc i) d h = omega (arith, sum_by-cons (λ (m : Line). m.weight) l ls, line-≤ ls i d (omega arith))
-
 -- adding a weight adds it to each sum that the value is in
 
-line_sum-cons : (p : ℤ → Bool) (l : Line) (ls : List Line) → line_sum p (l ∷ ls) ≡ cond (p l.value) l.weight 0 + line_sum p ls
+pub line_sum-cons : (p : ℤ → Bool) (l : Line) (ls : List Line) → line_sum p (l ∷ ls) ≡ cond (p l.value) l.weight 0 + line_sum p ls
 line_sum-cons p l ls = sum_by-cons (λ (m : Line). cond (p m.value) m.weight 0) l ls
 
 cond-plus : (b : Bool) (x y : ℕ) → cond b (x + y) 0 ≡ cond b x 0 + cond b y 0
@@ -87,9 +82,7 @@ add-sum p v w (l ∷ ls) = by (int_lt l.value v) (int_eq l.value v) refl (add-su
   where
     by : (b c : Bool) → int_eq l.value v ≡ c → line_sum p (add_line v w ls) ≡ line_sum p ls + cond (p v) w 0 → line_sum p (if b then l ∷ add_line v w ls else (if c then record { value = v; weight = l.weight + w } ∷ ls else record { value = v; weight = w } ∷ l ∷ ls)) ≡ line_sum p (l ∷ ls) + cond (p v) w 0
     by true c e rest = omega (arith, line_sum-cons p l (add_line v w ls), line_sum-cons p l ls, rest)
-    by false true e rest =
-        let here : cond (p l.value) l.weight 0 ≡ cond (p v) l.weight 0 = ap (λ u. cond (p u) l.weight 0) (equal l.value v e) in
-        omega (arith, line_sum-cons p (record { value = v; weight = l.weight + w }) ls, line_sum-cons p l ls, here, cond-plus (p v) l.weight w)
+    by false true e rest = omega (arith, line_sum-cons p (record { value = v; weight = l.weight + w }) ls, line_sum-cons p l ls, ap (λ u. cond (p u) l.weight 0) (equal l.value v e), cond-plus (p v) l.weight w)
     by false false e rest = omega (arith, line_sum-cons p (record { value = v; weight = w }) (l ∷ ls))
 
 pub add-positive : (v : ℤ) (w : ℕ) (lines : List Line) → 1 ≤ w → AllByRecursion (λ l. 1 ≤ l.weight) lines → AllByRecursion (λ l. 1 ≤ l.weight) (add_line v w lines)
@@ -128,8 +121,7 @@ add-ascending v w (l ∷ ls) a = by (int_lt l.value v) (int_eq l.value v) refl r
     by true c lt e rest = (add-above l.value v w ls (less-known l.value v lt) a.0, rest)
     by false true lt e rest = (subst (λ u. AllByRecursion (λ m. u <ℤ m.value) ls) (equal l.value v e) a.0, a.1)
     by false false lt e rest =
-        let ne : l.value ≡ v → ⊥ = λ same. (let yes : int_eq l.value v ≡ true = (Decides-int_eq l.value v).1 same in cc) in
-        let less : v <ℤ l.value = strictly (not_less-known l.value v lt) ne in
+        let less : v <ℤ l.value = strictly (not_less-known l.value v lt) (λ same. (let yes : int_eq l.value v ≡ true = (Decides-int_eq l.value v).1 same in cc)) in
         ((less, above-more v l.value ls less a.0), a)
 
 -- the same, where a weight of 0 adds nothing
@@ -176,10 +168,8 @@ pub add-same-at : (v : ℤ) (w : ℕ) (lines : List Line) (place : ℕ) (d m : L
     → set lines place (record { value = m.value; weight = m.weight + w }) ≡ add_line v w lines
 unfolding more
 add-same-at v w lines place d m at below found changes same =
-    let here : slice_index_or lines place m ≡ d = get_or-any lines place m d below ∙ sym found in
-    let value : (slice_index_or lines place m).value ≡ v = ap (λ (x : Line). x.value) here ∙ equal d.value v same in
     ap (set lines place) (changed m (slice_index_or lines place m) w changes)
-    ∙ add-same-place v w lines place m at below value
+    ∙ add-same-place v w lines place m at below (ap (λ (x : Line). x.value) (get_or-any lines place m d below ∙ sym found) ∙ equal d.value v same)
   where
     add-same-place : (v : ℤ) (w : ℕ) (lines : List Line) (place : ℕ) (m : Line) → place ≡ place_of v lines → place < length lines → (slice_index_or lines place m).value ≡ v → set lines place (record { value = (slice_index_or lines place m).value; weight = (slice_index_or lines place m).weight + w }) ≡ add_line v w lines
     add-same-place v w lines place m at below value = rw at (add-same v w lines m (rw at at below) (rw at at value))
@@ -188,8 +178,7 @@ pub add-other-at : (v : ℤ) (w : ℕ) (lines : List Line) (place : ℕ) (d : Li
     → take place lines ++ record { value = v; weight = w } ∷ drop place lines ≡ add_line v w lines
 add-other-at v w lines place d at found differs =
     rw at (add-other v w lines d (λ below value.
-    let same : d.value ≡ v = ap (λ (x : Line). x.value) (rw at at found) ∙ value in
-    let yes : int_eq d.value v ≡ true = (Decides-int_eq d.value v).1 same in
+    let yes : int_eq d.value v ≡ true = (Decides-int_eq d.value v).1 (ap (λ (x : Line). x.value) (rw at at found) ∙ value) in
     cc))
 
 pub add-past-at : (v : ℤ) (w : ℕ) (lines : List Line) (place : ℕ) → place ≡ place_of v lines → length lines ≤ place
@@ -206,15 +195,13 @@ unfolding at_most
 none_at_most x [] a = refl
 none_at_most x (l ∷ ls) a =
     let not : int_le l.value x ≡ false = grind (arith, ints, a.0) in
-    let here : cond (int_le l.value x) l.weight 0 ≡ 0 = ap (λ b. cond b l.weight 0) not in
-    omega (arith, line_sum-cons (at_most x) l ls, here, none_at_most x ls a.1)
+    omega (arith, line_sum-cons (at_most x) l ls, ap (λ b. cond b l.weight 0) not, none_at_most x ls a.1)
 
 first_at_most : (l : Line) (ls : List Line) → AllByRecursion (λ m. l.value <ℤ m.value) ls → line_sum (at_most l.value) (l ∷ ls) ≡ l.weight
 unfolding at_most
 first_at_most l ls a =
     let yes : int_le l.value l.value ≡ true = grind (arith, ints) in
-    let here : cond (int_le l.value l.value) l.weight 0 ≡ l.weight = ap (λ b. cond b l.weight 0) yes in
-    omega (arith, line_sum-cons (at_most l.value) l ls, here, none_at_most l.value ls a)
+    omega (arith, line_sum-cons (at_most l.value) l ls, ap (λ b. cond b l.weight 0) yes, none_at_most l.value ls a)
 
 line-is : (l m : Line) → l.value ≡ m.value → l.weight ≡ m.weight → l ≡ m
 line-is l m e f = step e f
@@ -232,9 +219,7 @@ lines-same (l ∷ a) (m ∷ b) s t p q e = by (compared l.value m.value) (lines-
     by (inl h) rest = absurd (omega (arith, e (at_most l.value), first_at_most l a s.0, none_at_most l.value (m ∷ b) (h, above-more l.value m.value b h t.0), p.0))
     by (inr (inr h)) rest = absurd (omega (arith, e (at_most m.value), first_at_most m b t.0, none_at_most m.value (l ∷ a) (h, above-more m.value l.value a h s.0), q.0))
     by (inr (inl h)) rest =
-        let second : line_sum (at_most l.value) (m ∷ b) ≡ m.weight = subst (λ x. line_sum (at_most x) (m ∷ b) ≡ m.weight) (sym h) (first_at_most m b t.0) in
-        let weight : l.weight ≡ m.weight = omega (arith, e (at_most l.value), first_at_most l a s.0, second) in
-        let same : l ≡ m = line-is l m h weight in
+        let same : l ≡ m = line-is l m h (omega (arith, e (at_most l.value), first_at_most l a s.0, subst (λ x. line_sum (at_most x) (m ∷ b) ≡ m.weight) (sym h) (first_at_most m b t.0))) in
         let later : (p : ℤ → Bool) → line_sum p a ≡ line_sum p b = λ p. (let first : cond (p l.value) l.weight 0 ≡ cond (p m.value) m.weight 0 = ap (λ (x : Line). cond (p x.value) x.weight 0) same in omega (arith, e p, line_sum-cons p l a, line_sum-cons p m b, first)) in
         rw (same, rest later) refl
 
@@ -250,6 +235,4 @@ above-push x l (m ∷ ms) a h = (a.0, above-push x l ms a.1 h)
 pub ascending-push : (lines : List Line) (l : Line) → IsAscending lines → IsAboveLast l.value lines → IsAscending (lines ++ l ∷ [])
 ascending-push [] l a above = (tt, tt)
 ascending-push (m ∷ []) l a above = ((above, tt), (tt, tt))
-ascending-push (m ∷ k ∷ ls) l a above =
-    let low : m.value <ℤ l.value = omega (arith, ints, a.0.0, first-below l.value k ls a.1 above) in
-    (above-push m.value l (k ∷ ls) a.0 low, ascending-push (k ∷ ls) l a.1 above)
+ascending-push (m ∷ k ∷ ls) l a above = (above-push m.value l (k ∷ ls) a.0 (omega (arith, ints, a.0.0, first-below l.value k ls a.1 above)), ascending-push (k ∷ ls) l a.1 above)

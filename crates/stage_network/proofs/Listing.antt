@@ -48,8 +48,8 @@ module _ (n : Network) (s width : ℕ) (nodes : List Node) (start end : ℕ) (ar
   -- an arc was added, and the next choice is written
   pub listing-next : (more : Bool) (old mid all : StageArcs) (target : ℕ) → IsListing n s width nodes start end true old → HasArc n width s start end target old mid → all.key.items ≡ mid.key.items → all.arcs ≡ mid.arcs → all.rooms ≡ mid.rooms → HasBuffers n width all → n.later s old.key.items old.choice.items ≡ pending n s old.key.items more all.choice.items → IsListing n s width nodes start end more all
   listing-next more old mid all target listing added key arcs_same rooms_same fitted later =
-      let k : List ℤ = old.key.items in
-      let choice : List ℕ = old.choice.items in
+      let k = old.key.items in
+      let choice = old.choice.items in
       let arc : Arc = record { start = start; end = end; choice = choice; weight = n.weight s k choice; target = target } in
       let same : all.key.items ≡ k = key ∙ added.key in
       let arcs_is : all.arcs.arcs ≡ old.arcs.arcs ++ arc ∷ [] = ap (λ (a : ArcList). a.arcs) arcs_same ∙ added.arcs in
@@ -78,7 +78,7 @@ module _ (n : Network) (s width : ℕ) (nodes : List Node) (start end : ℕ) (ar
     light = listing.light;
     arcs = listing.arcs;
     told = λ f.
-        let k : List ℤ = all.key.items in
+        let k = all.key.items in
         let same = all_segment (λ b. n.choices s b.key ≡ n.choices s k) start end nodes (λ i e h j. roomed.choices s (get_or nodes i e).key k (record {
           first = reached_at n s nodes i e are.reached (omega (arith, j, within));
           second = listing-reached k listing.key;
@@ -86,6 +86,10 @@ module _ (n : Network) (s width : ℕ) (nodes : List Node) (start end : ℕ) (ar
         })) in
         omega (arith, listing.told f, by_choices n s f (n.choices s k) (segment start end nodes) same, list-more n s f nodes start end (omega (arith, some)));
   }
+
+-- buffers as long as others
+pub buffers-same : (n : Network) (width : ℕ) (old new : StageArcs) → HasBuffers n width old → new.arcs.width ≡ old.arcs.width → new.rooms.width ≡ old.rooms.width → length new.key.items ≡ length old.key.items → length new.choice.items ≡ length old.choice.items → length new.target_room.items ≡ length old.target_room.items → HasBuffers n width new
+buffers-same n width old new b a r k c t = record { arcs = a ∙ b.arcs; rooms = r ∙ b.rooms; key = k ∙ b.key; choice = c ∙ b.choice; target_room = t ∙ b.target_room }
 
 -- nothing is listed yet
 pub listing-none : (n : Network) (s width : ℕ) (nodes : List Node) (all : StageArcs) → HasBuffers n width all → all.rooms.nodes ≡ [] → all.arcs.arcs ≡ [] → all.arcs.rooms ≡ 0 → AreListed n width s nodes 0 all

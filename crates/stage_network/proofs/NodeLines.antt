@@ -8,7 +8,7 @@ use Rattle.weights.specs.declared.lines.Line.{Line}
 use Rattle.node_pool.specs.Nodes.{Node, node, weighted}
 use Rattle.stage_network.specs.Network.{Network}
 use Rattle.stage_network.specs.Lines.{IsAscending, IsSpreadOf, every, line_sum, with_weight}
-use Rattle.stage_network.proofs.LineSums.{with-sum, with-ascending, with-positive}
+use Rattle.stage_network.proofs.LineSums.{line_sum-cons, with-sum, with-ascending, with-positive}
 
 -- the weight of the nodes whose values pass
 abbrev pub value_sums : Network → (ℤ → Bool) → List Node → ℕ
@@ -42,17 +42,14 @@ pub record LinesLeave (all lines left : List Line) : Type 0 where
 pub all-left : (all : List Line) → LinesLeave all [] all
 all-left all = record { ascending = tt; positive = tt; told = λ p. omega arith }
 
-sum-cons : (p : ℤ → Bool) (l : Line) (lines : List Line) → line_sum p (l ∷ lines) ≡ cond (p l.value) l.weight 0 + line_sum p lines
-sum-cons p l lines = sum_by-cons (λ (m : Line). cond (p m.value) m.weight 0) l lines
-
 pub line-room : (all lines : List Line) (l : Line) (left : List Line) → LinesLeave all lines (l ∷ left) → line_sum every lines + l.weight ≤ line_sum every all
-line-room all lines l left at = omega (arith, at.told every, sum-cons every l left)
+line-room all lines l left at = omega (arith, at.told every, line_sum-cons every l left)
 
 pub line-added : (all lines : List Line) (l : Line) (left : List Line) → LinesLeave all lines (l ∷ left) → LinesLeave all (with_weight l.value l.weight lines) left
 line-added all lines l left at = record {
   ascending = with-ascending l.value l.weight lines at.ascending;
   positive = with-positive l.value l.weight lines at.positive;
-  told = λ p. omega (arith, at.told p, sum-cons p l left, with-sum p l.value l.weight lines);
+  told = λ p. omega (arith, at.told p, line_sum-cons p l left, with-sum p l.value l.weight lines);
 }
 
 -- sorted lines weigh what they did before

@@ -27,8 +27,7 @@ length-filter-le p (x ∷ xs) = elim (p x) as (λ b. length (cond b (x ∷ filte
 pub filter-both : (f p : List ℤ → Bool) → ((k : List ℤ) → f k ≡ true → p k ≡ true) → (nodes : List Node) → filter (λ a. f a.key) (filter (λ a. p a.key) nodes) ≡ filter (λ a. f a.key) nodes
 filter-both f p pass [] = refl
 filter-both f p pass (a ∷ nodes) =
-    let rest = filter-both f p pass nodes in
-    by (f a.key) (p a.key) refl refl rest
+    by (f a.key) (p a.key) refl refl (filter-both f p pass nodes)
   where
     by : (x y : Bool) → f a.key ≡ x → p a.key ≡ y → filter (λ a. f a.key) (filter (λ a. p a.key) nodes) ≡ filter (λ a. f a.key) nodes → filter (λ a. f a.key) (filter (λ a. p a.key) (a ∷ nodes)) ≡ filter (λ a. f a.key) (a ∷ nodes)
     by true true e h rest = rw (h, e) (ap (λ ns. a ∷ ns) rest)

@@ -40,7 +40,7 @@ module _ (n : Network) (g width h : ℕ) (e : h ≡ width) (nodes : List Node) (
 
   pub start-arc : length room ≡ h → IsArc n width g room choice
   start-arc wide =
-      let d : Node = node [] 0 in
+      let d = node [] 0 in
       let k : List ℤ = (get_or nodes start d).key in
       let key : room ++ drop width k ≡ k = whole-key width room (drop width k) k (here d) refl in
       record {
@@ -76,7 +76,7 @@ module _ (n : Network) (g width h : ℕ) (e : h ≡ width) (nodes : List Node) (
 
     pub start-heavy : (count : ℕ) → ((d : Node) → count ≡ (get_or nodes i d).weight) → 1 ≤ count * weight
     start-heavy count weighs =
-        let d : Node = node [] 0 in
+        let d = node [] 0 in
         heavy-arc count weight (rw (weighs d) (heavy_at nodes i d are.heavy low))
         (rw (← fine.weighs i d from below) (are.lawful.weighty g (get_or nodes i d).key choice (reached_at n g nodes i d are.reached low) (fine.allowed i d from below)))
 
@@ -86,5 +86,5 @@ key_is nodes i width k r p e room partial d = e ∙ whole-key width r p (get_or 
 
 pub reached-key : (n : Network) (g : ℕ) (nodes : List Node) (i width : ℕ) (k r p : List ℤ) → AllReached n g nodes → i < length nodes → k ≡ r ++ p → ((d : Node) → r ≡ take width (get_or nodes i d).key) → ((d : Node) → p ≡ drop width (get_or nodes i d).key) → IsReached n g k
 reached-key n g nodes i width k r p reached low e room partial =
-    let d : Node = node [] 0 in
+    let d = node [] 0 in
     subst (IsReached n g) (sym (key_is nodes i width k r p e room partial d)) (reached_at n g nodes i d reached low)

@@ -9,8 +9,9 @@ use Rattle.std.proofs.lemmas.Map.Keys.{IsDistinct-head, IsDistinct-tail, IsDisti
 use Rattle.node_pool.specs.Nodes.{Node, key_eq, keys}
 use Rattle.stage_network.specs.Network.{Network}
 use Rattle.stage_network.specs.NodeSteps.{successor, successors}
-use Rattle.stage_network.proofs.NodeSums.{opened_to}
+use Rattle.stage_network.proofs.NodeSums.{opened_to, or_true}
 use Rattle.node_pool.proofs.Puts.{same_key, key_equiv}
+pub use Rattle.std.proofs.lemmas.List.{map-append}
 
 -- a filter keeps keys apart
 pub all_filter : {X : Type 0} (P : X → Type 0) (p : X → Bool) (xs : List X) → AllByRecursion P xs → AllByRecursion P (filter p xs)
@@ -24,10 +25,6 @@ distinct_filter p (k ∷ ks) d =
       | true ↦ IsDistinct-cons key_eq k (filter p ks) (all_filter (λ y. key_eq k y ≡ false) p ks (IsDistinct-head key_eq k ks d)) (distinct_filter p ks (IsDistinct-tail key_eq k ks d))
       | false ↦ distinct_filter p ks (IsDistinct-tail key_eq k ks d)
     ]
-
-pub map-append : {X Y : Type 0} (f : X → Y) (xs ys : List X) → map f (xs ++ ys) ≡ map f xs ++ map f ys
-map-append f [] ys = refl
-map-append f (x ∷ xs) ys = ap (λ zs. f x ∷ zs) (map-append f xs ys)
 
 map-map : {X Y Z : Type 0} (f : Y → Z) (h : X → Y) (xs : List X) → map f (map h xs) ≡ map (λ x. f (h x)) xs
 map-map f h [] = refl
@@ -44,10 +41,6 @@ keys-opened_to n p g (a ∷ nodes) =
     ]
 
 -- what holds of the nodes' keys holds of keys that are among them
-or_true : (b : Bool) → (b || true) ≡ true
-or_true true = refl
-or_true false = refl
-
 pub member-holds : (P : List ℤ → Type 0) (nodes : List Node) (q : List ℤ) → AllByRecursion (λ a. P a.key) nodes → is_member key_eq (keys nodes) q ≡ true → P q
 member-holds P [] q a m = cc
 member-holds P (b ∷ nodes) q a m =

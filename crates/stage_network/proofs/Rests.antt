@@ -2,21 +2,16 @@
 use Rattle.std.proofs.Common.{◌≡◌, ℕ, zero, suc, ◌+◌, ◌-◌, ◌*◌, ◌<◌, ◌≤◌, List, [], ◌∷◌, take, refl, sym, ◌∙◌, ap, subst, arith}
 use Rattle.std.specs.Prelude.{ℤ}
 use Rattle.std.specs.List.{sum_by, Contains, AllByRecursion}
-use Rattle.std.proofs.lemmas.List.Sums.{sum_by-cons}
 use Rattle.std.proofs.lemmas.List.Elements.{recursion_from_All, All-contains_itself}
 use Rattle.weights.specs.declared.tails.Tail.{Tail}
+use Rattle.weights.proofs.Sums.{sum_by-same_where}
 use Rattle.node_pool.specs.Nodes.{Node}
 use Rattle.stage_network.specs.Network.{Network, IsReached}
 use Rattle.stage_network.specs.Completions.{total_weight}
 use Rattle.stage_network.specs.Rooms.{AreRoommates, IsRoomed}
 use Rattle.stage_network.specs.NodeSteps.{AllReached, closed_weight}
 use Rattle.stage_network.proofs.Steps.{all_paths, all-step, reached-next}
-use Rattle.stage_network.proofs.Conserved.{all_weaker}
 use Rattle.stage_network.proofs.NodeSums.{closed-together, inside_weight}
-
-sum_by-same-in : {X : Type 0} (f h : X → ℕ) (xs : List X) → AllByRecursion (λ x. f x ≡ h x) xs → sum_by f xs ≡ sum_by h xs
-sum_by-same-in f h [] a = refl
-sum_by-same-in f h (x ∷ xs) a = rw (sum_by-cons f x xs, sum_by-cons h x xs, a.0, sum_by-same-in f h xs a.1) refl
 
 all_paths-same : (n : Network) (width : ℕ) → IsRoomed n width → (m g : ℕ) (j k : List ℤ) → g + m ≡ n.count → AreRoommates n width g j k → all_paths n m g j ≡ all_paths n m g k
 all_paths-same n width roomed zero g j k e mates = refl
@@ -25,8 +20,7 @@ all_paths-same n width roomed (suc m) g j k e mates =
     let same : n.choices g j ≡ n.choices g k = roomed.choices g j k mates in
     let term = λ (i : List ℤ) (c : List ℕ). n.weight g i c * all_paths n m (g + 1) (n.next g i c) in
     all-step n m g j ∙ ap (sum_by (term j)) same
-    ∙ sum_by-same-in (term j) (term k) (n.choices g k)
-    (all_weaker (Contains (n.choices g k)) (λ c. term j c ≡ term k c)
+    ∙ sum_by-same_where (Contains (n.choices g k)) (term j) (term k)
     (λ c allowed.
     let next : AreRoommates n width (g + 1) (n.next g j c) (n.next g k c) = record {
       first = reached-next n g j c mates.first before (subst (λ cs. Contains cs c) (sym same) allowed);
@@ -34,7 +28,7 @@ all_paths-same n width roomed (suc m) g j k e mates =
       same = roomed.next g j k c mates allowed;
     } in
     rw (roomed.weight g j k c mates allowed, all_paths-same n width roomed m (g + 1) (n.next g j c) (n.next g k c) (omega arith) next) refl)
-    (n.choices g k) (recursion_from_All _ _ (All-contains_itself (n.choices g k))))
+    (n.choices g k) (recursion_from_All _ _ (All-contains_itself (n.choices g k)))
     ∙ sym (all-step n m g k)
 
 pub total_weight-same : (n : Network) (width : ℕ) → IsRoomed n width → (g : ℕ) (j k : List ℤ) → g ≤ n.count → AreRoommates n width g j k → total_weight n g j ≡ total_weight n g k
@@ -44,16 +38,11 @@ total_weight-same n width roomed g j k h mates = all_paths-same n width roomed (
 module _ (n : Network) (width : ℕ) (roomed : IsRoomed n width) (t : Tail) (g : ℕ) (h : g ≤ n.count) (r : List ℤ) where
   same-totals : (k : List ℤ) → IsReached n g k → take width k ≡ r → (nodes : List Node) → AllReached n g nodes → AllByRecursion (λ (a : Node). take width a.key ≡ r) nodes → AllByRecursion (λ (a : Node). total_weight n g a.key ≡ total_weight n g k) nodes
   same-totals k at room [] reached rooms = tt
-  same-totals k at room (a ∷ nodes) reached rooms =
-      (total_weight-same n width roomed g a.key k h (record { first = reached.0; second = at; same = rooms.0 ∙ sym room }), same-totals k at room nodes reached.1 rooms.1)
-
-  settled-some : (inside : ℕ) (k : List ℤ) (nodes : List Node) → AllReached n g nodes → AllByRecursion (λ (a : Node). take width a.key ≡ r) nodes → inside ≡ inside_weight n t g nodes → (0 < inside → IsReached n g k) → take width k ≡ r → closed_weight n t g nodes ≡ inside * total_weight n g k
-  settled-some zero k [] reached rooms is at room = omega arith
-  settled-some zero k (a ∷ nodes) reached rooms is at room =
-      let all : List Node = a ∷ nodes in
-      closed-together n t g (total_weight n g a.key) all (same-totals a.key reached.0 rooms.0 all reached rooms) ∙ ap (λ m. m * total_weight n g a.key) (sym is) ∙ omega arith
-  settled-some (suc m) k nodes reached rooms is at room =
-      closed-together n t g (total_weight n g k) nodes (same-totals k (at (omega arith)) room nodes reached rooms) ∙ ap (λ i. i * total_weight n g k) (sym is)
+  same-totals k at room (a ∷ nodes) reached rooms = (total_weight-same n width roomed g a.key k h (record { first = reached.0; second = at; same = rooms.0 ∙ sym room }), same-totals k at room nodes reached.1 rooms.1)
 
   pub settled : (inside : ℕ) (k : List ℤ) (nodes : List Node) → AllReached n g nodes → AllByRecursion (λ (a : Node). take width a.key ≡ r) nodes → inside ≡ inside_weight n t g nodes → (0 < inside → IsReached n g k) → take width k ≡ r → closed_weight n t g nodes ≡ inside * total_weight n g k
-  settled inside k nodes reached rooms is at room = settled-some inside k nodes reached rooms is at room
+  settled zero k [] reached rooms is at room = omega arith
+  settled zero k (a ∷ nodes) reached rooms is at room =
+      let all = a ∷ nodes in
+      closed-together n t g (total_weight n g a.key) all (same-totals a.key reached.0 rooms.0 all reached rooms) ∙ ap (λ m. m * total_weight n g a.key) (sym is) ∙ omega arith
+  settled (suc m) k nodes reached rooms is at room = closed-together n t g (total_weight n g k) nodes (same-totals k (at (omega arith)) room nodes reached rooms) ∙ ap (λ i. i * total_weight n g k) (sym is)

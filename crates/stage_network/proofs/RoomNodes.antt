@@ -51,8 +51,7 @@ module _ (r : List ℤ) (partials : List Node) (i : ℕ) (few : i < length parti
     next-inside inside inside' was step = omega (arith, step, was, inside-more n t g (lift r partials) i (node (r ++ p) w) low is)
 
     pub next-fits : IsLawful n → g ≤ n.count → AllReached n g (lift r partials) → (sum inside : ℕ) → sum + weighted (total_weight n g) (lift r partials) ≤ MAX → inside ≡ inside_weight n t g (take i (lift r partials)) → inside + w ≤ MAX
-    next-fits lawful h reached sum inside fits was =
-        omega (arith, inside-fits n t g (lift r partials) i (node (r ++ p) w) low is, weights-le-weighted n lawful g h (lift r partials) reached, was, fits)
+    next-fits lawful h reached sum inside fits was = omega (arith, inside-fits n t g (lift r partials) i (node (r ++ p) w) low is, weights-le-weighted n lawful g h (lift r partials) reached, was, fits)
 
 -- those that are open for a tail are open for some
 pub opened-le : (n : Network) (t : Tail) (g : ℕ) (nodes : List Node) → opened_in n t g nodes ≤ length (open_nodes n g nodes)
@@ -61,7 +60,7 @@ opened-le n t g nodes = omega (arith, ap length (filter-both (is_open n t g) (is
 -- the key of a node of the room is reached
 pub in_room : (n : Network) (g : ℕ) (r : List ℤ) (partials : List Node) (i : ℕ) (p : List ℤ) → AllReached n g (lift r partials) → i < length partials → ((d : Node) → p ≡ (get_or partials i d).key) → IsReached n g (r ++ p)
 in_room n g r partials i p reached few key =
-    let d : Node = node [] 0 in
+    let d = node [] 0 in
     let whole : (get_or (lift r partials) i d).key ≡ r ++ p = ap (λ (a : Node). a.key) (lift-at r partials i d d few) ∙ sym (ap (λ x. r ++ x) (key d)) in
     subst (IsReached n g) whole (reached_at n g (lift r partials) i d reached (omega (arith, few, lift-length r partials)))
 

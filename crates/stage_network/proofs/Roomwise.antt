@@ -1,34 +1,29 @@
 -- Room by room: what one more node, arc or room changes.
 use Rattle.std.proofs.Common.{◌≡◌, ℕ, zero, suc, ◌+◌, ◌-◌, ◌*◌, ◌<◌, ◌≤◌, List, [], ◌∷◌, ◌++◌, length, map, take, drop, get_or, Bool, true, false, cond, refl, sym, ◌∙◌, ap, arith, subst, add-one, append_assoc, append-nil, nat_eq}
 use Rattle.std.specs.Prelude.{ℤ}
-use Rattle.std.specs.List.{sum_by, flat_map, filter, Contains, AllByRecursion}
+use Rattle.std.specs.List.{sum_by, flat_map, filter, Contains, AllByRecursion, IsDistinct}
 use Rattle.node_pool.specs.Pool.{IsPlaced}
 use Rattle.node_pool.proofs.Puts.{alike, unlike}
-use Rattle.std.proofs.lemmas.List.{take-append-drop, take-append-le}
-use Rattle.std.specs.List.{IsDistinct}
+use Rattle.std.proofs.lemmas.List.{take-append-drop, take-append-le, length-drop, length-take-le, take_all, get_or-take, get_or-drop}
 use Rattle.node_pool.specs.Nodes.{Node, node, key_eq, keys, weighted}
 use Rattle.stage_network.specs.Network.{Network, IsReached}
 use Rattle.stage_network.specs.NodeSteps.{AllReached, AllHeavy, successor, successors}
 use Rattle.stage_network.specs.Rooms.{AreRoommates, IsRoomed}
-use Rattle.stage_network.proofs.Steps.{sum_by-map, sum_by-same}
+use Rattle.weights.proofs.Sums.{sum_by-map, sum_by-same, sum_by-plus, sum_by-zero}
 use Rattle.stage_network.specs.ArcSteps.{IsRun, Arc, segment, arc_nodes, spread_out, bucket, lift, IsFine, AllFine}
 use Rattle.std.proofs.lemmas.Map.Keys.{IsDistinct-head, IsDistinct-tail, IsDistinct-cons}
-use Rattle.std.proofs.lemmas.List.{get_or_default, length-drop, length-take-le, take_all, get_or-take, get_or-drop}
 use Rattle.std.proofs.lemmas.List.Sums.{sum_by-cons, sum_by_more, sum_by-take-le, sum_by-append}
 use Rattle.std.proofs.lemmas.List.Elements.{filter_more}
 use Rattle.std.proofs.lemmas.List.Concat.{flat_map-append}
-use Rattle.stage_network.proofs.Stepping.{reached_at}
+use Rattle.stage_network.proofs.Stepping.{is_node, reached_at}
 
 -- a node more that passes
 module _ (p : List ℤ → Bool) (nodes : List Node) (i : ℕ) (low : i < length nodes) (d : Node) (k : List ℤ) (w : ℕ) (key : k ≡ (get_or nodes i d).key) (weight : w ≡ (get_or nodes i d).weight) where
-  is_node : node k w ≡ get_or nodes i (node k w)
-  is_node = rw (key, weight) (get_or_default nodes i d (get_or nodes i d) low)
-
   pub kept-next : (kept kept' old : List Node) → kept ≡ old ++ filter (λ a. p a.key) (take i nodes) → kept' ≡ kept ++ cond (p k) (node k w ∷ []) [] → kept' ≡ old ++ filter (λ a. p a.key) (take (i + 1) nodes)
   kept-next kept kept' old before step =
       step ∙ ap (λ ns. ns ++ cond (p k) (node k w ∷ []) []) before
       ∙ append_assoc old (filter (λ a. p a.key) (take i nodes)) (cond (p k) (node k w ∷ []) [])
-      ∙ ap (λ ns. old ++ ns) (sym (filter_more (λ b. p b.key) nodes i (node k w) low ∙ ap (λ b. filter (λ b. p b.key) (take i nodes) ++ cond (p b.key) (b ∷ []) []) (sym is_node)))
+      ∙ ap (λ ns. old ++ ns) (sym (filter_more (λ b. p b.key) nodes i (node k w) low ∙ ap (λ b. filter (λ b. p b.key) (take i nodes) ++ cond (p b.key) (b ∷ []) []) (sym (is_node nodes i low d k w key weight))))
 
 -- heavy nodes
 pub heavy_at : (nodes : List Node) (i : ℕ) (d : Node) → AllHeavy nodes → i < length nodes → 1 ≤ (get_or nodes i d).weight
@@ -58,8 +53,7 @@ module _ (n : Network) (g : ℕ) (c : List ℕ) (f : List ℤ → ℕ) (nodes : 
   unfolding part
   pour-more =
       let on : (i + 1) - s ≡ (i - s) + 1 = omega (arith, h) in
-      let below : i - s < length (segment s e nodes) = omega (arith, length-segment s e nodes (omega (arith, h, k)) l, h, k) in
-      rw on (as_sum (take ((i - s) + 1) (segment s e nodes)) ∙ sum_by_more part (segment s e nodes) (i - s) d below
+      rw on (as_sum (take ((i - s) + 1) (segment s e nodes)) ∙ sum_by_more part (segment s e nodes) (i - s) d (omega (arith, length-segment s e nodes (omega (arith, h, k)) l, h, k))
       ∙ ap (λ b. sum_by part (take (i - s) (segment s e nodes)) + part b) (segment-at s e i nodes d h k l)
       ∙ ap (λ m. m + part (get_or nodes i d)) (sym (as_sum (take (i - s) (segment s e nodes)))))
 
@@ -67,20 +61,11 @@ module _ (n : Network) (g : ℕ) (c : List ℕ) (f : List ℤ → ℕ) (nodes : 
   unfolding part
   pour-fits = omega (arith, pour-more, as_sum (take ((i + 1) - s) (segment s e nodes)), as_sum (segment s e nodes), sum_by-take-le part (segment s e nodes) ((i + 1) - s))
 
--- sums exchanged
-pub sum_by-add : {X : Type 0} (f h : X → ℕ) (xs : List X) → sum_by (λ x. f x + h x) xs ≡ sum_by f xs + sum_by h xs
-sum_by-add f h [] = omega arith
-sum_by-add f h (x ∷ xs) = rw (sum_by-cons (λ x. f x + h x) x xs, sum_by-cons f x xs, sum_by-cons h x xs, sum_by-add f h xs) (omega arith)
-
-sum_by-none : {X : Type 0} (xs : List X) → sum_by (λ (x : X). 0) xs ≡ 0
-sum_by-none [] = refl
-sum_by-none (x ∷ xs) = rw (sum_by-cons (λ x. 0) x xs) (omega (arith, sum_by-none xs))
-
 pub by_choices : (n : Network) (g : ℕ) (f : List ℤ → ℕ) (cs : List (List ℕ)) (seg : List Node) → AllByRecursion (λ (b : Node). n.choices g b.key ≡ cs) seg → sum_by (λ c. weighted f (map (λ b. successor n g b c) seg)) cs ≡ weighted f (flat_map (successors n g) seg)
-by_choices n g f cs [] a = sum_by-none cs
+by_choices n g f cs [] a = sum_by-zero cs
 by_choices n g f cs (b ∷ seg) a =
     sum_by-same _ (λ c. (b.weight * n.weight g b.key c) * f (n.next g b.key c) + weighted f (map (λ b. successor n g b c) seg)) (λ c. sum_by-cons (λ (b : Node). b.weight * f b.key) (successor n g b c) (map (λ b. successor n g b c) seg)) cs
-    ∙ sum_by-add (λ c. (b.weight * n.weight g b.key c) * f (n.next g b.key c)) (λ c. weighted f (map (λ b. successor n g b c) seg)) cs
+    ∙ sum_by-plus (λ c. (b.weight * n.weight g b.key c) * f (n.next g b.key c)) (λ c. weighted f (map (λ b. successor n g b c) seg)) cs
     ∙ ap (λ m. m + sum_by (λ c. weighted f (map (λ b. successor n g b c) seg)) cs) (sym (sum_by-map (λ (b : Node). b.weight * f b.key) (successor n g b) cs))
     ∙ ap (λ m. weighted f (map (successor n g b) cs) + m) (by_choices n g f cs seg a.1)
     ∙ ap (λ xs. weighted f (map (successor n g b) xs) + weighted f (flat_map (successors n g) seg)) (sym a.0)
@@ -156,8 +141,7 @@ bucket-last t arcs i d low e =
     filter_more (λ a. nat_eq a.target t) arcs i d low ∙ ap (λ b. bucket t (take i arcs) ++ cond b (get_or arcs i d ∷ []) []) yes
 
 pub fill-step : (n : Network) (g : ℕ) (nodes : List Node) (f : List ℤ → ℕ) (t : ℕ) (arcs : List Arc) (i place : ℕ) (d : Arc) → i < length arcs → (get_or arcs i d).target ≡ t → place ≡ i + 1 → weighted f (spread_out n g nodes (bucket t (take place arcs))) ≡ weighted f (spread_out n g nodes (bucket t (take i arcs))) + weighted f (arc_nodes n g nodes (get_or arcs i d))
-fill-step n g nodes f t arcs i place d low e is =
-    rw is (ap (λ ws. weighted f (spread_out n g nodes ws)) (bucket-last t arcs i d low e) ∙ spread-push n g nodes f (bucket t (take i arcs)) (get_or arcs i d))
+fill-step n g nodes f t arcs i place d low e is = rw is (ap (λ ws. weighted f (spread_out n g nodes ws)) (bucket-last t arcs i d low e) ∙ spread-push n g nodes f (bucket t (take i arcs)) (get_or arcs i d))
 
 pub all_at : {X : Type 0} (P : X → Type 0) (xs : List X) (i : ℕ) (d : X) → AllByRecursion P xs → i < length xs → P (get_or xs i d)
 all_at P [] i d a h = absurd (omega arith)
@@ -208,8 +192,7 @@ same_behind (x ∷ r) j k e = same_behind r j k (ap (drop 1) e)
 
 lift-apart : (r j : List ℤ) (nodes : List Node) → AllByRecursion (λ y. key_eq j y ≡ false) (keys nodes) → AllByRecursion (λ y. key_eq (r ++ j) y ≡ false) (keys (lift r nodes))
 lift-apart r j [] a = tt
-lift-apart r j (b ∷ nodes) a =
-    (unlike (r ++ j) (r ++ b.key) (λ e. let yes : key_eq j b.key ≡ true = alike j b.key (same_behind r j b.key e) in let no : key_eq j b.key ≡ false = a.0 in cc), lift-apart r j nodes a.1)
+lift-apart r j (b ∷ nodes) a = (unlike (r ++ j) (r ++ b.key) (λ e. let yes : key_eq j b.key ≡ true = alike j b.key (same_behind r j b.key e) in let no : key_eq j b.key ≡ false = a.0 in cc), lift-apart r j nodes a.1)
 
 pub lift-distinct : (r : List ℤ) (nodes : List Node) → IsDistinct key_eq (keys nodes) → IsDistinct key_eq (keys (lift r nodes))
 lift-distinct r [] d = d

@@ -41,7 +41,7 @@ module _ (n : Network) (lawful : IsLawful n) (keep : Kept) where
   -- at the first key
   pub stands-first : (sums : TailSums) (kept : List Node) → kept ≡ staying n keep 0 (node n.first 1 ∷ []) → ((t : Tail) → (sum_for sums t).sum ≡ weighted (closed_at n keep t 0) (node n.first 1 ∷ [])) → ((t : Tail) → (sum_for sums t).opened ≡ counted n keep t 0 (node n.first 1 ∷ [])) → HasSwept n from_first 0 sums kept
   stands-first sums kept is sum opened =
-      let all : List Node = node n.first 1 ∷ [] in
+      let all = node n.first 1 ∷ [] in
       let solid : AllHeavy all = (omega arith, tt) in
       let heavy : AllHeavy kept = rw is (all_filter (λ (a : Node). 1 ≤ a.weight) (λ a. stays n keep 0 a.key) all solid) in
       let distinct : IsDistinct key_eq (keys kept) = rw is (open-distinct (stays n keep 0) all (one_distinct n.first)) in

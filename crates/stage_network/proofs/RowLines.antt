@@ -20,7 +20,7 @@ take-one (x ∷ xs) (suc i) h =
 -- one cell more
 pub cells-more : (r : List ℤ) (lowest stride : ℤ) (xs : List ℕ) (i : ℕ) → i < length xs → (old was now : List Node) (room : List ℤ) (x : ℕ) → room ≡ r → x ≡ get_or xs i 0 → was ≡ old ++ lift r (row_nodes lowest stride (take i xs)) → now ≡ was ++ lift room (row_nodes (stepped lowest stride i) stride (x ∷ [])) → now ≡ old ++ lift r (row_nodes lowest stride (take (i + 1) xs))
 cells-more r lowest stride xs i low old was now room x same is before more =
-    let here : List Node = row_nodes (stepped lowest stride i) stride (get_or xs i 0 ∷ []) in
+    let here = row_nodes (stepped lowest stride i) stride (get_or xs i 0 ∷ []) in
     more ∙ ap (λ q. was ++ lift q (row_nodes (stepped lowest stride i) stride (x ∷ []))) same
     ∙ ap (λ m. was ++ lift r (row_nodes (stepped lowest stride i) stride (m ∷ []))) is
     ∙ ap (λ ns. ns ++ lift r here) before

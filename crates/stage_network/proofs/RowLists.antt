@@ -42,8 +42,7 @@ before : (s l : ℕ) (cells more : List ℕ) → s + l ≤ length cells → take
 before s l cells more h = ap (take l) (drop-append-le s cells more (omega (arith, h))) ∙ take-append-le l (drop s cells) more (omega (arith, h, length-drop s cells))
 
 pub rows-push : (width : ℕ) (rooms room : List ℤ) (cells more : List ℕ) (heads : List Head) (h : Head) → length rooms ≡ length heads * width → length room ≡ width → AllByRecursion (λ (h : Head). h.start + h.len ≤ length cells) heads → h.start ≡ length cells → h.len ≡ length more → rows_of width (rooms ++ room) (cells ++ more) (heads ++ h ∷ []) ≡ rows_of width rooms cells heads ++ record { room = room; lowest = h.lowest; stride = pos h.stride; cells = more } ∷ []
-rows-push width [] room cells more [] h long wide within start len =
-    rw (start, len, behind cells more, take_all width room (omega (arith, wide))) refl
+rows-push width [] room cells more [] h long wide within start len = rw (start, len, behind cells more, take_all width room (omega (arith, wide))) refl
 rows-push width (x ∷ rooms) room cells more [] h long wide within start len = absurd (omega (arith, long))
 rows-push width rooms room cells more (b ∷ heads) h long wide within start len =
     let front : width ≤ length rooms = omega (arith, long) in
@@ -67,10 +66,9 @@ are-rows-longer width rooms cells more heads r = record {
 
 pub are-rows-push : (width : ℕ) (rooms room : List ℤ) (cells more : List ℕ) (heads : List Head) (h : Head) → AreRows width rooms cells heads → length room ≡ width → h.start ≡ length cells → h.len ≡ length more → AreRows width (rooms ++ room) (cells ++ more) (heads ++ h ∷ [])
 are-rows-push width rooms room cells more heads h r wide start len =
-    let all = are-rows-longer width rooms cells more heads r in
     record {
       long = rw (length-append rooms room, length_push heads h) (omega (arith, r.long, wide));
-      within = within-push (length (cells ++ more)) heads h all.within (omega (arith, start, len, length-append cells more));
+      within = within-push (length (cells ++ more)) heads h (are-rows-longer width rooms cells more heads r).within (omega (arith, start, len, length-append cells more));
     }
 
 pub within-at : (m : ℕ) (heads : List Head) (i : ℕ) (d : Head) → AllByRecursion (λ (h : Head). h.start + h.len ≤ m) heads → i < length heads → (get_or heads i d).start + (get_or heads i d).len ≤ m

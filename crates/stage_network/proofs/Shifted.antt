@@ -14,7 +14,7 @@ use Rattle.stage_network.proofs.Roomwise.{all_at, all_segment, fill-step}
 use Rattle.stage_network.proofs.OneArc.{no_arc, place_below, place_is}
 use Rattle.stage_network.proofs.Stepping.{reached_at}
 use Rattle.stage_network.specs.declared.row_heads.Shift.{Shift}
-use Rattle.stage_network.specs.RowSteps.{Row, IsShift, AreShifts, all_nodes, moved, row_whole}
+use Rattle.stage_network.specs.RowSteps.{Row, IsShift, AreShifts, all_nodes, moved}
 
 -- the summed weight of a row's cells
 pub row-weight : (lowest stride : ℤ) (cells : List ℕ) → weighted (λ k. 1) (row_nodes lowest stride cells) ≡ sum cells
@@ -35,16 +35,13 @@ module _ (n : Network) (g width weight : ℕ) (room : List ℤ) (c : List ℕ) (
     where
       by : (AllByRecursion (Starts n g c weight) (lift room (row_nodes (l +ℤ s) s cells)) → weighted (λ k. f (drop width k)) (chosen n g c (lift room (row_nodes (l +ℤ s) s cells))) ≡ weighted f (row_nodes ((l +ℤ s) +ℤ step) s cells) * weight) → AllByRecursion (Starts n g c weight) (lift room (node (l ∷ []) (suc d) ∷ row_nodes (l +ℤ s) s cells)) → weighted (λ k. f (drop width k)) (chosen n g c (lift room (node (l ∷ []) (suc d) ∷ row_nodes (l +ℤ s) s cells))) ≡ weighted f (node ((l +ℤ step) ∷ []) (suc d) ∷ row_nodes ((l +ℤ step) +ℤ s) s cells) * weight
       by next a =
-          let k : List ℤ = room ++ l ∷ [] in
+          let k = room ++ l ∷ [] in
           let here : f (drop width (n.next g k c)) ≡ f ((l +ℤ step) ∷ []) = ap f (moves l a.0.0 a.0.1) in
-          let one : (suc d * n.weight g k c) * f (drop width (n.next g k c)) ≡ (suc d * f ((l +ℤ step) ∷ [])) * weight = rw (here, a.0.2) (turn (suc d) weight (f ((l +ℤ step) ∷ []))) in
-          let rest = next a.1 in
           let all = sum_by-cons (λ (b : Node). b.weight * f (drop width b.key)) (node (n.next g k c) (suc d * n.weight g k c)) (chosen n g c (lift room (row_nodes (l +ℤ s) s cells))) in
-          let row = sum_by-cons (λ (b : Node). b.weight * f b.key) (node ((l +ℤ step) ∷ []) (suc d)) (row_nodes ((l +ℤ step) +ℤ s) s cells) in
-          all ∙ ap (λ m. m + weighted (λ k. f (drop width k)) (chosen n g c (lift room (row_nodes (l +ℤ s) s cells)))) one
-          ∙ ap (λ m. (suc d * f ((l +ℤ step) ∷ [])) * weight + m) (rest ∙ ap (λ m. m * weight) (turned l s cells))
+          all ∙ ap (λ m. m + weighted (λ k. f (drop width k)) (chosen n g c (lift room (row_nodes (l +ℤ s) s cells)))) (rw (here, a.0.2) (turn (suc d) weight (f ((l +ℤ step) ∷ []))))
+          ∙ ap (λ m. (suc d * f ((l +ℤ step) ∷ [])) * weight + m) ((next a.1) ∙ ap (λ m. m * weight) (turned l s cells))
           ∙ sym (spread (suc d * f ((l +ℤ step) ∷ [])) (weighted f (row_nodes ((l +ℤ step) +ℤ s) s cells)) weight)
-          ∙ ap (λ m. m * weight) (sym row)
+          ∙ ap (λ m. m * weight) (sym (sum_by-cons (λ (b : Node). b.weight * f b.key) (node ((l +ℤ step) ∷ []) (suc d)) (row_nodes ((l +ℤ step) +ℤ s) s cells)))
         where
           turn : (a w y : ℕ) → (a * w) * y ≡ (a * y) * w
           turn a w y = grind arith
@@ -55,11 +52,10 @@ module _ (n : Network) (g width weight : ℕ) (room : List ℤ) (c : List ℕ) (
 -- an arc, by its row
 pub shifted : (n : Network) (g width : ℕ) (rows : List Row) (rooms : List Node) (w : Arc) (s : Shift) (d : Row) → AreNodes n g (all_nodes rows) → IsFine n g width (all_nodes rows) rooms w → IsShift n g width rows w s → (f : List ℤ → ℕ) → weighted (λ k. f (drop width k)) (chosen n g w.choice (segment w.start w.end (all_nodes rows))) ≡ weighted f (moved (get_or rows s.row d) s.step) * w.weight
 shifted n g width rows rooms w s d are fine shift f =
-    let row : Row = get_or rows s.row d in
+    let row = get_or rows s.row d in
     let all : AllByRecursion (Starts n g w.choice w.weight) (segment w.start w.end (all_nodes rows)) = all_segment (Starts n g w.choice w.weight) w.start w.end (all_nodes rows) (λ i e h j. (reached_at n g (all_nodes rows) i e are.reached (omega (arith, j, fine.chosen.last)), fine.chosen.allowed i e h j, fine.chosen.weighs i e h j)) in
-    let here : AllByRecursion (Starts n g w.choice w.weight) (row_whole row) = subst (AllByRecursion (Starts n g w.choice w.weight)) (shift.is d) all in
     ap (λ ns. weighted (λ k. f (drop width k)) (chosen n g w.choice ns)) (shift.is d)
-    ∙ moved-row n g width w.weight row.room w.choice s.step (shift.moves d) f row.lowest row.stride row.cells here
+    ∙ moved-row n g width w.weight row.room w.choice s.step (shift.moves d) f row.lowest row.stride row.cells (subst (AllByRecursion (Starts n g w.choice w.weight)) (shift.is d) all)
 
 -- the last of the arcs to a room, before a place, by its row
 module _ (n : Network) (g width : ℕ) (rows : List Row) (rooms : List Node) (arcs : List Arc) (shifts : List Shift) (are : AreNodes n g (all_nodes rows)) (fine : AllFine n g width (all_nodes rows) rooms arcs) (shift : AreShifts n g width rows arcs shifts) (t place : ℕ) (some : place ≢ 0) (within : place ≤ length arcs) (here : (i : ℕ) (d : Arc) → place ≡ suc i → (get_or arcs i d).target ≡ t) (s : Shift) (same : s ≡ get_or shifts (place - 1) s) where
@@ -71,8 +67,8 @@ module _ (n : Network) (g width : ℕ) (rows : List Row) (rooms : List Node) (ar
 
   pub shift-more : (weight : ℕ) → weight ≡ (get_or arcs (place - 1) no_arc).weight → (d : Row) (f : List ℤ → ℕ) → weighted (λ k. f (drop width k)) (spread_out n g (all_nodes rows) (bucket t (take place arcs))) ≡ weighted (λ k. f (drop width k)) (spread_out n g (all_nodes rows) (bucket t (take (place - 1) arcs))) + weighted f (moved (get_or rows s.row d) s.step) * weight
   shift-more weight is d f =
-      let i : ℕ = place - 1 in
-      let nodes : List Node = all_nodes rows in
+      let i = place - 1 in
+      let nodes = all_nodes rows in
       let low : i < length arcs = place_below place (length arcs) some within in
       let arc = shifted n g width rows rooms (get_or arcs i no_arc) s d are (all_at (IsFine n g width nodes rooms) arcs i no_arc fine low) arc-shift f in
       fill-step n g nodes (λ k. f (drop width k)) t arcs i place no_arc low (here i no_arc (place_is place some)) (place_is place some ∙ omega arith)

@@ -1,5 +1,5 @@
 -- Which nodes are those of a row, and which shift an arc has.
-use Rattle.std.proofs.Common.{◌≡◌, ℕ, zero, suc, ◌+◌, ◌-◌, ◌<◌, ◌≤◌, ◌⊎◌, inl, inr, List, [], ◌∷◌, ◌++◌, length, take, drop, get_or, refl, sym, ◌∙◌, ap, subst, arith}
+use Rattle.std.proofs.Common.{append_assoc, ◌≡◌, ℕ, zero, suc, ◌+◌, ◌-◌, ◌<◌, ◌≤◌, inl, inr, List, [], ◌∷◌, ◌++◌, length, take, drop, get_or, refl, sym, ◌∙◌, ap, subst, arith}
 use Rattle.std.specs.Prelude.{ℤ, pos, ◌+ℤ◌}
 use Rattle.std.specs.List.{Contains}
 use Rattle.std.proofs.lemmas.List.{length-append, get_or_append_left, get_or_push, length_push}
@@ -13,6 +13,7 @@ use Rattle.stage_network.specs.ArcSteps.{Arc, lift, segment}
 use Rattle.stage_network.proofs.Roomwise.{lift-length, segment-at, lift-rooms, all_at, whole-key}
 use Rattle.stage_network.specs.declared.row_heads.Shift.{Shift}
 use Rattle.stage_network.specs.RowSteps.{Row, IsShift, AreShifts, IsSpan, all_nodes, row_whole}
+use Rattle.stage_network.proofs.ArcLists.{last_or_before}
 
 abbrev pub no_row : Row
 no_row = record { room = []; lowest = pos 0; stride = pos 0; cells = [] }
@@ -32,11 +33,7 @@ parts [] i d h = absurd (omega (arith, h))
 parts (r ∷ rows) zero d h = refl
 parts (r ∷ rows) (suc i) d h =
     let e : suc i + 1 ≡ suc (i + 1) = omega arith in
-    rw e (ap (λ ns. row_whole r ++ ns) (parts rows i d (omega (arith, h))) ∙ sym (assoc (row_whole r) (all_nodes (take i rows)) _))
-  where
-    assoc : (xs ys zs : List Node) → (xs ++ ys) ++ zs ≡ xs ++ (ys ++ zs)
-    assoc [] ys zs = refl
-    assoc (x ∷ xs) ys zs = ap (λ ns. x ∷ ns) (assoc xs ys zs)
+    rw e (ap (λ ns. row_whole r ++ ns) (parts rows i d (omega (arith, h))) ∙ sym (append_assoc (row_whole r) (all_nodes (take i rows)) _))
 
 -- one row more
 pub before-more : (rows : List Row) (i : ℕ) (d : Row) → i < length rows → length (all_nodes (take (i + 1) rows)) ≡ length (all_nodes (take i rows)) + length (row_whole (get_or rows i d))
@@ -75,10 +72,9 @@ module _ (rows : List Row) (width i start end : ℕ) (d : Row) (low : i < length
 
   rooms_at : length (get_or rows i d).room ≡ width → (j : ℕ) (e : Node) → start ≤ j → j < end → take width (get_or (all_nodes rows) j e).key ≡ (get_or rows i d).room
   rooms_at wide j e h k =
-      let row : Row = get_or rows i d in
-      let inner : j - start < length (row_whole row) = omega (arith, to, h, k) in
+      let row = get_or rows i d in
       ap (λ (a : Node). take width a.key) (sym (segment-at start end j (all_nodes rows) e h k last_at) ∙ ap (λ ns. get_or ns (j - start) e) is_at)
-      ∙ all_at (λ (a : Node). take width a.key ≡ row.room) (row_whole row) (j - start) e (lift-rooms width row.room (row_nodes row.lowest row.stride row.cells) wide) inner
+      ∙ all_at (λ (a : Node). take width a.key ≡ row.room) (row_whole row) (j - start) e (lift-rooms width row.room (row_nodes row.lowest row.stride row.cells) wide) (omega (arith, to, h, k))
 
   pub spans : start < end → length (get_or rows i d).room ≡ width → IsSpan rows width i start end
   spans order wide = record {
@@ -92,14 +88,14 @@ module _ (rows : List Row) (width i start end : ℕ) (d : Row) (low : i < length
   -- the first key is that of the first full cell
   pub first-key : (m : ℕ) → start < end → row_nodes (get_or rows i d).lowest (get_or rows i d).stride (get_or rows i d).cells ≡ row_nodes (stepped (get_or rows i d).lowest (get_or rows i d).stride m) (get_or rows i d).stride (drop m (get_or rows i d).cells) → (m < length (get_or rows i d).cells → 0 < get_or (get_or rows i d).cells m 0) → m ≤ length (get_or rows i d).cells → (e : Node) (r : Row) → (get_or (all_nodes rows) start e).key ≡ (get_or rows i r).room ++ stepped (get_or rows i d).lowest (get_or rows i d).stride m ∷ []
   first-key m order same full within e r =
-      let row : Row = get_or rows i d in
-      let z : ℤ = stepped row.lowest row.stride m in
+      let row = get_or rows i d in
+      let z = stepped row.lowest row.stride m in
       let there : get_or (all_nodes rows) start e ≡ get_or (row_whole row) 0 e = sym (segment-at start end start (all_nodes rows) e (omega arith) order last_at) ∙ (let none : start - start ≡ 0 = omega arith in ap (λ j. get_or (segment start end (all_nodes rows)) j e) none) ∙ ap (λ ns. get_or ns 0 e) is_at in
       ap (λ (a : Node). a.key) (there ∙ ap (λ ns. get_or (lift row.room ns) 0 e) same) ∙ front row.room z row.stride (drop m row.cells) (begins row.cells m full (order_of same)) e ∙ ap (λ (b : Row). b.room ++ z ∷ []) (sym (same_row r))
     where
       order_of : row_nodes (get_or rows i d).lowest (get_or rows i d).stride (get_or rows i d).cells ≡ row_nodes (stepped (get_or rows i d).lowest (get_or rows i d).stride m) (get_or rows i d).stride (drop m (get_or rows i d).cells) → m < length (get_or rows i d).cells
       order_of same =
-          let row : Row = get_or rows i d in
+          let row = get_or rows i d in
           let some : 0 < length (row_nodes row.lowest row.stride row.cells) = omega (arith, to, order, lift-length row.room (row_nodes row.lowest row.stride row.cells)) in
           by row.cells m within (stepped row.lowest row.stride m) (omega (arith, some, ap length same))
         where
@@ -122,9 +118,8 @@ module _ (rows : List Row) (width i start end : ℕ) (d : Row) (low : i < length
 module _ (n : Network) (g width : ℕ) (rows : List Row) (i start end : ℕ) (span : IsSpan rows width i start end) (room : List ℤ) (here : (d : Row) → room ≡ (get_or rows i d).room) (wide : length room ≡ width) (choice : List ℕ) where
   pub row-arc : (k : List ℤ) → ((d : Node) → k ≡ (get_or (all_nodes rows) start d).key) → IsReached n g k → Contains (n.choices g k) choice → IsArc n width g room choice
   row-arc k key reached allowed =
-      let d : Node = node [] 0 in
-      let first : room ≡ take width k = here no_row ∙ sym (span.room no_row d) ∙ ap (take width) (sym (key d)) in
-      let whole : room ++ drop width k ≡ k = whole-key width room (drop width k) k first refl in
+      let d = node [] 0 in
+      let whole : room ++ drop width k ≡ k = whole-key width room (drop width k) k (here no_row ∙ sym (span.room no_row d) ∙ ap (take width) (sym (key d))) refl in
       record {
         partial = drop width k;
         wide = wide;
@@ -142,9 +137,6 @@ module _ (n : Network) (g width : ℕ) (rows : List Row) (i start end : ℕ) (sp
   }
 
 -- one arc more
-last_or_before : (i n : ℕ) → i < n + 1 → (i ≡ n) ⊎ (i < n)
-last_or_before i n h = grind arith
-
 pub shifts-push : (n : Network) (g width : ℕ) (rows : List Row) (arcs : List Arc) (shifts : List Shift) (w : Arc) (s : Shift) → AreShifts n g width rows arcs shifts → IsShift n g width rows w s → AreShifts n g width rows (arcs ++ w ∷ []) (shifts ++ s ∷ [])
 shifts-push n g width rows arcs shifts w s a h = record {
   each = omega (arith, a.each, length_push shifts s, length_push arcs w);

@@ -116,14 +116,11 @@ module _ (a : Addends) (s : IsAdditive a) (bound : ℕ) (q : IsSquared a bound) 
       ∙ ap (λ m. over_earlier q.each g + m) here
 
   pub squares_bounded : (k : List ℤ) → IsReached (additive_network a) a.count k → sum_by square k ≤ bound
-  squares_bounded k r =
-      let same : sum_by nat_abs k ≡ over_earlier q.each a.count = reached-magnitude a.count k r in
-      let most_of : sum_by nat_abs k * sum_by nat_abs k ≡ over_earlier q.each a.count * over_earlier q.each a.count = ap (λ m. m * m) same in
-      omega (arith, squares-≤-square k, most_of, q.bounded)
+  squares_bounded k r = omega (arith, squares-≤-square k, ap (λ m. m * m) (reached-magnitude a.count k r), q.bounded)
 
   pub squares_rise : (g : ℕ) (k : List ℤ) (c : List ℕ) → IsReached (additive_network a) g k → g < a.count → Contains ((additive_network a).choices g k) c → raised_squares (least_to_come a g) k ≤ raised_squares (least_to_come a (g + 1)) (kept a.sorted (plus k (a.adds g c)))
   squares_rise g k c r h m =
-      let t : ℤ = least_to_come a (g + 1) in
+      let t = least_to_come a (g + 1) in
       let w : AddsBetween a g c = choice_between a s g k c h m in
       omega (
         arith,
@@ -134,7 +131,7 @@ module _ (a : Addends) (s : IsAdditive a) (bound : ℕ) (q : IsSquared a bound) 
 
   pub squares_fall : (g : ℕ) (k : List ℤ) (c : List ℕ) → IsReached (additive_network a) g k → g < a.count → Contains ((additive_network a).choices g k) c → raised_squares (most_to_come a (g + 1)) (kept a.sorted (plus k (a.adds g c))) ≤ raised_squares (most_to_come a g) k
   squares_fall g k c r h m =
-      let t : ℤ = most_to_come a (g + 1) in
+      let t = most_to_come a (g + 1) in
       let w : AddsBetween a g c = choice_between a s g k c h m in
       omega (
         arith,

@@ -1,7 +1,7 @@
 -- The keys that a sweep begins from, one by one.
 use Rattle.std.proofs.Common.{◌≡◌, ℕ, zero, suc, ◌+◌, ◌*◌, ◌^◌, ◌<◌, ◌≤◌, List, [], ◌∷◌, ◌++◌, length, take, drop, get_or, Bool, refl, sym, ◌∙◌, ap, subst, arith}
 use Rattle.std.specs.Prelude.{ℤ}
-use Rattle.std.specs.List.{filter, AllByRecursion}
+use Rattle.std.specs.List.{filter}
 use Rattle.std.proofs.lemmas.List.{length-append}
 use Rattle.std.proofs.lemmas.List.Sums.{sum_by_more, sum_by_more_le}
 use Rattle.std.proofs.lemmas.List.Elements.{filter_more}
@@ -23,14 +23,10 @@ use Rattle.stage_network.specs.Opened.{is_open}
 use Rattle.stage_network.specs.StageSteps.{Housed}
 use Rattle.stage_network.specs.ArcSteps.{lift}
 use Rattle.stage_network.specs.SweepSteps.{IsRoomful, sum_for, stays, staying, closed_at, counted}
+use Rattle.stage_network.proofs.ArcLists.{choice-fits}
 use Rattle.stage_network.proofs.Bounds.{total_weight-least}
-use Rattle.stage_network.proofs.Roomwise.{lift-whole}
+use Rattle.stage_network.proofs.Roomwise.{all_at, lift-whole}
 use Rattle.stage_network.proofs.Sweeps.{closed-le, counted-le}
-
-all_at : (P : Node → Type 0) (nodes : List Node) (i : ℕ) (d : Node) → AllByRecursion P nodes → i < length nodes → P (get_or nodes i d)
-all_at P [] i d a h = absurd (omega arith)
-all_at P (b ∷ nodes) zero d a h = a.0
-all_at P (b ∷ nodes) (suc i) d a h = all_at P nodes i d a.1 (omega (arith, h))
 
 -- a key alone in its room
 lift_one : (width : ℕ) (room key partial : List ℤ) (w : ℕ) → room ≡ take width key → partial ≡ drop width key → lift room (node partial w ∷ []) ≡ node key w ∷ []
@@ -107,11 +103,8 @@ module _ (n : Network) (lawful : IsLawful n) (width g : ℕ) (row : List ℤ) (w
   opened-next more t is = is ∙ ap (λ m. m + counted n keep t g (lift room work.nodes)) (opened t) ∙ ap (λ ns. counted n keep t g (take i all) + counted n keep t g ns) lift_is ∙ sym (counted-next all i none within n keep t g)
 
 -- the key at a place of the row
-before : (width i n : ℕ) → i < n → i * width + width ≤ n * width
-before width i n h = grind arith
-
 pub row-fits : (width w i : ℕ) (row : List ℤ) (weights : List ℕ) → w ≡ width → length row ≡ length weights * width → i < length weights → i * w + w ≤ length row
-row-fits width w i row weights e long low = rw e (omega (arith, long, before width i (length weights) low))
+row-fits width w i row weights e long low = rw e (omega (arith, long, choice-fits width (length weights) i low))
 
 times-least : (x y : ℕ) → 1 ≤ y → x ≤ x * y
 times-least x y h = grind arith
@@ -130,12 +123,10 @@ module _ (n : Network) (g : ℕ) (row : List ℤ) (weights : List ℕ) (starts :
 
   pub light-at : IsLawful n → (w : ℕ) → w ≡ get_or weights i 0 → w ≤ weighted (total_weight n g) (nodes_of n.width row weights)
   light-at l w w_is =
-      let a : Node = get_or (nodes_of n.width row weights) i (node [] 0) in
-      let r : IsReached n g a.key = all_at (λ a. IsReached n g a.key) (nodes_of n.width row weights) i (node [] 0) starts.reached inside in
-      let some : 1 ≤ total_weight n g a.key = total_weight-least n l g a.key r starts.within in
-      let long : a.weight ≤ a.weight * total_weight n g a.key = times-least a.weight (total_weight n g a.key) some in
+      let a = get_or (nodes_of n.width row weights) i (node [] 0) in
+      let some : 1 ≤ total_weight n g a.key = total_weight-least n l g a.key (all_at (λ a. IsReached n g a.key) (nodes_of n.width row weights) i (node [] 0) starts.reached inside) starts.within in
       let is : a.weight ≡ w = ap (λ (b : Node). b.weight) here ∙ sym w_is in
-      omega (arith, long, sum_by_more_le (λ (b : Node). b.weight * total_weight n g b.key) (nodes_of n.width row weights) i (node [] 0) inside, is)
+      omega (arith, times-least a.weight (total_weight n g a.key) some, sum_by_more_le (λ (b : Node). b.weight * total_weight n g b.key) (nodes_of n.width row weights) i (node [] 0) inside, is)
 
   -- one product more
   pub total-more : (f : List ℤ → ℕ) (w total rest : ℕ) → w ≡ get_or weights i 0 → rest ≡ f (key_at n.width row i) → total ≡ weighted f (take i (nodes_of n.width row weights)) → total + w * rest ≡ weighted f (take (i + 1) (nodes_of n.width row weights))

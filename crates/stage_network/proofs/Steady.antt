@@ -23,6 +23,7 @@ use Rattle.stage_network.proofs.Asked.{asked-below, asked-else, asked-own}
 use Rattle.stage_network.proofs.Steps.{filter_none, filter-map, filter-flat_map, reached-next}
 use Rattle.stage_network.proofs.OpenKeys.{all_filter}
 use Rattle.stage_network.proofs.Judging.{offset-≤, same_tail}
+use Rattle.stage_network.proofs.NodeSums.{open-for}
 
 -- lists
 
@@ -45,16 +46,7 @@ not_true : (b : Bool) → b ≢ true → b ≡ false
 not_true true h = absurd (h refl)
 not_true false h = refl
 
-or_true : (b : Bool) → (b || true) ≡ true
-or_true true = refl
-or_true false = refl
-
--- what is open for a tail is open for some
-
-open-some : (n : Network) (t : Tail) (g : ℕ) (k : List ℤ) → is_open n t g k ≡ true → is_open_for_some n g k ≡ true
-open-some n Less g k e = rw e refl
-open-some n Greater g k e = rw e (or_true (is_open n Less g k))
-open-some n Two g k e = rw (e, or_true (is_open n Greater g k)) (or_true (is_open n Less g k))
+-- what is open for some is open for a tail
 
 some-open : (n : Network) (g : ℕ) (k : List ℤ) → is_open_for_some n g k ≡ true → (t : Tail) × (is_open n t g k ≡ true)
 some-open n g k h = by (is_open n Less g k) (is_open n Greater g k) refl refl h
@@ -99,7 +91,7 @@ module _ (n : Network) (t : Tail) (steady : IsSteady n t) where
       let arcs = λ (k : List ℤ). map (n.next g k) (n.choices g k) in
       let kept = λ (k : List ℤ). filter (is_open n t (suc g)) (map (n.next g k) (n.choices g k)) in
       filter-flat_map (is_open n t (suc g)) arcs (filter (is_open_for_some n g) (reached_by_some n g))
-      ∙ flat_map-stricter (IsReached n g) kept (is_open_for_some n g) (is_open n t g) (open-some n t g) (λ k r some shut. shut-leads g k (omega (arith, l)) r some shut) (reached_by_some n g) (some_reached n g (omega (arith, l)))
+      ∙ flat_map-stricter (IsReached n g) kept (is_open_for_some n g) (is_open n t g) (open-for n t g) (λ k r some shut. shut-leads g k (omega (arith, l)) r some shut) (reached_by_some n g) (some_reached n g (omega (arith, l)))
       ∙ ap (flat_map kept) (same_open g (omega (arith, l)))
       ∙ sym (filter-flat_map (is_open n t (suc g)) arcs (filter (is_open n t g) (reached_openly n t g)))
 

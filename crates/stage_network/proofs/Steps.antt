@@ -1,49 +1,16 @@
 -- The sums over completions, one stage at a time: what implementations and sums over stages rest on.
-use Rattle.std.proofs.Common.{◌≡◌, ℕ, zero, suc, ◌+◌, ◌-◌, ◌*◌, ◌<◌, ◌≤◌, List, [], ◌∷◌, ◌++◌, map, Bool, true, false, cond, refl, ◌∙◌, ap, arith, add-one, subst}
+use Rattle.std.proofs.Common.{◌≡◌, ℕ, zero, suc, ◌+◌, ◌-◌, ◌*◌, ◌<◌, ◌≤◌, List, [], ◌∷◌, map, Bool, true, false, refl, ◌∙◌, ap, arith, add-one, subst}
 use Rattle.std.specs.Prelude.{ℤ}
 use Rattle.std.specs.List.{flat_map, sum_by, filter, AllByRecursion, Contains}
-use Rattle.std.proofs.lemmas.List.Sums.{sum_by-cons, sum_by-append}
-use Rattle.std.proofs.lemmas.List.Elements.{filter-append, recursion_from_All, All-weaker, All-contains_itself}
+use Rattle.std.proofs.lemmas.List.Elements.{recursion_from_All, All-weaker, All-contains_itself}
 use Rattle.weights.specs.declared.tails.Tail.{Tail}
 use Rattle.stage_network.specs.declared.stages.Verdict.TheVariants.{Inside, Outside}
 use Rattle.stage_network.specs.Network.{Network, IsReached}
 use Rattle.stage_network.specs.Completions.{paths, completions, path_weight, path_end, is_inside, is_extreme, total_weight, extreme_weight}
-
--- sums over lists
-
-pub sum_by-same : {X : Type 0} (f g : X → ℕ) → ((x : X) → f x ≡ g x) → (xs : List X) → sum_by f xs ≡ sum_by g xs
-sum_by-same f g e [] = refl
-sum_by-same f g e (x ∷ xs) = rw (sum_by-cons f x xs, sum_by-cons g x xs, e x, sum_by-same f g e xs) refl
-
-pub sum_by-scaled : {X : Type 0} (a : ℕ) (f : X → ℕ) (xs : List X) → sum_by (λ x. a * f x) xs ≡ a * sum_by f xs
-sum_by-scaled a f [] = omega arith
-sum_by-scaled a f (x ∷ xs) = rw (sum_by-cons (λ x. a * f x) x xs, sum_by-cons f x xs, sum_by-scaled a f xs) (omega arith)
-
-pub sum_by-map : {X Y : Type 0} (f : Y → ℕ) (h : X → Y) (xs : List X) → sum_by f (map h xs) ≡ sum_by (λ x. f (h x)) xs
-sum_by-map f h [] = refl
-sum_by-map f h (x ∷ xs) = rw (sum_by-cons f (h x) (map h xs), sum_by-cons (λ x. f (h x)) x xs, sum_by-map f h xs) refl
-
-pub sum_by-flat_map : {X Y : Type 0} (f : Y → ℕ) (h : X → List Y) (xs : List X) → sum_by f (flat_map h xs) ≡ sum_by (λ x. sum_by f (h x)) xs
-sum_by-flat_map f h [] = refl
-sum_by-flat_map f h (x ∷ xs) = rw (sum_by-append f (h x) (flat_map h xs), sum_by-cons (λ x. sum_by f (h x)) x xs, sum_by-flat_map f h xs) refl
-
-pub filter-map : {X Y : Type 0} (p : Y → Bool) (h : X → Y) (xs : List X) → filter p (map h xs) ≡ map h (filter (λ x. p (h x)) xs)
-filter-map p h [] = refl
-filter-map p h (x ∷ xs) = elim (p (h x)) as (λ b. cond b (h x ∷ filter p (map h xs)) (filter p (map h xs)) ≡ map h (cond b (x ∷ filter (λ x. p (h x)) xs) (filter (λ x. p (h x)) xs))) [
-  | true ↦ ap (λ ys. h x ∷ ys) (filter-map p h xs)
-  | false ↦ filter-map p h xs
-]
-
-pub filter-flat_map : {X Y : Type 0} (p : Y → Bool) (h : X → List Y) (xs : List X) → filter p (flat_map h xs) ≡ flat_map (λ x. filter p (h x)) xs
-filter-flat_map p h [] = refl
-filter-flat_map p h (x ∷ xs) = filter-append p (h x) (flat_map h xs) ∙ ap (λ ys. filter p (h x) ++ ys) (filter-flat_map p h xs)
-
-pub sum_by-filter-le : {X : Type 0} (f : X → ℕ) (p : X → Bool) (xs : List X) → sum_by f (filter p xs) ≤ sum_by f xs
-sum_by-filter-le f p [] = omega arith
-sum_by-filter-le f p (x ∷ xs) = elim (p x) as (λ b. sum_by f (cond b (x ∷ filter p xs) (filter p xs)) ≤ sum_by f (x ∷ xs)) [
-  | true ↦ rw (sum_by-cons f x (filter p xs), sum_by-cons f x xs) (omega (arith, sum_by-filter-le f p xs))
-  | false ↦ rw (sum_by-cons f x xs) (omega (arith, sum_by-filter-le f p xs))
-]
+use Rattle.weights.proofs.Sums.{sum_by-filter-≤}
+pub use Rattle.weights.proofs.Sums.{sum_by-same, sum_by-scaled, sum_by-map, sum_by-flat_map}
+use Rattle.weights.proofs.Filters.{all_append, all_map, all_weaker}
+pub use Rattle.weights.proofs.Filters.{filter-map, filter-flat_map}
 
 -- where each element passes nothing is filtered out, and where none does all is
 pub filter_all : {X : Type 0} (p : X → Bool) (xs : List X) → AllByRecursion (λ x. p x ≡ true) xs → filter p xs ≡ xs
@@ -102,7 +69,7 @@ extreme_weight-step n t g k h =
 
 pub extreme-le-total : (n : Network) (t : Tail) (g : ℕ) (k : List ℤ) → extreme_weight n t g k ≤ total_weight n g k
 unfolding total_weight extreme_weight
-extreme-le-total n t g k = sum_by-filter-le (path_weight n g k) (is_extreme n t g k) (completions n g k)
+extreme-le-total n t g k = sum_by-filter-≤ (path_weight n g k) (is_extreme n t g k) (completions n g k)
 
 -- at the last stage there is the empty completion, of weight 1
 pub total_weight-last : (n : Network) (k : List ℤ) → total_weight n n.count k ≡ 1
@@ -115,14 +82,6 @@ pub reached-next : (n : Network) (g : ℕ) (k : List ℤ) (c : List ℕ) → IsR
 reached-next n g k c r h a = rw add-one (k, c, r, h, a, refl)
 
 -- what each allowed arc keeps holds of each completion's end
-
-all_append : {X : Type 0} (P : X → Type 0) (xs ys : List X) → AllByRecursion P xs → AllByRecursion P ys → AllByRecursion P (xs ++ ys)
-all_append P [] ys a b = b
-all_append P (x ∷ xs) ys a b = (a.0, all_append P xs ys a.1 b)
-
-all_map : {X Y : Type 0} (P : Y → Type 0) (f : X → Y) (xs : List X) → AllByRecursion (λ x. P (f x)) xs → AllByRecursion P (map f xs)
-all_map P f [] a = tt
-all_map P f (x ∷ xs) a = (a.0, all_map P f xs a.1)
 
 all_flat_map : {X Y : Type 0} (P : Y → Type 0) (f : X → List Y) (xs : List X) → AllByRecursion (λ x. AllByRecursion P (f x)) xs → AllByRecursion P (flat_map f xs)
 all_flat_map P f [] a = tt
@@ -145,10 +104,6 @@ paths-keep n P kept (suc m) g k e r p =
 
 pub completions-keep : (n : Network) (P : ℕ → List ℤ → Type 0) → IsKept n P → (g : ℕ) (k : List ℤ) → IsReached n g k → g ≤ n.count → P g k → AllByRecursion (λ cs. P n.count (path_end n g k cs)) (completions n g k)
 completions-keep n P kept g k r h p = paths-keep n P kept (n.count - g) g k (omega arith) r p
-
-all_weaker : {X : Type 0} (P Q : X → Type 0) → ((x : X) → P x → Q x) → (xs : List X) → AllByRecursion P xs → AllByRecursion Q xs
-all_weaker P Q w [] a = tt
-all_weaker P Q w (x ∷ xs) a = (w x a.0, all_weaker P Q w xs a.1)
 
 -- a verdict that each arc keeps is sound
 pub inside_from_arcs : (n : Network) (t : Tail) → IsKept n (λ g k. n.verdict t g k ≡ Inside) → (g : ℕ) (k : List ℤ) → IsReached n g k → g ≤ n.count → n.verdict t g k ≡ Inside → AllByRecursion (λ cs. is_extreme n t g k cs ≡ true) (completions n g k)

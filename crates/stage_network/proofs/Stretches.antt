@@ -21,6 +21,7 @@ use Rattle.stage_network.specs.ArcSteps.{lift}
 use Rattle.stage_network.specs.SweepSteps.{some_undecided, verdict_for}
 use Rattle.stage_network.proofs.NodeSums.{inside_weight}
 use Rattle.stage_network.proofs.OpenKeys.{map-append}
+use Rattle.std.proofs.Math.Seq.{drop-nil, take-nil}
 
 -- all keys of these nodes have these verdicts
 abbrev pub Uniform : Network → ℕ → Verdicts → List Node → Type 0
@@ -28,6 +29,10 @@ Uniform n g v nodes = AllByRecursion (λ a. (t : Tail) → n.verdict t g a.key �
 
 same_some : (v : Verdicts) (n : Network) (g : ℕ) (k : List ℤ) → ((t : Tail) → n.verdict t g k ≡ verdict_for v t) → is_open_for_some n g k ≡ some_undecided v
 same_some v n g k e = rw (e Less, e Greater, e Two) refl
+
+neither : (b : Bool) → ◌≡◌ {A = ℕ} 0 (cond b 0 0)
+neither true = refl
+neither false = refl
 
 module _ (n : Network) (g : ℕ) (v : Verdicts) where
   pub open-uniform : (nodes : List Node) → Uniform n g v nodes → open_nodes n g nodes ≡ cond (some_undecided v) nodes []
@@ -47,11 +52,7 @@ module _ (n : Network) (g : ℕ) (v : Verdicts) where
     closes = cond (some_undecided v) false (is_inside (verdict_for v t))
 
     pub inside-uniform : (nodes : List Node) → Uniform n g v nodes → inside_weight n t g nodes ≡ cond closes (weighted (λ k. 1) nodes) 0
-    inside-uniform [] u = none closes
-      where
-        none : (b : Bool) → ◌≡◌ {A = ℕ} 0 (cond b 0 0)
-        none true = refl
-        none false = refl
+    inside-uniform [] u = neither closes
     inside-uniform (a ∷ nodes) u =
         rw (sum_by-cons (λ (b : Node). cond (closes_inside n t g b.key) b.weight 0) a nodes, sum_by-cons (λ (b : Node). b.weight * 1) a nodes, inside-uniform nodes u.1, same_some v n g a.key u.0, u.0 t) (by closes (weighted (λ k. 1) nodes))
       where
@@ -60,11 +61,7 @@ module _ (n : Network) (g : ℕ) (v : Verdicts) where
         by false m = refl
 
     pub opened-uniform : (nodes : List Node) → Uniform n g v nodes → opened_in n t g nodes ≡ cond (is_undecided (verdict_for v t)) (length nodes) 0
-    opened-uniform [] u = none (is_undecided (verdict_for v t))
-      where
-        none : (b : Bool) → ◌≡◌ {A = ℕ} 0 (cond b 0 0)
-        none true = refl
-        none false = refl
+    opened-uniform [] u = neither (is_undecided (verdict_for v t))
     opened-uniform (a ∷ nodes) u = rw (u.0 t) (by (is_undecided (verdict_for v t)) (filter (λ b. is_open n t g b.key) nodes) (opened-uniform nodes u.1))
       where
         by : (b : Bool) (ns : List Node) → length ns ≡ cond b (length nodes) 0 → length (cond b (a ∷ ns) ns) ≡ cond b (suc (length nodes)) 0
@@ -88,11 +85,7 @@ opened-append n t g xs ys = ap length (filter-append (λ (a : Node). is_open n t
 pub take-split : (xs : List ℕ) (i j : ℕ) → i ≤ j → take j xs ≡ take i xs ++ take (j - i) (drop i xs)
 take-split xs zero j h = let e : j - 0 ≡ j = omega arith in rw e refl
 take-split [] (suc i) zero h = absurd (omega (arith, h))
-take-split [] (suc i) (suc j) h = sym (none (suc j - suc i))
-  where
-    none : (m : ℕ) → take {A = ℕ} m [] ≡ []
-    none zero = refl
-    none (suc m) = refl
+take-split [] (suc i) (suc j) h = sym (take-nil (suc j - suc i))
 take-split (x ∷ xs) (suc i) zero h = absurd (omega (arith, h))
 take-split (x ∷ xs) (suc i) (suc j) h = let e : suc j - suc i ≡ j - i = omega arith in rw e (ap (λ ys. x ∷ ys) (take-split xs i j (omega (arith, h))))
 
@@ -100,16 +93,8 @@ pub drop-more : (xs ys : List ℕ) (i j : ℕ) → i ≤ j → drop i xs ≡ dro
 drop-more xs ys zero j h e = ap (drop j) e
 drop-more [] [] (suc i) j h e = refl
 drop-more xs ys (suc i) zero h e = absurd (omega (arith, h))
-drop-more [] (y ∷ ys) (suc i) (suc j) h e = sym (nothing j) ∙ drop-more [] ys i j (omega (arith, h)) (nothing i ∙ e)
-  where
-    nothing : (m : ℕ) → drop {A = ℕ} m [] ≡ []
-    nothing zero = refl
-    nothing (suc m) = refl
-drop-more (x ∷ xs) [] (suc i) (suc j) h e = drop-more xs [] i j (omega (arith, h)) (e ∙ sym (nothing i)) ∙ nothing j
-  where
-    nothing : (m : ℕ) → drop {A = ℕ} m [] ≡ []
-    nothing zero = refl
-    nothing (suc m) = refl
+drop-more [] (y ∷ ys) (suc i) (suc j) h e = sym (drop-nil j) ∙ drop-more [] ys i j (omega (arith, h)) (drop-nil i ∙ e)
+drop-more (x ∷ xs) [] (suc i) (suc j) h e = drop-more xs [] i j (omega (arith, h)) (e ∙ sym (drop-nil i)) ∙ drop-nil j
 drop-more (x ∷ xs) (y ∷ ys) (suc i) (suc j) h e = drop-more xs ys i j (omega (arith, h)) e
 
 -- a row up to a place, in two parts
@@ -140,9 +125,7 @@ module _ (n : Network) (g : ℕ) (r : List ℤ) (v : Verdicts) (p : ℤ) (most s
   steady-from d l (zero ∷ cells) is near reached = steady-from (d + s) (l +ℤ pos s) cells (omega (arith, ints, is)) (let e : suc (length cells) * s ≡ s + length cells * s = omega arith in omega (arith, near, e)) reached
   steady-from d l (suc c ∷ cells) is near reached =
       let e : suc (length cells) * s ≡ s + length cells * s = omega arith in
-      let few : d ≤ most = omega (arith, near, e) in
-      let rest : (d + s) + length cells * s ≤ most + s = omega (arith, near, e) in
-      rw (positive c) (by few (steady-from (d + s) (l +ℤ pos s) cells (omega (arith, ints, is)) rest) (rw (positive c) at reached))
+      rw (positive c) (by (omega (arith, near, e)) (steady-from (d + s) (l +ℤ pos s) cells (omega (arith, ints, is)) (omega (arith, near, e))) (rw (positive c) at reached))
     where
       by : d ≤ most → (AllReached n g (lift r (row_nodes (l +ℤ pos s) (pos s) cells)) → Uniform n g v (lift r (row_nodes (l +ℤ pos s) (pos s) cells))) → AllReached n g (lift r (node (l ∷ []) (suc c) ∷ row_nodes (l +ℤ pos s) (pos s) cells)) → Uniform n g v (lift r (node (l ∷ []) (suc c) ∷ row_nodes (l +ℤ pos s) (pos s) cells))
       by few rest reached = (λ t. subst (λ z. IsReached n g (r ++ z ∷ []) → n.verdict t g (r ++ z ∷ []) ≡ n.verdict t g (r ++ p ∷ [])) (sym is) (same t d few) reached.0 ∙ sym (told t), rest reached.1)

@@ -43,7 +43,6 @@ told-filtered p xs ys told f = weighted-filter f p xs ∙ told (λ k. cond (p k)
 -- one room more
 pub told-more : (p : List ℤ → Bool) (kept work before here after : List Node) → ((f : List ℤ → ℕ) → weighted f kept ≡ weighted f (filter (λ a. p a.key) before)) → ((f : List ℤ → ℕ) → weighted f work ≡ weighted f here) → ((f : List ℤ → ℕ) → weighted f after ≡ weighted f before + weighted f here) → (f : List ℤ → ℕ) → weighted f (kept ++ filter (λ a. p a.key) work) ≡ weighted f (filter (λ a. p a.key) after)
 told-more p kept work before here after was told more f =
-    let f' : List ℤ → ℕ = λ k. cond (p k) (f k) 0 in
     omega (
       arith,
       sum_by-append (λ (a : Node). a.weight * f a.key) kept (filter (λ a. p a.key) work),
@@ -52,13 +51,13 @@ told-more p kept work before here after was told more f =
       told-filtered p work here told f,
       weighted-filter f p here,
       weighted-filter f p after,
-      more f',
+      more (λ k. cond (p k) (f k) 0),
     )
 
 -- what holds of nodes holds of those that stay of them
 pub kept-holds : (P : List ℤ → Type 0) (p : List ℤ → Bool) (kept before : List Node) → AllHeavy kept → AllHeavy before → AllByRecursion (λ (a : Node). P a.key) before → ((f : List ℤ → ℕ) → weighted f kept ≡ weighted f (filter (λ a. p a.key) before)) → AllByRecursion (λ (a : Node). P a.key) kept
 kept-holds P p kept before heavy solid holds told =
-    let stay : List Node = filter (λ a. p a.key) before in
+    let stay = filter (λ a. p a.key) before in
     same-holds P stay kept (all_filter (λ (a : Node). P a.key) (λ a. p a.key) before holds)
     (same-members kept stay heavy (all_filter (λ (a : Node). 1 ≤ a.weight) (λ a. p a.key) before solid) told)
 

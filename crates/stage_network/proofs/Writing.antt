@@ -58,7 +58,7 @@ module _ (n q : Network) (t : Tail) (w : StandsFor n q t) where
       → (d : List ℕ) × Contains (q.choices g (w.written k)) d × (q.next g (w.written k) d ≡ w.written (n.next g k c))
   unfolding to_key
   there g k c r before m =
-      let target : List ℤ = w.written (n.next g k c) in
+      let target = w.written (n.next g k c) in
       let one : 1 ≤ n.weight g k c * one_where (key_eq target target) = leads (n.weight g k c) target target (w.weighty g k c r before m) refl in
       let among = term-le-sum_by (λ d. n.weight g k d * one_where (key_eq (w.written (n.next g k d)) target)) (n.choices g k) c m in
       let all = w.arcs (to_key target) g k r before in
@@ -69,11 +69,10 @@ module _ (n q : Network) (t : Tail) (w : StandsFor n q t) where
       → (c : List ℕ) × Contains (n.choices g k) c × (q.next g (w.written k) d ≡ w.written (n.next g k c))
   unfolding to_key
   back g k d r before m =
-      let target : List ℤ = q.next g (w.written k) d in
+      let target = q.next g (w.written k) d in
       let one : 1 ≤ q.weight g (w.written k) d * one_where (key_eq target target) = leads (q.weight g (w.written k) d) target target (w.weighty_written g k d r before m) refl in
       let among = term-le-sum_by (λ c. q.weight g (w.written k) c * one_where (key_eq (q.next g (w.written k) c) target)) (q.choices g (w.written k)) d m in
-      let all = w.arcs (to_key target) g k r before in
-      let found = some_term (λ c. n.weight g k c * one_where (key_eq (w.written (n.next g k c)) target)) (n.choices g k) (omega (arith, one, among, all)) in
+      let found = some_term (λ c. n.weight g k c * one_where (key_eq (w.written (n.next g k c)) target)) (n.choices g k) (omega (arith, one, among, w.arcs (to_key target) g k r before)) in
       (found.0, found.1, sym (led (n.weight g k found.0) (w.written (n.next g k found.0)) target found.2))
 
   abbrev pub as-images : OpensImages q n t

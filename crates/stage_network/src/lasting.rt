@@ -63,7 +63,7 @@ fn same_side(distance: u128, a: i128) -> u128
 {
     let above = same_below(a, signed(distance));
     let beneath = same_within(a, opposite(distance));
-    if above <= beneath { above } else { beneath }
+    above.min(beneath)
 }
 
 // By how much both ends of what lies so far from a centre can grow with the same verdict.
@@ -74,7 +74,7 @@ fn same_far(distance: u128, a: i128, b: i128) -> u128
 {
     let of_a = same_side(distance, a);
     let of_b = same_side(distance, b);
-    if of_a <= of_b { of_a } else { of_b }
+    of_a.min(of_b)
 }
 
 // The same, where the ends are a factor times what grows.
@@ -98,7 +98,7 @@ fn same_at_most(most: i128, low: i128, high: i128) -> u128
 {
     let of_low = same_within(low, most);
     let of_high = same_within(high, most);
-    if of_low <= of_high { of_low } else { of_high }
+    of_low.min(of_high)
 }
 
 fn same_at_least(least: i128, low: i128, high: i128) -> u128
@@ -108,7 +108,7 @@ fn same_at_least(least: i128, low: i128, high: i128) -> u128
 {
     let of_low = same_below(low, least);
     let of_high = same_below(high, least);
-    if of_low <= of_high { of_low } else { of_high }
+    of_low.min(of_high)
 }
 
 // By how much both ends of an interval can grow with the same verdict of a rule.

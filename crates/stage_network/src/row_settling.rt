@@ -9,7 +9,6 @@ ghost use Rattle.dense_rows.specs.Rows.{row_nodes};
 ghost use Rattle.stage_network.specs.Network.{IsReached};
 ghost use Rattle.stage_network.specs.Completions.{is_inside};
 ghost use Rattle.stage_network.specs.Opened.{is_undecided};
-ghost use Rattle.stage_network.specs.NodeSteps.{closed_weight, open_nodes, opened_in};
 ghost use Rattle.stage_network.specs.ArcSteps.{lift};
 ghost use Rattle.stage_network.specs.Asked.{asked};
 ghost use Rattle.stage_network.specs.declared.stages.Verdict.TheVariants.{Outside};
@@ -117,13 +116,6 @@ fn same_for_asked<S: Roomed>(
     }
 }
 
-fn least(a: u128, b: u128) -> u128
-    ensures first { result ≤ a }
-    ensures second { result ≤ b }
-{
-    if a < b { a } else { b }
-}
-
 // For how many greater partials all verdicts are those of this one.
 fn same_for_all<S: Roomed>(
     stages: &S,
@@ -161,8 +153,7 @@ fn same_for_all<S: Roomed>(
         Tail::Greater,
     );
     let two = same_for_asked(stages, stage, room, outlook, partial, tails.two, Tail::Two);
-    let sides = least(less, greater);
-    least(sides, two)
+    less.min(greater).min(two)
 }
 
 // Settles a room for the asked tails: its closed cells become empty.
@@ -184,18 +175,10 @@ fn settle_open<C: Count, S: Roomed>(
         let nodes = lift room.now (row_nodes lowest (pos stride) (map C.number cells.old)) in
         IsRowful n width stage room.now nodes }
     ensures long { length cells.new ≡ length cells.old }
-    ensures nodes { let n = asked tails (S.Stages.network stages.now) in
+    ensures settled { let n = S.Stages.network stages.now in
         let old = lift room.now (row_nodes lowest (pos stride) (map C.number cells.old)) in
         let new = lift room.now (row_nodes lowest (pos stride) (map C.number cells.new)) in
-        OnOk result (new ≡ open_nodes n stage old) }
-    ensures sum { let n = asked tails (S.Stages.network stages.now) in
-        let old = lift room.now (row_nodes lowest (pos stride) (map C.number cells.old)) in
-        IfOk result (λ all. (t : Tail)
-        → (sum_for all t).sum ≡ (sum_for sums t).sum + closed_weight n t stage old) }
-    ensures opened { let n = asked tails (S.Stages.network stages.now) in
-        let old = lift room.now (row_nodes lowest (pos stride) (map C.number cells.old)) in
-        IfOk result (λ all. (t : Tail)
-        → (sum_for all t).opened ≡ (sum_for sums t).opened + opened_in n t stage old) }
+        IfOk result (λ all. IsRowSettled n (Kept.Open tails) stage old new sums all) }
 {
     let first = next_full(cells, 0);
     if first == cells.len() {

@@ -126,17 +126,23 @@ impl<C: Count> RowSweep<C> {
         let _count = stages.stages();
         self.arcs.list(stages, self.stage, &self.rows)?;
         self.ahead.clear();
-        for target in 0..self.arcs.listed.rooms.len() {
-            self.row
-                .fill(stages, self.stage, &self.rows, &self.arcs, target)?;
-            let room = self.arcs.listed.rooms.key(target);
-            self.sums = self
-                .row
-                .settle(stages, self.stage + 1, self.keep, room, self.sums)?;
-            self.row.keep(room, &mut self.ahead)?;
+        let RowSweep {
+            keep,
+            stage,
+            sums,
+            rows,
+            ahead,
+            arcs,
+            row,
+        } = self;
+        for target in 0..arcs.listed.rooms.len() {
+            row.fill(stages, *stage, rows, arcs, target)?;
+            let room = arcs.listed.rooms.key(target);
+            *sums = row.settle(stages, *stage + 1, *keep, room, *sums)?;
+            row.keep(room, ahead)?;
         }
-        mem::swap(&mut self.rows, &mut self.ahead);
-        self.stage += 1;
+        mem::swap(rows, ahead);
+        *stage += 1;
         Ok(())
     }
 }

@@ -63,23 +63,31 @@ impl<C: Count> Sweep<C> {
         let _count = stages.stages();
         self.arcs.list(stages, self.stage, &self.nodes)?;
         self.ahead.clear();
-        for target in 0..self.arcs.rooms.len() {
-            self.pool
-                .fill(stages, self.stage, &self.nodes, &self.arcs, target)?;
-            let _apart = self.pool.partials.len();
-            self.sums = settle(
+        let Sweep {
+            keep,
+            stage,
+            sums,
+            nodes,
+            ahead,
+            arcs,
+            pool,
+        } = self;
+        for target in 0..arcs.rooms.len() {
+            pool.fill(stages, *stage, nodes, arcs, target)?;
+            let _apart = pool.partials.len();
+            *sums = settle(
                 stages,
-                self.stage + 1,
-                self.keep,
-                &self.pool.partials,
-                self.arcs.rooms.key(target),
-                self.sums,
-                &mut self.ahead,
+                *stage + 1,
+                *keep,
+                &pool.partials,
+                arcs.rooms.key(target),
+                *sums,
+                ahead,
             )?;
         }
-        mem::swap(&mut self.nodes, &mut self.ahead);
-        self.stage += 1;
-        let _held = self.nodes.len();
+        mem::swap(nodes, ahead);
+        *stage += 1;
+        let _held = nodes.len();
         Ok(())
     }
 

@@ -1,6 +1,5 @@
 mod OddsLaws
 mod Multiples
-mod Different
 mod StrataLaws
 mod FittingStrata
 mod Loops

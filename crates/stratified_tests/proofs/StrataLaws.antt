@@ -33,7 +33,7 @@ use Rattle.strata_cells.proofs.StrataSums.{drop-head, past-end}
 use Rattle.stratified_tests.specs.StrataTests.{stratified_test, weight_by}
 use Rattle.stratified_tests.specs.StrataNetwork.{cell_choices, cells_from, strata_addends, stratified_network, weighed_cell}
 use Rattle.stratified_tests.specs.StrataSteps.{AreOdds, AreStages, greatest_sum, strata_total, stratum_total}
-use Rattle.stratified_tests.proofs.Different.{cells-different}
+use Rattle.stage_network.proofs.Ranges.{range-different}
 use Rattle.stratified_tests.proofs.OddsLaws.{cell-is, product-some, weight-joined, weight-least, weight-none}
 
 -- ---- one stratum
@@ -155,7 +155,7 @@ module _ (odds : Option Odds) (strata : List Stratum) (judge : Judge) where
     slots_some = omega arith;
     slots_few = omega arith;
     some_choice = λ g h e. no-choice (stratum_at strata g) e;
-    different = λ g h. cells-different (least_cell (stratum_at strata g)) (greatest_cell (stratum_at strata g) + 1 - least_cell (stratum_at strata g));
+    different = λ g h. range-different (least_cell (stratum_at strata g)) (greatest_cell (stratum_at strata g) + 1 - least_cell (stratum_at strata g));
     weighty = λ g c h m. (let i = choice-cell g c m in weighed-some odds s.odds_are (stratum_at strata g) (slice_index c 0) i.low i.high);
     fits = omega (arith, total-from strata 0 refl, s.total_fits);
     between = λ g h. all_weaker (IsCell (stratum_at strata g)) (AddsBetween a g) (λ c i. adds-between g c i) (a.choices g) (all-cells (stratum_at strata g));

@@ -1,5 +1,5 @@
 -- What holds of Fisher's test of a table whose total passes no limit.
-use Rattle.std.proofs.Common.{◌≡◌, ℕ, zero, suc, ◌+◌, ◌-◌, ◌*◌, ◌<◌, ◌≤◌, Bool, true, false, cond, List, [], ◌∷◌, length, map, take, drop, get_or, Some, None, refl, sym, ◌∙◌, ap, subst, arith, nat_eq}
+use Rattle.std.proofs.Common.{◌≡◌, ℕ, zero, suc, ◌+◌, ◌-◌, ◌*◌, ◌<◌, ◌≤◌, Bool, true, false, cond, List, [], ◌∷◌, length, map, take, drop, get_or, Some, None, refl, sym, ◌∙◌, ap, subst, arith, nat_eq, mul_assoc, mul-one, one-mul}
 use Rattle.std.specs.Prelude.{ℤ, pos, ◌+ℤ◌, ◌*ℤ◌, Contains}
 use Rattle.std.specs.List.{count_by, range_with_len, sum_by}
 use Rattle.std.proofs.lemmas.Bool.{eqb-true, le-leb, le-ltb}
@@ -28,10 +28,10 @@ use Rattle.completion_bounds.proofs.TableWeights.{table-all}
 use Rattle.stage_network.specs.declared.verdicts.Judge.{Judge}
 use Rattle.stage_network.specs.Judged.{JudgeFits, judge_of}
 use Rattle.stage_network.proofs.Following.{judge-fits}
-use Rattle.label_network.specs.LabelNetwork.{IsMargin, label_network, over_rooms}
+use Rattle.label_network.specs.LabelNetwork.{label_network}
 use Rattle.stage_network.specs.Follows.{Follows}
 use Rattle.label_network.proofs.Endings.{labelling_value, partial_after}
-use Rattle.label_network.specs.Linear.{IsLinear, linear_meaning, row_sum}
+use Rattle.label_network.specs.Linear.{IsLinear, linear_meaning, row_sum, table_sum}
 use Rattle.room_network.specs.Numbers.{so_far}
 use Rattle.label_network.proofs.LabelFollows.{label_follows}
 use Rattle.label_network.proofs.LinearNarrows.{linear_measure}
@@ -39,15 +39,14 @@ use Rattle.table_reader.specs.TableLayout.{TableData}
 use Rattle.table_tests.specs.FisherExact.{first_cell, fisher_test, has_fisher_tail, rarity}
 use Rattle.table_tests.specs.TableNetworks.{first_cell_meaning, first_scores, fisher_network, rarity_meaning}
 use Rattle.table_tests.specs.Tables.{cell, column_of, column_sums, columns_in, is_two_by_two, observed_labels, row_sums}
-use Rattle.table_tests.specs.TableSteps.{IsTable, table_sum}
+use Rattle.table_tests.specs.TableSteps.{IsTable}
 use Rattle.table_tests.specs.Weighing.{weight_meaning}
 use Rattle.table_tests.specs.WeightSteps.{past_of}
 use Rattle.table_tests.specs.WeightSteps.{IsWeighing}
 use Rattle.table_tests.proofs.ProductLimits.{is-linear}
-use Rattle.table_tests.proofs.Built.{is-margin}
 use Rattle.table_tests.proofs.MarginSums.{are-columns, even, few-labels, length-columns, length-rows, level, some-labels, subjects-few}
 use Rattle.table_tests.proofs.Observed.{observed-columns}
-use Rattle.table_tests.proofs.Products.{product-table, product-value}
+use Rattle.label_network.proofs.LinearValues.{statistic-table, statistic-value}
 use Rattle.table_tests.proofs.WeightNarrows.{weight_measure}
 
 -- the test, where it is told whether the table has two rows and two columns
@@ -169,22 +168,13 @@ framed t b weight first all frame i two e f g statistic scale whole both =
 -- what a network of weights ends at
 weight-from : (rows columns : List ℕ) (judge : Judge) (table : List (List ℕ)) (g : ℕ) (r : List ℕ) (p : List ℤ) → so_far p ≡ pos (past_of p)
     → so_far (partial_after (weight_meaning rows columns judge) g r p table) ≡ pos (past_of p * table_weight table)
-weight-from rows columns judge [] g r p e = e ∙ ap pos (times-one (past_of p))
-  where
-    times-one : (a : ℕ) → a ≡ a * 1
-    times-one a = omega arith
+weight-from rows columns judge [] g r p e = e ∙ ap pos (sym (mul-one (past_of p)))
 weight-from rows columns judge (x ∷ table) g r p e =
     weight-from rows columns judge table (g + 1) (minus r x) (pos (past_of p * number_of_labellings x) ∷ []) refl
-    ∙ ap pos (grouped (past_of p) (number_of_labellings x) (table_weight table))
-  where
-    grouped : (a b c : ℕ) → (a * b) * c ≡ a * (b * c)
-    grouped a b c = grind arith
+    ∙ ap pos (mul_assoc (past_of p) (number_of_labellings x) (table_weight table))
 
 weight-value : (rows columns : List ℕ) (judge : Judge) (xs : List ℕ) → labelling_value (weight_meaning rows columns judge) xs ≡ pos (table_weight (columns_of (length rows) columns xs))
-weight-value rows columns judge xs = weight-from rows columns judge (columns_of (length rows) columns xs) 0 rows (pos 1 ∷ []) refl ∙ ap pos (one-times (table_weight (columns_of (length rows) columns xs)))
-  where
-    one-times : (a : ℕ) → 1 * a ≡ a
-    one-times a = omega arith
+weight-value rows columns judge xs = weight-from rows columns judge (columns_of (length rows) columns xs) 0 rows (pos 1 ∷ []) refl ∙ ap pos (one-mul (table_weight (columns_of (length rows) columns xs)))
 
 -- what the network of the first cell ends at
 first-sum : (a b : ℕ) (z : ℤ) → (pos 1 *ℤ ((pos a *ℤ pos 1) +ℤ ((pos b *ℤ pos 0) +ℤ pos 0))) +ℤ ((pos 0 *ℤ z) +ℤ pos 0) ≡ pos a
@@ -218,14 +208,14 @@ module _ (t : TableData) (i : IsTable t) where
     pub first-within : get_or (column_sums t) 0 0 ≤ length xs
     first-within = omega (arith, get_or-le-sum_by (λ v. v) (column_sums t) 0 0 some-columns, (are-columns t i xs m).level)
 
-  pub weighing : (judge : Judge) → judge ≡ judge_of (fisher_test t) → IsWeighing (row_sums t) (column_sums t) judge
-  weighing judge e = record {
+  pub weighing : IsWeighing (row_sums t) (column_sums t) (judge_of (fisher_test t))
+  weighing = record {
     some = omega (arith, some-labels t i);
     few = few-labels t i;
     level = even t;
     units = omega (arith, subjects-few t i);
     total_fits = i.total_fits;
-    rules_fit = λ v h. judge-fits (fisher_test t) judge e v (λ tail. rule-fits t tail v);
+    rules_fit = λ v h. judge-fits (fisher_test t) (judge_of (fisher_test t)) refl v (λ tail. rule-fits t tail v);
   }
 
   pub linear-by : (judge : Judge) → is_two_by_two t ≡ true → ((v : ℤ) → JudgeFits judge v) → IsLinear first_scores (row_sums t) first_scores (column_sums t) judge
@@ -233,14 +223,8 @@ module _ (t : TableData) (i : IsTable t) where
       is-linear (row_sums t) (column_sums t) first_scores first_scores (even t) (subjects-few t i) (omega arith) (omega arith)
       (omega (arith, length-rows t, (square t two).0)) (omega (arith, length-columns t, (square t two).1)) (few-labels t i) judge (λ v h. fits v)
 
-  pub linear-of : (judge : Judge) → is_two_by_two t ≡ true → judge ≡ judge_of (fisher_test t) → IsLinear first_scores (row_sums t) first_scores (column_sums t) judge
-  linear-of judge two e = linear-by judge two (λ v. judge-fits (fisher_test t) judge e v (λ tail. rule-fits t tail v))
-
-  pub first-margin : (judge : Judge) → IsMargin (over_rooms (linear_meaning first_scores (row_sums t) first_scores (column_sums t) judge)) (column_sums t) (row_sums t)
-  first-margin judge = is-margin t i (over_rooms (linear_meaning first_scores (row_sums t) first_scores (column_sums t) judge)) refl refl
-
-  pub weight-margin : (judge : Judge) → IsMargin (over_rooms (weight_meaning (row_sums t) (column_sums t) judge)) (column_sums t) (row_sums t)
-  weight-margin judge = is-margin t i (over_rooms (weight_meaning (row_sums t) (column_sums t) judge)) refl refl
+  pub linear-of : is_two_by_two t ≡ true → IsLinear first_scores (row_sums t) first_scores (column_sums t) (judge_of (fisher_test t))
+  linear-of two = linear-by (judge_of (fisher_test t)) two (λ v. judge-fits (fisher_test t) (judge_of (fisher_test t)) refl v (λ tail. rule-fits t tail v))
 
   follows-weight : Follows (fisher_test t) Two (fisher_network t Two)
   follows-weight =
@@ -254,8 +238,8 @@ module _ (t : TableData) (i : IsTable t) where
 
   pub first-value : (judge : Judge) → is_two_by_two t ≡ true → (xs : List ℕ) → pos (first_cell (column_sums t) xs) ≡ labelling_value (linear_meaning first_scores (row_sums t) first_scores (column_sums t) judge) xs
   first-value judge two xs =
-      sym (product-table first_scores first_scores (column_sums t) xs ∙ first-two (column_sums t) xs (length-columns t ∙ (square t two).1))
-      ∙ product-value first_scores (row_sums t) first_scores (column_sums t) judge (omega (arith, length-rows t, (square t two).0)) (omega (arith, length-columns t, (square t two).1)) xs
+      sym (statistic-table first_scores first_scores (column_sums t) xs ∙ first-two (column_sums t) xs (length-columns t ∙ (square t two).1))
+      ∙ statistic-value first_scores (row_sums t) first_scores (column_sums t) judge (omega (arith, length-rows t, (square t two).0)) (omega (arith, length-columns t, (square t two).1)) xs
 
   pub statistic-first : is_two_by_two t ≡ true → (xs : List ℕ) → (fisher_test t).statistic xs ≡ pos (first_cell (column_sums t) xs)
   statistic-first two xs = rw two refl
@@ -263,7 +247,7 @@ module _ (t : TableData) (i : IsTable t) where
   follows-cell : (tail : Tail) → ((xs : List ℕ) → measured (fisher_test t) tail xs ≡ (fisher_test t).statistic xs) → is_two_by_two t ≡ true → Follows (fisher_test t) tail (label_network (first_cell_meaning t))
   follows-cell tail statistic two =
       let judge : Judge = judge_of (fisher_test t) in
-      label_follows (first_cell_meaning t) (linear_measure first_scores (row_sums t) first_scores (column_sums t) judge (linear-of judge two refl)) (fisher_test t) tail (record {
+      label_follows (first_cell_meaning t) (linear_measure first_scores (row_sums t) first_scores (column_sums t) judge (linear-of two)) (fisher_test t) tail (record {
         judge_is = refl;
         reference = refl;
         alike = λ xs. refl;

@@ -1,5 +1,5 @@
 -- What completes the keys before the last two columns: the choices of the last but one, each with what it leaves.
-use Rattle.std.proofs.Common.{◌≡◌, ℕ, zero, suc, ◌+◌, ◌-◌, ◌*◌, ◌/◌, ◌<◌, ◌≤◌, ◌⊎◌, inl, inr, List, [], ◌∷◌, ◌++◌, map, filter, take, drop, get_or, length, Bool, true, false, cond, refl, sym, ◌∙◌, ap, subst, arith, add-one, drop-cons, drop_of_length-le, mul_assoc, lt-ltb, nat_le}
+use Rattle.std.proofs.Common.{◌≡◌, ℕ, zero, suc, ◌+◌, ◌-◌, ◌*◌, ◌/◌, ◌<◌, ◌≤◌, ◌⊎◌, inl, inr, List, [], ◌∷◌, ◌++◌, map, filter, take, drop, get_or, length, Bool, true, false, cond, refl, sym, ◌∙◌, ap, subst, arith, add-one, drop-cons, drop_of_length-le, mul_assoc, lt-ltb, nat_le, mul-one}
 use Rattle.std.specs.Prelude.{ℤ, pos, nat_abs, int_le, slice_index}
 use Rattle.std.specs.List.{sum, AllByRecursion}
 use Rattle.std.proofs.Math.Nat.{mul-div-le, mul-le-mul_left}
@@ -46,7 +46,7 @@ use Rattle.label_network.proofs.Sizes.{fewer-labellings}
 use Rattle.sorted_tables.specs.ChoiceLines.{choice_line, choice_lines}
 use Rattle.sorted_tables.specs.GatheredChoices.{gathered_weight, is_gathered}
 use Rattle.sorted_tables.specs.SortedRooms.{sorted_plan, sorted_weight}
-use Rattle.sorted_tables.proofs.ChoiceSums.{completed, completed-same, lines-completed, lines-weigh, times-one}
+use Rattle.sorted_tables.proofs.ChoiceSums.{completed, completed-same, lines-completed, lines-weigh}
 use Rattle.sorted_tables.proofs.SortedPlans.{sorted_width}
 use Rattle.table_tests.specs.LastSteps.{AreBeforeLast, AreLast, most_in, weight_network}
 use Rattle.table_tests.specs.SortedWeighing.{sorted_meaning}
@@ -74,7 +74,7 @@ module _ (rows columns : List ℕ) (judge : Judge) where
   values-completed f zero g r p e long =
       let none : drop g columns ≡ [] = drop_of_length-le columns {i = g} (omega (arith, e)) in
       let last : so_far (drop (length rows) (map pos r ++ pos p ∷ [])) ≡ pos p = ap so_far (back_is (length rows) (map pos r) (pos p ∷ []) (length-pos r ∙ long)) in
-      let same : f (so_far (drop (length rows) (map pos r ++ pos p ∷ []))) ≡ f (pos (p * 1)) = ap f (last ∙ ap pos (sym (times-one p))) in
+      let same : f (so_far (drop (length rows) (map pos r ++ pos p ∷ []))) ≡ f (pos (p * 1)) = ap f (last ∙ ap pos (sym (mul-one p))) in
       rw none (omega (arith, same))
   values-completed f (suc m) g r p e long =
       let n = weight_network rows columns judge in

@@ -1,7 +1,6 @@
 mod MarginSums
 mod Built
 mod Observed
-mod Products
 mod ProductLimits
 mod LinearTests
 mod SingleSubjects

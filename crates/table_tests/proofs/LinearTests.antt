@@ -22,7 +22,7 @@ use Rattle.stage_network.specs.Follows.{Follows}
 use Rattle.stage_network.proofs.Following.{judge-fits}
 use Rattle.label_network.specs.LabelNetwork.{IsMargin, over_rooms}
 use Rattle.label_network.specs.LaterSums.{subjects}
-use Rattle.label_network.specs.Linear.{IsLinear, greatest_sizes, linear_meaning, row_sum}
+use Rattle.label_network.specs.Linear.{IsLinear, greatest_sizes, row_sum, table_sum}
 use Rattle.label_network.proofs.LabelFollows.{label_follows}
 use Rattle.label_network.proofs.LinearNarrows.{linear_measure}
 use Rattle.label_network.proofs.LinearSizes.{row-size}
@@ -31,12 +31,12 @@ use Rattle.table_reader.specs.declared.tables.Table.{Table}
 use Rattle.table_tests.specs.LinearByLinear.{ScoredTable, centre, linear_test}
 use Rattle.table_tests.specs.TableNetworks.{linear_network, product_meaning}
 use Rattle.table_tests.specs.Tables.{column_sums, columns_in, observed_labels, row_sums}
-use Rattle.table_tests.specs.TableSteps.{AreCentred, AreFitting, AreScored, AreScores, scored_of, table_sum}
+use Rattle.table_tests.specs.TableSteps.{AreCentred, AreFitting, AreScored, AreScores, scored_of}
 use Rattle.table_tests.proofs.Built.{is-margin}
 use Rattle.table_tests.proofs.MarginSums.{are-columns, even, few-labels, length-columns, length-rows, subjects-few, table-of}
 use Rattle.table_tests.proofs.Observed.{observed-columns}
 use Rattle.table_tests.proofs.ProductLimits.{is-linear, sizes-small}
-use Rattle.table_tests.proofs.Products.{product-size, product-table, product-value}
+use Rattle.label_network.proofs.LinearValues.{statistic-size, statistic-table, statistic-value}
 
 pub total-is : (t : ScoredTable) → total (linear_test t) ≡ number_of_labellings (row_sums t.table)
 total-is t = sum_by-one (labellings (row_sums t.table))
@@ -105,34 +105,34 @@ module _ (t : ScoredTable) (f : AreFitting t) where
   pub is-centred : IsCentred (linear_test t) (sum (row_sums t.table)) (centre t)
   is-centred = record {
     by = refl;
-    observed = value-fits _ (product-size t.row_scores (subjects t.column_scores (column_sums t.table)) (observed_labels t.table));
-    each = λ r m. value-fits _ (product-size t.row_scores (subjects t.column_scores (column_sums t.table)) r);
+    observed = value-fits _ (statistic-size t.row_scores (subjects t.column_scores (column_sums t.table)) (observed_labels t.table));
+    each = λ r m. value-fits _ (statistic-size t.row_scores (subjects t.column_scores (column_sums t.table)) r);
   }
 
-  pub linear-of : (judge : Judge) → judge ≡ judge_of (linear_test t) → IsLinear t.row_scores (row_sums t.table) t.column_scores (column_sums t.table) judge
-  linear-of judge e =
-      is-linear (row_sums t.table) (column_sums t.table) t.row_scores t.column_scores (even t.table) few f.row_sizes f.column_sizes as-wide as-long (few-labels t.table f.table) judge
-      (λ v h. judge-fits (linear_test t) judge e v (λ tail. rule-fits (linear_test t) is-centred tail v (value-fits v h)))
+  pub linear-of : IsLinear t.row_scores (row_sums t.table) t.column_scores (column_sums t.table) (judge_of (linear_test t))
+  linear-of =
+      is-linear (row_sums t.table) (column_sums t.table) t.row_scores t.column_scores (even t.table) few f.row_sizes f.column_sizes as-wide as-long (few-labels t.table f.table) (judge_of (linear_test t))
+      (λ v h. judge-fits (linear_test t) (judge_of (linear_test t)) refl v (λ tail. rule-fits (linear_test t) is-centred tail v (value-fits v h)))
 
-  pub margin : (judge : Judge) → IsMargin (over_rooms (linear_meaning t.row_scores (row_sums t.table) t.column_scores (column_sums t.table) judge)) (column_sums t.table) (row_sums t.table)
-  margin judge = is-margin t.table f.table (over_rooms (linear_meaning t.row_scores (row_sums t.table) t.column_scores (column_sums t.table) judge)) refl refl
+  pub margin : IsMargin (over_rooms (product_meaning t)) (column_sums t.table) (row_sums t.table)
+  margin = is-margin t.table f.table (over_rooms (product_meaning t)) refl refl
 
   pub follows : (tail : Tail) → Follows (linear_test t) tail (linear_network t tail)
   follows tail =
       let judge : Judge = judge_of (linear_test t) in
-      label_follows (product_meaning t) (linear_measure t.row_scores (row_sums t.table) t.column_scores (column_sums t.table) judge (linear-of judge refl)) (linear_test t) tail (record {
+      label_follows (product_meaning t) (linear_measure t.row_scores (row_sums t.table) t.column_scores (column_sums t.table) judge linear-of) (linear_test t) tail (record {
         judge_is = refl;
         reference = refl;
         alike = λ xs. refl;
         values = λ xs m.
             measured-is (linear_test t) refl tail xs
-            ∙ product-value t.row_scores (row_sums t.table) t.column_scores (column_sums t.table) judge as-wide as-long xs;
+            ∙ statistic-value t.row_scores (row_sums t.table) t.column_scores (column_sums t.table) judge as-wide as-long xs;
       })
 
   pub observed-sum : table_sum t.row_scores t.column_scores (columns_in t.table) ≡ (linear_test t).statistic (observed_labels t.table)
   observed-sum =
       sym (
-      product-table t.row_scores t.column_scores (column_sums t.table) (observed_labels t.table)
+      statistic-table t.row_scores t.column_scores (column_sums t.table) (observed_labels t.table)
       ∙ ap (λ k. table_sum t.row_scores t.column_scores (columns_of k (column_sums t.table) (observed_labels t.table))) f.rows_level
       ∙ ap (table_sum t.row_scores t.column_scores) (observed-columns t.table))
 

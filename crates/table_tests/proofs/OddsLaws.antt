@@ -1,5 +1,5 @@
 -- The labellings of a table of two rows and two columns with odds: its rooms give them, and what remains of a room.
-use Rattle.std.proofs.Common.{◌≡◌, ℕ, zero, suc, ◌+◌, ◌-◌, ◌*◌, ◌^◌, ◌<◌, ◌≤◌, cond, List, [], ◌∷◌, map, take, drop, length, min, nat_eq, nat_le, true, refl, sym, ◌∙◌, ap, subst, arith, ne_eqb, length-drop, mul-one}
+use Rattle.std.proofs.Common.{◌≡◌, ℕ, zero, suc, ◌+◌, ◌-◌, ◌*◌, ◌^◌, ◌<◌, ◌≤◌, cond, List, [], ◌∷◌, map, take, drop, length, min, nat_eq, nat_le, true, refl, sym, ◌∙◌, ap, subst, arith, ne_eqb, length-drop, mul-one, mul_assoc, one-mul}
 use Rattle.std.specs.Prelude.{ℤ, pos, slice_index}
 use Rattle.std.specs.List.{AllByRecursion, Contains, range_with_len, sum, sum_by}
 use Rattle.std.proofs.Math.Nat.{mul_comm, one-le-pow}
@@ -46,17 +46,11 @@ product_left a b h = grind arith
 pub product_right : (a b : ℕ) → 1 ≤ a → b ≤ a * b
 product_right a b h = grind arith
 
-grouped : (a b c : ℕ) → (a * b) * c ≡ a * (b * c)
-grouped a b c = grind arith
-
 apart : (a b x y : ℕ) → (a * b) * (x * y) ≡ (a * x) * (b * y)
 apart a b x y = grind arith
 
 turned : (a b : ℕ) → (a * b) * 1 ≡ b * (a * 1)
 turned a b = grind arith
-
-once : (n : ℕ) → 1 * n ≡ n
-once n = omega arith
 
 -- ---- pairs
 
@@ -162,13 +156,13 @@ module _ (odds : Odds) (columns rows : List ℕ) where
 
   module _ (two_columns : length columns ≡ 2) (two_rows : length rows ≡ 2) (level : sum columns ≡ sum rows) where
     term : (f : List (List ℕ) → ℕ) (xs : List ℕ) → Contains (labellings rows) xs → 1 * (way_odds odds 0 (cut xs) * f (cut xs)) ≡ labels_weight odds columns rows xs * f (cut xs)
-    term f xs o = once (way_odds odds 0 (cut xs) * f (cut xs)) ∙ ap (λ n. n * f (cut xs)) (labels-odds odds columns rows two_columns two_rows level xs o)
+    term f xs o = one-mul (way_odds odds 0 (cut xs) * f (cut xs)) ∙ ap (λ n. n * f (cut xs)) (labels-odds odds columns rows two_columns two_rows level xs o)
 
     pub odds_give : Gives plan (labellings rows) (labels_weight odds columns rows) cut
     odds_give = record {
       law = λ f.
           ap (sum_by (λ w. way_weight plan w * f w)) (same-paths (length columns - 0) 0 (map pos rows))
-          ∙ sum_by-same (λ w. way_weight plan w * f w) (λ w. way_weight labels w * (way_odds odds 0 w * f w)) (λ w. ap (λ n. n * f w) (way-weighs 0 (map pos rows) w) ∙ grouped (way_weight labels w) (way_odds odds 0 w) (f w)) (ways labels)
+          ∙ sum_by-same (λ w. way_weight plan w * f w) (λ w. way_weight labels w * (way_odds odds 0 w * f w)) (λ w. ap (λ n. n * f w) (way-weighs 0 (map pos rows) w) ∙ mul_assoc (way_weight labels w) (way_odds odds 0 w) (f w)) (ways labels)
           ∙ (labels_give columns rows level).law (λ w. way_odds odds 0 w * f w)
           ∙ sum_by-same_where (Contains (labellings rows)) (λ xs. 1 * (way_odds odds 0 (cut xs) * f (cut xs))) (λ xs. labels_weight odds columns rows xs * f (cut xs)) (term f) (labellings rows) (members (labellings rows));
     }

@@ -1,5 +1,5 @@
 -- What holds of Fisher's test of a table with odds whose total passes no limit.
-use Rattle.std.proofs.Common.{◌≡◌, ℕ, ◌+◌, ◌-◌, ◌^◌, ◌≤◌, List, [], ◌∷◌, length, true, Some, None, Err, inl, inr, refl, sym, ◌∙◌, subst, arith, lit≤}
+use Rattle.std.proofs.Common.{◌≡◌, ℕ, ◌+◌, ◌-◌, ◌^◌, ◌≤◌, List, [], ◌∷◌, length, true, Some, None, Err, inl, inr, refl, sym, ◌∙◌, arith, lit≤}
 use Rattle.std.specs.Prelude.{ℤ, slice_index}
 use Rattle.std.specs.List.{AllByRecursion, Contains, sum_by}
 use Rattle.std.proofs.Math.Nat.{one-le-pow}
@@ -21,18 +21,15 @@ use Rattle.weights.specs.Rules.{RuleFits, measured, rule_of}
 use Rattle.weights.specs.Wide.{Prepares, too_wide}
 use Rattle.weights.proofs.Centred.{at_least-fits, at_most-fits, no-distance, no-times, total-wide as wide-total}
 use Rattle.weights.proofs.FirstLabel.{number_of_labellings-positive}
-use Rattle.stage_network.specs.declared.verdicts.Judge.{Judge}
 use Rattle.stage_network.specs.Judged.{judge_of}
 use Rattle.stage_network.proofs.Following.{judge-fits}
 use Rattle.stage_network.specs.Follows.{Follows}
 use Rattle.stage_network.proofs.Bounds.{term-le-sum_by}
 use Rattle.room_network.specs.Meanings.{way_value}
-use Rattle.room_network.specs.RoomNetworks.{IsHoused}
 use Rattle.room_network.proofs.RoomFollows.{room_follows}
 use Rattle.label_network.specs.LabelNetwork.{over_rooms}
 use Rattle.label_network.specs.LabelRooms.{IsLabelled}
 use Rattle.label_network.specs.Linear.{IsLinear}
-use Rattle.label_network.specs.Meanings.{Meaning}
 use Rattle.label_network.proofs.LabelPlans.{label_width}
 use Rattle.label_network.proofs.LinearNarrows.{linear_measure}
 use Rattle.label_network.proofs.OverRooms.{over_measure, over_value}
@@ -40,8 +37,8 @@ use Rattle.table_reader.specs.TableLayout.{TableData}
 use Rattle.table_tests.specs.FisherExact.{first_cell, fisher_test}
 use Rattle.table_tests.specs.FisherOdds.{WeightedTable, labels_weight, odds_test}
 use Rattle.weights.specs.Odds.{IsOdds}
-use Rattle.table_tests.specs.OddsNetworks.{cell_meaning, odds_network, odds_plan, odds_weights}
-use Rattle.table_tests.specs.OddsSteps.{AreWeighted, IsWeightedTable, cells_weight, odds_total}
+use Rattle.table_tests.specs.OddsNetworks.{cell_meaning, odds_network, odds_weights}
+use Rattle.table_tests.specs.OddsSteps.{AreWeighted, OddsFacts, OddsLabels, IsWeightedTable, cells_weight, odds_total}
 use Rattle.table_tests.specs.TableNetworks.{first_scores}
 use Rattle.table_tests.specs.Tables.{column_sums, is_two_by_two, row_sums}
 use Rattle.table_tests.specs.TableSteps.{IsTable}
@@ -143,17 +140,8 @@ module _ (w : WeightedTable) (sum_of : ℕ) (i : IsWeightedTable w sum_of) where
     total_fits = i.total_fits;
   }
 
-  pub linear : (judge : Judge) → judge ≡ judge_of (odds_test w) → IsLinear first_scores (row_sums w.table) first_scores (column_sums w.table) judge
-  linear judge e = linear-by w.table i.fitting judge i.square (λ v. judge-fits (odds_test w) judge e v (λ tail. rule-fits w tail v))
-
-  pub housed : (m : Meaning) (odds : Odds) (columns rows : List ℕ) → m ≡ cell_meaning w → columns ≡ column_sums w.table → rows ≡ row_sums w.table → IsHoused (odds_plan odds columns rows) (over_rooms m)
-  housed m odds columns rows e f g =
-      let wide : length (row_sums w.table) ≡ 2 = two-rows w.table i.square in
-      subst (λ n. IsHoused (odds_plan odds columns rows) (over_rooms n)) (sym e) (rw (f, g) (record {
-        floor_is = refl;
-        some = omega (arith, wide);
-        few = omega (arith, wide);
-      }))
+  linear : IsLinear first_scores (row_sums w.table) first_scores (column_sums w.table) (judge_of (odds_test w))
+  linear = linear-by w.table i.fitting (judge_of (odds_test w)) i.square (λ v. judge-fits (odds_test w) (judge_of (odds_test w)) refl v (λ tail. rule-fits w tail v))
 
   values : (tail : Tail) (xs : List ℕ) → measured (odds_test w) tail xs ≡ way_value (over_rooms (cell_meaning w)) (columns_of (length (row_sums w.table)) (column_sums w.table) xs)
   values tail xs =
@@ -163,23 +151,31 @@ module _ (w : WeightedTable) (sum_of : ℕ) (i : IsWeightedTable w sum_of) where
   pub follows : (tail : Tail) → Follows (odds_test w) tail (odds_network w tail)
   follows tail =
       room_follows (over_rooms (cell_meaning w)) (odds_weights w.odds) (label_width (column_sums w.table) (row_sums w.table))
-      (over_measure (cell_meaning w) (linear_measure first_scores (row_sums w.table) first_scores (column_sums w.table) (judge_of (odds_test w)) (linear (judge_of (odds_test w)) refl)))
+      (over_measure (cell_meaning w) (linear_measure first_scores (row_sums w.table) first_scores (column_sums w.table) (judge_of (odds_test w)) linear))
       (odds_test w) tail (columns_of (length (row_sums w.table)) (column_sums w.table)) (record {
         judge_is = refl;
         gives = odds_give w.odds (column_sums w.table) (row_sums w.table) (two-columns w.table i.square) (two-rows w.table i.square) (sym (level w.table));
         values = λ xs m. values tail xs;
       })
 
-  -- of a labelling
-  module _ (xs : List ℕ) (m : Contains (labellings (row_sums w.table)) xs) where
-    pub cell-fits : labels_weight w.odds (column_sums w.table) (row_sums w.table) xs ≤ MAX
-    cell-fits = omega (arith, bounded, term-le-sum_by (labels_weight w.odds (column_sums w.table) (row_sums w.table)) (labellings (row_sums w.table)) xs m)
+  pub odds_facts : OddsFacts w sum_of
+  odds_facts = record {
+    total_is = i.total_is;
+    bounded = bounded;
+    some = total-some w i.some_odds;
+    shown = shown w i.some_odds;
+    weighted = are-weighted;
+    linear = linear;
+  }
 
-    pub above-fits : w.odds.above ^ first_cell (column_sums w.table) xs ≤ MAX
-    above-fits = omega (arith, cell-fits, product_left (w.odds.above ^ first_cell (column_sums w.table) xs) (w.odds.below ^ (slice_index (row_sums w.table) 0 - first_cell (column_sums w.table) xs)) (one-le-pow (slice_index (row_sums w.table) 0 - first_cell (column_sums w.table) xs) w.odds.below i.some_odds.below_some))
-
-    pub below-fits : w.odds.below ^ (slice_index (row_sums w.table) 0 - first_cell (column_sums w.table) xs) ≤ MAX
-    below-fits = omega (arith, cell-fits, product_right (w.odds.above ^ first_cell (column_sums w.table) xs) (w.odds.below ^ (slice_index (row_sums w.table) 0 - first_cell (column_sums w.table) xs)) (one-le-pow (first_cell (column_sums w.table) xs) w.odds.above i.some_odds.above_some))
-
-    pub cell-most : first_cell (column_sums w.table) xs ≤ slice_index (row_sums w.table) 0
-    cell-most = cell-within-row (slice_index (column_sums w.table) 0) (row_sums w.table) (two-rows w.table i.square) xs m
+  pub odds_labels : (xs : List ℕ) → Contains (labellings (row_sums w.table)) xs → OddsLabels w xs
+  odds_labels xs m =
+      let cell : ℕ = first_cell (column_sums w.table) xs in
+      let upper : ℕ = slice_index (row_sums w.table) 0 in
+      let fits : labels_weight w.odds (column_sums w.table) (row_sums w.table) xs ≤ MAX = omega (arith, bounded, term-le-sum_by (labels_weight w.odds (column_sums w.table) (row_sums w.table)) (labellings (row_sums w.table)) xs m) in
+      record {
+        within = cell-within-row (slice_index (column_sums w.table) 0) (row_sums w.table) (two-rows w.table i.square) xs m;
+        above = omega (arith, fits, product_left (w.odds.above ^ cell) (w.odds.below ^ (upper - cell)) (one-le-pow (upper - cell) w.odds.below i.some_odds.below_some));
+        below = omega (arith, fits, product_right (w.odds.above ^ cell) (w.odds.below ^ (upper - cell)) (one-le-pow cell w.odds.above i.some_odds.above_some));
+        fits = fits;
+      }

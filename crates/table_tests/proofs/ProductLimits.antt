@@ -9,7 +9,7 @@ use Rattle.stage_network.specs.Judged.{JudgeFits}
 use Rattle.label_network.specs.LaterSums.{subjects}
 use Rattle.label_network.specs.Linear.{IsLinear, greatest_sizes}
 use Rattle.table_tests.specs.TableSteps.{AreScores}
-use Rattle.table_tests.proofs.Products.{subjects-size}
+use Rattle.label_network.proofs.LinearValues.{subjects-size}
 
 module _ (rows columns : List ℕ) (us vs : List ℤ) (level : sum columns ≡ sum rows) (few : sum rows ≤ 512000000) (small_us : AreScores us) (small_vs : AreScores vs) where
   columns-small : absolute_sum (subjects vs columns) ≤ 512000000000000000

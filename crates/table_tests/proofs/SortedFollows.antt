@@ -1,5 +1,5 @@
 -- The network of a table's weight over sorted rooms follows a test that measures the weight of each labelling's table.
-use Rattle.std.proofs.Common.{◌≡◌, ℕ, ◌*◌, ◌≤◌, List, [], ◌∷◌, length, refl, sym, ◌∙◌, ap, subst, arith}
+use Rattle.std.proofs.Common.{◌≡◌, ℕ, ◌*◌, ◌≤◌, List, [], ◌∷◌, length, refl, sym, ◌∙◌, ap, subst, arith, one-mul}
 use Rattle.std.specs.Prelude.{pos, nat_le}
 use Rattle.std.specs.List.{sum, sum_by, Contains}
 use Rattle.weights.specs.declared.tails.Tail.{Tail}
@@ -26,9 +26,6 @@ use Rattle.table_tests.specs.SortedWeighing.{sorted_meaning}
 use Rattle.table_tests.specs.WeightSteps.{IsWeighing}
 use Rattle.sorted_tables.proofs.ChoiceSums.{labellings-falling}
 use Rattle.table_tests.proofs.SortedNarrows.{sorted-from, sorted_measure}
-
-one-times : (a : ℕ) → 1 * a ≡ a
-one-times a = omega arith
 
 module _ (rows columns : List ℕ) (level : sum columns ≡ sum rows) where
   level-sorted : sum (rising columns) ≡ sum (falling rows)
@@ -62,7 +59,7 @@ module _ (rows columns : List ℕ) (level : sum columns ≡ sum rows) where
     cut-value : (xs : List ℕ) → way_value (sorted_meaning (falling rows) (rising columns) (judge_of test)) (tables.cut xs) ≡ pos (table_weight (columns_of (length rows) columns xs))
     cut-value xs =
         sorted-from (falling rows) (rising columns) (judge_of test) (tables.cut xs) 0 _ (pos 1 ∷ []) refl
-        ∙ ap pos (one-times (table_weight (tables.cut xs)) ∙ tables.weighs xs)
+        ∙ ap pos (one-mul (table_weight (tables.cut xs)) ∙ tables.weighs xs)
 
     pub sorted_follows : Follows test tail (room_network (sorted_meaning (falling rows) (rising columns) (judge_of test)) sorted_weight)
     sorted_follows =

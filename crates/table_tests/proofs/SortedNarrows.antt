@@ -1,5 +1,5 @@
 -- The interval of a table's weight by its columns and rows narrows along every choice of sorted rooms: it does not see the order of the sizes.
-use Rattle.std.proofs.Common.{◌≡◌, ℕ, zero, suc, ◌+◌, ◌*◌, ◌/◌, ◌<◌, ◌≤◌, max, min, List, [], ◌∷◌, map, length, drop, cond, refl, sym, ◌∙◌, ap, subst, arith, add-one, drop-cons, nat_le}
+use Rattle.std.proofs.Common.{◌≡◌, ℕ, zero, suc, ◌+◌, ◌*◌, ◌/◌, ◌<◌, ◌≤◌, max, min, List, [], ◌∷◌, map, length, drop, cond, refl, sym, ◌∙◌, ap, subst, arith, add-one, drop-cons, nat_le, mul_assoc, mul-one}
 use Rattle.std.specs.Int.{div_ceil}
 use Rattle.std.specs.Prelude.{ℤ, pos, ◌≤ℤ◌, slice_index}
 use Rattle.std.specs.List.{sum, Contains}
@@ -19,8 +19,6 @@ use Rattle.label_network.specs.Meanings.{sizes_in}
 use Rattle.label_network.proofs.LabelPlans.{sizes-back}
 use Rattle.label_network.proofs.Later.{fits-length}
 use Rattle.label_network.proofs.Narrowing.{AreLeft, chosen}
-use Rattle.stage_network.proofs.Swaps.{swap_at}
-use Rattle.sorted_tables.proofs.Reordering.{even-order}
 use Rattle.sorted_tables.proofs.ChoiceSums.{labellings-falling}
 use Rattle.sorted_tables.proofs.SortedPlans.{IsLeftRoom, among-all, left-onward, left-start, sizes-fallen}
 use Rattle.row_products.specs.RowProducts.{factorial, greatest_by_rows, greatest_product, least_by_rows, least_product}
@@ -28,21 +26,10 @@ use Rattle.table_tests.specs.SortedWeighing.{sharper_high, sharper_low, sorted_m
 use Rattle.table_tests.specs.WeightSteps.{past_of}
 use Rattle.table_tests.specs.WeightSteps.{IsProduct, IsWeightKey, IsWeightMove, IsWeightRoom, IsWeightStep}
 use Rattle.table_tests.proofs.SharperFactors.{columns_high, columns_low, high-ends, high-onward, high_over, low-ends, low-onward, low_over}
-use Rattle.table_tests.proofs.WeightNarrows.{first-product, keeping, none_left, risen, times-one}
+use Rattle.table_tests.proofs.FilledColumns.{product-falling}
+use Rattle.table_tests.proofs.WeightNarrows.{first-product, keeping, none_left, risen}
 
 -- what the later columns and the rows say does not see the order of the sizes
-product-swap : (f : ℕ → ℕ) (i : ℕ) (r : List ℕ) → product_by f (swap_at i r) ≡ product_by f r
-product-swap f i [] = refl
-product-swap f zero (m ∷ []) = refl
-product-swap f zero (m ∷ n ∷ r) = turned (f n) (f m) (product_by f r)
-  where
-    turned : (a b c : ℕ) → a * (b * c) ≡ b * (a * c)
-    turned a b c = grind arith
-product-swap f (suc i) (m ∷ r) = ap (λ n. f m * n) (product-swap f i r)
-
-product-falling : (f : ℕ → ℕ) (r : List ℕ) → product_by f (falling r) ≡ product_by f r
-product-falling f r = even-order is_at_least (product_by f) (product-swap f) r
-
 abbrev low_with : List ℕ → ℕ → ℕ → ℕ
 low_with later a b = cond (nat_le (product_by factorial later) MAX) (max a b) a
 
@@ -63,25 +50,18 @@ high-falling later r =
 -- what the choices multiply
 pub sorted-from : (rows columns : List ℕ) (judge : Judge) (w : List (List ℕ)) (g : ℕ) (room p : List ℤ) → so_far p ≡ pos (past_of p)
     → so_far (partial_after (sorted_meaning rows columns judge) g room p w) ≡ pos (past_of p * table_weight w)
-sorted-from rows columns judge [] g room p e = e ∙ ap pos (sym (times-one (past_of p)))
+sorted-from rows columns judge [] g room p e = e ∙ ap pos (sym (mul-one (past_of p)))
 sorted-from rows columns judge (x ∷ w) g room p e =
     sorted-from rows columns judge w (g + 1) (map pos (falling (minus (sizes_in room) x))) (pos (past_of p * number_of_labellings x) ∷ []) refl
-    ∙ ap pos (grouped (past_of p) (number_of_labellings x) (table_weight w))
-  where
-    grouped : (a b c : ℕ) → (a * b) * c ≡ a * (b * c)
-    grouped a b c = grind arith
+    ∙ ap pos (mul_assoc (past_of p) (number_of_labellings x) (table_weight w))
 
 more-times : (p a s b : ℕ) → a ≤ s * b → p * a ≤ (p * s) * b
 more-times p a s b h =
-    let one : p * a ≤ p * (s * b) = mul-le-mul_left p h in
-    let two : (p * s) * b ≡ p * (s * b) = grind arith in
-    omega (arith, one, two)
+    omega (arith, mul-le-mul_left p h, mul_assoc p s b)
 
 less-times : (p a s b : ℕ) → s * b ≤ a → (p * s) * b ≤ p * a
 less-times p a s b h =
-    let one : p * (s * b) ≤ p * a = mul-le-mul_left p h in
-    let two : (p * s) * b ≡ p * (s * b) = grind arith in
-    omega (arith, one, two)
+    omega (arith, mul-le-mul_left p h, mul_assoc p s b)
 
 module _ (rows columns : List ℕ) (judge : Judge) (level : sum columns ≡ sum rows) (some : 1 ≤ length rows) (falls : falling rows ≡ rows) where
   left-of : (g : ℕ) (room p : List ℤ) → IsWeightKey rows columns g room p → AreLeft columns rows g (sizes_in room)
@@ -165,10 +145,10 @@ module _ (rows columns : List ℕ) (judge : Judge) (level : sum columns ≡ sum 
         let k = sorted_key (length columns) room p r in
         ap (λ cs. pos (past_of p * low_over cs (sizes_in room))) (none_left rows columns judge level some)
         ∙ ap (λ n. pos (past_of p * n)) (low-ends (sizes_in room))
-        ∙ ap pos (times-one (past_of p)) ∙ sym k.product.whole;
+        ∙ ap pos (mul-one (past_of p)) ∙ sym k.product.whole;
     high_ends = λ room p r.
         let k = sorted_key (length columns) room p r in
         ap (λ cs. pos (past_of p * high_over cs (sizes_in room))) (none_left rows columns judge level some)
         ∙ ap (λ n. pos (past_of p * n)) (high-ends (sizes_in room) (ended room p k))
-        ∙ ap pos (times-one (past_of p)) ∙ sym k.product.whole;
+        ∙ ap pos (mul-one (past_of p)) ∙ sym k.product.whole;
   }

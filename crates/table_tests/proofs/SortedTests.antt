@@ -1,42 +1,29 @@
 -- Fisher's test of a table by the network of its weight over sorted rooms.
-use Rattle.std.proofs.Common.{◌≡◌, ◌∙◌, true, false, refl, sym, ap, subst, arith}
-use Rattle.std.specs.Prelude.{pos, nat_le}
+use Rattle.std.proofs.Common.{ℕ, List, ◌≡◌, ◌∙◌, true, false, refl, sym, ap, subst, arith}
+use Rattle.std.specs.Prelude.{pos, nat_le, Contains}
 use Rattle.weights.specs.declared.tails.Tail.{Tail}
 use Rattle.weights.specs.declared.tails.Tail.TheVariants.{Less, Greater, Two}
 use Rattle.weights.specs.Grouped.{columns_of, table_weight}
+use Rattle.weights.specs.Labellings.{labellings}
 use Rattle.weights.proofs.OneOrder.{length-in_order}
-use Rattle.completion_bounds.specs.Fillings.{falling}
 use Rattle.completion_bounds.proofs.FallingSizes.{falling-twice}
 use Rattle.row_products.proofs.Orders.{rising-twice}
-use Rattle.stage_network.specs.declared.verdicts.Judge.{Judge}
 use Rattle.stage_network.specs.Follows.{Follows, FollowsAlong}
 use Rattle.stage_network.specs.Judged.{judge_of}
-use Rattle.sorted_tables.specs.SortedRooms.{rising}
 use Rattle.table_reader.specs.TableLayout.{TableData}
 use Rattle.table_tests.specs.FisherExact.{fisher_test, has_fisher_tail}
-use Rattle.table_tests.specs.LastSteps.{AreLast}
+use Rattle.table_tests.specs.FisherSteps.{FisherFacts, FisherLabels}
 use Rattle.table_tests.specs.SortedWeighing.{sorted_network}
-use Rattle.table_tests.specs.TableNetworks.{fisher_network}
+use Rattle.table_tests.specs.TableNetworks.{first_cell_meaning, fisher_network, rarity_meaning}
 use Rattle.table_tests.specs.Tables.{column_sums, is_two_by_two, row_sums}
 use Rattle.table_tests.specs.TableSteps.{IsTable}
-use Rattle.table_tests.specs.WeightSteps.{IsWeighing}
-use Rattle.table_tests.proofs.FisherTests.{observed-few, observed-rarity, rarity-is, weighing}
-use Rattle.table_tests.proofs.MarginSums.{even, length-columns, length-rows, some-labels}
+use Rattle.label_network.specs.LabelNetwork.{over_rooms}
+use Rattle.table_tests.proofs.Built.{is-margin}
+use Rattle.table_tests.proofs.FisherTests.{bounded, first-within, follows, linear-of, observed-few, observed-rarity, rarity-is, rules-fit, shown, total-some, weight-few, weighing}
+use Rattle.table_tests.proofs.MarginSums.{are-columns, even, few-labels, length-columns, length-rows, some-labels}
 use Rattle.table_tests.proofs.SortedFollows.{sorted_follows, weighing-sorted}
 
 module _ (t : TableData) (i : IsTable t) where
-  pub weighing-ordered : (judge : Judge) → judge ≡ judge_of (fisher_test t) → IsWeighing (falling (row_sums t)) (rising (column_sums t)) judge
-  weighing-ordered judge e = weighing-sorted (row_sums t) (column_sums t) (even t) judge (weighing t i judge e)
-
-  pub last-ordered : (judge : Judge) → judge ≡ judge_of (fisher_test t) → AreLast (falling (row_sums t)) (rising (column_sums t)) judge
-  last-ordered judge e = record {
-    weighing = weighing-ordered judge e;
-    ordered = record { falls = falling-twice (row_sums t); rises = rising-twice (column_sums t) };
-    two = omega (arith, length-in_order nat_le (column_sums t), length-columns t, i.two_columns);
-    rule = rw e refl;
-    few = rw e (omega (arith, observed-rarity t, observed-few t i));
-  }
-
   pub follows-sorted : Follows (fisher_test t) Two (sorted_network t)
   follows-sorted =
       sorted_follows (row_sums t) (column_sums t) (even t) (omega (arith, some-labels t i)) (fisher_test t) Two refl (λ xs. refl)
@@ -47,3 +34,31 @@ module _ (t : TableData) (i : IsTable t) where
   along-sorted large tail Less has same = absurd (cc (subst (λ b. has_fisher_tail b Less ≡ true) large has))
   along-sorted large tail Greater has same = absurd (cc (subst (λ b. has_fisher_tail b Greater ≡ true) large has))
   along-sorted large tail Two has same = follows-sorted
+
+  pub fisher_facts : FisherFacts t
+  fisher_facts = record {
+    few_rows = i.few_rows;
+    few = few-labels t i;
+    two_rows = some-labels t i;
+    two_columns = omega (arith, length-columns t, i.two_columns);
+    bounded = bounded t i;
+    some = total-some t;
+    shown = shown t;
+    rules = rules-fit t;
+    weighing = weighing t i;
+    margin = is-margin t i (over_rooms (rarity_meaning t)) refl refl;
+    last = record {
+      weighing = weighing-sorted (row_sums t) (column_sums t) (even t) (judge_of (fisher_test t)) (weighing t i);
+      ordered = record { falls = falling-twice (row_sums t); rises = rising-twice (column_sums t) };
+      two = omega (arith, length-in_order nat_le (column_sums t), length-columns t, i.two_columns);
+      rule = refl;
+      few = omega (arith, observed-rarity t, observed-few t i);
+    };
+    linear = linear-of t i;
+    first_margin = is-margin t i (over_rooms (first_cell_meaning t)) refl refl;
+    follows = follows t i;
+    follows_sorted = follows-sorted;
+  }
+
+  pub fisher_labels : (xs : List ℕ) → Contains (labellings (row_sums t)) xs → FisherLabels t xs
+  fisher_labels xs m = record { columns = are-columns t i xs m; first = first-within t i xs m; few = weight-few t i xs m; rarity = rarity-is t xs m }

@@ -1,4 +1,5 @@
 -- What the numerator of the table turned says of that of the table.
+use Rattle.std.proofs.Math.Nat.{mul_comm}
 use Rattle.std.proofs.Common.{◌≡◌, ℕ, ◌*◌, ◌%◌, ◌<◌, ◌≤◌, Bool, true, false, refl, sym, ◌∙◌, ap, arith, nat_eq}
 use Rattle.std.proofs.lemmas.Bool.{eqb-true}
 use Rattle.std.specs.Prelude.{if◌then◌else◌}
@@ -36,12 +37,9 @@ is-part {t = t} {u = u} {all = all} {sum = sum} {of = of} turned a s o =
     record {
       some = some;
       within = omega (arith, s, o, numerator-within u);
-      whole = no-rest (numerator (fisher_test t) Two) of (all * sum) some (here ∙ swapped sum all);
+      whole = no-rest (numerator (fisher_test t) Two) of (all * sum) some (here ∙ mul_comm sum all);
       law = λ n e. cancel n (numerator (fisher_test t) Two) of some (e ∙ sym here);
     }
-  where
-    swapped : (a b : ℕ) → a * b ≡ b * a
-    swapped a b = grind arith
 
 -- a table that is not of 2 by 2 has the tail on both sides alone
 pub both-sides : (tail : Tail) (two_by_two : Bool) → two_by_two ≡ false → has_fisher_tail two_by_two tail ≡ true → tail ≡ Two

@@ -4,7 +4,7 @@ use Rattle.std.proofs.Common.{◌≡◌, ℕ, ◌+◌, ◌*◌, ◌/◌, ◌<◌
 use Rattle.std.specs.Prelude.{All, ℤ, pos, nat_abs, ◌<ℤ◌, Contains}
 use Rattle.std.specs.List.{AllByRecursion, filter, sum_by}
 use Rattle.std.specs.Ordering.{int_eq}
-use Rattle.std.proofs.Math.Nat.{mul-le-mul_right}
+use Rattle.std.proofs.Math.Nat.{mul-le-mul_right, mul_comm}
 use Rattle.std.proofs.lemmas.Bool.{cases_lt}
 use Rattle.std.proofs.lemmas.Int.{ints}
 use Rattle.std.proofs.lemmas.List.Elements.{All-contains_itself, All-from_recursion, recursion_from_All}
@@ -207,13 +207,10 @@ part-scalable all of some other l i =
     record {
       natural = i.value.value ∙ ap (λ z. pos (nat_abs z)) (sym i.value.value);
       value_within = omega (arith, size, i.value.within);
-      value_whole = no-rest i.value.part of (all * nat_abs l.value) some (i.value.ratio ∙ swapped i.value.number all ∙ ap (λ n. all * n) (sym size));
+      value_whole = no-rest i.value.part of (all * nat_abs l.value) some (i.value.ratio ∙ mul_comm i.value.number all ∙ ap (λ n. all * n) (sym size));
       weight_within = i.within;
-      weight_whole = no-rest i.count of (all * l.weight) some (i.weight ∙ swapped l.weight all);
+      weight_whole = no-rest i.count of (all * l.weight) some (i.weight ∙ mul_comm l.weight all);
     }
-  where
-    swapped : (a b : ℕ) → a * b ≡ b * a
-    swapped a b = grind arith
 
 pub scales-to : {t u : TableData} {all of : ℕ} {lines : List Line} → IsServedBy t u → all ≡ total (fisher_test t) → of ≡ total (fisher_test u) → lines ≡ distribution (fisher_test u) → ScalesTo t all of lines
 scales-to {t = t} {u = u} s e f g = let a = s.turned in let shape = s.shape in rw (e, f, g) (record {

@@ -1,5 +1,5 @@
 -- What the keys of a table's weight have, as the bodies need it.
-use Rattle.std.proofs.Common.{◌≡◌, ℕ, suc, ◌-◌, ◌*◌, ◌^◌, ◌<◌, ◌≤◌, min, List, [], ◌∷◌, length, drop, get_or, refl, sym, ◌∙◌, ap, arith}
+use Rattle.std.proofs.Common.{◌≡◌, ℕ, ◌*◌, ◌^◌, ◌<◌, ◌≤◌, min, List, length, drop, sym, ◌∙◌, ap, arith}
 use Rattle.std.specs.Prelude.{ℤ, pos, slice_index}
 use Rattle.std.specs.List.{sum, Contains}
 use Rattle.std.proofs.Math.Nat.{mul-le-mul_left}
@@ -9,8 +9,8 @@ use Rattle.weights.specs.declared.TheConstants.{MAX}
 use Rattle.weights.specs.Grouped.{choices}
 use Rattle.weights.specs.Labellings.{number_of_labellings}
 use Rattle.weights.proofs.ChoiceLists.{IsChoice}
-use Rattle.completion_bounds.specs.Fillings.{falling, greatest_weight, product_by}
-use Rattle.label_network.specs.LabelSteps.{AreSizes, IsHeld}
+use Rattle.completion_bounds.specs.Fillings.{greatest_weight, product_by}
+use Rattle.label_network.specs.LabelSteps.{IsHeld}
 use Rattle.room_network.specs.Numbers.{so_far}
 use Rattle.room_network.specs.Meanings.{AreReached, IsRoom, IsStep}
 use Rattle.room_network.specs.Numbers.{AreWeights, IsNumber, IsOutcome}
@@ -23,72 +23,52 @@ use Rattle.label_network.proofs.Later.{fits-length}
 use Rattle.label_network.proofs.LinearKeys.{reached-stage}
 use Rattle.label_network.proofs.Narrowing.{IsLeft, chosen}
 use Rattle.label_network.proofs.OverRooms.{over_number, over_place}
+use Rattle.label_network.proofs.Rows.{length-abs}
 use Rattle.label_network.proofs.Sizes.{fewer-labellings, fits-chain, held-within, sizes-of_pos}
-use Rattle.table_tests.specs.Weighing.{greatest_factor, least_factor, weight_meaning, weight_numbers}
-use Rattle.table_tests.specs.WeightSteps.{past_of}
-use Rattle.table_tests.specs.WeightSteps.{AreRoomy, IsProduct, IsWeightKey, IsWeightMeasure, IsWeightRoom, IsWeightStep}
+use Rattle.table_tests.specs.Weighing.{weight_meaning, weight_numbers}
+use Rattle.table_tests.specs.WeightSteps.{IsWeightKey, IsWeightMeasure, IsWeightRoom, IsWeightStep, WeightSeat, past_of}
 use Rattle.table_tests.proofs.FilledColumns.{high-at, roomy}
 use Rattle.table_tests.proofs.WeightNarrows.{greatest-most, least-most, reached_left, reached_product, weight_measure}
-
-sizes-long : (zs : List ℤ) → length (sizes_in zs) ≡ length zs
-sizes-long [] = refl
-sizes-long (z ∷ zs) = ap suc (sizes-long zs)
 
 module _ (rows columns : List ℕ) (width falling_width : ℕ) (highs : List ℕ) (judge : Judge) (h : IsWeightMeasure rows columns width falling_width highs judge) where
   module _ (g : ℕ) (f p : List ℤ) (a : IsWeightKey rows columns g f p) where
     pub left : IsLeft (weight_meaning rows columns judge) g (sizes_in f)
     left = record { whole = a.level; within = a.within }
 
-    pub product_is : IsProduct rows g (sizes_in f) p
-    product_is = a.product
-
-    pub within-stages : g ≤ length columns
-    within-stages = a.stage
-
-    pub as-wide : length f ≡ length rows
-    as-wide = sym (sizes-long f) ∙ fits-length (sizes_in f) rows left.within
-
-    pub few-rows : length f ≤ 8
-    few-rows = omega (arith, as-wide, h.weighing.few)
-
-    pub some-rows : 1 ≤ length f
-    some-rows = omega (arith, as-wide, h.weighing.some)
-
-    pub few-sizes : sum (sizes_in f) < 2 ^ 64
-    few-sizes = omega (arith, left.whole, h.weighing.level, h.weighing.units, sum_by-take-drop (λ v. v) columns g)
-
-    pub sizes-are : AreSizes f
-    sizes-are = sizes-of_pos (sizes_in f) few-sizes f a.whole
-
-    pub held-sizes : IsHeld width (sizes_in f)
-    held-sizes = held-within width rows (sizes_in f) left.within h.held
-
-    pub few-ways : number_of_labellings (sizes_in f) ≤ MAX
+    few-ways : number_of_labellings (sizes_in f) ≤ MAX
     few-ways = omega (arith, fewer-labellings (sizes_in f) rows left.within, h.weighing.total_fits)
 
-    pub whole-sizes : sum (sizes_in f) ≡ sum (drop g columns)
-    whole-sizes = sym left.whole
-
     product-fits : (m : ℕ) → m ≤ number_of_labellings (sizes_in f) → past_of p * m ≤ MAX
-    product-fits m l = omega (arith, mul-le-mul_left (past_of p) l, product_is.small, h.weighing.total_fits)
+    product-fits m l = omega (arith, mul-le-mul_left (past_of p) l, a.product.small, h.weighing.total_fits)
 
     -- what such a product can be multiplied by
     pub outcome : (m : ℕ) → m ≤ number_of_labellings (sizes_in f) → IsOutcome Product judge (so_far p) (pos m)
     outcome m l = record {
-      fits = weights-of (so_far p) (past_of p) m product_is.whole (product-fits m l);
+      fits = weights-of (so_far p) (past_of p) m a.product.whole (product-fits m l);
       ruled = h.weighing.rules_fit (pos (past_of p * m)) (product-fits m l);
     }
 
-    pub factor-few : least_factor columns g (sizes_in f) ≤ MAX
-    factor-few = omega (arith, least-most rows columns judge h.weighing.level h.weighing.some g (sizes_in f) left, few-ways)
-
-    pub roomy-sizes : AreRoomy falling_width (falling (sizes_in f))
-    roomy-sizes = roomy falling_width rows (sizes_in f) (omega (arith, sizes-long f, some-rows)) (omega (arith, sizes-long f, few-rows)) few-sizes few-ways left.within h.falling_held
-
-    pub high-is_greatest : (n x : ℕ) → n ≡ length columns - g → x ≡ get_or highs n x → min (number_of_labellings (sizes_in f)) x ≡ greatest_factor columns g (sizes_in f)
-    high-is_greatest n x e k =
-        high-at (length rows) columns highs g n (number_of_labellings (sizes_in f)) x h.highs_are within-stages e k few-ways
-        ∙ ap (λ m. min (number_of_labellings (sizes_in f)) (product_by (greatest_weight m) (drop g columns))) (sym (fits-length (sizes_in f) rows left.within))
+    -- what is known of its sizes
+    pub weight_seat : WeightSeat rows columns width falling_width highs g f
+    weight_seat =
+        let sizes : List ℕ = sizes_in f in
+        let long : length f ≡ length rows = sym (length-abs f) ∙ fits-length sizes rows a.within in
+        let small : sum sizes < 2 ^ 64 = omega (arith, a.level, h.weighing.level, h.weighing.units, sum_by-take-drop (λ v. v) columns g) in
+        record {
+          stage = a.stage;
+          highs_long = omega (arith, h.highs_are.long);
+          few = omega (arith, long, h.weighing.few);
+          sizes = sizes-of_pos sizes small f a.whole;
+          small = small;
+          held = held-within width rows sizes a.within h.held;
+          fits = few-ways;
+          roomy = roomy falling_width rows sizes (omega (arith, length-abs f, long, h.weighing.some)) (omega (arith, length-abs f, long, h.weighing.few)) small few-ways a.within h.falling_held;
+          level = sym a.level;
+          least = omega (arith, least-most rows columns judge h.weighing.level h.weighing.some g sizes left, few-ways);
+          greatest =
+              high-at (length rows) columns highs g (number_of_labellings sizes) h.highs_are a.stage few-ways
+              ∙ ap (λ m. min (number_of_labellings sizes) (product_by (greatest_weight m) (drop g columns))) (sym (fits-length sizes rows a.within));
+        }
 
     -- a choice there
     module _ (before : g < length columns) (x : List ℕ) (o : Contains (choices (slice_index columns g) (sizes_in f)) x) where
@@ -101,11 +81,8 @@ module _ (rows columns : List ℕ) (width falling_width : ℕ) (highs : List ℕ
       pub choice-few : number_of_labellings x ≤ MAX
       choice-few = omega (arith, fewer-labellings x (sizes_in f) choice.fitting, few-ways)
 
-      step-most : number_of_labellings x ≤ number_of_labellings (sizes_in f)
-      step-most = fewer-labellings x (sizes_in f) choice.fitting
-
       pub step-weights : AreWeights (so_far p) (pos (number_of_labellings x))
-      step-weights = weights-of (so_far p) (past_of p) (number_of_labellings x) product_is.whole (product-fits (number_of_labellings x) step-most)
+      step-weights = weights-of (so_far p) (past_of p) (number_of_labellings x) a.product.whole (product-fits (number_of_labellings x) (fewer-labellings x (sizes_in f) choice.fitting))
 
   -- a place of the measure is such a key
   key-of : (g : ℕ) (f p : List ℤ) → AreReached (over_rooms (weight_meaning rows columns judge)) g f p → IsWeightKey rows columns g f p

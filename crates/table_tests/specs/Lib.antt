@@ -12,3 +12,4 @@ pub mod SortedWeighing
 pub mod WeightSteps
 pub mod OddsSteps
 pub mod LastSteps
+pub mod FisherSteps

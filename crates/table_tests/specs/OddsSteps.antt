@@ -1,13 +1,19 @@
 -- What the bodies of the test with odds compute, and what they keep.
-use Rattle.std.specs.Prelude.{◌≡◌, ℕ, ◌+◌, ◌-◌, ◌*◌, ◌≤◌, List, length, min, true}
+use Rattle.std.specs.Prelude.{◌≡◌, ℕ, ◌+◌, ◌-◌, ◌*◌, ◌^◌, ◌≤◌, List, length, min, slice_index, true}
 use Rattle.std.specs.List.{range_with_len, sum_by}
 use Rattle.weights.specs.declared.TheConstants.{MAX}
 use Rattle.weights.specs.declared.odds.Odds.{Odds}
+use Rattle.weights.specs.Conditional.{total}
+use Rattle.weights.specs.Frames.{IsShown}
 use Rattle.weights.specs.Labellings.{labellings}
 use Rattle.weights.specs.Numbers.{binomial}
+use Rattle.stage_network.specs.Judged.{judge_of}
 use Rattle.label_network.specs.LabelRooms.{IsLabelled}
+use Rattle.label_network.specs.Linear.{IsLinear}
 use Rattle.table_reader.specs.TableLayout.{TableData}
-use Rattle.table_tests.specs.FisherOdds.{WeightedTable, labels_weight}
+use Rattle.table_tests.specs.FisherExact.{first_cell}
+use Rattle.table_tests.specs.FisherOdds.{WeightedTable, labels_weight, odds_test}
+use Rattle.table_tests.specs.TableNetworks.{first_scores}
 use Rattle.weights.specs.Odds.{IsOdds, odds_weight}
 use Rattle.table_tests.specs.Tables.{column_sums, is_two_by_two, row_sums}
 use Rattle.table_tests.specs.TableSteps.{IsTable}
@@ -48,3 +54,21 @@ pub record IsWeightedTable (weighted : WeightedTable) (total : ℕ) : Type 0 whe
   pub total_is : total
       ≡ odds_total weighted.odds (column_sums weighted.table) (row_sums weighted.table)
   pub total_fits : total ≤ MAX
+
+-- what is known of such a table, whose labellings weigh so much
+pub record OddsFacts (w : WeightedTable) (all : ℕ) : Type 0 where
+  pub total_is : all ≡ total (odds_test w)
+  pub bounded : total (odds_test w) ≤ MAX
+  pub some : 1 ≤ total (odds_test w)
+  pub shown : IsShown (odds_test w)
+  pub weighted : AreWeighted w.odds (column_sums w.table) (row_sums w.table) all
+  pub linear : IsLinear first_scores (row_sums w.table) first_scores (column_sums w.table)
+      (judge_of (odds_test w))
+
+-- and of a labelling of it
+pub record OddsLabels (w : WeightedTable) (labels : List ℕ) : Type 0 where
+  pub within : first_cell (column_sums w.table) labels ≤ slice_index (row_sums w.table) 0
+  pub above : w.odds.above ^ first_cell (column_sums w.table) labels ≤ MAX
+  pub below : let upper = slice_index (row_sums w.table) 0 in
+      w.odds.below ^ (upper - first_cell (column_sums w.table) labels) ≤ MAX
+  pub fits : labels_weight w.odds (column_sums w.table) (row_sums w.table) labels ≤ MAX

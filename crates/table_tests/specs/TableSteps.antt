@@ -1,5 +1,5 @@
 -- What the bodies compute of a table, column by column, and what is kept of a prepared one.
-use Rattle.std.specs.Prelude.{◌≡◌, ℕ, ◌*◌, ◌<◌, ◌≤◌, ℤ, pos, ◌+ℤ◌, ◌*ℤ◌, List, [], ◌∷◌, length, slice_index, unsigned_abs}
+use Rattle.std.specs.Prelude.{◌≡◌, ℕ, ◌*◌, ◌<◌, ◌≤◌, ℤ, List, length, slice_index, unsigned_abs}
 use Rattle.std.specs.List.{sum}
 use Rattle.weights.specs.declared.TheConstants.{MAX}
 use Rattle.weights.specs.Frames.{IsFrameOf}
@@ -16,12 +16,6 @@ use Rattle.table_tests.specs.declared.fisher_table.Weighed.{Weighed}
 use Rattle.table_tests.specs.FisherExact.{fisher_test}
 use Rattle.table_tests.specs.LinearByLinear.{ScoredTable, linear_test}
 use Rattle.table_tests.specs.Tables.{column_sums, is_two_by_two, row_sums}
-
--- the sum over the columns of their score times the summed row scores of their counts
-abbrev pub table_sum : List ℤ → List ℤ → List (List ℕ) → ℤ
-table_sum us [] table = pos 0
-table_sum us (v ∷ vs) [] = pos 0
-table_sum us (v ∷ vs) (x ∷ table) = (v *ℤ row_sum us x) +ℤ table_sum us vs table
 
 -- no score is greater than may be
 abbrev pub AreScores : List ℤ → Type 0

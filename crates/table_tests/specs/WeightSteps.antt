@@ -7,10 +7,11 @@ use Rattle.weights.specs.Grouped.{choices, fits}
 use Rattle.weights.specs.Labellings.{number_of_labellings}
 use Rattle.stage_network.specs.Judged.{JudgeFits}
 use Rattle.completion_bounds.specs.Fillings.{falling, greatest_weight, product_by}
-use Rattle.label_network.specs.LabelSteps.{IsHeld}
+use Rattle.label_network.specs.LabelSteps.{AreSizes, IsHeld}
 use Rattle.room_network.specs.Numbers.{so_far}
 use Rattle.label_network.specs.Meanings.{sizes_in}
 use Rattle.row_products.specs.RowProducts.{IsRising}
+use Rattle.table_tests.specs.Weighing.{greatest_factor, least_factor}
 
 -- the product so far
 abbrev pub past_of : List ℤ → ℕ
@@ -87,3 +88,20 @@ pub record IsWeightStep (rows columns : List ℕ) (g : ℕ) (remaining : List �
     : Type 0 where
   pub partial : List ℤ
   pub move : IsWeightMove rows columns g remaining choice partial
+
+-- what is known of the sizes of such a key
+pub record WeightSeat (rows columns : List ℕ) (width falling_width : ℕ) (highs : List ℕ) (g : ℕ)
+    (remaining : List ℤ) : Type 0 where
+  pub stage : g ≤ length columns
+  pub highs_long : length columns - g < length highs
+  pub few : length remaining ≤ 8
+  pub sizes : AreSizes remaining
+  pub small : sum (sizes_in remaining) < 2 ^ 64
+  pub held : IsHeld width (sizes_in remaining)
+  pub fits : number_of_labellings (sizes_in remaining) ≤ MAX
+  pub roomy : AreRoomy falling_width (falling (sizes_in remaining))
+  pub level : sum (sizes_in remaining) ≡ sum (drop g columns)
+  pub least : least_factor columns g (sizes_in remaining) ≤ MAX
+  pub greatest : let high = get_or highs (length columns - g) 0 in
+      min (number_of_labellings (sizes_in remaining)) high
+      ≡ greatest_factor columns g (sizes_in remaining)

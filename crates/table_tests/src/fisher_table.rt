@@ -1,18 +1,21 @@
 // A table that is prepared for Fisher's test.
-ghost use Rattle.std.specs.Prelude.{◌≡◌, ◌≤◌, pos, slice_index, if◌then◌else◌};
+ghost use Rattle.std.specs.Prelude.{◌≡◌, ◌≤◌, pos, Contains, if◌then◌else◌};
 ghost use Rattle.weights.specs.declared.TheConstants.{MAX};
 ghost use Rattle.weights.specs.declared.tails.Tail.{Tail};
 ghost use Rattle.weights.specs.Frames.{IsFrameOf};
-ghost use Rattle.weights.specs.Labellings.{number_of_labellings};
+ghost use Rattle.weights.specs.Labellings.{labellings, number_of_labellings};
 ghost use Rattle.weights.specs.Wide.{Prepares};
 ghost use Rattle.stage_network.specs.Asked.{asks};
+ghost use Rattle.stage_network.specs.Judged.{judge_of};
 ghost use Rattle.table_reader.specs.Data.{table_data_of};
 ghost use Rattle.table_tests.specs.FisherExact.{fisher_test};
-ghost use Rattle.table_tests.specs.Tables.{is_two_by_two, row_sums};
+ghost use Rattle.table_tests.specs.FisherSteps.{FisherFacts, FisherLabels};
+ghost use Rattle.table_tests.specs.Tables.{column_sums, is_two_by_two, row_sums};
 ghost use Rattle.table_tests.specs.TableSteps.{AreMargins, IsTable, IsWeighed};
 
 use crate::margins::{Margins, margins_of};
 use crate::sums::observed_weight;
+use stage_network::Judge;
 use std::alloc::Global;
 use std::marker::Model;
 use table_reader::Table;
@@ -140,11 +143,42 @@ impl FisherTable {
         })
     }
 
-    /// How many subjects the first row has.
-    pub(crate) fn first_row(&self) -> u64
-        ensures { result ≡ slice_index (row_sums self.now) 0 }
+    /// How many subjects each row has.
+    pub(crate) fn row_sums(&self) -> &[u64]
+        ensures { result.now ≡ row_sums self.now }
     {
-        self.made.margins.rows.as_slice()[0]
+        self.made.margins.rows.as_slice()
+    }
+
+    /// How many subjects each column has.
+    pub(crate) fn column_sums(&self) -> &[u64]
+        ensures { result.now ≡ column_sums self.now }
+    {
+        self.made.margins.columns.as_slice()
+    }
+
+    /// The rules of its tails.
+    pub(crate) fn judge(&self) -> Judge
+        ensures { result ≡ judge_of (fisher_test self.now) }
+    {
+        Judge::of(&self.made().frame)
+    }
+
+    /// What is known of it. It does nothing.
+    #[inline(always)]
+    pub(crate) fn facts(&self)
+        ensures { FisherFacts self.now }
+    {
+        let _made = self.made();
+    }
+
+    /// What is known of a labelling of it. It does nothing.
+    #[inline(always)]
+    pub(crate) fn label_facts(&self, _labels: &[u8])
+        requires { Contains (labellings (row_sums self.now)) _labels.now }
+        ensures { FisherLabels self.now _labels.now }
+    {
+        let _made = self.made();
     }
 
     /// How many rows it has.

@@ -1,13 +1,11 @@
 // Both ways to the answer of Fisher's test.
 ghost use Rattle.std.specs.Prelude.{◌≡◌, pos, true, IfOk, Contains};
 ghost use Rattle.weights.specs.Labellings.{labellings};
-ghost use Rattle.weights.specs.declared.tails.Tail.TheVariants.{Two};
 ghost use Rattle.completion_bounds.specs.Fillings.{falling};
-ghost use Rattle.stage_network.specs.Follows.{AllFollow, Follows};
 ghost use Rattle.label_network.specs.Linear.{linear_meaning};
 ghost use Rattle.sorted_tables.specs.SortedRooms.{rising};
 ghost use Rattle.table_tests.specs.FisherExact.{fisher_test, first_cell, rarity};
-ghost use Rattle.table_tests.specs.SortedWeighing.{sorted_meaning, sorted_network, sorted_rarity_meaning};
+ghost use Rattle.table_tests.specs.SortedWeighing.{sorted_meaning, sorted_rarity_meaning};
 ghost use Rattle.table_tests.specs.TableNetworks.{first_cell_meaning, fisher_network, rarity_meaning};
 ghost use Rattle.table_tests.specs.Tables.{column_sums, is_two_by_two, row_sums};
 ghost use Rattle.table_tests.specs.Weighing.{weight_meaning};
@@ -24,7 +22,7 @@ use enumerate::{Plain, first_labelling, next_labelling};
 use label_network::label_stages;
 use room_network::Numbered;
 use sorted_tables::rise;
-use stage_network::{Judge, OneOf, Prepared, Spread, TailSum};
+use stage_network::{OneOf, Prepared, Spread, Stages, TailSum};
 use std::alloc::Global;
 use weights::{Bytes, Frame, NoMemory, Tail};
 
@@ -35,15 +33,18 @@ struct InOrder {
     columns: Vec<u64>,
 }
 
+// The networks of the first cell, of the weight, and of the weight over sorted rooms.
+type FisherStages = OneOf<ProductStages, OneOf<WeightStages, SortedStages>>;
+
 impl FisherTable {
     // The weight of the table that a labelling gives.
     fn rarity(&self, labels: &[u8]) -> i128
         requires { Contains (labellings (row_sums self.now)) labels.now }
         ensures { result ≡ pos (rarity self.now labels.now) }
     {
-        let made = self.made();
-        let columns = made.margins.columns.as_slice();
-        held(labelled_weight(made.margins.rows.len(), columns, labels))
+        self.facts();
+        self.label_facts(labels);
+        held(labelled_weight(self.rows() as usize, self.column_sums(), labels))
     }
 
     /// Its first cell.
@@ -51,35 +52,40 @@ impl FisherTable {
         requires { Contains (labellings (row_sums self.now)) labels.now }
         ensures { result ≡ first_cell (column_sums self.now) labels.now }
     {
-        let columns = self.made().margins.columns.as_slice();
-        count_label(front(labels, columns[0]), 0)
+        self.facts();
+        self.label_facts(labels);
+        count_label(front(labels, self.column_sums()[0]), 0)
     }
 
     // The network of the first cell.
     fn by_first_cell(&self, alloc: Global) -> Result<ProductStages, NoMemory>
         requires { is_two_by_two self.now ≡ true }
-        ensures built { let meaning = first_cell_meaning self.now in
-            IfOk result (λ s. meaning ≡ linear_meaning s.1.scores.items s.1.rows.items
-            s.1.later.scores.items s.1.later.columns.items s.1.judge) }
-        ensures follows { AllFollow (fisher_test self.now) (fisher_network self.now) }
+        ensures { let meaning = first_cell_meaning self.now in
+            IfOk result (λ s. linear_meaning s.1.scores.items s.1.rows.items
+            s.1.later.scores.items s.1.later.columns.items s.1.judge ≡ meaning) }
     {
-        let made = self.made();
-        let judge = Judge::of(&made.frame);
-        product_stages(alloc, &made.margins, &[1, 0], &[1, 0], judge)
+        self.facts();
+        let rows = self.row_sums();
+        product_stages(
+            alloc,
+            rows,
+            self.column_sums(),
+            &[1, 0],
+            &[1, 0],
+            self.judge(),
+        )
     }
 
     // The network of the table's weight.
     fn by_weight(&self, alloc: Global) -> Result<WeightStages, NoMemory>
-        ensures built { let meaning = rarity_meaning self.now in
-            IfOk result (λ s. meaning ≡ weight_meaning s.1.rows.items s.1.columns.items
-            s.1.judge) }
-        ensures follows { AllFollow (fisher_test self.now) (fisher_network self.now) }
+        ensures { let meaning = rarity_meaning self.now in
+            IfOk result (λ s. weight_meaning s.1.rows.items s.1.columns.items s.1.judge
+            ≡ meaning) }
     {
-        let made = self.made();
-        let rows = made.margins.rows.as_slice();
-        let columns = made.margins.columns.as_slice();
-        let judge = Judge::of(&made.frame);
-        let measure = WeightMeasure::new(alloc, rows, columns, judge)?;
+        self.facts();
+        let rows = self.row_sums();
+        let columns = self.column_sums();
+        let measure = WeightMeasure::new(alloc, rows, columns, self.judge())?;
         label_stages(alloc, columns, rows, Numbered::new(measure))
     }
 
@@ -89,50 +95,51 @@ impl FisherTable {
         ensures columns { IfOk result (λ order. order.columns.items
             ≡ rising (column_sums self.now)) }
     {
-        let made = self.made();
-        let sizes = made.margins.rows.as_slice();
+        self.facts();
+        let sizes = self.row_sums();
         let mut room = [0u64; 8];
         let fallen = &mut room[..sizes.len()];
         fall(sizes, fallen);
         let rows = Vec::from_slice(alloc, fallen)?;
-        let columns = rise(alloc, made.margins.columns.as_slice())?;
+        let columns = rise(alloc, self.column_sums())?;
         Ok(InOrder { rows, columns })
     }
 
     /// The network of the table's weight with sizes in falling order.
     pub(crate) fn by_sorted_weight(&self, alloc: Global) -> Result<SortedStages, NoMemory>
-        ensures built { let meaning = sorted_rarity_meaning self.now in
-            IfOk result (λ s. meaning ≡ sorted_meaning s.1.measure.rows.items
-            s.1.measure.columns.items s.1.measure.judge) }
-        ensures follows { Follows (fisher_test self.now) Two (sorted_network self.now) }
+        ensures { let meaning = sorted_rarity_meaning self.now in
+            IfOk result (λ s. sorted_meaning s.1.measure.rows.items
+            s.1.measure.columns.items s.1.measure.judge ≡ meaning) }
     {
-        let made = self.made();
+        self.facts();
         let order = self.in_order(alloc)?;
-        let judge = Judge::of(&made.frame);
-        sorted_stages(
-            alloc,
-            order.rows.as_slice(),
-            order.columns.as_slice(),
-            judge,
-        )
+        let rows = order.rows.as_slice();
+        sorted_stages(alloc, rows, order.columns.as_slice(), self.judge())
     }
 
     /// What completes tables of its sums before their last two columns, in the same order.
     pub(crate) fn last_columns(&self, alloc: Global) -> Result<LastColumns, NoMemory>
         ensures { let meaning = sorted_rarity_meaning self.now in
-            IfOk result (λ last. meaning ≡ sorted_meaning last.rooms.rows.items
-            last.rooms.columns.items last.judge) }
+            IfOk result (λ last. sorted_meaning last.rooms.rows.items
+            last.rooms.columns.items last.judge ≡ meaning) }
     {
-        let made = self.made();
+        self.facts();
         let order = self.in_order(alloc)?;
-        let judge = Judge::of(&made.frame);
-        let last = LastColumns::new(
-            alloc,
-            order.rows.as_slice(),
-            order.columns.as_slice(),
-            judge,
-        )?;
-        Ok(last)
+        let rows = order.rows.as_slice();
+        LastColumns::new(alloc, rows, order.columns.as_slice(), self.judge())
+    }
+
+    // The network of a tail.
+    fn by_tail(&self, alloc: Global, tail: Tail) -> Result<FisherStages, NoMemory>
+        requires { (fisher_test self.now).has_tail tail ≡ true }
+        ensures { let n = fisher_network self.now tail in
+            IfOk result (λ built. ⟦<FisherStages as Stages>⟧.network built ≡ n) }
+    {
+        match tail {
+            Tail::Less => Ok(OneOf::First(self.by_first_cell(alloc)?)),
+            Tail::Greater => Ok(OneOf::First(self.by_first_cell(alloc)?)),
+            Tail::Two => Ok(OneOf::Second(OneOf::First(self.by_weight(alloc)?))),
+        }
     }
 }
 
@@ -142,7 +149,8 @@ impl Plain for FisherTable {
     ghost test = { fisher_test };
 
     fn first(&self, alloc: Global) -> Result<Bytes, NoMemory> {
-        first_labelling(alloc, self.made().margins.rows.as_slice())
+        self.facts();
+        first_labelling(alloc, self.row_sums())
     }
 
     fn next(&self, labels: &mut Bytes) -> bool {
@@ -162,6 +170,7 @@ impl Plain for FisherTable {
     }
 
     fn frame(&self) -> Frame {
+        self.facts();
         self.made().frame
     }
 
@@ -176,7 +185,7 @@ impl Plain for FisherTable {
 impl Prepared for FisherTable {
     ghost use Rattle.table_tests.specs.TableNetworks.{fisher_network};
 
-    type Built = OneOf<ProductStages, OneOf<WeightStages, SortedStages>>;
+    type Built = FisherStages;
 
     ghost network = { fisher_network };
 
@@ -190,17 +199,15 @@ impl Prepared for FisherTable {
     }
 
     fn stages_of(&self, alloc: Global, tail: Tail) -> Result<Self::Built, NoMemory> {
-        match tail {
-            Tail::Less => Ok(OneOf::First(self.by_first_cell(alloc)?)),
-            Tail::Greater => Ok(OneOf::First(self.by_first_cell(alloc)?)),
-            Tail::Two => Ok(OneOf::Second(OneOf::First(self.by_weight(alloc)?))),
-        }
+        self.facts();
+        self.by_tail(alloc, tail)
     }
 
     fn quick_stages_of(&self, alloc: Global, tail: Tail) -> Result<Self::Built, NoMemory> {
         if self.made().two_by_two {
             return self.stages_of(alloc, tail);
         }
+        self.facts();
         let sorted = self.by_sorted_weight(alloc)?;
         Ok(OneOf::Second(OneOf::Second(sorted)))
     }

@@ -3,14 +3,18 @@ ghost use Rattle.std.specs.Prelude.{◌≡◌, ◌*ℤ◌, length, IfOk};
 ghost use Rattle.weights.specs.Frames.{IsFrameOf};
 ghost use Rattle.weights.specs.Labellings.{number_of_labellings};
 ghost use Rattle.weights.specs.Wide.{Prepares};
+ghost use Rattle.stage_network.specs.Judged.{judge_of};
 ghost use Rattle.label_network.specs.Linear.{row_sum};
 ghost use Rattle.table_reader.specs.Data.{table_data_of};
+ghost use Rattle.table_tests.specs.FisherSteps.{LinearFacts};
 ghost use Rattle.table_tests.specs.LinearByLinear.{linear_test};
+ghost use Rattle.table_tests.specs.Tables.{column_sums, row_sums};
 ghost use Rattle.table_tests.specs.TableSteps.{AreCentred, AreFitting, AreMargins, AreScores, IsScored, scored_of};
 
 use crate::margins::{Margins, margins_of};
 use crate::sums::observed_sum;
 use label_network::score_choice;
+use stage_network::Judge;
 use std::alloc::Global;
 use std::marker::Model;
 use table_reader::Table;
@@ -141,5 +145,48 @@ impl LinearTable {
         ensures { IsScored self.now result.now }
     {
         &self.made
+    }
+
+    /// How many subjects each row has.
+    pub(crate) fn row_sums(&self) -> &[u64]
+        ensures { result.now ≡ row_sums self.now.table }
+    {
+        self.made.margins.rows.as_slice()
+    }
+
+    /// How many subjects each column has.
+    pub(crate) fn column_sums(&self) -> &[u64]
+        ensures { result.now ≡ column_sums self.now.table }
+    {
+        self.made.margins.columns.as_slice()
+    }
+
+    /// The score of each row.
+    pub(crate) fn row_scores(&self) -> &[i128]
+        ensures { result.now ≡ self.now.row_scores }
+    {
+        self.made.row_scores.as_slice()
+    }
+
+    /// The score of each column.
+    pub(crate) fn column_scores(&self) -> &[i128]
+        ensures { result.now ≡ self.now.column_scores }
+    {
+        self.made.column_scores.as_slice()
+    }
+
+    /// The rules of its tails.
+    pub(crate) fn judge(&self) -> Judge
+        ensures { result ≡ judge_of (linear_test self.now) }
+    {
+        Judge::of(&self.made().frame)
+    }
+
+    /// What is known of it. It does nothing.
+    #[inline(always)]
+    pub(crate) fn facts(&self)
+        ensures { LinearFacts self.now }
+    {
+        let _made = self.made();
     }
 }

@@ -1,11 +1,13 @@
 // A table that is prepared for Fisher's test with odds.
-ghost use Rattle.std.specs.Prelude.{◌≡◌, ◌≤◌, true, SomeIff};
+ghost use Rattle.std.specs.Prelude.{◌≡◌, ◌≤◌, true, Contains, SomeIff};
 ghost use Rattle.weights.specs.declared.TheConstants.{MAX};
+ghost use Rattle.weights.specs.Labellings.{labellings};
 ghost use Rattle.weights.specs.Wide.{Prepares};
 ghost use Rattle.table_reader.specs.Data.{table_data_of};
 ghost use Rattle.table_tests.specs.FisherOdds.{odds_test};
 ghost use Rattle.weights.specs.Odds.{IsOdds};
-ghost use Rattle.table_tests.specs.OddsSteps.{IsWeightedTable, odds_total, weighted_of};
+ghost use Rattle.table_tests.specs.OddsSteps.{IsWeightedTable, OddsFacts, OddsLabels};
+ghost use Rattle.table_tests.specs.OddsSteps.{odds_total, weighted_of};
 ghost use Rattle.table_tests.specs.Tables.{column_sums, is_two_by_two, row_sums};
 
 use crate::fisher_table::FisherTable;
@@ -43,9 +45,10 @@ fn weigh_all(odds: Odds, fisher: &FisherTable) -> Option<u128>
     ensures { let all = odds_total odds (column_sums fisher.now) (row_sums fisher.now) in
         SomeIff result (all ≤ MAX) all }
 {
-    let made = fisher.made();
-    let columns = made.margins.columns.as_slice();
-    weigh_cells(odds, columns[0], columns[1], fisher.first_row())
+    let _made = fisher.made();
+    fisher.facts();
+    let columns = fisher.column_sums();
+    weigh_cells(odds, columns[0], columns[1], fisher.row_sums()[0])
 }
 
 impl OddsTable {
@@ -86,8 +89,18 @@ impl OddsTable {
 
     /// What all labellings weigh.
     pub(crate) fn total(&self) -> u128
-        ensures { IsWeightedTable self.now result }
+        ensures kept { IsWeightedTable self.now result }
+        ensures facts { OddsFacts self.now result }
     {
         self.total
+    }
+
+    /// What is known of a labelling of it. It does nothing.
+    #[inline(always)]
+    pub(crate) fn label_facts(&self, _labels: &[u8])
+        requires { Contains (labellings (row_sums self.now.table)) _labels.now }
+        ensures { OddsLabels self.now _labels.now }
+    {
+        let _total = self.total();
     }
 }

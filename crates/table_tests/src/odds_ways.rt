@@ -1,13 +1,20 @@
 // Both ways to the answer of Fisher's test with odds.
+ghost use Rattle.std.specs.Prelude.{◌≡◌, IfOk};
+ghost use Rattle.room_network.specs.RoomNetworks.{room_network};
+ghost use Rattle.label_network.specs.LabelNetwork.{over_rooms};
+ghost use Rattle.table_tests.specs.OddsNetworks.{cell_meaning, odds_weights};
+
 use crate::odds_rooms::OddsRooms;
 use crate::odds_table::OddsTable;
 use crate::odds_weights::odds_weight;
 use enumerate::Plain;
 use label_network::LinearMeasure;
 use room_network::{Numbered, RoomNetwork};
-use stage_network::{Judge, Prepared};
+use stage_network::{Judge, Prepared, Stages};
 use std::alloc::Global;
 use weights::{Bytes, Frame, NoMemory, Rule, Tail};
+
+type OddsStages = RoomNetwork<OddsRooms, Numbered<LinearMeasure>>;
 
 impl Plain for OddsTable {
     ghost use Rattle.table_tests.specs.FisherOdds.{odds_test};
@@ -24,9 +31,10 @@ impl Plain for OddsTable {
     }
 
     fn weight(&self, labels: &[u8]) -> u128 {
-        let _total = self.total();
+        self.label_facts(labels);
         let fisher = self.fisher();
-        odds_weight(self.odds(), fisher.first_row(), fisher.first_cell(labels))
+        fisher.facts();
+        odds_weight(self.odds(), fisher.row_sums()[0], fisher.first_cell(labels))
     }
 
     fn value(&self, labels: &[u8]) -> i128 {
@@ -51,7 +59,7 @@ impl Plain for OddsTable {
 impl Prepared for OddsTable {
     ghost use Rattle.table_tests.specs.OddsNetworks.{odds_network};
 
-    type Built = RoomNetwork<OddsRooms, Numbered<LinearMeasure>>;
+    type Built = OddsStages;
 
     ghost network = { odds_network };
 
@@ -70,11 +78,22 @@ impl Prepared for OddsTable {
     }
 
     fn stages_of(&self, alloc: Global, _tail: Tail) -> Result<Self::Built, NoMemory> {
+        let _total = self.total();
+        self.by_cell(alloc)
+    }
+}
+
+impl OddsTable {
+    // The network of the first cell.
+    fn by_cell(&self, alloc: Global) -> Result<OddsStages, NoMemory>
+        ensures { let n = room_network (over_rooms (cell_meaning self.now))
+            (odds_weights self.now.odds) in
+            IfOk result (λ built. ⟦<OddsStages as Stages>⟧.network built ≡ n) }
+    {
         let total = self.total();
         let judge = Judge::of(&self.frame());
-        let made = self.fisher().made();
-        let rows = made.margins.rows.as_slice();
-        let columns = made.margins.columns.as_slice();
+        let rows = self.fisher().row_sums();
+        let columns = self.fisher().column_sums();
         let cell = LinearMeasure::new(alloc, &[1, 0], rows, &[1, 0], columns, judge)?;
         let rooms = OddsRooms::new(alloc, self.odds(), columns, rows, total)?;
         Ok(RoomNetwork::new(rooms, Numbered::new(cell)))

@@ -3,7 +3,6 @@ ghost use Rattle.std.specs.Prelude.{◌≡◌, IfOk};
 ghost use Rattle.label_network.specs.LabelNetwork.{IsMargin, over_rooms};
 ghost use Rattle.label_network.specs.Linear.{IsLinear, linear_meaning};
 
-use crate::margins::Margins;
 use label_network::{LabelStages, LinearMeasure, label_stages};
 use room_network::Numbered;
 use stage_network::Judge;
@@ -17,23 +16,20 @@ pub type ProductStages = LabelStages<Numbered<LinearMeasure>>;
 /// score, with verdicts by the judge's rules.
 pub(crate) fn product_stages(
     alloc: Global,
-    margins: &Margins,
+    rows: &[u64],
+    columns: &[u64],
     row_scores: &[i128],
     column_scores: &[i128],
     judge: Judge,
 ) -> Result<ProductStages, NoMemory>
-    requires linear { IsLinear row_scores.now margins.now.rows
-        column_scores.now margins.now.columns judge }
-    requires margin { let m = linear_meaning row_scores.now margins.now.rows
-        column_scores.now margins.now.columns judge in
-        IsMargin (over_rooms m) margins.now.columns margins.now.rows }
-    ensures { IfOk result (λ s. linear_meaning s.1.scores.items s.1.rows.items
-        s.1.later.scores.items s.1.later.columns.items s.1.judge
-        ≡ linear_meaning row_scores.now margins.now.rows
-        column_scores.now margins.now.columns judge) }
+    requires linear { IsLinear row_scores.now rows.now column_scores.now columns.now judge }
+    requires margin { let m = linear_meaning row_scores.now rows.now
+        column_scores.now columns.now judge in
+        IsMargin (over_rooms m) columns.now rows.now }
+    ensures { let m = linear_meaning row_scores.now rows.now column_scores.now columns.now judge in
+        IfOk result (λ s. linear_meaning s.1.scores.items s.1.rows.items
+        s.1.later.scores.items s.1.later.columns.items s.1.judge ≡ m) }
 {
-    let rows = margins.rows.as_slice();
-    let columns = margins.columns.as_slice();
     let measure = LinearMeasure::new(alloc, row_scores, rows, column_scores, columns, judge)?;
     label_stages(alloc, columns, rows, Numbered::new(measure))
 }

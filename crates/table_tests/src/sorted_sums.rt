@@ -107,6 +107,7 @@ pub(crate) fn sorted_sum(alloc: Global, table: &FisherTable) -> Result<TailSum, 
         IfOk result (λ found. found.sum ≡ sum) }
 {
     let made = table.made();
+    table.facts();
     let stages = table.by_sorted_weight(alloc)?;
     let last = table.last_columns(alloc)?;
     let sum = sum_of(alloc, &stages, &last, made.frame.total)?;

@@ -45,8 +45,8 @@ pub(crate) fn sorted_stages(
     requires falls { falling rows.now ≡ rows.now }
     requires rises { rising columns.now ≡ columns.now }
     ensures { let meaning = sorted_meaning rows.now columns.now judge in
-        IfOk result (λ s. meaning
-        ≡ sorted_meaning s.1.measure.rows.items s.1.measure.columns.items s.1.measure.judge) }
+        IfOk result (λ s. sorted_meaning s.1.measure.rows.items s.1.measure.columns.items
+        s.1.measure.judge ≡ meaning) }
 {
     let measure = WeightMeasure::new(alloc, rows, columns, judge)?;
     let products = RowProducts::new(alloc)?;
@@ -78,6 +78,7 @@ impl SortedWeights {
         ensures high { let high = sharper_high self.now.measure.columns.items stage in
             result.high ≡ pos (high (sizes_in room.now)) }
     {
+        self.measure.seat(stage, room);
         let factors = self.measure.factors(stage, room);
         let later = later_columns(self.measure.columns(), stage);
         let mut numbers = [0u64; 8];

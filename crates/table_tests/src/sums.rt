@@ -6,11 +6,11 @@ ghost use Rattle.std.specs.Prelude.{nat_eq};
 ghost use Rattle.weights.specs.declared.TheConstants.{MAX};
 ghost use Rattle.weights.specs.Grouped.{columns_of, table_weight};
 ghost use Rattle.weights.specs.Labellings.{counts_of, number_of_labellings};
-ghost use Rattle.label_network.specs.Linear.{row_sum};
+ghost use Rattle.label_network.specs.Linear.{row_sum, table_sum};
 ghost use Rattle.table_reader.specs.Data.{table_data_of};
 ghost use Rattle.table_tests.specs.declared.TheConstants.{MOST_SCORE};
 ghost use Rattle.table_tests.specs.Tables.{columns_in};
-ghost use Rattle.table_tests.specs.TableSteps.{AreColumns, AreScored, AreScores, most_added, most_subjects, table_sum};
+ghost use Rattle.table_tests.specs.TableSteps.{AreColumns, AreScored, AreScores, most_added, most_subjects};
 
 use crate::margins::read_column;
 use label_network::score_choice;
@@ -32,14 +32,6 @@ pub(crate) fn front(labels: &[u8], count: u64) -> &[u8]
     &labels[..count as usize]
 }
 
-// The labels after so many.
-fn back(labels: &[u8], count: u64) -> &[u8]
-    requires { count ≤ length labels.now }
-    ensures { result.now ≡ drop count labels.now }
-{
-    &labels[count as usize..]
-}
-
 // How often each label occurs.
 fn count_labels(labels: &[u8], counts: &mut [u64])
     ensures { counts.new ≡ counts_of (length counts.old) labels.now }
@@ -47,6 +39,16 @@ fn count_labels(labels: &[u8], counts: &mut [u64])
     for i in 0..counts.len() {
         counts[i] = count_label(labels, i as u64);
     }
+}
+
+// Counts the labels of a column, of so many subjects, and answers those after it.
+fn read_labels<'a>(labels: &'a [u8], column: u64, counts: &mut [u64]) -> &'a [u8]
+    requires { column ≤ length labels.now }
+    ensures counts { counts.new ≡ counts_of (length counts.old) (take column labels.now) }
+    ensures rest { result.now ≡ drop column labels.now }
+{
+    count_labels(front(labels, column), counts);
+    &labels[column as usize..]
 }
 
 // What a column adds: its score times the summed row scores of its subjects.
@@ -96,9 +98,8 @@ pub(crate) fn labelled_sum(
     let mut sum: i128 = 0;
     let mut later = labels;
     for j in 0..columns.len() {
-        count_labels(front(later, columns[j]), counts);
+        later = read_labels(later, columns[j], counts);
         sum = plus(sum, column_term(row_scores, column_scores[j], counts));
-        later = back(later, columns[j]);
     }
     sum
 }
@@ -142,9 +143,8 @@ pub(crate) fn labelled_weight(rows: usize, columns: &[u64], labels: &[u8]) -> u1
     let mut weight: u128 = 1;
     let mut later = labels;
     for column in columns {
-        count_labels(front(later, *column), counts);
+        later = read_labels(later, *column, counts);
         weight *= ways_of(counts);
-        later = back(later, *column);
     }
     weight
 }

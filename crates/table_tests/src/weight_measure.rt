@@ -1,5 +1,5 @@
 // The weight of a table as a measure of its labellings.
-ghost use Rattle.std.specs.Prelude.{◌≡◌, ◌^◌, ◌<◌, ◌≤◌, length, drop, min, pos, IfOk};
+ghost use Rattle.std.specs.Prelude.{◌≡◌, ◌-◌, ◌^◌, ◌<◌, ◌≤◌, length, drop, get_or, min, pos, IfOk};
 ghost use Rattle.std.specs.List.{sum};
 ghost use Rattle.weights.specs.declared.TheConstants.{MAX};
 ghost use Rattle.weights.specs.Labellings.{number_of_labellings};
@@ -8,7 +8,7 @@ ghost use Rattle.label_network.specs.LabelSteps.{AreSizes, IsHeld};
 ghost use Rattle.label_network.specs.Meanings.{sizes_in};
 ghost use Rattle.table_tests.specs.Weighing.{greatest_factor, least_factor, weight_meaning};
 ghost use Rattle.table_tests.specs.WeightSteps.{AreRoomy, IsWeighing, IsWeightMeasure};
-ghost use Rattle.table_tests.specs.WeightSteps.{IsWeightRoom, IsWeightStep};
+ghost use Rattle.table_tests.specs.WeightSteps.{IsWeightRoom, IsWeightStep, WeightSeat};
 
 use crate::fillings::{later_highs, least_over};
 use crate::fisher_table::held;
@@ -49,6 +49,15 @@ pub(crate) fn later_columns(columns: &[u64], stage: usize) -> &[u64]
     ensures { result.now ≡ drop stage columns.now }
 {
     &columns[stage..]
+}
+
+// The product of the greatest weights behind a stage, of so many stages.
+fn high_behind(highs: &[u128], stages: usize, stage: usize) -> u128
+    requires within { stage ≤ stages }
+    requires long { stages - stage < length highs.now }
+    ensures { result ≡ get_or highs.now (stages - stage) 0 }
+{
+    highs[stages - stage]
 }
 
 // By what the sizes that remain can still multiply a product: at least by the least weights of the
@@ -140,16 +149,25 @@ impl WeightMeasure {
         ensures high { let high = greatest_factor self.now.columns.items stage in
             result.high ≡ pos (high (sizes_in remaining.now)) }
     {
-        let later = later_columns(self.columns.as_slice(), stage);
-        let high = self.highs[later.len()];
+        self.seat(stage, remaining);
+        let columns = self.columns();
+        let high = high_behind(self.highs.as_slice(), columns.len(), stage);
         factors_of(
             &self.binomials,
             &self.falling_binomials,
-            later,
+            later_columns(columns, stage),
             high,
             remaining,
         )
     }
+
+    /// What is known of the sizes of a key. It does nothing.
+    #[inline(always)]
+    pub(crate) fn seat(&self, _stage: usize, _remaining: &[i128])
+        requires { IsWeightRoom self.now.rows.items self.now.columns.items _stage _remaining.now }
+        ensures { WeightSeat self.now.rows.items self.now.columns.items self.now.binomials.width
+            self.now.falling_binomials.width self.now.highs.items _stage _remaining.now }
+    {}
 }
 
 impl NumberMeasure for WeightMeasure {

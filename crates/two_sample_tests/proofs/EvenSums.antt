@@ -1,37 +1,29 @@
 -- The sum of the second sample's scores, where scores rise by one step, is that of the first scores
 -- and a step for each pair that rises.
-use Rattle.std.proofs.Common.{◌≡◌, ℕ, zero, suc, ◌+◌, ◌*◌, ◌<◌, List, [], ◌∷◌, length, cond, refl, sym, ◌∙◌, ap, subst, arith, nat_eq, nat_lt}
+use Rattle.std.proofs.Common.{◌≡◌, ℕ, zero, suc, ◌+◌, ◌*◌, ◌<◌, List, [], ◌∷◌, length, cond, refl, sym, ◌∙◌, ap, arith, nat_eq, nat_lt}
 use Rattle.std.specs.Prelude.{ℤ, pos, ◌+ℤ◌, ◌*ℤ◌, slice_index}
 use Rattle.std.specs.List.{AllByRecursion, count_by}
 use Rattle.std.proofs.lemmas.Bool.Decides.{nat_tests}
 use Rattle.std.proofs.Math.IntN.{suc_ℤ, suc_ℤ-*ℤ, zero-*ℤ}
 use Rattle.std.proofs.lemmas.Int.{ints}
 use Rattle.std.proofs.lemmas.List.Sums.{sum_by-cons}
-use Rattle.weights.specs.declared.rules.Rule.TheVariants.{Far}
 use Rattle.weights.specs.declared.tails.Tail.{Tail}
 use Rattle.weights.specs.Conditional.{numerator}
-use Rattle.weights.specs.Labellings.{labellings}
-use Rattle.weights.specs.Rules.{RuleFits, passes}
-use Rattle.weights.specs.declared.rules.Rule.{Rule}
 use Rattle.weights.proofs.Chosen.{one_if}
 use Rattle.weights.proofs.Counted.{count_of}
-use Rattle.weights.proofs.Members.{IsLabelling, labelling_from}
-use Rattle.weights.proofs.Sums.{sum_by-same_where}
-use Rattle.halves.proofs.Numerators.{numerator-counted}
-use Rattle.enumerate.proofs.JoinedMembers.{each-labelling}
+use Rattle.weights.proofs.Members.{IsLabelling}
 use Rattle.scores.specs.Scores.{labelled_sum}
 use Rattle.sample_reader.specs.Groups.{group_sizes}
 use Rattle.stage_network.specs.declared.verdicts.Judge.{Judge}
 use Rattle.stage_network.specs.Judged.{judge_of, rule_in}
-use Rattle.labelled.specs.LabelTests.{IsWithin}
-use Rattle.labelled.proofs.LabelLaws.{label-judge}
+use Rattle.labelled.proofs.LabelLaws.{fit-by, numerator-by}
 use Rattle.rising_pairs.specs.RisingPairs.{rising_pairs}
 use Rattle.rising_pairs.specs.RisingTails.{FitLabellings, even_value, passing_labellings}
 use Rattle.two_sample_tests.specs.declared.even_scores.EvenScores.{EvenScores}
 use Rattle.two_sample_tests.specs.EvenSteps.{AreEven, RiseBy, least_sum, pairs_of}
 use Rattle.two_sample_tests.specs.SampleSteps.{AreFitting}
 use Rattle.two_sample_tests.specs.TwoSamples.{TwoSamples, pooled_scores, two_sample_says, two_sample_test}
-use Rattle.two_sample_tests.proofs.FittingTests.{as-many, is-within}
+use Rattle.two_sample_tests.proofs.FittingTests.{is-within}
 
 -- ---- labels 0 and 1
 
@@ -128,18 +120,12 @@ module _ (samples : TwoSamples) (f : AreFitting samples) (even : EvenScores) (ar
   sum-rises xs l =
       let two : length sizes ≡ 2 = ap length f.sizes_are in
       let second : count_of 1 xs ≡ slice_index sizes 1 = ap (λ counts. slice_index counts 1) (rw two at l.counted) in
-      even-sum even.step (pooled_scores samples) xs even.first are.rise (l.over.long ∙ f.whole ∙ sym (as-many samples)) (rw two at l.over.below)
+      even-sum even.step (pooled_scores samples) xs even.first are.rise (l.over.long ∙ f.labels.are.whole) (rw two at l.over.below)
       ∙ ap (λ n. (pos n *ℤ even.first) +ℤ pos (even.step * (rising_pairs xs + pairs_of n))) second
       ∙ parted even.first (slice_index sizes 1) even.step (rising_pairs xs) (pairs_of (slice_index sizes 1))
 
   pub numerator-rises : (tail : Tail) → numerator (two_sample_test samples) tail ≡ passing_labellings (rule_in (judge_of (two_sample_test samples)) tail) base even.step sizes
-  numerator-rises tail =
-      let rule : Rule = rule_in (judge_of (two_sample_test samples)) tail in
-      numerator-counted (two_sample_test samples) refl refl tail
-      ∙ sum_by-same_where (IsLabelling sizes) (λ xs. cond (passes rule (labelled_sum 1 (pooled_scores samples) xs)) 1 0) (λ xs. cond (passes rule (even_value base even.step (rising_pairs xs))) 1 0)
-      (λ xs l. ap (λ v. cond (passes rule v) 1 0) (sum-rises xs l)) (labellings sizes) (each-labelling sizes)
+  numerator-rises = numerator-by (two_sample_says samples) (λ xs. even_value base even.step (rising_pairs xs)) sum-rises
 
   pub fit-rising : (judge : Judge) → judge ≡ judge_of (two_sample_test samples) → FitLabellings judge base even.step sizes
-  fit-rising judge e xs c =
-      let within : IsWithin (two_sample_says samples) = is-within samples f in
-      label-judge (two_sample_says samples) within judge e (even_value base even.step (rising_pairs xs)) (subst (RuleFits (Far (two_sample_says samples).factor (two_sample_says samples).centre 0)) (sum-rises xs (labelling_from sizes xs c)) (within.fits xs c))
+  fit-rising judge e = fit-by (two_sample_says samples) (λ xs. even_value base even.step (rising_pairs xs)) sum-rises judge e (is-within samples f)

@@ -1,5 +1,4 @@
-mod ScoreSums
-mod ColumnValues
+mod SameTests
 mod FittingTests
 mod Vectors
 mod EvenSums

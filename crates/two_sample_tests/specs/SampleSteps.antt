@@ -1,33 +1,27 @@
 -- What is kept of a prepared test.
-use Rattle.std.specs.Prelude.{◌≡◌, ◌≤◌, [], ◌∷◌, length, slice_index, Contains}
-use Rattle.std.specs.List.{sum}
-use Rattle.weights.specs.Labellings.{labellings, number_of_labellings}
-use Rattle.weights.specs.declared.TheConstants.{MAX}
+use Rattle.std.specs.Prelude.{◌≡◌, ◌≤◌, [], ◌∷◌, length, slice_index, Result, Ok, Err}
 use Rattle.record_reader.specs.declared.TheConstants.{MOST_ROWS}
 use Rattle.sample_reader.specs.Groups.{group_sizes}
-use Rattle.sample_reader.specs.PooledSample.{labels_of, pooled}
-use Rattle.pooled_columns.specs.PooledColumns.{column_scores, column_sizes, pooled_values}
-use Rattle.two_sample_tests.specs.TwoSamples.{TwoSamples, pooled_scores, score_bound}
-use Rattle.two_sample_tests.specs.declared.scored_samples.ScoredSamples.{ScoredSamples}
+use Rattle.weights.specs.declared.wide.PrepareFault.{PrepareFault}
+use Rattle.labelled.specs.LabelTests.{IsRefusedBy}
+use Rattle.labelled.specs.LinearTests.{AreFittingLabels}
+use Rattle.labelled.specs.declared.linear.ScoredLabels.{ScoredLabels}
+use Rattle.two_sample_tests.specs.Columns.{scored_samples}
+use Rattle.two_sample_tests.specs.TwoSamples.{TwoSamples, pooled_scores, two_sample_says}
 
--- two samples, both with some subjects, and a total and a bound that pass no limit
+-- two samples, and a total and a bound that pass no limit
 pub record AreFitting (samples : TwoSamples) : Type 0 where
   pub sizes_are : group_sizes samples.groups
       ≡ slice_index (group_sizes samples.groups) 0 ∷ slice_index (group_sizes samples.groups) 1 ∷ []
-  pub first_some : 1 ≤ slice_index (group_sizes samples.groups) 0
-  pub second_some : 1 ≤ slice_index (group_sizes samples.groups) 1
-  pub whole : sum (group_sizes samples.groups) ≡ length (pooled_values samples.groups)
-  pub few : length (pooled_values samples.groups) ≤ MOST_ROWS
-  pub observed : Contains (labellings (group_sizes samples.groups))
-      (labels_of (pooled samples.groups))
-  pub total_fits : number_of_labellings (group_sizes samples.groups) ≤ MAX
-  pub bound_fits : score_bound (pooled_scores samples) ≤ MAX
+  pub few : length (pooled_scores samples) ≤ MOST_ROWS
+  pub labels : AreFittingLabels (scored_samples samples)
 
 -- what is made of two samples
-pub record AreScored (samples : TwoSamples) (made : ScoredSamples) : Type 0 where
-  pub sizes : made.sizes ≡ group_sizes samples.groups
-  pub scores : made.scores ≡ pooled_scores samples
-  pub column_sizes : made.columns.sizes ≡ column_sizes (pooled_values samples.groups)
-  pub column_scores : made.columns.scores
-      ≡ column_scores samples.kind (pooled_values samples.groups)
+pub record AreScored (samples : TwoSamples) (made : ScoredLabels) : Type 0 where
+  pub is : made ≡ scored_samples samples
   pub fitting : AreFitting samples
+
+-- or else the bound of their test is too wide
+abbrev pub IsMadeOf : TwoSamples → Result ScoredLabels PrepareFault → Type 0
+IsMadeOf samples (Ok made) = AreScored samples made
+IsMadeOf samples (Err fault) = IsRefusedBy (two_sample_says samples).bound fault

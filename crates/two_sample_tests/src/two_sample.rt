@@ -6,14 +6,13 @@ ghost use Rattle.two_sample_tests.specs.TwoSamples.{two_sample_test};
 ghost use Rattle.two_sample_tests.specs.SampleSteps.{AreScored};
 
 use crate::even_scores::{even_scores, least_sum};
-use crate::scored_samples::{ScoredSamples, centre_of, fitting_scores, made_of};
+use crate::scored_samples::made_of;
 use drawn_sums::drawn_sums;
-use label_network::{LabelStages, LinearMeasure, label_stages};
-use labelled::{LabelStatistic, Labelled};
-use pooled_columns::labels_in;
+use label_network::{LabelStages, LinearMeasure};
+use labelled::{LabelStatistic, Labelled, LinearSum};
 use rising_pairs::rising_sums;
 use room_network::Numbered;
-use sample_reader::{Groups, Labels, pooled_subjects, values};
+use sample_reader::{Groups, Labels};
 use scores::{ScoreKind, labelled_sum};
 use stage_network::{Judge, TailSums};
 use std::alloc::Global;
@@ -32,7 +31,7 @@ pub struct ScoreSum {
     labels: Labels,
     members: Nums,
     values: Ints,
-    made: ScoredSamples,
+    made: LinearSum,
 }
 
 impl Model for ScoreSum {
@@ -48,7 +47,7 @@ impl Model for ScoreSum {
 
 impl ScoreSum {
     // What was made of the samples.
-    fn made(&self) -> &ScoredSamples
+    fn made(&self) -> &LinearSum
         ensures { AreScored self.now result.now }
     {
         &self.made
@@ -70,14 +69,8 @@ pub fn prepare(alloc: Global, kind: ScoreKind, groups: &Groups) -> Result<TwoSam
     let Some(total) = multinomial(groups.sizes.as_slice()) else {
         return Err(PrepareFault::TooWide(WideOf::Total));
     };
-    let subjects = pooled_subjects(alloc, groups)?;
-    let observed = labels_in(alloc, &subjects)?;
-    let pooled = values(alloc, &subjects)?;
-    let scored = fitting_scores(alloc, kind, pooled.as_slice())?;
-    let scale = scored.scale;
-    let factor = scored.list.as_slice().len() as u128;
-    let centre = centre_of(groups.sizes.as_slice()[1], scored.list.as_slice());
-    let made = made_of(alloc, kind, groups, pooled.as_slice(), scored.list)?;
+    let made = made_of(alloc, kind, groups)?;
+    let frame = made.frame(total);
     let sum = ScoreSum {
         kind,
         labels: groups.labels.copy()?,
@@ -85,7 +78,7 @@ pub fn prepare(alloc: Global, kind: ScoreKind, groups: &Groups) -> Result<TwoSam
         values: groups.values.copy()?,
         made,
     };
-    Ok(Labelled::new(sum, observed.as_slice(), scale, factor, centre, total))
+    Ok(Labelled::framed(sum, frame))
 }
 
 impl LabelStatistic for ScoreSum {
@@ -106,11 +99,11 @@ impl LabelStatistic for ScoreSum {
     }
 
     fn sizes(&self) -> &[u64] {
-        self.made().sizes.as_slice()
+        self.made().sizes()
     }
 
     fn value(&self, labels: &[u8]) -> i128 {
-        labelled_sum(self.made().scores.as_slice(), labels, 1)
+        labelled_sum(self.made().scored().scores.as_slice(), labels, 1)
     }
 
     fn has_tail(&self, _tail: Tail) -> bool {
@@ -118,19 +111,14 @@ impl LabelStatistic for ScoreSum {
     }
 
     fn stages_of(&self, alloc: Global, judge: Judge) -> Result<Self::Built, NoMemory> {
-        let made = self.made();
-        let rows = made.sizes.as_slice();
-        let columns = made.columns.sizes.as_slice();
-        let scores = made.columns.scores.as_slice();
-        let measure = LinearMeasure::new(alloc, &[0, 1], rows, scores, columns, judge)?;
-        label_stages(alloc, columns, rows, Numbered::new(measure))
+        self.made().stages_of(alloc, judge)
     }
 
     // Where scores rise by one step, by how many pairs of subjects rise; else by draws of the
     // second sample, or, where sums seldom meet, by two halves.
     fn numerators(&self, alloc: Global, judge: Judge, tails: Tails) -> Result<TailSums, NoMemory> {
         self.sound();
-        let made = self.made();
+        let made = self.made().scored();
         let scores = made.scores.as_slice();
         let sizes = made.sizes.as_slice();
         if let Some(even) = even_scores(scores) {

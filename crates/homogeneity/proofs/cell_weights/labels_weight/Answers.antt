@@ -2,18 +2,11 @@ use Rattle.std.proofs.Common.{◌≡◌, length, take, drop, ◌-◌, ◌∙◌,
 use Rattle.std.specs.Prelude.{min}
 use Rattle.std.proofs.lemmas.List.{take_rest}
 use Rattle.strata_cells.specs.Strata.{cells_of, size, stratum_at}
-use Rattle.homogeneity.proofs.CellProducts.{next-labels, weigh-first}
-use Rattle.homogeneity.proofs.Rarities.{member-cells}
+use Rattle.homogeneity.proofs.Rarities.{next-labels, weigh-first, member-cells}
 use Rattle.homogeneity.proofs.cell_weights.labels_weight.Goals as goal
 
 pub loop-stratum-init : goal.loop-stratum-init
 loop-stratum-init c = weigh-first c.args.strata.now (cells_of c.args.strata.now c.args.labels.now) (member-cells c.args.strata.now c.args.labels.now c.requires.member)
-
-pub weight_of-product-requires-clause-least : goal.weight_of-product-requires-clause-least
-weight_of-product-requires-clause-least c = rw c.stratum_cell.ensures (next-labels c.loop-stratum.later.now c.loop-stratum-test.true c.loop-stratum.invariant).least
-
-pub weight_of-product-requires-clause-greatest : goal.weight_of-product-requires-clause-greatest
-weight_of-product-requires-clause-greatest c = rw c.stratum_cell.ensures (next-labels c.loop-stratum.later.now c.loop-stratum-test.true c.loop-stratum.invariant).most
 
 pub weight_of-product-requires-clause-fits : goal.weight_of-product-requires-clause-fits
 weight_of-product-requires-clause-fits c = rw c.stratum_cell.ensures (omega (arith, (next-labels c.loop-stratum.later.now c.loop-stratum-test.true c.loop-stratum.invariant).weight, c.requires.fits))

@@ -1,6 +1,6 @@
 use Rattle.std.proofs.Common.{drop}
 use Rattle.strata_cells.specs.Strata.{cells_of, cells_weight}
-use Rattle.homogeneity.proofs.CellProducts.{IsWeighing}
+use Rattle.homogeneity.proofs.Rarities.{IsWeighing}
 use Rattle.homogeneity.proofs.cell_weights.labels_weight.Given as goal
 
 abbrev pub invariant-loop-stratum : goal.invariant-loop-stratum

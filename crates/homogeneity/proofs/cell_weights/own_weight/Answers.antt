@@ -1,6 +1,6 @@
 use Rattle.std.proofs.Common.{arith}
 use Rattle.homogeneity.specs.ZelenMade.{own_cells}
-use Rattle.homogeneity.proofs.CellProducts.{next-own, weigh-first}
+use Rattle.homogeneity.proofs.Rarities.{next-own, weigh-first}
 use Rattle.homogeneity.proofs.ZelenTests.{own-cells_are}
 use Rattle.homogeneity.proofs.cell_weights.own_weight.Goals as goal
 

@@ -1,7 +1,7 @@
 use Rattle.std.proofs.Common.{drop}
 use Rattle.strata_cells.specs.Strata.{cells_weight}
 use Rattle.homogeneity.specs.ZelenMade.{own_cells}
-use Rattle.homogeneity.proofs.CellProducts.{IsWeighing}
+use Rattle.homogeneity.proofs.Rarities.{IsWeighing}
 use Rattle.homogeneity.proofs.cell_weights.own_weight.Given as goal
 
 abbrev pub invariant-loop-stratum : goal.invariant-loop-stratum

@@ -1,7 +1,13 @@
 use Rattle.std.proofs.Common.{◌≡◌, ◌++◌, ◌∷◌, [], List, ap, ◌∙◌, arith}
 use Rattle.homogeneity.specs.declared.laters.Later.{Later}
-use Rattle.homogeneity.proofs.Windows.{end-is, later-at, laters-first, laters-next, laters-whole}
+use Rattle.homogeneity.proofs.Windows.{least-few, most-few, end-is, later-at, laters-first, laters-next, laters-whole}
 use Rattle.homogeneity.proofs.laters.laters_of.Goals as goal
+
+pub least_sum-least-requires-clause-fits : goal.least_sum-least-requires-clause-fits
+least_sum-least-requires-clause-fits c = omega (arith, least-few c.args.strata.now c.args.sum c.requires 0)
+
+pub greatest_sum-most-requires-clause-fits : goal.greatest_sum-most-requires-clause-fits
+greatest_sum-most-requires-clause-fits c = omega (arith, most-few c.args.strata.now c.args.sum c.requires 0)
 
 pub loop-done-init : goal.loop-done-init
 loop-done-init c =

@@ -1,5 +1,5 @@
 use Rattle.std.proofs.Common.{arith}
-use Rattle.homogeneity.proofs.Growing.{numbers-next}
+use Rattle.homogeneity.proofs.Windows.{numbers-next}
 use Rattle.homogeneity.proofs.laters.numbers_of.Goals as goal
 
 pub counted-requires : goal.counted-requires

@@ -1,6 +1,6 @@
 use Rattle.sample_reader.specs.Data.{strata_data_of}
-use Rattle.homogeneity.proofs.RankWays.{strata-facts}
-use Rattle.homogeneity.proofs.StrataTotals.{usable-from}
+use Rattle.homogeneity.proofs.RankFitting.{strata-facts}
+use Rattle.homogeneity.proofs.StrataSubjects.{usable-from}
 use Rattle.homogeneity.proofs.rank_made.strata_fit.Goals as goal
 
 pub returns : goal.returns

@@ -1,12 +1,11 @@
 use Rattle.std.proofs.Common.{◌≡◌, ◌+◌, ◌-◌, ◌∷◌, drop, length, sym, subst, arith}
 use Rattle.homogeneity.specs.RankRooms.{column_at}
 use Rattle.homogeneity.specs.RankSteps.{AreLaterWays, later_ways}
-use Rattle.homogeneity.proofs.RankPlans.{here}
-use Rattle.homogeneity.proofs.RankSeats.{suffix-fits, table-more}
+use Rattle.homogeneity.proofs.RankPlans.{columns-at, suffix-fits, table-more}
 use Rattle.homogeneity.proofs.rank_rooms.later_ways.Goals as goal
 
 pub more_ways-requires-clause-sound : goal.more_ways-requires-clause-sound
-more_ways-requires-clause-sound c = rw (c.column_of.ensures, c.from_stage-later.ensures) (here c.args.columns.now c.requires.sound (length c.args.columns.now - c.loop-done.done - 1) (omega (arith, c.loop-done-test.true)))
+more_ways-requires-clause-sound c = rw (c.column_of.ensures, c.from_stage-later.ensures) (columns-at c.args.columns.now c.requires.sound (length c.args.columns.now - c.loop-done.done - 1) (omega (arith, c.loop-done-test.true)))
 
 pub more_ways-requires-clause-fits : goal.more_ways-requires-clause-fits
 more_ways-requires-clause-fits c = rw (c.column_of.ensures, c.from_stage-later.ensures) (suffix-fits c.args.columns.now (length c.args.columns.now - c.loop-done.done - 1) (omega (arith, c.loop-done-test.true)) c.requires.fits)

@@ -1,6 +1,6 @@
+use Rattle.std.proofs.Common.{◌≡◌, ◌+◌, drop}
 use Rattle.homogeneity.specs.RankRooms.{greatest_added}
-use Rattle.homogeneity.proofs.RankReads.{IsAdding}
 use Rattle.homogeneity.proofs.rank_sums.greatest_added.Given as goal
 
-abbrev pub invariant-loop-column : goal.invariant-loop-column
-invariant-loop-column l = IsAdding greatest_added l.columns l.remaining l.column-index l.sum l.later
+abbrev pub invariant-loop-i : goal.invariant-loop-i
+invariant-loop-i l = l.sum + greatest_added (drop l.i l.columns) l.later ≡ greatest_added l.columns l.remaining

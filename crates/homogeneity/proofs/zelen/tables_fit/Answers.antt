@@ -1,6 +1,6 @@
 use Rattle.strata_cells.specs.Strata.{strata_of}
 use Rattle.strata_cells.proofs.StrataReads.{strata-few, strata-small}
-use Rattle.homogeneity.proofs.ZelenWays.{summed}
+use Rattle.homogeneity.proofs.ZelenTests.{summed}
 use Rattle.homogeneity.proofs.zelen.tables_fit.Goals as goal
 
 pub returns-clause-small : goal.returns-clause-small

@@ -1,4 +1,4 @@
-use Rattle.std.proofs.Common.{◌∙◌, arith, length, rules, sym, FitsSigned}
+use Rattle.std.proofs.Common.{◌∙◌, arith, length, rules, sym}
 use Rattle.std.specs.Prelude.{pos}
 use mir.Syntax.{w128}
 use mir.Val.{to_z, of_z}
@@ -14,11 +14,10 @@ labelled_sum-requires c = c.requires
 
 pub loop-i-preserved : goal.loop-i-preserved
 loop-i-preserved c =
-    let s : FitsSigned w128 c.labelled_sum.result = search rules in
     record {
       long = search rules;
       filled = grown c.loop-i.sums (group_sums (length c.args.sums.now) c.args.scores.now c.args.labels.now) c.loop-i.i (to_z w128 (of_z w128 c.labelled_sum.result)) (pos 0) (omega (arith, c.loop-i.invariant.long, c.loop-i-test.true)) (omega (arith, length-sums (length c.args.sums.now) c.args.scores.now c.args.labels.now, c.loop-i-test.true)) c.loop-i.invariant.filled
-          (to_z-of_z w128 c.labelled_sum.result s ∙ c.labelled_sum.ensures ∙ sym (sum-at (length c.args.sums.now) c.loop-i.i c.args.scores.now c.args.labels.now c.loop-i-test.true));
+          (to_z-of_z w128 c.labelled_sum.result (search rules) ∙ c.labelled_sum.ensures ∙ sym (sum-at (length c.args.sums.now) c.loop-i.i c.args.scores.now c.args.labels.now c.loop-i-test.true));
     }
 
 pub returns : goal.returns

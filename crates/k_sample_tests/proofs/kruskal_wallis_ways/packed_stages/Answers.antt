@@ -38,10 +38,9 @@ pub returns : goal.returns
 returns c t =
     let samples : ScoredGroups = c.args.problem.now in
     let half : ℕ = half_for (length (group_sizes samples.groups)) in
-    let base : c.new-packed.result.half ≡ half = c.new-packed.ensures.half ∙ ap (λ (m : Meaning). half_for (length m.rows)) c.in_ok-sums.ensures.meaning in
     let same : packed_meaning c.in_ok-stages.stages.1.half (sums_meaning c.in_ok-stages.stages.1.sums) ≡ packed_meaning half (unpacked_meaning samples) =
     ap (λ (p : PackedSums). packed_meaning p.half (sums_meaning p.sums)) c.in_ok-stages.ensures.measure
-    ∙ ap (λ h. packed_meaning h (sums_meaning c.new-packed.result.sums)) base
+    ∙ ap (λ h. packed_meaning h (sums_meaning c.new-packed.result.sums)) (c.new-packed.ensures.half ∙ ap (λ (m : Meaning). half_for (length m.rows)) c.in_ok-sums.ensures.meaning)
     ∙ ap (λ (s : RankSums). packed_meaning half (sums_meaning s)) c.new-packed.ensures.sums
     ∙ ap (packed_meaning half) c.in_ok-sums.ensures.meaning in
     subst (λ m. Follows (kruskal_wallis_test samples) t (label_network m)) (sym same) (follows-packed samples c.made-made.ensures.fitting t half c.requires.small)

@@ -1,14 +1,14 @@
 use Rattle.std.proofs.Common.{arith}
 use Rattle.k_sample_tests.specs.declared.used_pairs.UsedPair.{UsedPair}
 use Rattle.k_sample_tests.proofs.PairFits.{column-few, points-most, points-next}
-use Rattle.k_sample_tests.proofs.PairPoints.{within-at}
+use Rattle.label_network.proofs.Rows.{get-within}
 use Rattle.k_sample_tests.proofs.pair_points.column_points.Goals as goal
 
 abbrev none : UsedPair
 none = record { lesser = 0; greater = 0 }
 
 pub overflow_sub-placed : goal.overflow_sub-placed
-overflow_sub-placed c = within-at c.args.rows.now c.args.left.now _ c.requires.left
+overflow_sub-placed c = get-within c.args.rows.now c.args.left.now _ c.requires.left
 
 pub points-sum-requires-clause-beside : goal.points-sum-requires-clause-beside
 points-sum-requires-clause-beside c = column-few c.args.rows.now c.args.left.now c.args.column.now c.requires.few c.requires.left c.requires.column _

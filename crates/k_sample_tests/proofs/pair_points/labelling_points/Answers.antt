@@ -1,4 +1,4 @@
-use Rattle.std.proofs.Common.{rules, ◌≡◌, ◌∙◌, arith, ap, FitsSigned}
+use Rattle.std.proofs.Common.{rules, ◌≡◌, ◌∙◌, arith, ap}
 use Rattle.std.specs.Prelude.{pos}
 use mir.Syntax.{w128}
 use Rattle.std.proofs.lemmas.Int.{to_z-of_z}
@@ -18,6 +18,4 @@ whole-requires c =
 
 pub returns : goal.returns
 returns c =
-    let points : c.place_columns.result ≡ points_from c.args.pairs.now c.args.rows.now c.args.rows.now c.args.columns.now c.args.labels.now = c.place_columns.ensures ∙ ap (λ left. points_from c.args.pairs.now c.args.rows.now left c.args.columns.now c.args.labels.now) c.copy_from_slice.ensures.after in
-    let s : FitsSigned w128 c.whole.result = search rules in
-    to_z-of_z w128 c.whole.result s ∙ c.whole.ensures ∙ ap pos points
+    to_z-of_z w128 c.whole.result (search rules) ∙ c.whole.ensures ∙ ap pos (c.place_columns.ensures ∙ ap (λ left. points_from c.args.pairs.now c.args.rows.now left c.args.columns.now c.args.labels.now) c.copy_from_slice.ensures.after)

@@ -2,16 +2,17 @@ use Rattle.std.proofs.Common.{◌≡◌, ◌-◌, ◌∙◌, get_or, arith, rule
 use Rattle.weights.specs.Grouped.{minus}
 use Rattle.weights.proofs.Sized.{length-minus}
 use Rattle.label_network.proofs.Rows.{grown, written}
-use Rattle.k_sample_tests.proofs.PairPoints.{left-at, within-at}
+use Rattle.label_network.proofs.Rearranging.{get-minus}
+use Rattle.label_network.proofs.Rows.{get-within}
 use Rattle.k_sample_tests.proofs.Placing.{same-at, same-later}
 use Rattle.k_sample_tests.proofs.pair_points.take_away.Goals as goal
 
 pub overflow_sub-left : goal.overflow_sub-left
-overflow_sub-left c = omega (arith, within-at c.args.left.now c.args.column.now c.loop-i.i c.requires, same-at c.loop-i.left c.args.left.now c.loop-i.i c.loop-i.invariant.rest)
+overflow_sub-left c = omega (arith, get-within c.args.left.now c.args.column.now c.loop-i.i c.requires, same-at c.loop-i.left c.args.left.now c.loop-i.i c.loop-i.invariant.rest)
 
 pub loop-i-preserved : goal.loop-i-preserved
 loop-i-preserved c =
-    let goal_at : get_or (minus c.args.left.now c.args.column.now) c.loop-i.i 0 ≡ get_or c.args.left.now c.loop-i.i 0 - get_or c.args.column.now c.loop-i.i 0 = left-at c.args.left.now c.args.column.now c.loop-i.i c.requires in
+    let goal_at : get_or (minus c.args.left.now c.args.column.now) c.loop-i.i 0 ≡ get_or c.args.left.now c.loop-i.i 0 - get_or c.args.column.now c.loop-i.i 0 = get-minus c.args.left.now c.args.column.now c.loop-i.i c.requires in
     let here : get_or c.loop-i.left c.loop-i.i 0 ≡ get_or c.args.left.now c.loop-i.i 0 = same-at c.loop-i.left c.args.left.now c.loop-i.i c.loop-i.invariant.rest in
     record {
       long = search rules;

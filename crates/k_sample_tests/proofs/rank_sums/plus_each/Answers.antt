@@ -1,4 +1,4 @@
-use Rattle.std.proofs.Common.{◌∙◌, arith, get_or, rules, sym, FitsSigned}
+use Rattle.std.proofs.Common.{◌∙◌, arith, get_or, rules, sym}
 use Rattle.std.specs.Prelude.{pos}
 use mir.Syntax.{w128}
 use mir.Val.{to_z, of_z}
@@ -11,20 +11,15 @@ use Rattle.k_sample_tests.proofs.rank_sums.plus_each.Goals as goal
 
 pub plus-requires : goal.plus-requires
 plus-requires c =
-    let a : FitsSigned w128 (get_or c.args.partial.now c.loop-i.i (pos 0)) = search rules in
-    let b : FitsSigned w128 (get_or c.args.added.now c.loop-i.i (pos 0)) = search rules in
-    rw (to_z-of_z w128 (get_or c.args.partial.now c.loop-i.i (pos 0)) a, to_z-of_z w128 (get_or c.args.added.now c.loop-i.i (pos 0)) b) (c.requires.fits.each c.loop-i.i c.loop-i-test.true)
+    rw (to_z-of_z w128 (get_or c.args.partial.now c.loop-i.i (pos 0)) (search rules), to_z-of_z w128 (get_or c.args.added.now c.loop-i.i (pos 0)) (search rules)) (c.requires.fits.each c.loop-i.i c.loop-i-test.true)
 
 pub loop-i-preserved : goal.loop-i-preserved
 loop-i-preserved c =
-    let a : FitsSigned w128 (get_or c.args.partial.now c.loop-i.i (pos 0)) = search rules in
-    let b : FitsSigned w128 (get_or c.args.added.now c.loop-i.i (pos 0)) = search rules in
-    let s : FitsSigned w128 c.plus.result = search rules in
-    let given = rw (to_z-of_z w128 (get_or c.args.partial.now c.loop-i.i (pos 0)) a, to_z-of_z w128 (get_or c.args.added.now c.loop-i.i (pos 0)) b) at c.plus.ensures in
+    let given = rw (to_z-of_z w128 (get_or c.args.partial.now c.loop-i.i (pos 0)) (search rules), to_z-of_z w128 (get_or c.args.added.now c.loop-i.i (pos 0)) (search rules)) at c.plus.ensures in
     record {
       long = search rules;
       filled = grown c.loop-i.next (plus_each c.args.partial.now c.args.added.now) c.loop-i.i (to_z w128 (of_z w128 c.plus.result)) (pos 0) (omega (arith, c.loop-i.invariant.long, c.loop-i-test.true)) (omega (arith, length-plus c.args.partial.now c.args.added.now c.requires.one_each, c.loop-i-test.true)) c.loop-i.invariant.filled
-          (to_z-of_z w128 c.plus.result s ∙ given ∙ sym (plus-at c.args.partial.now c.args.added.now c.loop-i.i c.requires.one_each c.loop-i-test.true));
+          (to_z-of_z w128 c.plus.result (search rules) ∙ given ∙ sym (plus-at c.args.partial.now c.args.added.now c.loop-i.i c.requires.one_each c.loop-i-test.true));
     }
 
 pub returns : goal.returns

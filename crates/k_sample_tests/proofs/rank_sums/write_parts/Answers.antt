@@ -1,4 +1,4 @@
-use Rattle.std.proofs.Common.{◌∙◌, ℤ, List, arith, rules, sym, FitsSigned}
+use Rattle.std.proofs.Common.{◌∙◌, ℤ, List, arith, rules, sym}
 use Rattle.std.specs.Prelude.{pos}
 use mir.Syntax.{w128}
 use mir.Val.{to_z, of_z}
@@ -20,11 +20,10 @@ part-requires-clause-held c = c.requires.held.held c.loop-i.i
 pub loop-i-preserved : goal.loop-i-preserved
 loop-i-preserved c =
     let later : List ℤ = later_scores c.args.later.now.scores.items c.args.later.now.columns.items c.args.stage in
-    let s : FitsSigned w128 c.part.result = search rules in
     record {
       long = search rules;
       filled = grown c.loop-i.parts (parts_of c.args.end later c.args.sizes.now) c.loop-i.i (to_z w128 (of_z w128 c.part.result)) (pos 0) (omega (arith, c.loop-i.invariant.long, c.loop-i-test.true)) (omega (arith, length-map c.args.sizes.now (λ n. part_sum (better_of c.args.end) n later), c.loop-i-test.true)) c.loop-i.invariant.filled
-          (to_z-of_z w128 c.part.result s ∙ c.part.ensures ∙ sym (part-at (λ n. part_sum (better_of c.args.end) n later) c.args.sizes.now c.loop-i.i c.loop-i-test.true));
+          (to_z-of_z w128 c.part.result (search rules) ∙ c.part.ensures ∙ sym (part-at (λ n. part_sum (better_of c.args.end) n later) c.args.sizes.now c.loop-i.i c.loop-i-test.true));
     }
 
 pub returns : goal.returns

@@ -21,8 +21,7 @@ fitting sum d later h s =
 
 pub overflow_sub-step : goal.overflow_sub-step
 overflow_sub-step c =
-    let f = fitting c.args.sum (c.args.here -ℤ c.args.before) c.args.later c.requires.step c.requires.small in
-    rw (to_z-of_z w128 c.args.here c.ranges.here, to_z-of_z w128 c.args.before c.ranges.before) f.step
+    rw (to_z-of_z w128 c.args.here c.ranges.here, to_z-of_z w128 c.args.before c.ranges.before) (fitting c.args.sum (c.args.here -ℤ c.args.before) c.args.later c.requires.step c.requires.small).step
 
 pub overflow_mul-product : goal.overflow_mul-product
 overflow_mul-product c =

@@ -1,4 +1,4 @@
-use Rattle.std.proofs.Common.{◌≡◌, ◌+◌, ◌<◌, ◌-◌, ℕ, ℤ, List, drop, get_or, length, min, sym, ◌∙◌, ap, arith, rules, FitsSigned, length-set}
+use Rattle.std.proofs.Common.{◌≡◌, ◌+◌, ◌<◌, ◌-◌, ℕ, List, drop, get_or, length, min, sym, ◌∙◌, ap, arith, rules, length-set}
 use Rattle.std.specs.Prelude.{nat_abs, pos}
 use Rattle.std.specs.List.{sum}
 use mir.Syntax.{w128}
@@ -13,20 +13,14 @@ use Rattle.label_network.proofs.choice_order.first_counts.Goals as goal
 
 pub overflow_sub-later : goal.overflow_sub-later
 overflow_sub-later c =
-    let z : ℤ = get_or c.args.sizes.now c.loop-i.i (pos 0) in
-    let f : FitsSigned w128 z = search rules in
-    let size : c.size_in.result ≡ get_or (sizes_in c.args.sizes.now) c.loop-i.i 0 = c.size_in.ensures ∙ ap nat_abs (to_z-of_z w128 z f) ∙ sym (abs-at c.args.sizes.now c.loop-i.i c.loop-i-test.true) in
     let low : c.loop-i.i < length (sizes_in c.args.sizes.now) = omega (arith, c.loop-i-test.true, length-abs c.args.sizes.now) in
-    omega (arith, size, c.loop-i.invariant.rest, sum_by-drop_more (λ v. v) (sizes_in c.args.sizes.now) c.loop-i.i 0 low)
+    omega (arith, (c.size_in.ensures ∙ ap nat_abs (to_z-of_z w128 (get_or c.args.sizes.now c.loop-i.i (pos 0)) (search rules)) ∙ sym (abs-at c.args.sizes.now c.loop-i.i c.loop-i-test.true)), c.loop-i.invariant.rest, sum_by-drop_more (λ v. v) (sizes_in c.args.sizes.now) c.loop-i.i 0 low)
 
 pub loop-i-preserved : goal.loop-i-preserved
 loop-i-preserved c =
     let xs : List ℕ = sizes_in c.args.sizes.now in
-    let z : ℤ = get_or c.args.sizes.now c.loop-i.i (pos 0) in
-    let f : FitsSigned w128 z = search rules in
-    let size : c.size_in.result ≡ get_or xs c.loop-i.i 0 = c.size_in.ensures ∙ ap nat_abs (to_z-of_z w128 z f) ∙ sym (abs-at c.args.sizes.now c.loop-i.i c.loop-i-test.true) in
     let low : c.loop-i.i < length xs = omega (arith, c.loop-i-test.true, length-abs c.args.sizes.now) in
-    let later : c.loop-i.later - c.size_in.result ≡ sum (drop (c.loop-i.i + 1) xs) = omega (arith, size, c.loop-i.invariant.rest, sum_by-drop_more (λ v. v) xs c.loop-i.i 0 low) in
+    let later : c.loop-i.later - c.size_in.result ≡ sum (drop (c.loop-i.i + 1) xs) = omega (arith, (c.size_in.ensures ∙ ap nat_abs (to_z-of_z w128 (get_or c.args.sizes.now c.loop-i.i (pos 0)) (search rules)) ∙ sym (abs-at c.args.sizes.now c.loop-i.i c.loop-i-test.true)), c.loop-i.invariant.rest, sum_by-drop_more (λ v. v) xs c.loop-i.i 0 low) in
     let count : c.if-left-later.counts ≡ c.loop-i.left - sum (drop (c.loop-i.i + 1) xs) = elim c.if-left-later.branch [
       | then-left-later w ↦ omega (arith, w.counts-is, later)
       | else-left-later w ↦ omega (arith, w.counts-is, w.if-left-later.false, later)

@@ -1,4 +1,4 @@
-use Rattle.std.proofs.Common.{◌≡◌, ◌+◌, ◌-◌, ◌<◌, ◌≤◌, ℤ, length, get_or, set, take, drop, min, None, refl, ap, sym, ◌∙◌, arith, rules, FitsSigned, length-drop, length-set, length-take, get_or-set_same}
+use Rattle.std.proofs.Common.{◌≡◌, ◌+◌, ◌-◌, ◌<◌, ◌≤◌, length, get_or, set, drop, min, None, refl, ap, sym, ◌∙◌, arith, rules, length-drop, length-set, length-take, get_or-set_same}
 use Rattle.std.specs.Prelude.{nat_abs, pos}
 use mir.Syntax.{w128}
 use Rattle.std.proofs.lemmas.Int.{to_z-of_z}
@@ -10,33 +10,29 @@ use Rattle.label_network.specs.LabelSteps.{least}
 use Rattle.label_network.proofs.ChoiceSteps.{choice_after}
 use Rattle.label_network.specs.Meanings.{sizes_in}
 use Rattle.weights.proofs.ChoiceLists.{IsChoice}
-use Rattle.label_network.proofs.ChoiceMoves.{is_choice, last_choice, changed, not_here, fits-drop, drop-whole, rest-sizes, sizes-drop, take_rest, written}
+use Rattle.label_network.proofs.ChoiceMoves.{last_choice, changed, not_here, fits-drop, drop-whole, rest-sizes, sizes-drop, take_rest, written}
 use Rattle.label_network.proofs.Rows.{abs-at, length-abs}
+use Rattle.label_network.proofs.Narrowing.{chosen}
 use Rattle.label_network.proofs.choice_order.next_counts.Goals.{else-counts-i-via-then-counts-i+else-counts-i-2, else-counts-i-via-else-counts-i}
 use Rattle.label_network.proofs.choice_order.next_counts.Goals as goal
 
 pub loop-i-init : goal.loop-i-init
 loop-i-init c =
-    let o : IsChoice c.args.total (sizes_in c.args.sizes.now) c.args.counts.now = is_choice _ _ _ c.requires.allowed in
-    let none : choice_after 0 (drop (length c.args.counts.now) (sizes_in c.args.sizes.now)) (drop (length c.args.counts.now) c.args.counts.now) ≡ None = rw (o.long, drop-length (sizes_in c.args.sizes.now)) refl in
+    let none : choice_after 0 (drop (length c.args.counts.now) (sizes_in c.args.sizes.now)) (drop (length c.args.counts.now) c.args.counts.now) ≡ None = rw ((chosen c.args.total (sizes_in c.args.sizes.now) c.args.counts.now c.requires.allowed).long, drop-length (sizes_in c.args.sizes.now)) refl in
     record { kept = refl; within = omega arith; rest = rw (drop-length c.args.counts.now) refl; none = none }
 
 pub overflow_add-later : goal.overflow_add-later
 overflow_add-later c =
-    let o : IsChoice c.args.total (sizes_in c.args.sizes.now) c.args.counts.now = is_choice _ _ _ c.requires.allowed in
     let i : c.loop-i.i ≡ c.loop-i.i - 1 + 1 = omega arith in
     let rest : c.loop-i.later ≡ sum (drop (c.loop-i.i - 1 + 1) c.loop-i.counts) = rw i at c.loop-i.invariant.rest in
-    let more : sum (drop (c.loop-i.i - 1) c.loop-i.counts) ≡ get_or c.loop-i.counts (c.loop-i.i - 1) 0 + sum (drop (c.loop-i.i - 1 + 1) c.loop-i.counts) = sum_by-drop_more (λ v. v) c.loop-i.counts (c.loop-i.i - 1) 0 (omega arith) in
-    omega (arith, more, drop-whole (c.loop-i.i - 1) c.loop-i.counts, ap sum c.loop-i.invariant.kept, o.whole)
+    omega (arith, (sum_by-drop_more (λ v. v) c.loop-i.counts (c.loop-i.i - 1) 0 (omega arith)), drop-whole (c.loop-i.i - 1) c.loop-i.counts, ap sum c.loop-i.invariant.kept, (chosen c.args.total (sizes_in c.args.sizes.now) c.args.counts.now c.requires.allowed).whole)
 
 pub bounds-sizes-i : goal.bounds-sizes-i
 bounds-sizes-i c =
-    let o : IsChoice c.args.total (sizes_in c.args.sizes.now) c.args.counts.now = is_choice _ _ _ c.requires.allowed in
-    omega (arith, o.long, length-abs c.args.sizes.now, ap length c.loop-i.invariant.kept)
+    omega (arith, (chosen c.args.total (sizes_in c.args.sizes.now) c.args.counts.now c.requires.allowed).long, length-abs c.args.sizes.now, ap length c.loop-i.invariant.kept)
 
 pub first_counts-requires-clause-sizes : goal.first_counts-requires-clause-sizes
-first_counts-requires-clause-sizes c =
-    rw (take_rest (c.loop-i.i - 1 + 1) c.args.sizes.now) (sizes-drop (c.loop-i.i - 1 + 1) c.args.sizes.now c.requires.sizes)
+first_counts-requires-clause-sizes c = rw (take_rest (c.loop-i.i - 1 + 1) c.args.sizes.now) (sizes-drop (c.loop-i.i - 1 + 1) c.args.sizes.now c.requires.sizes)
 
 pub first_counts-requires-clause-small : goal.first_counts-requires-clause-small
 first_counts-requires-clause-small c =
@@ -44,17 +40,14 @@ first_counts-requires-clause-small c =
 
 pub first_counts-requires-clause-enough : goal.first_counts-requires-clause-enough
 first_counts-requires-clause-enough c =
-    let o : IsChoice c.args.total (sizes_in c.args.sizes.now) c.args.counts.now = is_choice _ _ _ c.requires.allowed in
     let i : c.loop-i.i ≡ c.loop-i.i - 1 + 1 = omega arith in
     let rest : c.loop-i.later ≡ sum (drop (c.loop-i.i - 1 + 1) c.loop-i.counts) = rw i at c.loop-i.invariant.rest in
-    let most : sum (drop (c.loop-i.i - 1 + 1) c.args.counts.now) ≤ sum (drop (c.loop-i.i - 1 + 1) (sizes_in c.args.sizes.now)) = fits-drop (c.loop-i.i - 1 + 1) (sizes_in c.args.sizes.now) c.args.counts.now o.fitting in
     rw (rest-sizes (c.loop-i.i - 1 + 1) c.args.sizes.now, get_or-set_same c.loop-i.counts (c.loop-i.i - 1) (get_or c.loop-i.counts (c.loop-i.i - 1) 0 + 1) 0 (omega arith))
-    (omega (arith, most, ap (λ x. sum (drop (c.loop-i.i - 1 + 1) x)) c.loop-i.invariant.kept))
+    (omega (arith, (fits-drop (c.loop-i.i - 1 + 1) (sizes_in c.args.sizes.now) c.args.counts.now (chosen c.args.total (sizes_in c.args.sizes.now) c.args.counts.now c.requires.allowed).fitting), ap (λ x. sum (drop (c.loop-i.i - 1 + 1) x)) c.loop-i.invariant.kept))
 
 pub first_counts-requires-clause-room : goal.first_counts-requires-clause-room
 first_counts-requires-clause-room c =
-    let o : IsChoice c.args.total (sizes_in c.args.sizes.now) c.args.counts.now = is_choice _ _ _ c.requires.allowed in
-    simp (length-take, length-drop, length-set) (omega (arith, o.long, length-abs c.args.sizes.now, ap length c.loop-i.invariant.kept))
+    simp (length-take, length-drop, length-set) (omega (arith, (chosen c.args.total (sizes_in c.args.sizes.now) c.args.counts.now c.requires.allowed).long, length-abs c.args.sizes.now, ap length c.loop-i.invariant.kept))
 
 pub returns-then-counts-i-2 : goal.returns-then-counts-i-2
 returns-then-counts-i-2 c =
@@ -64,20 +57,14 @@ returns-then-counts-i-2 c =
     let rest : c.loop-i.later ≡ sum (drop (c.loop-i.i - 1 + 1) c.loop-i.counts) = rw i at c.loop-i.invariant.rest in
     let none : choice_after c.loop-i.later (drop (c.loop-i.i - 1 + 1) (sizes_in c.args.sizes.now)) (drop (c.loop-i.i - 1 + 1) c.loop-i.counts) ≡ None = rw i at c.loop-i.invariant.none in
     let inside : c.loop-i.i - 1 < length c.loop-i.counts = omega arith in
-    let o : IsChoice c.args.total (sizes_in c.args.sizes.now) c.args.counts.now = is_choice _ _ _ c.requires.allowed in
-    let z : ℤ = get_or c.args.sizes.now (c.loop-i.i - 1) (pos 0) in
-    let f : FitsSigned w128 z = search rules in
-    let size : c.size_in.result ≡ get_or (sizes_in c.args.sizes.now) (c.loop-i.i - 1) 0 = c.size_in.ensures ∙ ap nat_abs (to_z-of_z w128 z f) ∙ sym (abs-at c.args.sizes.now (c.loop-i.i - 1) (omega (arith, inside, o.long, length-abs c.args.sizes.now, ap length kept))) in
-    let less : get_or c.loop-i.counts (c.loop-i.i - 1) 0 < get_or (sizes_in c.args.sizes.now) (c.loop-i.i - 1) 0 = omega (arith, size, c.if-counts-i-2.true) in
-    let filled : c.first_counts.new.counts ≡ least (c.loop-i.later + get_or c.loop-i.counts (c.loop-i.i - 1) 0 - get_or (set c.loop-i.counts (c.loop-i.i - 1) (get_or c.loop-i.counts (c.loop-i.i - 1) 0 + 1)) (c.loop-i.i - 1) 0) (take (length (sizes_in c.args.sizes.now) - (c.loop-i.i - 1 + 1)) (drop (c.loop-i.i - 1 + 1) (sizes_in c.args.sizes.now))) = c.first_counts.ensures ∙ ap (least _) (rest-sizes (c.loop-i.i - 1 + 1) c.args.sizes.now ∙ sym (take_rest (c.loop-i.i - 1 + 1) (sizes_in c.args.sizes.now))) in
+    let less : get_or c.loop-i.counts (c.loop-i.i - 1) 0 < get_or (sizes_in c.args.sizes.now) (c.loop-i.i - 1) 0 = omega (arith, (c.size_in.ensures ∙ ap nat_abs (to_z-of_z w128 (get_or c.args.sizes.now (c.loop-i.i - 1) (pos 0)) (search rules)) ∙ sym (abs-at c.args.sizes.now (c.loop-i.i - 1) (omega (arith, inside, (chosen c.args.total (sizes_in c.args.sizes.now) c.args.counts.now c.requires.allowed).long, length-abs c.args.sizes.now, ap length kept)))), c.if-counts-i-2.true) in
     let more : sum (drop (c.loop-i.i - 1) c.loop-i.counts) ≡ get_or c.loop-i.counts (c.loop-i.i - 1) 0 + sum (drop (c.loop-i.i - 1 + 1) c.loop-i.counts) = sum_by-drop_more (λ v. v) c.loop-i.counts (c.loop-i.i - 1) 0 inside in
-    let set_here : get_or (set c.loop-i.counts (c.loop-i.i - 1) (get_or c.loop-i.counts (c.loop-i.i - 1) 0 + 1)) (c.loop-i.i - 1) 0 ≡ get_or c.loop-i.counts (c.loop-i.i - 1) 0 + 1 = get_or-set_same c.loop-i.counts (c.loop-i.i - 1) (get_or c.loop-i.counts (c.loop-i.i - 1) 0 + 1) 0 inside in
     rw (← kept) (changed c.args.total (sizes_in c.args.sizes.now) c.loop-i.counts (c.loop-i.i - 1) allowed inside (rw rest at none) (omega (arith, c.if-counts-i.true, more, rest)) less _
-    (written (sizes_in c.args.sizes.now) c.loop-i.counts c.first_counts.new.counts (c.loop-i.i - 1) _ inside (let less : c.loop-i.later + get_or c.loop-i.counts (c.loop-i.i - 1) 0 - get_or (set c.loop-i.counts (c.loop-i.i - 1) (get_or c.loop-i.counts (c.loop-i.i - 1) 0 + 1)) (c.loop-i.i - 1) 0 ≡ sum (drop (c.loop-i.i - 1) c.loop-i.counts) - (get_or c.loop-i.counts (c.loop-i.i - 1) 0 + 1) = omega (arith, more, rest, set_here) in less) filled))
+    (written (sizes_in c.args.sizes.now) c.loop-i.counts c.first_counts.new.counts (c.loop-i.i - 1) _ inside (let less : c.loop-i.later + get_or c.loop-i.counts (c.loop-i.i - 1) 0 - get_or (set c.loop-i.counts (c.loop-i.i - 1) (get_or c.loop-i.counts (c.loop-i.i - 1) 0 + 1)) (c.loop-i.i - 1) 0 ≡ sum (drop (c.loop-i.i - 1) c.loop-i.counts) - (get_or c.loop-i.counts (c.loop-i.i - 1) 0 + 1) = omega (arith, more, rest, (get_or-set_same c.loop-i.counts (c.loop-i.i - 1) (get_or c.loop-i.counts (c.loop-i.i - 1) 0 + 1) 0 inside)) in less) (c.first_counts.ensures ∙ ap (least _) (rest-sizes (c.loop-i.i - 1 + 1) c.args.sizes.now ∙ sym (take_rest (c.loop-i.i - 1 + 1) (sizes_in c.args.sizes.now))))))
 
 pub loop-i-preserved : goal.loop-i-preserved
 loop-i-preserved c =
-    let o : IsChoice c.args.total (sizes_in c.args.sizes.now) c.args.counts.now = is_choice _ _ _ c.requires.allowed in
+    let o : IsChoice c.args.total (sizes_in c.args.sizes.now) c.args.counts.now = chosen c.args.total (sizes_in c.args.sizes.now) c.args.counts.now c.requires.allowed in
     let i : c.loop-i.i ≡ c.loop-i.i - 1 + 1 = omega arith in
     let rest : c.loop-i.later ≡ sum (drop (c.loop-i.i - 1 + 1) c.loop-i.counts) = rw i at c.loop-i.invariant.rest in
     let none : choice_after c.loop-i.later (drop (c.loop-i.i - 1 + 1) (sizes_in c.args.sizes.now)) (drop (c.loop-i.i - 1 + 1) c.loop-i.counts) ≡ None = rw i at c.loop-i.invariant.none in
@@ -85,10 +72,7 @@ loop-i-preserved c =
     let here : c.loop-i.later + get_or c.loop-i.counts (c.loop-i.i - 1) 0 ≡ sum (drop (c.loop-i.i - 1) c.loop-i.counts) = omega arith in
     let full : min (sum (drop (c.loop-i.i - 1) c.loop-i.counts)) (get_or (sizes_in c.args.sizes.now) (c.loop-i.i - 1) 0) ≤ get_or c.loop-i.counts (c.loop-i.i - 1) 0 = elim c.else-counts-i.branch [
       | else-counts-i-via-then-counts-i+else-counts-i-2 w ↦
-          let z : ℤ = get_or c.args.sizes.now (c.loop-i.i - 1) (pos 0) in
-          let f : FitsSigned w128 z = search rules in
-          let size : w.size_in.result ≡ get_or (sizes_in c.args.sizes.now) (c.loop-i.i - 1) 0 = w.size_in.ensures ∙ ap nat_abs (to_z-of_z w128 z f) ∙ sym (abs-at c.args.sizes.now (c.loop-i.i - 1) (omega (arith, o.long, length-abs c.args.sizes.now, ap length c.loop-i.invariant.kept))) in
-          omega (arith, size, w.if-counts-i-2.false)
+          omega (arith, (w.size_in.ensures ∙ ap nat_abs (to_z-of_z w128 (get_or c.args.sizes.now (c.loop-i.i - 1) (pos 0)) (search rules)) ∙ sym (abs-at c.args.sizes.now (c.loop-i.i - 1) (omega (arith, o.long, length-abs c.args.sizes.now, ap length c.loop-i.invariant.kept)))), w.if-counts-i-2.false)
       | else-counts-i-via-else-counts-i w ↦ omega (arith, w.if-counts-i.false, here)
     ] in
     record {

@@ -1,4 +1,4 @@
-use Rattle.std.proofs.Common.{◌≡◌, ◌<◌, ◌-◌, ℕ, ℤ, List, get_or, length, map, ap, sym, ◌∙◌, arith, rules, FitsSigned}
+use Rattle.std.proofs.Common.{◌≡◌, ◌<◌, ◌-◌, ℕ, List, get_or, length, map, ap, sym, ◌∙◌, arith, rules}
 use Rattle.std.specs.Prelude.{nat_abs, pos}
 use mir.Syntax.{w128}
 use mir.Val.{to_z, of_z}
@@ -11,25 +11,18 @@ use Rattle.label_network.proofs.keys.take_away.Goals as goal
 
 pub less-requires-clause-fewer : goal.less-requires-clause-fewer
 less-requires-clause-fewer c =
-    let z : ℤ = get_or c.args.front.now c.loop-i.i (pos 0) in
-    let f : FitsSigned w128 z = search rules in
-    rw (to_z-of_z w128 z f) (omega (arith, get-within (map nat_abs c.args.front.now) c.args.choice.now c.loop-i.i c.requires.fitting, abs-at c.args.front.now c.loop-i.i c.loop-i-test.true))
+    rw (to_z-of_z w128 (get_or c.args.front.now c.loop-i.i (pos 0)) (search rules)) (omega (arith, get-within (map nat_abs c.args.front.now) c.args.choice.now c.loop-i.i c.requires.fitting, abs-at c.args.front.now c.loop-i.i c.loop-i-test.true))
 
 pub loop-i-preserved : goal.loop-i-preserved
 loop-i-preserved c =
-    let z : ℤ = get_or c.args.front.now c.loop-i.i (pos 0) in
     let x : ℕ = get_or c.args.choice.now c.loop-i.i 0 in
     let r : List ℕ = map nat_abs c.args.front.now in
-    let f : FitsSigned w128 z = search rules in
-    let s : FitsSigned w128 c.less.result = search rules in
-    let value : to_z w128 (of_z w128 c.less.result) ≡ pos (nat_abs z - x) = to_z-of_z w128 c.less.result s ∙ c.less.ensures ∙ ap (λ y. pos (nat_abs y - x)) (to_z-of_z w128 z f) in
     let long : length c.args.choice.now ≡ length r = fits-long c.args.choice.now r c.requires.fitting in
     let low : c.loop-i.i < length r = omega (arith, length-abs c.args.front.now, c.loop-i-test.true) in
     let room : c.loop-i.i < length (minus r c.args.choice.now) = omega (arith, low, length-minus r c.args.choice.now) in
-    let here : get_or (map pos (minus r c.args.choice.now)) c.loop-i.i (pos 0) ≡ pos (nat_abs z - x) = pos-at (minus r c.args.choice.now) c.loop-i.i room ∙ ap pos (minus-at r c.args.choice.now c.loop-i.i low long ∙ ap (λ y. y - x) (abs-at c.args.front.now c.loop-i.i c.loop-i-test.true)) in
     record {
       long = search rules;
-      filled = grown c.loop-i.left (map pos (minus r c.args.choice.now)) c.loop-i.i (to_z w128 (of_z w128 c.less.result)) (pos 0) (omega (arith, c.loop-i.invariant.long, c.loop-i-test.true)) (omega (arith, room, length-pos (minus r c.args.choice.now))) c.loop-i.invariant.filled (value ∙ sym here);
+      filled = grown c.loop-i.left (map pos (minus r c.args.choice.now)) c.loop-i.i (to_z w128 (of_z w128 c.less.result)) (pos 0) (omega (arith, c.loop-i.invariant.long, c.loop-i-test.true)) (omega (arith, room, length-pos (minus r c.args.choice.now))) c.loop-i.invariant.filled ((to_z-of_z w128 c.less.result (search rules) ∙ c.less.ensures ∙ ap (λ y. pos (nat_abs y - x)) (to_z-of_z w128 (get_or c.args.front.now c.loop-i.i (pos 0)) (search rules))) ∙ sym (pos-at (minus r c.args.choice.now) c.loop-i.i room ∙ ap pos (minus-at r c.args.choice.now c.loop-i.i low long ∙ ap (λ y. y - x) (abs-at c.args.front.now c.loop-i.i c.loop-i-test.true))));
     }
 
 pub returns : goal.returns

@@ -1,4 +1,4 @@
-use Rattle.std.proofs.Common.{rules, ◌<◌, ◌≤◌, ◌-◌, ◌+◌, ◌^◌, get_or, arith, pos, ◌+ℤ◌, FitsSigned}
+use Rattle.std.proofs.Common.{rules, ◌<◌, ◌≤◌, ◌-◌, ◌+◌, ◌^◌, get_or, arith, pos}
 use Rattle.std.specs.Prelude.{unsigned_abs}
 use mir.Syntax.{w128}
 use Rattle.std.proofs.lemmas.Int.{to_z-of_z}
@@ -11,17 +11,12 @@ pub overflow_add-row : goal.overflow_add-row
 overflow_add-row g c =
     let small : unsigned_abs c.args.score + absolute_sum g.scores < 2 ^ 127 = c.requires.1.1 in
     let held : unsigned_abs (get_or c.loop-j.row (c.loop-j.j - 1 - 1) (pos 0)) ≤ absolute_sum g.scores = half-held c.args.end _ g.scores c.loop-j.row c.loop-j.j (c.loop-j.j - 1 - 1) c.loop-j.invariant (omega (arith, c.loop-j-test.true)) in
-    let one : FitsSigned w128 (get_or c.loop-j.row (c.loop-j.j - 1 - 1) (pos 0)) = fits-size _ (absolute_sum g.scores) held (omega (arith, small)) in
-    rw (to_z-of_z w128 (get_or c.loop-j.row (c.loop-j.j - 1 - 1) (pos 0)) one, to_z-of_z w128 c.args.score c.ranges.score) (fits-plus _ c.args.score (absolute_sum g.scores) held small)
+    rw (to_z-of_z w128 (get_or c.loop-j.row (c.loop-j.j - 1 - 1) (pos 0)) (fits-size _ (absolute_sum g.scores) held (omega (arith, small))), to_z-of_z w128 c.args.score c.ranges.score) (fits-plus _ c.args.score (absolute_sum g.scores) held small)
 
 pub loop-j-preserved : goal.loop-j-preserved
 loop-j-preserved g c =
     let small : unsigned_abs c.args.score + absolute_sum g.scores < 2 ^ 127 = c.requires.1.1 in
     let held : unsigned_abs (get_or c.loop-j.row (c.loop-j.j - 1 - 1) (pos 0)) ≤ absolute_sum g.scores = half-held c.args.end _ g.scores c.loop-j.row c.loop-j.j (c.loop-j.j - 1 - 1) c.loop-j.invariant (omega (arith, c.loop-j-test.true)) in
-    let one : FitsSigned w128 (get_or c.loop-j.row (c.loop-j.j - 1 - 1) (pos 0)) = fits-size _ (absolute_sum g.scores) held (omega (arith, small)) in
-    let two : FitsSigned w128 (get_or c.loop-j.row (c.loop-j.j - 1) (pos 0)) = fits-size _ (absolute_sum g.scores) (half-held c.args.end _ g.scores c.loop-j.row c.loop-j.j (c.loop-j.j - 1) c.loop-j.invariant (omega (arith, c.loop-j-test.true))) (omega (arith, small)) in
-    let both : FitsSigned w128 (get_or c.loop-j.row (c.loop-j.j - 1 - 1) (pos 0) +ℤ c.args.score) = fits-plus _ c.args.score (absolute_sum g.scores) held small in
-    let result : FitsSigned w128 c.chosen.result = search rules in
     row-loop (better_of c.args.end) c.args.score _ _ _ _ _ g.scores c.loop-j.row c.loop-j.j c.args.before (to_z-of_z w128 c.args.score c.ranges.score) c.loop-j-test.true c.requires.0 c.loop-j.invariant c.chosen.ensures
-    (rw (to_z-of_z w128 (get_or c.loop-j.row (c.loop-j.j - 1 - 1) (pos 0)) one, to_z-of_z w128 c.args.score c.ranges.score) (to_z-of_z w128 _ both))
-    (to_z-of_z w128 _ two) (to_z-of_z w128 c.chosen.result result)
+    (rw (to_z-of_z w128 (get_or c.loop-j.row (c.loop-j.j - 1 - 1) (pos 0)) (fits-size _ (absolute_sum g.scores) held (omega (arith, small))), to_z-of_z w128 c.args.score c.ranges.score) (to_z-of_z w128 _ (fits-plus _ c.args.score (absolute_sum g.scores) held small)))
+    (to_z-of_z w128 _ (fits-size _ (absolute_sum g.scores) (half-held c.args.end _ g.scores c.loop-j.row c.loop-j.j (c.loop-j.j - 1) c.loop-j.invariant (omega (arith, c.loop-j-test.true))) (omega (arith, small)))) (to_z-of_z w128 c.chosen.result (search rules))

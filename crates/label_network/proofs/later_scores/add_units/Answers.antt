@@ -21,7 +21,6 @@ loop-i-preserved g c =
 
 pub returns : goal.returns
 returns g c =
-    let s : to_z w128 (of_z w128 c.args.score) ≡ c.args.score = to_z-of_z w128 c.args.score c.ranges.score in
-    let h = rw s at c.loop-i.invariant in
+    let h = rw (to_z-of_z w128 c.args.score c.ranges.score) at c.loop-i.invariant in
     let all : c.loop-i.i ≡ min c.args.count (length c.loop-i.row) = omega (arith, c.loop-i-test.false, c.loop-i.auto.i-end, c.min-telling.ensures, c.loop-i.auto.row) in
     units-enough c.args.score g.scores c.args.end c.loop-i.i c.args.count c.loop-i.row all h

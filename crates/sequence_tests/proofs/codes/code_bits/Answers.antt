@@ -1,6 +1,6 @@
-use Rattle.std.proofs.Common.{◌≡◌, ◌+◌, ◌-◌, ◌^◌, drop, arith}
+use Rattle.std.proofs.Common.{◌≡◌, ◌+◌, ◌-◌, ◌^◌, drop, arith, ◌<◌}
 use Rattle.sequence_tests.specs.Codes.{marks}
-use Rattle.sequence_tests.proofs.CodeLaws.{below, last-within, marks-at, marks-small}
+use Rattle.sequence_tests.proofs.CodeLaws.{last-within, marks-at, marks-small}
 use Rattle.sequence_tests.proofs.codes.code_bits.Goals as goal
 
 pub with_count-bits-requires-clause-small : goal.with_count-bits-requires-clause-small
@@ -19,4 +19,5 @@ pub returns-clause-small : goal.returns-clause-small
 returns-clause-small c =
     let start : c.loop-i.i ≡ 0 = omega (arith, c.loop-i-test.false) in
     let all : c.loop-i.bits ≡ marks c.args.counts.now = rw start at c.loop-i.invariant.here in
-    below (c.loop-i.bits - c.last_mark.result) c.loop-i.bits (2 ^ 120) (omega arith) (rw all (marks-small c.args.counts.now 0 c.requires))
+    let few : c.loop-i.bits < 2 ^ 120 = rw all (marks-small c.args.counts.now 0 c.requires) in
+    omega (arith, few)

@@ -3,12 +3,6 @@ use Rattle.sample_reader.specs.Data.{twin_data_of}
 use Rattle.sequence_tests.proofs.KendallFitting.{labels-small}
 use Rattle.sequence_tests.proofs.kendall.prepare.Goals as goal
 
-pub of-requires-clause-long : goal.of-requires-clause-long
-of-requires-clause-long c = c.args.twins.now.one_second_each ∙ sym c.args.twins.now.one_first_each
-
-pub of-requires-clause-few : goal.of-requires-clause-few
-of-requires-clause-few c = omega (arith, c.args.twins.now.few_enough, c.args.twins.now.one_first_each)
-
 pub labels_in-requires : goal.labels_in-requires
 labels_in-requires c =
     let few : length c.args.twins.now.first ≤ 120 = omega (arith, c.args.twins.now.few_enough, c.args.twins.now.one_first_each) in

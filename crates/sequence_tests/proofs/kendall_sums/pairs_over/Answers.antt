@@ -5,9 +5,6 @@ use Rattle.std.proofs.lemmas.Int.{to_z-of_z}
 use Rattle.sequence_tests.proofs.PairSums.{over-all, over-next}
 use Rattle.sequence_tests.proofs.kendall_sums.pairs_over.Goals as goal
 
-pub overflow_add-pairs : goal.overflow_add-pairs
-overflow_add-pairs c = omega (arith, c.loop-i.invariant.few, c.pairs_with-pairs.ensures.few, c.loop-i-test.true, c.requires.few)
-
 pub loop-i-preserved : goal.loop-i-preserved
 loop-i-preserved c =
     let b : FitsSigned w128 (get_or c.args.firsts.now c.loop-i.i (pos 0)) = search rules in

@@ -4,12 +4,8 @@ use Rattle.std.proofs.lemmas.Int.{to_z-of_z}
 use Rattle.std.proofs.lemmas.List.{map_more}
 use Rattle.midranks.specs.Ties.{tie_groups}
 use Rattle.midranks.proofs.Places.{group-exists}
-use Rattle.midranks.proofs.TieLemmas.{groups-ascend}
 use Rattle.sequence_tests.specs.Kendall.{place_among}
 use Rattle.sequence_tests.proofs.kendall_twins.places_of.Goals as goal
-
-pub place_in-requires-clause-ascending : goal.place_in-requires-clause-ascending
-place_in-requires-clause-ascending c = rw (c.as_slice-ties.ensures, c.in_ok-groups.ensures.groups) (groups-ascend c.args.values.now)
 
 pub place_in-requires-clause-member : goal.place_in-requires-clause-member
 place_in-requires-clause-member c =

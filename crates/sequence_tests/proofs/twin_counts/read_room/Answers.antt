@@ -1,4 +1,4 @@
-use Rattle.std.proofs.Common.{◌∙◌, ap, arith, refl}
+use Rattle.std.proofs.Common.{◌∙◌, ap, arith}
 use Rattle.std.specs.List.{sum}
 use Rattle.label_network.proofs.ChoiceMoves.{drop-whole, take_rest}
 use Rattle.sequence_tests.proofs.twin_counts.read_room.Goals as goal
@@ -8,6 +8,3 @@ total_of-requires c = rw (take_rest c.args.stage c.args.columns.now) (omega (ari
 
 pub read_code-requires-clause-few : goal.read_code-requires-clause-few
 read_code-requires-clause-few c = omega (arith, c.total_of.ensures ∙ ap sum (take_rest c.args.stage c.args.columns.now), drop-whole c.args.stage c.args.columns.now, c.requires.few)
-
-pub returns : goal.returns
-returns c = c.read_code.ensures ∙ rw (c.total_of.ensures, take_rest c.args.stage c.args.columns.now, c.code_in.ensures) refl

@@ -1,11 +1,6 @@
-use Rattle.std.proofs.Common.{ℕ, arith}
-use Rattle.std.proofs.lemmas.List.{length-take}
 use Rattle.label_network.specs.Meanings.{sizes_in}
 use Rattle.sorted_tables.proofs.ChoiceSums.{listing-choice, listing-done, listing-first, listing-next}
 use Rattle.sorted_tables.proofs.choice_lines.list_choices.Goals as goal
-
-pub slice_bounds-choice-end : goal.slice_bounds-choice-end
-slice_bounds-choice-end c = omega (arith, c.requires.few, length-take {A = ℕ})
 
 pub loop-more-init : goal.loop-more-init
 loop-more-init c = rw c.new-lines.ensures.items (listing-first c.args.column (sizes_in c.args.room.now) c.requires.enough c.first_counts.new.counts c.first_counts.ensures)
@@ -15,9 +10,6 @@ line_of-requires-clause-choice c = listing-choice c.args.column c.args.room.now 
 
 pub next_gathered-more-requires-clause-allowed : goal.next_gathered-more-requires-clause-allowed
 next_gathered-more-requires-clause-allowed c = (listing-choice c.args.column c.args.room.now c.loop-more.lines.items c.loop-more.choice (rw c.loop-more-test.true at c.loop-more.invariant)).allowed
-
-pub next_gathered-more-requires-clause-gathered : goal.next_gathered-more-requires-clause-gathered
-next_gathered-more-requires-clause-gathered c = (listing-choice c.args.column c.args.room.now c.loop-more.lines.items c.loop-more.choice (rw c.loop-more-test.true at c.loop-more.invariant)).gathered
 
 pub loop-more-preserved : goal.loop-more-preserved
 loop-more-preserved c =

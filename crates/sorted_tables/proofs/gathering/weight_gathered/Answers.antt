@@ -1,9 +1,8 @@
-use Rattle.std.proofs.Common.{◌≡◌, ◌≤◌, ◌*◌, ℕ, List, length, sym, ◌∙◌, ap, arith}
+use Rattle.std.proofs.Common.{◌≡◌, ◌≤◌, ◌*◌, ℕ, List, sym, ◌∙◌, ap, arith}
 use Rattle.std.specs.List.{sum}
 use Rattle.weights.specs.Labellings.{number_of_labellings}
 use Rattle.label_network.specs.Meanings.{sizes_in}
 use Rattle.label_network.proofs.Narrowing.{chosen}
-use Rattle.label_network.proofs.Rows.{length-abs}
 use Rattle.sorted_tables.specs.GatheredChoices.{gathered_weight}
 use Rattle.sorted_tables.specs.SortedSteps.{gathered_count}
 use Rattle.sorted_tables.proofs.GatheredChoices.{weighs-itself}
@@ -22,15 +21,6 @@ pub weight_in-requires-clause-fits : goal.weight_in-requires-clause-fits
 weight_in-requires-clause-fits c =
     let itself : number_of_labellings c.args.counts.now ≤ gathered_weight (sizes_in c.args.sizes.now) c.args.counts.now = weighs-itself c.args.column (sizes_in c.args.sizes.now) c.args.counts.now (chosen c.args.column (sizes_in c.args.sizes.now) c.args.counts.now c.requires.allowed) c.requires.gathered in
     omega (arith, itself, c.requires.fits)
-
-pub count_gathered-requires-clause-few : goal.count_gathered-requires-clause-few
-count_gathered-requires-clause-few c = omega (arith, ap length c.read_sizes.ensures, length-abs c.args.sizes.now, c.requires.few)
-
-pub count_gathered-requires-clause-allowed : goal.count_gathered-requires-clause-allowed
-count_gathered-requires-clause-allowed c = rw (c.read_sizes.ensures, ← c.requires.whole) c.requires.allowed
-
-pub count_gathered-requires-clause-gathered : goal.count_gathered-requires-clause-gathered
-count_gathered-requires-clause-gathered c = rw c.read_sizes.ensures c.requires.gathered
 
 pub overflow_mul-result : goal.overflow_mul-result
 overflow_mul-result c =

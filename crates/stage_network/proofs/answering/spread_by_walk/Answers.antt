@@ -1,5 +1,4 @@
-use Rattle.std.proofs.Common.{◌≡◌, subst, sym}
-use Rattle.weights.specs.Conditional.{ConditionalTest, distribution}
+use Rattle.std.proofs.Common.{subst, sym}
 use Rattle.stage_network.specs.Lines.{TailsFit}
 use Rattle.stage_network.proofs.DistributionLines.{spread-is}
 use Rattle.stage_network.proofs.FittingLines.{tails-fit}
@@ -10,6 +9,5 @@ returns-clause-lines g c = spread-is (g.P.Plain.test c.args.problem.now) c.in_ok
 
 pub returns-clause-rules : goal.returns-clause-rules
 returns-clause-rules g c =
-    let test : ConditionalTest = g.P.Plain.test c.args.problem.now in
-    let lines : c.in_ok-found.found ≡ distribution test = spread-is test c.in_ok-found.found c.first_tail-tail.ensures.shown.weighty c.in_ok-found.ensures.sums in
-    subst (TailsFit test) (sym lines) (tails-fit test c.frame-frame.ensures.fits)
+    let test = g.P.Plain.test c.args.problem.now in
+    subst (TailsFit test) (sym (spread-is test c.in_ok-found.found c.first_tail-tail.ensures.shown.weighty c.in_ok-found.ensures.sums)) (tails-fit test c.frame-frame.ensures.fits)

@@ -1,5 +1,5 @@
-use Rattle.std.proofs.Common.{◌≡◌, ◌≤◌, ℕ, List, length, take, drop, ap, ◌∙◌, arith, refl}
-use Rattle.std.specs.Prelude.{ℤ, slice_index_or}
+use Rattle.std.proofs.Common.{◌≡◌, ℕ, List, take, drop, ap, ◌∙◌, arith, refl}
+use Rattle.std.specs.Prelude.{slice_index_or}
 use Rattle.std.proofs.lemmas.List.{take_all}
 use Rattle.weights.specs.declared.tails.Tail.{Tail}
 use Rattle.node_pool.specs.Nodes.{Node, weighted}
@@ -20,7 +20,7 @@ none-opened n (Open tails) t g ns o e = e
 
 pub loop-i-init : goal.loop-i-init
 loop-i-init g c =
-    let n : Network = g.S.Stages.network c.args.stages.now in
+    let n = g.S.Stages.network c.args.stages.now in
     record {
       nodes = c.requires.empty;
       sum = λ t. ap (λ (s : TailSum). s.sum) (c.none-sums.ensures t);
@@ -31,17 +31,16 @@ loop-i-init g c =
     }
 
 pub key_at-key-requires : goal.key_at-key-requires
-key_at-key-requires g c =
-    row-fits (g.S.Stages.network c.args.stages.now).width c.width-key_width.result c.loop-i.i c.args.keys.now c.args.weights.now c.width-key_width.ensures c.requires.starts.long c.loop-i-test.true
+key_at-key-requires g c = row-fits (g.S.Stages.network c.args.stages.now).width c.width-key_width.result c.loop-i.i c.args.keys.now c.args.weights.now c.width-key_width.ensures c.requires.starts.long c.loop-i-test.true
 
 pub put_one-requires-clause-limit : goal.put_one-requires-clause-limit
 put_one-requires-clause-limit g c =
-    let n : Network = g.S.Stages.network c.args.stages.now in
+    let n = g.S.Stages.network c.args.stages.now in
     omega (arith, light-at n c.args.stage c.args.keys.now c.args.weights.now c.requires.starts c.loop-i.i c.loop-i-test.true c.stages-count.ensures.lawful (slice_index_or c.args.weights.now c.loop-i.i 0) refl, c.requires.limit)
 
 pub settle-requires : goal.settle-requires
 settle-requires g c =
-    let n : Network = g.S.Stages.network c.args.stages.now in
+    let n = g.S.Stages.network c.args.stages.now in
     let i = c.loop-i.invariant in
     let wide = c.room_width-width.ensures.width in
     roomful n c.stages-count.ensures.lawful (g.S.Roomed.room_width c.args.stages.now) c.args.stage c.args.keys.now c.args.weights.now c.requires.starts c.args.keep c.loop-i.i (slice_index_or c.args.weights.now c.loop-i.i 0) c.key_at-key.result.now c.front.result.now c.behind.result.now c.loop-i.sums c.loop-i-test.true refl (c.key_at-key.ensures ∙ ap (λ v. key_at v c.args.keys.now c.loop-i.i) c.width-key_width.ensures) (c.front.ensures.room ∙ ap (λ v. take v c.key_at-key.result.now) wide) (c.behind.ensures ∙ ap (λ v. drop v c.key_at-key.result.now) wide) c.put_one.new.pool c.in_ok-put_one.ensures.nodes i.sum i.opened
@@ -49,16 +48,16 @@ settle-requires g c =
 
 pub loop-i-preserved : goal.loop-i-preserved
 loop-i-preserved g c =
-    let n : Network = g.S.Stages.network c.args.stages.now in
+    let n = g.S.Stages.network c.args.stages.now in
     let i = c.loop-i.invariant in
-    let key : List ℤ = c.key_at-key.result.now in
+    let key = c.key_at-key.result.now in
     let wide = c.room_width-width.ensures.width in
-    let w : ℕ = slice_index_or c.args.weights.now c.loop-i.i 0 in
+    let w = slice_index_or c.args.weights.now c.loop-i.i 0 in
     let key_is = c.key_at-key.ensures ∙ ap (λ v. key_at v c.args.keys.now c.loop-i.i) c.width-key_width.ensures in
     let room_is = c.front.ensures.room ∙ ap (λ v. take v key) wide in
     let partial_is = c.behind.ensures ∙ ap (λ v. drop v key) wide in
     let l = c.stages-count.ensures.lawful in
-    let width : ℕ = g.S.Roomed.room_width c.args.stages.now in
+    let width = g.S.Roomed.room_width c.args.stages.now in
     record {
       nodes = nodes-next n l width c.args.stage c.args.keys.now c.args.weights.now c.requires.starts c.args.keep c.loop-i.i w key c.front.result.now c.behind.result.now c.loop-i.sums c.loop-i-test.true refl key_is room_is partial_is c.put_one.new.pool c.in_ok-put_one.ensures.nodes i.sum i.opened c.loop-i.kept.nodes c.settle.new.kept.nodes i.nodes c.in_ok-sums.ensures.nodes;
       sum = λ t. sum-next n l width c.args.stage c.args.keys.now c.args.weights.now c.requires.starts c.args.keep c.loop-i.i w key c.front.result.now c.behind.result.now c.loop-i.sums c.loop-i-test.true refl key_is room_is partial_is c.put_one.new.pool c.in_ok-put_one.ensures.nodes i.sum i.opened c.in_ok-sums.sums t (c.in_ok-sums.ensures.sum t);
@@ -68,23 +67,16 @@ loop-i-preserved g c =
       deep = c.in_ok-sums.ensures.wide ∙ i.deep;
     }
 
-pub returns-clause-nodes : goal.returns-clause-nodes
-returns-clause-nodes g c =
-    let n : Network = g.S.Stages.network c.args.stages.now in
-    let all : List Node = nodes_of n.width c.args.keys.now c.args.weights.now in
-    let last : length all ≤ c.loop-i.i = omega (arith, c.loop-i-test.false, length-nodes n.width c.args.keys.now c.args.weights.now) in
-    c.loop-i.invariant.nodes ∙ ap (staying n c.args.keep c.args.stage) (take_all c.loop-i.i all last)
-
-pub returns-clause-sum : goal.returns-clause-sum
-returns-clause-sum g c t =
-    let n : Network = g.S.Stages.network c.args.stages.now in
-    let all : List Node = nodes_of n.width c.args.keys.now c.args.weights.now in
-    let last : length all ≤ c.loop-i.i = omega (arith, c.loop-i-test.false, length-nodes n.width c.args.keys.now c.args.weights.now) in
-    c.loop-i.invariant.sum t ∙ ap (weighted (closed_at n c.args.keep t c.args.stage)) (take_all c.loop-i.i all last)
-
-pub returns-clause-opened : goal.returns-clause-opened
-returns-clause-opened g c t =
-    let n : Network = g.S.Stages.network c.args.stages.now in
-    let all : List Node = nodes_of n.width c.args.keys.now c.args.weights.now in
-    let last : length all ≤ c.loop-i.i = omega (arith, c.loop-i-test.false, length-nodes n.width c.args.keys.now c.args.weights.now) in
-    c.loop-i.invariant.opened t ∙ ap (counted n c.args.keep t c.args.stage) (take_all c.loop-i.i all last)
+pub returns : goal.returns
+returns g c =
+    let n = g.S.Stages.network c.args.stages.now in
+    let i = c.loop-i.invariant in
+    let all = take_all c.loop-i.i (nodes_of n.width c.args.keys.now c.args.weights.now) (omega (arith, c.loop-i-test.false, length-nodes n.width c.args.keys.now c.args.weights.now)) in
+    record {
+      pool = i.pool;
+      here = i.here;
+      deep = i.deep;
+      nodes = i.nodes ∙ ap (staying n c.args.keep c.args.stage) all;
+      sum = λ t. i.sum t ∙ ap (weighted (closed_at n c.args.keep t c.args.stage)) all;
+      opened = λ t. i.opened t ∙ ap (counted n c.args.keep t c.args.stage) all;
+    }

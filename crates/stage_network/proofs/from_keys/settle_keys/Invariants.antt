@@ -1,16 +1,15 @@
-use Rattle.std.proofs.Common.{◌≡◌, List, take}
+use Rattle.std.proofs.Common.{◌≡◌, take}
 use Rattle.weights.specs.declared.tails.Tail.{Tail}
-use Rattle.node_pool.specs.Nodes.{Node, weighted}
+use Rattle.node_pool.specs.Nodes.{weighted}
 use Rattle.node_pool.specs.PoolSteps.{nodes_of}
-use Rattle.stage_network.specs.Network.{Network}
 use Rattle.stage_network.specs.SweepSteps.{sum_for, staying, closed_at, counted}
 use Rattle.stage_network.proofs.from_keys.settle_keys.Given as goal
 
 -- the keys before this one are settled
 abbrev pub invariant-loop-i : goal.invariant-loop-i
 invariant-loop-i g l =
-    let n : Network = g.S.Stages.network l.stages in
-    let done : List Node = take l.i (nodes_of n.width l.keys l.weights) in
+    let n = g.S.Stages.network l.stages in
+    let done = take l.i (nodes_of n.width l.keys l.weights) in
     record {
       nodes : l.kept.nodes ≡ staying n l.keep l.stage done;
       sum : (t : Tail) → (sum_for l.sums t).sum ≡ weighted (closed_at n l.keep t l.stage) done;

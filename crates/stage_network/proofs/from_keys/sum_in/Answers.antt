@@ -1,40 +1,18 @@
-use Rattle.std.proofs.Common.{◌≡◌, ◌+◌, ◌*◌, ℕ, ap, sym, subst, ◌∙◌, arith, refl}
+use Rattle.std.proofs.Common.{◌≡◌, ◌+◌, ◌*◌, ap, subst, ◌∙◌, arith, refl}
 use Rattle.stage_network.specs.declared.tail_sums.Kept.TheVariants.{Open}
-use Rattle.stage_network.specs.FromKeys.{course_from}
 use Rattle.stage_network.specs.SweepSteps.{Course, IsSweeping}
 use Rattle.node_pool.specs.Nodes.{Node}
-use Rattle.weights.specs.declared.tails.Tails.{Tails}
 use Rattle.stage_network.specs.declared.tail_sums.TailSum.{TailSum}
-use Rattle.stage_network.specs.Network.{Network}
 use Rattle.stage_network.proofs.Asked.{asked-extreme_at}
 use Rattle.stage_network.proofs.Courses.{swept-sum}
 use Rattle.stage_network.proofs.Steps.{sum_by-same}
 use Rattle.stage_network.proofs.from_keys.sum_in.Goals as goal
 
-pub advance_to-requires : goal.advance_to-requires
-advance_to-requires g c =
-    let n : Network = g.S.Stages.network c.args.stages.now in
-    let s = c.in_ok-sweep.ensures.sweeping in
-    let here : record { keep = c.in_ok-sweep.sweep.keep; stage = c.in_ok-sweep.sweep.stage; nodes = g.nodes } ≡ course_from n (Open c.only.result) c.args.stage c.args.keys.now c.args.weights.now = rw (s.keeps, c.in_ok-sweep.ensures.stage, ← c.requires.1.1.0) refl in
-    λ κs h. (
-      h.0,
-      (
-        h.1,
-        (
-          omega (arith, c.in_ok-sweep.ensures.stage, c.requires.1.1.1.0.within, c.stages-count.ensures.count),
-          (
-            omega (arith, c.stages-count.ensures.count),
-            subst (λ (course : Course). IsSweeping n (g.S.Roomed.room_width c.args.stages.now) (g.S.Roomed.step_width c.args.stages.now) g.C.Count.LIMIT course c.in_ok-sweep.sweep) (sym here) s,
-          ),
-        ),
-      ),
-    )
-
 pub returns : goal.returns
 returns g c =
-    let n : Network = g.S.Stages.network c.args.stages.now in
-    let tails : Tails = c.only.result in
-    let at : ℕ = c.args.stage in
+    let n = g.S.Stages.network c.args.stages.now in
+    let tails = c.only.result in
+    let at = c.args.stage in
     let was = c.in_ok-sweep.ensures.sweeping in
     let here : record { keep = c.in_ok-sweep.sweep.keep; stage = c.in_ok-sweep.sweep.stage; nodes = g.nodes } ≡ record { keep = Open tails; stage = at; nodes = g.nodes } = rw (was.keeps, c.in_ok-sweep.ensures.stage) refl in
     let s = subst (λ (course : Course). IsSweeping n (g.S.Roomed.room_width c.args.stages.now) (g.S.Roomed.step_width c.args.stages.now) g.C.Count.LIMIT course c.advance_to.new.self) here c.in_ok-advance_to.ensures.sweeping in

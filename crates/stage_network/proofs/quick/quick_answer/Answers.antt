@@ -1,9 +1,7 @@
-use Rattle.std.proofs.Common.{◌≡◌, ◌∙◌, Bool, true, false, refl, rules, FitsSigned}
+use Rattle.std.proofs.Common.{◌≡◌, ◌∙◌, Bool, true, false, refl, rules}
 use mir.Syntax.{w128}
-use mir.Val.{to_z, of_z}
 use Rattle.std.proofs.lemmas.Int.{to_z-of_z}
 use Rattle.weights.specs.declared.tails.Tail.TheVariants.{Less, Greater, Two}
-use Rattle.weights.specs.Conditional.{ConditionalTest, observed_statistic}
 use Rattle.stage_network.specs.declared.answers.Way.TheVariants as way
 use Rattle.stage_network.specs.declared.tail_sums.TailSum.{TailSum}
 use Rattle.stage_network.specs.Follows.{asked_tail, tail_of, uncounted}
@@ -15,10 +13,8 @@ same-asked false x y e = refl
 
 pub returns-clause-answer : goal.returns-clause-answer
 returns-clause-answer g c =
-    let test : ConditionalTest = g.P.Plain.test c.args.problem.now in
-    let s : FitsSigned w128 c.frame-frame.result.statistic = search rules in
-    let statistic : to_z w128 (of_z w128 c.frame-frame.result.statistic) ≡ observed_statistic test = to_z-of_z w128 c.frame-frame.result.statistic s ∙ c.frame-frame.ensures.frame.statistic in
+    let test = g.P.Plain.test c.args.problem.now in
     let less : c.where_asked.result ≡ asked_tail c.args.tails.less (tail_of test uncounted Less way.Plain) = c.where_asked.ensures ∙ same-asked c.args.tails.less c.in_ok-sums.sums.less (tail_of test uncounted Less way.Plain) (c.in_ok-sums.ensures Less) in
     let greater : c.where_asked-2.result ≡ asked_tail c.args.tails.greater (tail_of test uncounted Greater way.Plain) = c.where_asked-2.ensures ∙ same-asked c.args.tails.greater c.in_ok-sums.sums.greater (tail_of test uncounted Greater way.Plain) (c.in_ok-sums.ensures Greater) in
     let two : c.where_asked-3.result ≡ asked_tail c.args.tails.two (tail_of test uncounted Two way.Plain) = c.where_asked-3.ensures ∙ same-asked c.args.tails.two c.in_ok-sums.sums.two (tail_of test uncounted Two way.Plain) (c.in_ok-sums.ensures Two) in
-    rw (statistic, c.frame-frame.ensures.frame.scale, c.frame-frame.ensures.frame.total, less, greater, two) refl
+    rw (to_z-of_z w128 c.frame-frame.result.statistic (search rules) ∙ c.frame-frame.ensures.frame.statistic, c.frame-frame.ensures.frame.scale, c.frame-frame.ensures.frame.total, less, greater, two) refl

@@ -1,16 +1,13 @@
-use Rattle.std.proofs.Common.{◌≡◌, ◌<◌, ◌++◌, ℕ, List, [], length, map, get_or, ap, sym, ◌∙◌, arith, rules, FitsSigned}
+use Rattle.std.proofs.Common.{◌≡◌, ◌<◌, ◌++◌, ℕ, List, length, map, get_or, ap, sym, ◌∙◌, arith, rules}
 use Rattle.std.specs.Prelude.{ℤ, pos}
 use Rattle.std.proofs.lemmas.Int.{to_z-of_z}
-use Rattle.std.proofs.lemmas.List.{take_all}
 use mir.Syntax.{w128}
 use Rattle.dense_rows.specs.Rows.{row_nodes}
 use Rattle.stage_network.specs.ArcSteps.{lift}
-use Rattle.stage_network.specs.RowSteps.{Row, all_nodes, row_whole}
+use Rattle.stage_network.specs.RowSteps.{Row, row_whole}
 use Rattle.stage_network.proofs.RowLines.{rows-more}
 use Rattle.stage_network.proofs.row_ends.nodes_of.Goals as goal
-
-abbrev no_row : Row
-no_row = record { room = []; lowest = pos 0; stride = pos 0; cells = [] }
+use Rattle.stage_network.proofs.Spans.{no_row}
 
 -- a row by its parts
 row_is : (d : Row) (room : List ℤ) (lowest stride : ℤ) (cells : List ℕ) → room ≡ d.room → lowest ≡ d.lowest → stride ≡ d.stride → cells ≡ d.cells → lift room (row_nodes lowest stride cells) ≡ row_whole d
@@ -18,19 +15,13 @@ row_is d room lowest stride cells a b c e = ap (λ r. lift r (row_nodes lowest s
 
 pub loop-i-preserved : goal.loop-i-preserved
 loop-i-preserved g c =
-    let rows : List Row = c.args.rows.now.rows in
-    let i : ℕ = c.loop-i.i in
+    let rows = c.args.rows.now.rows in
+    let i = c.loop-i.i in
     let low : i < length rows = omega (arith, c.loop-i-test.true, c.len-i-end.ensures) in
-    let f : FitsSigned w128 c.lowest.result = search rules in
-    let l = to_z-of_z w128 c.lowest.result f in
+    let l = to_z-of_z w128 c.lowest.result (search rules) in
     let whole = row_is (get_or rows i no_row) c.room.result.now c.lowest.result (pos c.stride.result) (map g.C.Count.number c.cells.result.now) (c.room.ensures.room no_row) (c.lowest.ensures no_row) (c.stride.ensures no_row) (c.cells.ensures no_row) in
     record {
       nodes = (rw l at c.in_ok-push_row.ensures.nodes) ∙ ap (λ ns. c.loop-i.nodes.nodes ++ ns) whole ∙ ap (λ ns. ns ++ row_whole (get_or rows i no_row)) c.loop-i.invariant.nodes ∙ sym (rows-more rows i no_row low);
       here = c.in_ok-push_row.ensures.room_width ∙ c.loop-i.invariant.here;
       wide = c.in_ok-push_row.ensures.width ∙ c.loop-i.invariant.wide;
     }
-
-pub returns-clause-nodes : goal.returns-clause-nodes
-returns-clause-nodes g c =
-    let rows : List Row = c.args.rows.now.rows in
-    c.loop-i.invariant.nodes ∙ ap all_nodes (take_all c.loop-i.i rows (omega (arith, c.loop-i-test.false, c.len-i-end.ensures)))

@@ -1,34 +1,33 @@
-use Rattle.std.proofs.Common.{◌≡◌, ◌+◌, ◌*◌, ℕ, List, map, get_or, ap, ◌∙◌, arith, rules, FitsSigned}
-use Rattle.std.specs.Prelude.{ℤ, pos, ◌+ℤ◌}
+use Rattle.std.proofs.Common.{◌≡◌, ◌+◌, ◌*◌, map, get_or, ap, ◌∙◌, arith, rules, FitsSigned}
+use Rattle.std.specs.Prelude.{pos, ◌+ℤ◌}
 use Rattle.std.proofs.lemmas.Int.{to_z-of_z}
 use mir.Syntax.{w128}
 use Rattle.node_pool.specs.Nodes.{weighted}
 use Rattle.dense_rows.specs.Rows.{row_nodes, stepped}
-use Rattle.stage_network.specs.RowSteps.{Row, moved}
+use Rattle.stage_network.specs.RowSteps.{moved}
 use Rattle.stage_network.proofs.Shifted.{row-weight}
 use Rattle.stage_network.proofs.Spans.{no_row}
 use Rattle.stage_network.proofs.row_filling.pour_row.Goals as goal
 
 pub pour-requires-clause-limit : goal.pour-requires-clause-limit
 pour-requires-clause-limit g c =
-    let row : Row = get_or c.args.rows.now.rows c.args.shift.row no_row in
+    let row = get_or c.args.rows.now.rows c.args.shift.row no_row in
     rw (c.cells-from.ensures no_row) (rw (row-weight c.args.lowest (pos c.args.stride) (map g.C.Count.number c.args.into.now), row-weight (row.lowest +ℤ c.args.shift.step) row.stride row.cells) at ((c.requires.light no_row).limit))
 
 pub pour-requires-clause-fits : goal.pour-requires-clause-fits
 pour-requires-clause-fits g c =
-    let row : Row = get_or c.args.rows.now.rows c.args.shift.row no_row in
-    let light = c.requires.light no_row in
-    rw (c.cells-from.ensures no_row, ← row-weight (row.lowest +ℤ c.args.shift.step) row.stride row.cells) (omega (arith, light.fits))
+    let row = get_or c.args.rows.now.rows c.args.shift.row no_row in
+    rw (c.cells-from.ensures no_row, ← row-weight (row.lowest +ℤ c.args.shift.step) row.stride row.cells) (omega (arith, (c.requires.light no_row).fits))
 
 pub returns-clause-told : goal.returns-clause-told
 returns-clause-told g c = λ d f.
     let num = g.C.Count.number in
-    let row : Row = get_or c.args.rows.now.rows c.args.shift.row d in
-    let step : ℤ = c.args.shift.step in
-    let L : ℤ = c.args.lowest in
-    let S : ℤ = pos c.args.stride in
-    let F : ℤ = row.lowest +ℤ step in
-    let xs : List ℕ = map num c.cells-from.result.now in
+    let row = get_or c.args.rows.now.rows c.args.shift.row d in
+    let step = c.args.shift.step in
+    let L = c.args.lowest in
+    let S = pos c.args.stride in
+    let F = row.lowest +ℤ step in
+    let xs = map num c.cells-from.result.now in
     let fa : FitsSigned w128 c.lowest.result = search rules in
     let fb : FitsSigned w128 step = search rules in
     let fc : FitsSigned w128 c.in_ok-first.first = search rules in

@@ -1,4 +1,4 @@
-use Rattle.std.proofs.Common.{◌≡◌, ◌<◌, ◌+◌, ◌-◌, ℕ, List, length, map, take, drop, get_or, ap, sym, ◌∙◌, arith}
+use Rattle.std.proofs.Common.{◌≡◌, ◌+◌, ◌-◌, ℕ, List, length, map, take, drop, get_or, ap, sym, ◌∙◌, arith}
 use Rattle.std.proofs.lemmas.List.{take_all, length-drop, length-map, drop-map, get_or-drop}
 use Rattle.dense_rows.specs.Rows.{row_nodes, stepped}
 use Rattle.stage_network.proofs.Stretches.{front-empty}
@@ -10,19 +10,17 @@ behind number cells from = ap (map number) (take_all (length cells - from) (drop
 pub returns-clause-full : goal.returns-clause-full
 returns-clause-full g c = λ h.
     let cells = c.args.cells.now in
-    let from : ℕ = c.args.from in
-    let r : ℕ = c.first_full.result in
-    let long : length (take (length cells - from) (drop from cells)) ≡ length cells - from = ap length (take_all (length cells - from) (drop from cells) (omega (arith, length-drop from cells))) ∙ length-drop from cells in
-    let some : 0 < get_or (map g.C.Count.number (take (length cells - from) (drop from cells))) r 0 = c.first_full.ensures.full (omega (arith, h, long, c.requires)) in
+    let from = c.args.from in
+    let r = c.first_full.result in
     let at : get_or (map g.C.Count.number (take (length cells - from) (drop from cells))) r 0 ≡ get_or (map g.C.Count.number cells) (from + r) 0 = ap (λ ws. get_or ws r 0) (behind g.C.Count.number cells from) ∙ get_or-drop from (map g.C.Count.number cells) r 0 in
-    omega (arith, some, at)
+    omega (arith, c.first_full.ensures.full (omega (arith, h, ap length (take_all (length cells - from) (drop from cells) (omega (arith, length-drop from cells))) ∙ length-drop from cells, c.requires)), at)
 
 pub returns-clause-empty : goal.returns-clause-empty
 returns-clause-empty g c = λ lowest stride.
     let cells = c.args.cells.now in
-    let xs : List ℕ = map g.C.Count.number cells in
-    let from : ℕ = c.args.from in
-    let r : ℕ = c.first_full.result in
+    let xs = map g.C.Count.number cells in
+    let from = c.args.from in
+    let r = c.first_full.result in
     let long : length (take (length cells - from) (drop from cells)) ≡ length cells - from = ap length (take_all (length cells - from) (drop from cells) (omega (arith, length-drop from cells))) ∙ length-drop from cells in
     let told : row_nodes lowest stride (drop from xs) ≡ row_nodes (stepped lowest stride r) stride (drop r (drop from xs)) = rw (behind g.C.Count.number cells from) at (c.first_full.ensures.empty lowest stride) in
     let same : (from + r) - from ≡ r = omega arith in

@@ -1,124 +1,107 @@
-use Rattle.std.proofs.Common.{◌≡◌, ◌≢◌, ◌<◌, ◌≤◌, ◌+◌, ◌-◌, ◌*◌, ◌++◌, ◌∷◌, [], ℕ, List, length, map, get_or, take, drop, cond, ap, sym, ◌∙◌, arith, refl, rules, subst, FitsSigned, to_z, of_z}
+use Rattle.std.proofs.Common.{◌≡◌, ◌≢◌, ◌<◌, ◌≤◌, ◌+◌, ◌-◌, ◌*◌, ◌++◌, ◌∷◌, [], ℕ, List, length, map, get_or, take, drop, cond, ap, sym, ◌∙◌, arith, refl, rules, FitsSigned, to_z, of_z}
 use Rattle.std.specs.Prelude.{ℤ, pos}
 use Rattle.std.proofs.lemmas.Int.{to_z-of_z}
 use Rattle.std.proofs.lemmas.List.{take_all, take-map, drop-map, length-map, length-append, length-drop, length-take-le}
 use Rattle.std.proofs.lemmas.Slice.{take-put_mid_below, between-put_mid, drop-put_mid}
 use borrow.Rule.Slice.PartMut.{put_mid}
 use mir.Syntax.{w128}
-use Rattle.weights.specs.declared.tails.Tails.{Tails}
-use Rattle.node_pool.specs.Nodes.{Node, weighted}
+use Rattle.node_pool.specs.Nodes.{weighted}
 use Rattle.dense_rows.specs.Rows.{row_nodes, stepped}
-use Rattle.stage_network.specs.declared.tail_sums.Verdicts.{Verdicts}
 use Rattle.stage_network.specs.Asked.{asked}
 use Rattle.stage_network.specs.Network.{Network, IsReached}
-use Rattle.stage_network.specs.Completions.{total_weight}
-use Rattle.stage_network.specs.NodeSteps.{AllReached, opened_in, closed_weight}
+use Rattle.stage_network.specs.NodeSteps.{AllReached}
 use Rattle.stage_network.specs.SweepSteps.{sum_for, some_undecided}
 use Rattle.stage_network.specs.ArcSteps.{lift}
-use Rattle.stage_network.proofs.NodeSums.{inside_weight}
 use Rattle.stage_network.proofs.Asked.{asked-roomed, asked-total}
 use Rattle.stage_network.proofs.Rests.{settled}
 use Rattle.stage_network.proofs.Roomwise.{front-room, lift-rooms, lift-weighted, lift-length}
 use Rattle.stage_network.proofs.Shifted.{row-weight}
 use Rattle.stage_network.proofs.Stretches.{Uniform, cell-reached, cell-rest, part-reached, part-sum, steady-row, same-rest, nodes-more, inside-more, opened-more}
+use Rattle.stage_network.proofs.Sweeps.{closed-weighted}
+use Rattle.stage_network.proofs.row_settling.settle_open.Given.{Over}
 use Rattle.stage_network.proofs.row_settling.settle_open.Goals as goal
+use Rattle.stage_network.proofs.row_settling.settle_open.Goals.{After-as_slice-2}
 
 -- a part that was put back keeps the length
 length-put : {X : Type 0} (a k : ℕ) (xs ys : List X) → a ≤ length xs → a + k ≤ length xs → length ys ≡ k → length (put_mid a k xs ys) ≡ length xs
 length-put a k xs ys h j e = omega (arith, length-append (take a xs) (ys ++ drop k (drop a xs)), length-append ys (drop k (drop a xs)), length-take-le a xs h, length-drop k (drop a xs), length-drop a xs, e, j)
 
--- a weight times what remains
-by_rest : (tails : Tails) (n : Network) (g : ℕ) (k : List ℤ) (inside : ℕ) → inside * total_weight (asked tails n) g k ≡ inside * total_weight n g k
-by_rest tails n g k inside = ap (λ m. inside * m) (asked-total tails n g k)
-
 -- cells before which none is full
 no_nodes : (lowest stride : ℤ) (xs : List ℕ) (i : ℕ) → i ≡ length xs → row_nodes lowest stride (take (i - 0) (drop 0 xs)) ≡ [] → row_nodes lowest stride xs ≡ []
 no_nodes lowest stride xs i last none = ap (row_nodes lowest stride) (sym (take_all (i - 0) xs (omega (arith, last)))) ∙ none
-
--- the key of the first full cell
-first_reached : {X : Type 0} (n : Network) (s : ℕ) (r : List ℤ) (lowest stride : ℤ) (num : X → ℕ) (cells : List X) (first : ℕ) → AllReached n s (lift r (row_nodes lowest stride (map num cells))) → first ≢ length cells → first ≤ length cells → (first < length cells → 0 < get_or (map num cells) first 0) → IsReached n s (r ++ stepped lowest stride first ∷ [])
-first_reached n s r lowest stride num cells first reached some within full =
-    let low : first < length cells = omega (arith, some, within) in
-    cell-reached n s r lowest stride (map num cells) first reached (omega (arith, low, length-map cells num)) (full low)
-
--- that of a full cell from which on nothing has changed
-next_reached : {X : Type 0} (n : Network) (s : ℕ) (r : List ℤ) (lowest stride : ℤ) (num : X → ℕ) (cells now : List X) (i : ℕ) → AllReached n s (lift r (row_nodes lowest stride (map num cells))) → i < length now → length now ≡ length cells → (i < length now → 0 < get_or (map num now) i 0) → drop i (map num now) ≡ drop i (map num cells) → IsReached n s (r ++ stepped lowest stride i ∷ [])
-next_reached n s r lowest stride num cells now i reached low long full rest =
-    let some : 0 < get_or (map num now) i 0 = full low in
-    cell-reached n s r lowest stride (map num cells) i reached (omega (arith, low, long, length-map cells num)) (omega (arith, some, cell-rest (map num cells) (map num now) i rest))
 
 -- the number of a cell, as it is passed on
 stored : (lowest stride z : ℤ) (i : ℕ) → FitsSigned w128 lowest → FitsSigned w128 z → z ≡ stepped (to_z w128 (of_z w128 lowest)) stride i → to_z w128 (of_z w128 z) ≡ stepped lowest stride i
 stored lowest stride z i low fits is = to_z-of_z w128 z fits ∙ is ∙ ap (λ l. stepped l stride i) (to_z-of_z w128 lowest low)
 
-pub returns-then-first-cells-clause-nodes : goal.returns-then-first-cells-clause-nodes
-returns-then-first-cells-clause-nodes g c =
-    rw (no_nodes c.args.lowest (pos c.args.stride) (map g.C.Count.number c.args.cells.now) c.next_full-first.result (c.if-first-cells.true ∙ sym (length-map c.args.cells.now g.C.Count.number)) (c.next_full-first.ensures.empty c.args.lowest (pos c.args.stride))) refl
+-- the key of the first full cell
+first_reached : {X : Type 0} (n : Network) (s : ℕ) (r k : List ℤ) (lowest stride : ℤ) (num : X → ℕ) (cells : List X) (first : ℕ) → k ≡ stepped lowest stride first ∷ [] → AllReached n s (lift r (row_nodes lowest stride (map num cells))) → first ≢ length cells → first ≤ length cells → (first < length cells → 0 < get_or (map num cells) first 0) → IsReached n s (r ++ k)
+first_reached n s r k lowest stride num cells first is reached some within full =
+    let low : first < length cells = omega (arith, some, within) in
+    rw is (cell-reached n s r lowest stride (map num cells) first reached (omega (arith, low, length-map cells num)) (full low))
 
-pub returns-then-first-cells-clause-sum : goal.returns-then-first-cells-clause-sum
-returns-then-first-cells-clause-sum g c t =
-    rw (no_nodes c.args.lowest (pos c.args.stride) (map g.C.Count.number c.args.cells.now) c.next_full-first.result (c.if-first-cells.true ∙ sym (length-map c.args.cells.now g.C.Count.number)) (c.next_full-first.ensures.empty c.args.lowest (pos c.args.stride))) (omega arith)
+-- that of a full cell from which on nothing has changed
+next_reached : {X : Type 0} (n : Network) (s : ℕ) (r k : List ℤ) (lowest stride : ℤ) (num : X → ℕ) (cells now : List X) (i : ℕ) → k ≡ stepped lowest stride i ∷ [] → AllReached n s (lift r (row_nodes lowest stride (map num cells))) → i < length now → length now ≡ length cells → (i < length now → 0 < get_or (map num now) i 0) → drop i (map num now) ≡ drop i (map num cells) → IsReached n s (r ++ k)
+next_reached n s r k lowest stride num cells now i is reached low long full rest =
+    let some : 0 < get_or (map num now) i 0 = full low in
+    rw is (cell-reached n s r lowest stride (map num cells) i reached (omega (arith, low, long, length-map cells num)) (omega (arith, some, cell-rest (map num cells) (map num now) i rest)))
 
-pub returns-then-first-cells-clause-opened : goal.returns-then-first-cells-clause-opened
-returns-then-first-cells-clause-opened g c t =
-    rw (no_nodes c.args.lowest (pos c.args.stride) (map g.C.Count.number c.args.cells.now) c.next_full-first.result (c.if-first-cells.true ∙ sym (length-map c.args.cells.now g.C.Count.number)) (c.next_full-first.ensures.empty c.args.lowest (pos c.args.stride))) (omega arith)
+pub returns-then-first-cells : goal.returns-then-first-cells
+returns-then-first-cells g c =
+    let none = no_nodes c.args.lowest (pos c.args.stride) (map g.C.Count.number c.args.cells.now) c.next_full-first.result (c.if-first-cells.true ∙ sym (length-map c.args.cells.now g.C.Count.number)) (c.next_full-first.ensures.empty c.args.lowest (pos c.args.stride)) in
+    record { long = refl; settled = record { nodes = rw none refl; sum = λ t. rw none (omega arith); opened = λ t. rw none (omega arith) } }
 
 pub outlook-requires-clause-place : goal.outlook-requires-clause-place
 outlook-requires-clause-place g c = record {
   partial = stepped c.args.lowest (pos c.args.stride) c.next_full-first.result ∷ [];
   wide = c.requires.full.wide;
-  reached = first_reached (asked c.args.tails (g.S.Stages.network c.args.stages.now)) c.args.stage c.args.room.now c.args.lowest (pos c.args.stride) g.C.Count.number c.args.cells.now c.next_full-first.result c.requires.full.reached c.if-first-cells.false c.next_full-first.ensures.within c.next_full-first.ensures.full;
+  reached = first_reached (asked c.args.tails (g.S.Stages.network c.args.stages.now)) c.args.stage c.args.room.now _ c.args.lowest (pos c.args.stride) g.C.Count.number c.args.cells.now c.next_full-first.result refl c.requires.full.reached c.if-first-cells.false c.next_full-first.ensures.within c.next_full-first.ensures.full;
 }
 
 pub verdicts_of-verdicts-requires-clause-reached : goal.verdicts_of-verdicts-requires-clause-reached
 verdicts_of-verdicts-requires-clause-reached g c =
-    let n : Network = asked c.args.tails (g.S.Stages.network c.args.stages.now) in
     let i = c.loop-i.invariant in
-    let f : FitsSigned w128 c.in_ok-partial.partial = search rules in
-    let is = c.as_slice.ensures ∙ ap (λ z. z ∷ []) (stored c.args.lowest (pos c.args.stride) c.in_ok-partial.partial c.loop-i.i c.ranges.lowest f c.in_ok-partial.ensures) in
-    subst (λ k. IsReached n c.args.stage (c.args.room.now ++ k)) (sym is) (next_reached n c.args.stage c.args.room.now c.args.lowest (pos c.args.stride) g.C.Count.number c.args.cells.now c.loop-i.cells c.loop-i.i c.requires.full.reached c.loop-i-test.true i.long i.full i.rest)
+    let is = c.as_slice.ensures ∙ ap (λ z. z ∷ []) (stored c.args.lowest (pos c.args.stride) c.in_ok-partial.partial c.loop-i.i c.ranges.lowest (search rules) c.in_ok-partial.ensures) in
+    next_reached (asked c.args.tails (g.S.Stages.network c.args.stages.now)) c.args.stage c.args.room.now _ c.args.lowest (pos c.args.stride) g.C.Count.number c.args.cells.now c.loop-i.cells c.loop-i.i is c.requires.full.reached c.loop-i-test.true i.long i.full i.rest
 
 pub same_for_all-same-requires-clause-reached : goal.same_for_all-same-requires-clause-reached
 same_for_all-same-requires-clause-reached g c =
-    let n : Network = asked c.args.tails (g.S.Stages.network c.args.stages.now) in
     let i = c.loop-i.invariant in
-    let f : FitsSigned w128 c.in_ok-partial.partial = search rules in
-    let is = stored c.args.lowest (pos c.args.stride) c.in_ok-partial.partial c.loop-i.i c.ranges.lowest f c.in_ok-partial.ensures in
-    subst (λ z. IsReached n c.args.stage (c.args.room.now ++ z ∷ [])) (sym is) (next_reached n c.args.stage c.args.room.now c.args.lowest (pos c.args.stride) g.C.Count.number c.args.cells.now c.loop-i.cells c.loop-i.i c.requires.full.reached c.loop-i-test.true i.long i.full i.rest)
+    let is = ap (λ z. z ∷ []) (stored c.args.lowest (pos c.args.stride) c.in_ok-partial.partial c.loop-i.i c.ranges.lowest (search rules) c.in_ok-partial.ensures) in
+    next_reached (asked c.args.tails (g.S.Stages.network c.args.stages.now)) c.args.stage c.args.room.now _ c.args.lowest (pos c.args.stride) g.C.Count.number c.args.cells.now c.loop-i.cells c.loop-i.i is c.requires.full.reached c.loop-i-test.true i.long i.full i.rest
 
 pub settle_stretch-requires-clause-fits : goal.settle_stretch-requires-clause-fits
 settle_stretch-requires-clause-fits g c = λ lo st.
-    let r : List ℤ = c.args.room.now in
+    let r = c.args.room.now in
     let num = g.C.Count.number in
-    let xs : List ℕ = map num c.args.cells.now in
-    let S : ℤ = pos c.args.stride in
-    let i : ℕ = c.loop-i.i in
-    let j : ℕ = c.stretch_end-end.result in
+    let xs = map num c.args.cells.now in
+    let S = pos c.args.stride in
+    let i = c.loop-i.i in
+    let j = c.stretch_end-end.result in
     let seg : map num (take (j - i) (drop i c.loop-i.cells)) ≡ take (j - i) (drop i xs) = sym (take-map num (j - i) (drop i c.loop-i.cells)) ∙ ap (take (j - i)) (sym (drop-map num i c.loop-i.cells) ∙ c.loop-i.invariant.rest) in
     omega (arith, ap (λ ws. weighted (λ k. 1) (row_nodes lo st ws)) seg, row-weight lo st (take (j - i) (drop i xs)), part-sum xs i (j - i), row-weight c.args.lowest S xs, lift-weighted (λ k. 1) r (row_nodes c.args.lowest S xs), c.requires.full.fits)
 
 pub loop-i-preserved : goal.loop-i-preserved
 loop-i-preserved g c =
-    let n : Network = asked c.args.tails (g.S.Stages.network c.args.stages.now) in
-    let s : ℕ = c.args.stage in
-    let r : List ℤ = c.args.room.now in
+    let n = asked c.args.tails (g.S.Stages.network c.args.stages.now) in
+    let s = c.args.stage in
+    let r = c.args.room.now in
     let num = g.C.Count.number in
-    let xs : List ℕ = map num c.args.cells.now in
-    let S : ℤ = pos c.args.stride in
+    let xs = map num c.args.cells.now in
+    let S = pos c.args.stride in
     let l = to_z-of_z w128 c.args.lowest c.ranges.lowest in
-    let i : ℕ = c.loop-i.i in
-    let ys : List ℕ = map num c.loop-i.cells in
+    let i = c.loop-i.i in
+    let ys = map num c.loop-i.cells in
     let low : i < length xs = omega (arith, c.loop-i-test.true, c.loop-i.invariant.long, length-map c.args.cells.now num) in
-    let f : FitsSigned w128 c.in_ok-partial.partial = search rules in
-    let p_is : to_z w128 (of_z w128 c.in_ok-partial.partial) ≡ stepped c.args.lowest S i = stored c.args.lowest S c.in_ok-partial.partial i c.ranges.lowest f c.in_ok-partial.ensures in
+    let p_is : to_z w128 (of_z w128 c.in_ok-partial.partial) ≡ stepped c.args.lowest S i = stored c.args.lowest S c.in_ok-partial.partial i c.ranges.lowest (search rules) c.in_ok-partial.ensures in
     let as_is : c.as_slice.result.now ≡ stepped c.args.lowest S i ∷ [] = c.as_slice.ensures ∙ ap (λ z. z ∷ []) p_is in
-    let j : ℕ = c.stretch_end-end.result in
+    let j = c.stretch_end-end.result in
     let seg : map num (take (j - i) (drop i c.loop-i.cells)) ≡ take (j - i) (drop i xs) = sym (take-map num (j - i) (drop i c.loop-i.cells)) ∙ ap (take (j - i)) (sym (drop-map num i c.loop-i.cells) ∙ c.loop-i.invariant.rest) in
-    let m : ℕ = c.next_full-i.result in
-    let v : Verdicts = c.verdicts_of-verdicts.result in
+    let m = c.next_full-i.result in
+    let v = c.verdicts_of-verdicts.result in
     let new = c.settle_stretch.new.cells in
     let cells = put_mid i (j - i) c.loop-i.cells new in
-    let zs : List ℕ = map num cells in
+    let zs = map num cells in
     let lows : i ≤ length c.loop-i.cells = omega (arith, c.loop-i-test.true) in
     let after : i < j = c.stretch_end-end.ensures.after in
     let upto : j ≤ length c.loop-i.cells = c.stretch_end-end.ensures.within in
@@ -129,8 +112,8 @@ loop-i-preserved g c =
     let seg_old : take (j - i) (drop i ys) ≡ map num (take (j - i) (drop i c.loop-i.cells)) = ap (take (j - i)) (drop-map num i c.loop-i.cells) ∙ take-map num (j - i) (drop i c.loop-i.cells) in
     let mid : (lo st : ℤ) → row_nodes lo st (take (j - i) (drop i zs)) ≡ cond (some_undecided v) (row_nodes lo st (take (j - i) (drop i ys))) [] = λ lo st. ap (row_nodes lo st) mid_is ∙ c.in_ok-inside.ensures.nodes lo st ∙ ap (λ ws. cond (some_undecided v) (row_nodes lo st ws) []) (sym seg_old) in
     let long : length cells ≡ length c.args.cells.now = length-put i (j - i) c.loop-i.cells new lows (omega (arith, after, upto)) size ∙ c.loop-i.invariant.long in
-    let P : ℤ = stepped c.args.lowest S i in
-    let part : List ℕ = take (j - i) (drop i xs) in
+    let P = stepped c.args.lowest S i in
+    let part = take (j - i) (drop i xs) in
     let size_part : length part ≡ j - i = length-take-le (j - i) (drop i xs) (omega (arith, length-drop i xs, upto, after, c.loop-i.invariant.long, length-map c.args.cells.now num)) in
     let uniform : Uniform n s v (lift r (row_nodes P S part)) = steady-row n s r v P c.same_for_all-same.result c.args.stride (rw p_is at c.same_for_all-same.ensures) (λ t. c.verdicts_of-verdicts.ensures t ∙ ap (λ k. n.verdict t s (r ++ k)) as_is) part (rw size_part c.stretch_end-end.ensures.near) (part-reached n s r c.args.lowest S xs i (j - i) c.requires.full.reached (omega (arith, low))) in
     let within : m ≤ length xs = omega (arith, c.next_full-i.ensures.within, long, length-map c.args.cells.now num) in
@@ -145,41 +128,36 @@ loop-i-preserved g c =
       opened = λ t. rw l (opened-more n s r v c.args.lowest S xs ys zs i j m (omega (arith, after)) c.next_full-i.ensures.after within long_zs c.loop-i.invariant.rest front back mid c.next_full-i.ensures.empty uniform t (sum_for c.loop-i.inside t).opened (sum_for c.in_ok-inside.inside t).opened (length (row_nodes P S (map num (take (j - i) (drop i c.loop-i.cells))))) (rw l at (c.loop-i.invariant.opened t)) (ap (λ ws. length (row_nodes P S ws)) seg ∙ sym (lift-length r (row_nodes P S part))) (c.in_ok-inside.ensures.opened P S t));
     }
 
+-- the first key, as its number is passed on
+there : (g : Over) (c : After-as_slice-2 g) → IsReached (asked c.args.tails (g.S.Stages.network c.args.stages.now)) c.args.stage (c.args.room.now ++ c.as_slice-2.result.now)
+there g c = first_reached (asked c.args.tails (g.S.Stages.network c.args.stages.now)) c.args.stage c.args.room.now _ c.args.lowest (pos c.args.stride) g.C.Count.number c.args.cells.now c.next_full-first.result
+    (c.as_slice-2.ensures ∙ ap (λ z. z ∷ []) (stored c.args.lowest (pos c.args.stride) c.in_ok-some.some c.next_full-first.result c.ranges.lowest (search rules) c.in_ok-some.ensures)) c.requires.full.reached c.if-first-cells.false c.next_full-first.ensures.within c.next_full-first.ensures.full
+
 pub rest_of-rest-requires-clause-reached : goal.rest_of-rest-requires-clause-reached
-rest_of-rest-requires-clause-reached g c =
-    let n : Network = asked c.args.tails (g.S.Stages.network c.args.stages.now) in
-    let f : FitsSigned w128 c.in_ok-some.some = search rules in
-    let is = c.as_slice-2.ensures ∙ ap (λ z. z ∷ []) (stored c.args.lowest (pos c.args.stride) c.in_ok-some.some c.next_full-first.result c.ranges.lowest f c.in_ok-some.ensures) in
-    subst (λ k. IsReached n c.args.stage (c.args.room.now ++ k)) (sym is) (first_reached n c.args.stage c.args.room.now c.args.lowest (pos c.args.stride) g.C.Count.number c.args.cells.now c.next_full-first.result c.requires.full.reached c.if-first-cells.false c.next_full-first.ensures.within c.next_full-first.ensures.full)
+rest_of-rest-requires-clause-reached g c = there g (goal.at.rest_of-rest-requires-clause-reached g c).After-as_slice-2
 
-pub returns-clause-sum : goal.returns-clause-sum
-returns-clause-sum g c t =
-    let m : Network = g.S.Stages.network c.args.stages.now in
-    let n : Network = asked c.args.tails m in
-    let s : ℕ = c.args.stage in
-    let r : List ℤ = c.args.room.now in
-    let L : ℤ = c.args.lowest in
-    let S : ℤ = pos c.args.stride in
-    let f : FitsSigned w128 c.in_ok-some.some = search rules in
-    let is = c.as_slice-2.ensures ∙ ap (λ z. z ∷ []) (stored L S c.in_ok-some.some c.next_full-first.result c.ranges.lowest f c.in_ok-some.ensures) in
-    let key : List ℤ = r ++ c.as_slice-2.result.now in
-    let there : IsReached n s key = subst (λ k. IsReached n s (r ++ k)) (sym is) (first_reached n s r L S g.C.Count.number c.args.cells.now c.next_full-first.result c.requires.full.reached c.if-first-cells.false c.next_full-first.ensures.within c.next_full-first.ensures.full) in
-    let xs : List ℕ = map g.C.Count.number c.args.cells.now in
-    let nodes : List Node = lift r (row_nodes L S xs) in
-    let all : take c.loop-i.i xs ≡ xs = take_all c.loop-i.i xs (omega (arith, c.loop-i-test.false, c.loop-i.invariant.long, length-map c.args.cells.now g.C.Count.number)) in
-    let inside : ℕ = (sum_for c.loop-i.inside t).sum in
-    let was : inside ≡ inside_weight n t s nodes = rw (to_z-of_z w128 L c.ranges.lowest, all) at (c.loop-i.invariant.inside t) in
-    let width : ℕ = g.S.Roomed.room_width c.args.stages.now in
-    let closed : closed_weight n t s nodes ≡ inside * total_weight n s key = settled n width (asked-roomed c.args.tails m width c.room_width-width.ensures.roomed) t s c.requires.full.within r inside key nodes c.requires.full.reached (lift-rooms width r (row_nodes L S xs) c.requires.full.wide) was (λ some. there) (front-room width r c.as_slice-2.result.now c.requires.full.wide) in
-    c.in_ok-all.ensures.sum t ∙ ap (λ m. (sum_for c.args.sums t).sum + m) (c.rest_of-rest.ensures t ∙ sym (by_rest c.args.tails m s key inside) ∙ sym closed)
-
-pub returns-clause-opened : goal.returns-clause-opened
-returns-clause-opened g c t =
-    let n : Network = asked c.args.tails (g.S.Stages.network c.args.stages.now) in
-    let s : ℕ = c.args.stage in
-    let r : List ℤ = c.args.room.now in
-    let xs : List ℕ = map g.C.Count.number c.args.cells.now in
-    let nodes : List Node = lift r (row_nodes c.args.lowest (pos c.args.stride) xs) in
-    let all : take c.loop-i.i xs ≡ xs = take_all c.loop-i.i xs (omega (arith, c.loop-i-test.false, c.loop-i.invariant.long, length-map c.args.cells.now g.C.Count.number)) in
-    let was : (sum_for c.loop-i.inside t).opened ≡ opened_in n t s nodes = rw (to_z-of_z w128 c.args.lowest c.ranges.lowest, all) at (c.loop-i.invariant.opened t) in
-    c.in_ok-all.ensures.opened t ∙ ap (λ m. (sum_for c.args.sums t).opened + m) was
+pub returns : goal.returns
+returns g c =
+    let m = g.S.Stages.network c.args.stages.now in
+    let n = asked c.args.tails m in
+    let s = c.args.stage in
+    let r = c.args.room.now in
+    let row = row_nodes c.args.lowest (pos c.args.stride) (map g.C.Count.number c.args.cells.now) in
+    let full = c.requires.full in
+    let width = g.S.Roomed.room_width c.args.stages.now in
+    let key = r ++ c.as_slice-2.result.now in
+    let i = c.loop-i.invariant in
+    let l = to_z-of_z w128 c.args.lowest c.ranges.lowest in
+    let all = take_all c.loop-i.i (map g.C.Count.number c.args.cells.now) (omega (arith, c.loop-i-test.false, i.long, length-map c.args.cells.now g.C.Count.number)) in
+    record {
+      long = i.long;
+      settled = record {
+        nodes = rw (l, all, take_all c.loop-i.i (map g.C.Count.number c.loop-i.cells) (omega (arith, c.loop-i-test.false, length-map c.loop-i.cells g.C.Count.number))) at i.nodes;
+        sum = λ t.
+            let inside = (sum_for c.loop-i.inside t).sum in
+            c.in_ok-all.ensures.sum t ∙ ap (λ m. (sum_for c.args.sums t).sum + m) (c.rest_of-rest.ensures t ∙ ap (λ m. inside * m) (sym (asked-total c.args.tails m s key))
+            ∙ sym (settled n width (asked-roomed c.args.tails m width c.room_width-width.ensures.roomed) t s full.within r inside key (lift r row) full.reached (lift-rooms width r row full.wide) (rw (l, all) at (i.inside t)) (λ some. there g (goal.at.returns g c).After-as_slice-2) (front-room width r c.as_slice-2.result.now full.wide))
+            ∙ closed-weighted m c.args.tails t s (lift r row));
+        opened = λ t. c.in_ok-all.ensures.opened t ∙ ap (λ m. (sum_for c.args.sums t).opened + m) (rw (l, all) at (i.opened t));
+      };
+    }

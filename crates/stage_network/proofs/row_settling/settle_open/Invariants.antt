@@ -1,10 +1,8 @@
-use Rattle.std.proofs.Common.{◌≡◌, ◌-◌, ◌<◌, ◌≤◌, ℕ, List, length, map, take, drop, get_or}
+use Rattle.std.proofs.Common.{◌≡◌, ◌-◌, ◌<◌, ◌≤◌, length, map, take, drop, get_or}
 use Rattle.std.specs.Prelude.{pos}
 use Rattle.weights.specs.declared.tails.Tail.{Tail}
-use Rattle.node_pool.specs.Nodes.{Node}
 use Rattle.dense_rows.specs.Rows.{row_nodes}
 use Rattle.stage_network.specs.Asked.{asked}
-use Rattle.stage_network.specs.Network.{Network}
 use Rattle.stage_network.specs.NodeSteps.{open_nodes, opened_in}
 use Rattle.stage_network.specs.SweepSteps.{sum_for}
 use Rattle.stage_network.specs.ArcSteps.{lift}
@@ -14,10 +12,10 @@ use Rattle.stage_network.proofs.row_settling.settle_open.Given as goal
 -- the cells before this one are settled, and from here on nothing has changed
 abbrev pub invariant-loop-i : goal.invariant-loop-i
 invariant-loop-i g l =
-    let n : Network = asked l.tails (g.S.Stages.network l.stages) in
-    let xs : List ℕ = map g.C.Count.number l.fn.cells in
-    let ys : List ℕ = map g.C.Count.number l.cells in
-    let old : List Node = lift l.room (row_nodes l.lowest (pos l.stride) (take l.i xs)) in
+    let n = asked l.tails (g.S.Stages.network l.stages) in
+    let xs = map g.C.Count.number l.fn.cells in
+    let ys = map g.C.Count.number l.cells in
+    let old = lift l.room (row_nodes l.lowest (pos l.stride) (take l.i xs)) in
     record {
       long : length l.cells ≡ length l.fn.cells;
       within : l.i ≤ length l.fn.cells;

@@ -3,7 +3,6 @@ use Rattle.std.specs.Prelude.{ℤ}
 use Rattle.std.proofs.lemmas.Int.{to_z-of_z}
 use mir.Syntax.{w128}
 use Rattle.node_pool.specs.Nodes.{Node, node, weighted}
-use Rattle.stage_network.specs.Network.{Network}
 use Rattle.stage_network.specs.declared.tail_sums.TailSum.{TailSum}
 use Rattle.stage_network.specs.SweepSteps.{closed_at, counted, staying}
 use Rattle.stage_network.specs.ArcSteps.{lift}
@@ -27,7 +26,7 @@ number_behind-requires g c = omega (arith, ap length c.requires.key, c.stages-co
 
 pub settle-requires-clause-full : goal.settle-requires-clause-full
 settle-requires-clause-full g c =
-    let n : Network = g.S.Stages.network c.args.stages.now in
+    let n = g.S.Stages.network c.args.stages.now in
     let f : FitsSigned w128 c.number_behind.result = search rules in
     let first = first_node c.args.key.now n.first c.front-room.result.now c.number_behind.result _ (row_partials g.C.Count.number c.write_one.new.self) f c.requires.key c.number_behind.ensures c.front-room.ensures.room c.in_ok-write_one.ensures.one in
     record {
@@ -41,10 +40,10 @@ settle-requires-clause-full g c =
 
 pub returns-clause-swept : goal.returns-clause-swept
 returns-clause-swept g c =
-    let n : Network = g.S.Stages.network c.args.stages.now in
+    let n = g.S.Stages.network c.args.stages.now in
     let keep = c.args.keep in
     let f : FitsSigned w128 c.number_behind.result = search rules in
-    let r : List ℤ = c.front-room.result.now in
+    let r = c.front-room.result.now in
     let first = first_node c.args.key.now n.first r c.number_behind.result _ (row_partials g.C.Count.number c.write_one.new.self) f c.requires.key c.number_behind.ensures c.front-room.ensures.room c.in_ok-write_one.ensures.one in
     let done = c.in_ok-sums.ensures.settled in
     stands-first n c.stages-count.ensures.lawful keep c.in_ok-sums.sums (all_nodes c.keep.new.kept.rows)

@@ -1,6 +1,5 @@
 use Rattle.std.proofs.Common.{◌≡◌, ◌≤◌, ◌++◌, length, take}
 use Rattle.stage_network.specs.Asked.{asked}
-use Rattle.stage_network.specs.Network.{Network}
 use Rattle.stage_network.specs.NodeSteps.{open_nodes, opened_in}
 use Rattle.stage_network.specs.SweepSteps.{sum_for}
 use Rattle.weights.specs.declared.tails.Tail.{Tail}
@@ -11,7 +10,7 @@ use Rattle.stage_network.proofs.settling.settle_room.Given as goal
 -- the open nodes and the inside weight are those of the nodes before this one
 abbrev pub invariant-loop-i : goal.invariant-loop-i
 invariant-loop-i g l =
-    let n : Network = asked l.tails (g.S.Stages.network l.stages) in
+    let n = asked l.tails (g.S.Stages.network l.stages) in
     let before = take l.i (lift l.room l.nodes.nodes) in
     record {
       nodes : l.kept.nodes ≡ l.fn.kept.nodes ++ open_nodes n l.stage before;

@@ -1,4 +1,4 @@
-use Rattle.std.proofs.Common.{◌≡◌, ◌<◌, ◌+◌, ◌∷◌, ℕ, List, length, get_or, drop, ap, ◌∙◌, arith, rules, refl, add-one, drop-cons, FitsSigned}
+use Rattle.std.proofs.Common.{◌≡◌, ◌<◌, ◌+◌, ◌∷◌, ℕ, List, length, get_or, drop, ap, ◌∙◌, arith, rules, refl, add-one, drop-cons}
 use Rattle.std.specs.Prelude.{pos}
 use Rattle.std.proofs.lemmas.Int.{to_z-of_z}
 use Rattle.std.proofs.lemmas.List.{drop_all}
@@ -19,7 +19,7 @@ loop-i-init c = rw c.empty-spread.ensures (all-left _)
 
 pub add-requires : goal.add-requires
 add-requires c =
-    let sorted : List Line = c.sort_unstable_by_key.new.self in
+    let sorted = c.sort_unstable_by_key.new.self in
     omega (
       arith,
       line-room sorted c.loop-i.spread (get_or sorted c.loop-i.i no_line) (drop (c.loop-i.i + 1) sorted) (rw (next-line sorted c.loop-i.i c.loop-i-test.true) at c.loop-i.invariant),
@@ -29,13 +29,12 @@ add-requires c =
 
 pub loop-i-preserved : goal.loop-i-preserved
 loop-i-preserved c =
-    let sorted : List Line = c.sort_unstable_by_key.new.self in
+    let sorted = c.sort_unstable_by_key.new.self in
     let l : Line = get_or sorted c.loop-i.i no_line in
-    let f : FitsSigned w128 l.value = search rules in
-    let new : c.add.new.self ≡ with_weight l.value l.weight c.loop-i.spread = c.in_ok-add.ensures ∙ ap (λ v. with_weight v l.weight c.loop-i.spread) (to_z-of_z w128 l.value f) in
+    let new : c.add.new.self ≡ with_weight l.value l.weight c.loop-i.spread = c.in_ok-add.ensures ∙ ap (λ v. with_weight v l.weight c.loop-i.spread) (to_z-of_z w128 l.value (search rules)) in
     rw new (line-added sorted c.loop-i.spread l (drop (c.loop-i.i + 1) sorted) (rw (next-line sorted c.loop-i.i c.loop-i-test.true) at c.loop-i.invariant))
 
 pub returns : goal.returns
 returns c =
-    let sorted : List Line = c.sort_unstable_by_key.new.self in
+    let sorted = c.sort_unstable_by_key.new.self in
     lines-done c.args.lines.now sorted c.loop-i.spread (drop c.loop-i.i sorted) c.sort_unstable_by_key.ensures.permutation (drop_all c.loop-i.i sorted c.loop-i-test.false) c.loop-i.invariant

@@ -1,9 +1,6 @@
 use Rattle.std.specs.Prelude.{ℤ, Bool}
-use Rattle.stage_network.specs.Network.{Network}
 use Rattle.stage_network.proofs.NodeLines.{spread-same}
 use Rattle.stage_network.proofs.spreads.spread_in.Goals as goal
 
 pub returns : goal.returns
-returns g c =
-    let n : Network = g.S.Stages.network c.args.stages.now in
-    spread-same _ _ _ (λ (p : ℤ → Bool). c.in_ok-swept.ensures.swept (λ k. p (n.value k))) c.in_ok-spread-2.ensures
+returns g c = spread-same _ _ _ (λ (p : ℤ → Bool). c.in_ok-swept.ensures.swept (λ k. p ((g.S.Stages.network c.args.stages.now).value k))) c.in_ok-spread-2.ensures

@@ -1,17 +1,15 @@
-use Rattle.std.proofs.Common.{◌≤◌, ◌∙◌, SomeIff, subst, arith}
+use Rattle.std.proofs.Common.{◌≤◌, SomeIff, arith, subst}
 use Rattle.weights.specs.declared.TheConstants.{MAX}
 use Rattle.table_tests.proofs.OddsTests.{cells-are, columns-few, first-row-fits}
 use Rattle.table_tests.proofs.odds_table.weigh_all.Goals as goal
 
 pub weigh_cells-requires-clause-level : goal.weigh_cells-requires-clause-level
-weigh_cells-requires-clause-level c =
-    rw (c.as_slice-columns.ensures ∙ c.made-made.ensures.margins.columns, c.first_row.ensures) (first-row-fits c.args.fisher.now c.requires.square)
+weigh_cells-requires-clause-level c = rw (c.column_sums-columns.ensures, c.row_sums.ensures) (first-row-fits c.args.fisher.now c.requires.square)
 
 pub weigh_cells-requires-clause-units : goal.weigh_cells-requires-clause-units
-weigh_cells-requires-clause-units c =
-    rw (c.as_slice-columns.ensures ∙ c.made-made.ensures.margins.columns) (omega (arith, columns-few c.args.fisher.now c.requires.square c.made-made.ensures.fitting))
+weigh_cells-requires-clause-units c = rw c.column_sums-columns.ensures (omega (arith, columns-few c.args.fisher.now c.requires.square c.made-made.ensures.fitting))
 
 pub returns : goal.returns
 returns c =
-    let given = rw (c.as_slice-columns.ensures ∙ c.made-made.ensures.margins.columns, c.first_row.ensures) at c.weigh_cells.ensures in
+    let given = rw (c.column_sums-columns.ensures, c.row_sums.ensures) at c.weigh_cells.ensures in
     subst (λ n. SomeIff c.weigh_cells.result (n ≤ MAX) n) (cells-are c.args.fisher.now c.requires.square c.args.odds) given

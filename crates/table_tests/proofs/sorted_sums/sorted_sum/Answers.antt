@@ -7,23 +7,19 @@ use Rattle.room_network.specs.RoomNetworks.{room_network}
 use Rattle.sorted_tables.specs.SortedRooms.{sorted_weight}
 use Rattle.table_tests.specs.FisherExact.{fisher_test}
 use Rattle.table_tests.specs.SortedWeighing.{sorted_network}
-use Rattle.table_tests.proofs.FisherTests.{bounded}
 use Rattle.table_tests.proofs.sorted_sums.sorted_sum.Goals as goal
 
 pub sum_of-requires-clause-same : goal.sum_of-requires-clause-same
-sum_of-requires-clause-same c = sym c.in_ok-stages.ensures.built ∙ c.in_ok-last.ensures
+sum_of-requires-clause-same c = c.in_ok-stages.ensures ∙ sym c.in_ok-last.ensures
 
 pub sum_of-requires-clause-total : goal.sum_of-requires-clause-total
 sum_of-requires-clause-total c =
     c.made-made.ensures.frame.total
-    ∙ sym (whole-is (fisher_test c.args.table.now) Two (sorted_network c.args.table.now) c.in_ok-stages.ensures.follows)
-    ∙ ap (λ (m : Meaning). total_weight (room_network m sorted_weight) 0 (room_network m sorted_weight).first) c.in_ok-last.ensures
-
-pub sum_of-requires-clause-fits : goal.sum_of-requires-clause-fits
-sum_of-requires-clause-fits c = rw c.made-made.ensures.frame.total (bounded c.args.table.now c.made-made.ensures.fitting)
+    ∙ sym (whole-is (fisher_test c.args.table.now) Two (sorted_network c.args.table.now) c.facts.ensures.follows_sorted)
+    ∙ ap (λ (m : Meaning). total_weight (room_network m sorted_weight) 0 (room_network m sorted_weight).first) (sym c.in_ok-last.ensures)
 
 pub returns : goal.returns
 returns c =
     c.in_ok-sum.ensures
-    ∙ sym (ap (λ (m : Meaning). extreme_weight (room_network m sorted_weight) Two 0 (room_network m sorted_weight).first) c.in_ok-last.ensures)
-    ∙ extreme-is (fisher_test c.args.table.now) Two (sorted_network c.args.table.now) c.in_ok-stages.ensures.follows
+    ∙ ap (λ (m : Meaning). extreme_weight (room_network m sorted_weight) Two 0 (room_network m sorted_weight).first) c.in_ok-last.ensures
+    ∙ extreme-is (fisher_test c.args.table.now) Two (sorted_network c.args.table.now) c.facts.ensures.follows_sorted

@@ -1,5 +1,11 @@
-use Rattle.homogeneity.proofs.RankPlaces.{rank-move}
+use Rattle.std.proofs.Common.{refl}
+use Rattle.homogeneity.specs.RankRooms.{rank_meaning, rank_plan}
+use Rattle.homogeneity.proofs.Naturals.{reached-room}
+use Rattle.homogeneity.proofs.RankPlans.{choice-seat}
 use Rattle.homogeneity.proofs.rank_measure.RankMeasure.choice_seat.Goals as goal
 
 pub returns : goal.returns
-returns c = let m = c.args.self.now in rank-move m.columns m.second m.right.fit m.judge c.args._stage c.args._room.now c.args._choice.now c.requires.partial c.requires.move
+returns c =
+    let m = c.args.self.now in
+    let v = c.requires.move in
+    choice-seat m.columns m.right.fit c.args._stage c.args._room.now c.args._choice.now (reached-room (rank_plan m.columns) (rank_meaning m.columns m.judge) refl c.args._stage c.args._room.now c.requires.partial v.reached) v.before v.allowed

@@ -1,13 +1,12 @@
-use Rattle.std.proofs.Common.{◌≡◌, ◌∙◌, List, ap}
+use Rattle.std.proofs.Common.{◌∙◌, List, ap}
 use Rattle.sample_reader.specs.declared.subjects.Subject.{Subject}
-use Rattle.stage_network.specs.Judged.{judge_of}
 use Rattle.stage_network.specs.Network.{Network}
 use Rattle.room_network.specs.RoomNetworks.{room_network}
 use Rattle.homogeneity.specs.RankRooms.{rank_meaning, rank_weight}
 use Rattle.homogeneity.specs.StratifiedRanks.{ranked_strata_test, strata_subjects, stratified_rank_test}
 use Rattle.homogeneity.specs.declared.rank_measure.RankMeasure.{RankMeasure}
 use Rattle.homogeneity.specs.declared.rank_rooms.RankRooms.{RankRooms}
-use Rattle.homogeneity.proofs.RankWays.{network-same}
+use Rattle.homogeneity.proofs.RankFitting.{network-same}
 use Rattle.homogeneity.proofs.rank_ways.StratifiedRanksPrepared.stages_of.Goals as goal
 
 pub invariant_of-measure : goal.invariant_of-measure
@@ -19,9 +18,8 @@ pub returns-clause-built : goal.returns-clause-built
 returns-clause-built c =
     let strata : List (List Subject) = strata_subjects c.args.self.now in
     let made = c.made-made.ensures in
-    let judge : c.of.result ≡ judge_of (ranked_strata_test strata) = c.of.ensures (ranked_strata_test strata) made.frame in
-    let numbers : RankMeasure → Network = λ m. room_network (rank_meaning m.columns m.second m.judge) (rank_weight c.in_ok-rooms.rooms.columns) in
-    ap (λ (b : RankRooms × RankMeasure). room_network (rank_meaning b.1.columns b.1.second b.1.judge) (rank_weight b.0.columns)) c.new-3.ensures.parts
+    let numbers : RankMeasure → Network = λ m. room_network (rank_meaning m.columns m.judge) (rank_weight c.in_ok-rooms.rooms.columns) in
+    ap (λ (b : RankRooms × RankMeasure). room_network (rank_meaning b.1.columns b.1.judge) (rank_weight b.0.columns)) c.new-3.ensures.parts
     ∙ ap numbers c.new-2.ensures
-    ∙ network-same strata c.in_ok-rooms.rooms.columns c.in_ok-copy-2.field-0 c.made-made.result.now.second c.of.result
-    (c.in_ok-rooms.ensures.columns ∙ c.in_ok-copy.ensures ∙ made.columns) (c.in_ok-copy-2.ensures ∙ made.columns) made.second judge
+    ∙ network-same strata c.in_ok-rooms.rooms.columns c.in_ok-copy-2.field-0 c.of.result
+    (c.in_ok-rooms.ensures ∙ c.in_ok-copy.ensures ∙ made.lists.columns) (c.in_ok-copy-2.ensures ∙ made.lists.columns) (c.of.ensures (ranked_strata_test strata) made.frame)

@@ -3,7 +3,7 @@ use Rattle.weights.proofs.Centred.{not-wide, total-wide}
 use Rattle.sample_reader.specs.Data.{strata_data_of}
 use Rattle.sample_reader.specs.StrataGroups.{StrataGroupData}
 use Rattle.homogeneity.specs.StratifiedRanks.{stratified_rank_test}
-use Rattle.homogeneity.proofs.RankFitting.{bound-fits}
+use Rattle.homogeneity.proofs.StrataSubjects.{bound-fits}
 use Rattle.homogeneity.proofs.stratified_ranks.StratifiedRanks.prepare.Goals as goal
 
 pub returns-in_default : goal.returns-in_default

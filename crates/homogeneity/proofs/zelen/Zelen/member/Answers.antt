@@ -1,5 +1,5 @@
 use Rattle.strata_cells.specs.Strata.{strata_of}
-use Rattle.homogeneity.proofs.ZelenWays.{member}
+use Rattle.homogeneity.proofs.ZelenTests.{member}
 use Rattle.homogeneity.proofs.zelen.Zelen.member.Goals as goal
 
 pub returns : goal.returns

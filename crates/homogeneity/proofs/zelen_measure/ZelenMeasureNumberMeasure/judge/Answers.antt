@@ -1,4 +1,4 @@
-use Rattle.homogeneity.proofs.ZelenMeasures.{zelen_number}
+use Rattle.homogeneity.proofs.ZelenPlans.{zelen_number}
 use Rattle.homogeneity.proofs.zelen_measure.ZelenMeasureNumberMeasure.judge.Goals as goal
 
 pub returns-clause-sound : goal.returns-clause-sound

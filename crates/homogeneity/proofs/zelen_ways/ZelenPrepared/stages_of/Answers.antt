@@ -9,7 +9,7 @@ use Rattle.homogeneity.specs.ZelenNetwork.{zelen_meaning, zelen_weights}
 use Rattle.homogeneity.specs.declared.rests.Rests.{Rests}
 use Rattle.homogeneity.specs.declared.zelen_measure.ZelenMeasure.{ZelenMeasure}
 use Rattle.homogeneity.specs.declared.zelen_rooms.ZelenRooms.{ZelenRooms}
-use Rattle.homogeneity.proofs.ZelenWays.{network-same}
+use Rattle.homogeneity.proofs.ZelenTests.{network-same}
 use Rattle.homogeneity.proofs.zelen_ways.ZelenPrepared.stages_of.Goals as goal
 
 pub new-requires : goal.new-requires

@@ -1,4 +1,4 @@
-use Rattle.std.proofs.Common.{◌≡◌, ◌/◌, ◌∙◌, ◌^◌, ◌<◌, ℕ, ap, length, subst, sym}
+use Rattle.std.proofs.Common.{◌/◌, ◌∙◌, ◌^◌, ◌<◌, ℕ, ap, length, subst, sym}
 use Rattle.std.proofs.lemmas.Bool.{ltb-true}
 use Rattle.weights.proofs.Sized.{first_and}
 use Rattle.k_sample_tests.specs.RankSums.{half_for}
@@ -8,9 +8,7 @@ use Rattle.k_sample_tests.proofs.packed_sums.PackedSums.new.Goals as goal
 pub invariant_of-result : goal.invariant_of-result
 invariant_of-result c =
     let groups : ℕ = length c.args.sums.rows.items in
-    let bits : c.bits_for.result ≡ 127 / groups = c.bits_for.ensures ∙ ap (λ n. 127 / n) c.slots-groups.ensures.slots in
-    let half : c.half_for.result ≡ half_for groups = c.half_for.ensures ∙ ap half_for c.slots-groups.ensures.slots in
-    rw (bits, half) (record {
+    rw ((c.bits_for.ensures ∙ ap (λ n. 127 / n) c.slots-groups.ensures.slots), (c.half_for.ensures ∙ ap half_for c.slots-groups.ensures.slots)) (record {
       right = record {
         digit = is-half groups c.requires.some c.args.sums.right.squaring.few_rows;
         small = subst (λ n. n < half_for groups) c.requires.all c.requires.small;

@@ -1,8 +1,6 @@
-use Rattle.std.proofs.Common.{◌≡◌, ◌∙◌, refl, rules, sym, FitsSigned}
+use Rattle.std.proofs.Common.{◌∙◌, refl, rules, sym}
 use mir.Syntax.{w128}
-use mir.Val.{to_z, of_z}
 use Rattle.std.proofs.lemmas.Int.{to_z-of_z}
-use Rattle.room_network.specs.Numbers.{so_far}
 use Rattle.k_sample_tests.proofs.PackedKeys.{as-few, as-many, one-long, place, sums-are}
 use Rattle.k_sample_tests.proofs.packed_sums.PackedSums.wide_verdict.Goals as goal
 
@@ -17,14 +15,8 @@ only-requires c = one-long c.args.self.now c.args.stage c.args.remaining.now c.a
 
 pub verdict_by-requires-clause-reached : goal.verdict_by-requires-clause-reached
 verdict_by-requires-clause-reached c =
-    let a : FitsSigned w128 c.only.result = search rules in
-    let one : to_z w128 (of_z w128 c.only.result) ≡ so_far c.args.partial.now = to_z-of_z w128 c.only.result a ∙ c.only.ensures in
-    let sums = c.unpack.ensures ∙ sums-are c.args.self.now c.args.partial.now _ _ (as-many c.args.self.now c.slots.result c.slots.ensures.slots) one in
-    rw sums (place c.args.self.now c.args.stage c.args.remaining.now c.args.partial.now c.requires.reached)
+    rw (c.unpack.ensures ∙ sums-are c.args.self.now c.args.partial.now _ _ (as-many c.args.self.now c.slots.result c.slots.ensures.slots) (to_z-of_z w128 c.only.result (search rules) ∙ c.only.ensures)) (place c.args.self.now c.args.stage c.args.remaining.now c.args.partial.now c.requires.reached)
 
 pub returns : goal.returns
 returns c =
-    let a : FitsSigned w128 c.only.result = search rules in
-    let one : to_z w128 (of_z w128 c.only.result) ≡ so_far c.args.partial.now = to_z-of_z w128 c.only.result a ∙ c.only.ensures in
-    let sums = c.unpack.ensures ∙ sums-are c.args.self.now c.args.partial.now _ _ (as-many c.args.self.now c.slots.result c.slots.ensures.slots) one in
-    c.verdict_by.ensures ∙ rw sums refl
+    c.verdict_by.ensures ∙ rw (c.unpack.ensures ∙ sums-are c.args.self.now c.args.partial.now _ _ (as-many c.args.self.now c.slots.result c.slots.ensures.slots) (to_z-of_z w128 c.only.result (search rules) ∙ c.only.ensures)) refl

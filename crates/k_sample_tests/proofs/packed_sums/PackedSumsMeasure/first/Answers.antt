@@ -1,4 +1,4 @@
-use Rattle.std.proofs.Common.{◌≡◌, ◌∷◌, [], ◌∙◌, ◌*◌, ◌+◌, ◌≤◌, ◌^◌, ℤ, ap, length, refl, replicate, rules, subst, sym, FitsSigned}
+use Rattle.std.proofs.Common.{◌≡◌, ◌∷◌, [], ◌∙◌, ◌*◌, ◌+◌, ◌≤◌, ◌^◌, ℤ, ap, length, refl, replicate, rules, subst, sym}
 use Rattle.std.specs.Prelude.{pos}
 use mir.Syntax.{w128}
 use mir.Val.{to_z, of_z}
@@ -28,9 +28,8 @@ numeral-requires c =
 
 pub returns : goal.returns
 returns c =
-    let s : FitsSigned w128 c.numeral.result = search rules in
     let half : to_z w128 c.args.self.now.half ≡ pos c.args.self.now.half = search rules in
     let groups = length c.args.self.now.sums.rows.items in
     let filled : c.fill.new.self ≡ replicate groups (pos c.args.self.now.half) = c.fill.ensures.after (λ y h. h) ∙ rw (as-many c.args.self.now c.slots.result c.slots.ensures.slots, half) refl in
     one_item c.args.partial.now (to_z w128 (of_z w128 c.numeral.result)) c.requires
-    ∙ ap (λ (z : ℤ). z ∷ []) (to_z-of_z w128 c.numeral.result s ∙ c.numeral.ensures ∙ ap (numeral (2 * c.args.self.now.half)) filled ∙ sym (pack-zeros c.args.self.now.half groups))
+    ∙ ap (λ (z : ℤ). z ∷ []) (to_z-of_z w128 c.numeral.result (search rules) ∙ c.numeral.ensures ∙ ap (numeral (2 * c.args.self.now.half)) filled ∙ sym (pack-zeros c.args.self.now.half groups))

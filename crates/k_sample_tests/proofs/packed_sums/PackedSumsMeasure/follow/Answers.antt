@@ -1,9 +1,8 @@
-use Rattle.std.proofs.Common.{rules, ◌≡◌, ◌∷◌, [], ℤ, ◌∙◌, ap, length, FitsSigned}
+use Rattle.std.proofs.Common.{rules, ◌∷◌, [], ℤ, ◌∙◌, ap, length}
 use mir.Syntax.{w128}
 use mir.Val.{to_z, of_z}
 use Rattle.std.proofs.lemmas.Int.{to_z-of_z}
 use Rattle.label_network.specs.Linear.{score_of}
-use Rattle.room_network.specs.Numbers.{so_far}
 use Rattle.weights.proofs.Items.{one_item}
 use Rattle.k_sample_tests.proofs.PackedKeys.{one-long, step-fits, step-sum}
 use Rattle.k_sample_tests.proofs.packed_sums.PackedSumsMeasure.follow.Goals as goal
@@ -16,19 +15,11 @@ only-requires-2 c = ap length c.requires.step
 
 pub stepped-requires : goal.stepped-requires
 stepped-requires c =
-    let a : FitsSigned w128 c.only.result = search rules in
-    let b : FitsSigned w128 c.only-2.result = search rules in
-    let one : to_z w128 (of_z w128 c.only.result) ≡ so_far c.args.partial.now = to_z-of_z w128 c.only.result a ∙ c.only.ensures in
-    let two = to_z-of_z w128 c.only-2.result b ∙ c.only-2.ensures ∙ ap (λ ns. score_of ns 0) c.requires.step in
-    rw (one, two) (step-fits c.args.self.now c.args._stage c.args._remaining.now c.args._choice.now c.args.partial.now c.requires.allowed)
+    let two = to_z-of_z w128 c.only-2.result (search rules) ∙ c.only-2.ensures ∙ ap (λ ns. score_of ns 0) c.requires.step in
+    rw ((to_z-of_z w128 c.only.result (search rules) ∙ c.only.ensures), two) (step-fits c.args.self.now c.args._stage c.args._remaining.now c.args._choice.now c.args.partial.now c.requires.allowed)
 
 pub returns : goal.returns
 returns c =
-    let a : FitsSigned w128 c.only.result = search rules in
-    let b : FitsSigned w128 c.only-2.result = search rules in
-    let s : FitsSigned w128 c.stepped.result = search rules in
-    let one : to_z w128 (of_z w128 c.only.result) ≡ so_far c.args.partial.now = to_z-of_z w128 c.only.result a ∙ c.only.ensures in
-    let two = to_z-of_z w128 c.only-2.result b ∙ c.only-2.ensures ∙ ap (λ ns. score_of ns 0) c.requires.step in
-    let given = rw (one, two) at c.stepped.ensures in
+    let given = rw ((to_z-of_z w128 c.only.result (search rules) ∙ c.only.ensures), (to_z-of_z w128 c.only-2.result (search rules) ∙ c.only-2.ensures ∙ ap (λ ns. score_of ns 0) c.requires.step)) at c.stepped.ensures in
     one_item c.args.next.now (to_z w128 (of_z w128 c.stepped.result)) c.requires.room
-    ∙ ap (λ (z : ℤ). z ∷ []) (to_z-of_z w128 c.stepped.result s ∙ given ∙ step-sum c.args.self.now c.args._stage c.args._remaining.now c.args._choice.now c.args.partial.now c.requires.allowed)
+    ∙ ap (λ (z : ℤ). z ∷ []) (to_z-of_z w128 c.stepped.result (search rules) ∙ given ∙ step-sum c.args.self.now c.args._stage c.args._remaining.now c.args._choice.now c.args.partial.now c.requires.allowed)

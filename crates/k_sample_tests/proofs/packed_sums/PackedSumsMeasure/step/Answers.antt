@@ -1,4 +1,4 @@
-use Rattle.std.proofs.Common.{rules, ◌∷◌, [], ℤ, ◌∙◌, ap, refl, sym, FitsSigned}
+use Rattle.std.proofs.Common.{rules, ◌∷◌, [], ℤ, ◌∙◌, ap, refl, sym}
 use mir.Syntax.{w128}
 use mir.Val.{to_z, of_z}
 use Rattle.std.proofs.lemmas.Int.{to_z-of_z}
@@ -26,5 +26,4 @@ numeral-requires c = let way = step c.args.self.now c.args.stage c.args.remainin
 
 pub returns : goal.returns
 returns c =
-    let s : FitsSigned w128 c.numeral.result = search rules in
-    one_item c.args.step.now (to_z w128 (of_z w128 c.numeral.result)) c.requires.room ∙ ap (λ (z : ℤ). z ∷ []) (to_z-of_z w128 c.numeral.result s ∙ c.numeral.ensures ∙ rw c.step.ensures refl)
+    one_item c.args.step.now (to_z w128 (of_z w128 c.numeral.result)) c.requires.room ∙ ap (λ (z : ℤ). z ∷ []) (to_z-of_z w128 c.numeral.result (search rules) ∙ c.numeral.ensures ∙ rw c.step.ensures refl)

@@ -1,4 +1,4 @@
-use Rattle.std.proofs.Common.{◌≡◌, ◌∙◌, ap, length, refl, rules, sym, FitsSigned}
+use Rattle.std.proofs.Common.{◌≡◌, ◌∙◌, ap, length, refl, rules, sym}
 use mir.Syntax.{w128}
 use mir.Val.{to_z, of_z}
 use Rattle.std.proofs.lemmas.Int.{to_z-of_z}
@@ -27,20 +27,15 @@ only-requires c = one-long c.args.self.now c.args.stage c.args.remaining.now c.a
 
 pub write_box-requires-clause-least : goal.write_box-requires-clause-least
 write_box-requires-clause-least c =
-    let a : FitsSigned w128 c.only.result = search rules in
-    let one : to_z w128 (of_z w128 c.only.result) ≡ so_far c.args.partial.now = to_z-of_z w128 c.only.result a ∙ c.only.ensures in
     let front = front-parts c.args.self.now c.args.stage c.args.remaining.now c.args.partial.now c.requires.reached c.args.outlook.now c.requires.outlook _ c.split_at.ensures.front in
     let long = part-long c.args.self.now c.args.stage c.args.remaining.now c.args.partial.now c.requires.reached Least _ front in
-    side-narrow c.args.self.now c.args.stage c.args.remaining.now c.args.partial.now c.requires.reached Least _ front _ _ long one c.if-not-self.false
+    side-narrow c.args.self.now c.args.stage c.args.remaining.now c.args.partial.now c.requires.reached Least _ front _ _ long (to_z-of_z w128 c.only.result (search rules) ∙ c.only.ensures) c.if-not-self.false
 
 pub write_box-requires-clause-greatest : goal.write_box-requires-clause-greatest
 write_box-requires-clause-greatest c =
-    let a : FitsSigned w128 c.only.result = search rules in
-    let one : to_z w128 (of_z w128 c.only.result) ≡ so_far c.args.partial.now = to_z-of_z w128 c.only.result a ∙ c.only.ensures in
-    let front = front-parts c.args.self.now c.args.stage c.args.remaining.now c.args.partial.now c.requires.reached c.args.outlook.now c.requires.outlook _ c.split_at.ensures.front in
     let rear = rear-parts c.args.self.now c.args.stage c.args.remaining.now c.args.partial.now c.requires.reached c.args.outlook.now c.requires.outlook _ c.split_at.ensures.back in
-    let long = part-long c.args.self.now c.args.stage c.args.remaining.now c.args.partial.now c.requires.reached Least _ front in
-    side-narrow c.args.self.now c.args.stage c.args.remaining.now c.args.partial.now c.requires.reached Greatest _ rear _ _ long one c.if-not-self.false
+    let long = part-long c.args.self.now c.args.stage c.args.remaining.now c.args.partial.now c.requires.reached Least _ (front-parts c.args.self.now c.args.stage c.args.remaining.now c.args.partial.now c.requires.reached c.args.outlook.now c.requires.outlook _ c.split_at.ensures.front) in
+    side-narrow c.args.self.now c.args.stage c.args.remaining.now c.args.partial.now c.requires.reached Greatest _ rear _ _ long (to_z-of_z w128 c.only.result (search rules) ∙ c.only.ensures) c.if-not-self.false
 
 pub write_box-requires-clause-as_many : goal.write_box-requires-clause-as_many
 write_box-requires-clause-as_many c =
@@ -60,39 +55,30 @@ write_box-requires-clause-high_room c =
 
 pub judge_box-requires-clause-one_each : goal.judge_box-requires-clause-one_each
 judge_box-requires-clause-one_each c =
-    let a : FitsSigned w128 c.only.result = search rules in
-    let one : to_z w128 (of_z w128 c.only.result) ≡ so_far c.args.partial.now = to_z-of_z w128 c.only.result a ∙ c.only.ensures in
     let front = front-parts c.args.self.now c.args.stage c.args.remaining.now c.args.partial.now c.requires.reached c.args.outlook.now c.requires.outlook _ c.split_at.ensures.front in
     let long = part-long c.args.self.now c.args.stage c.args.remaining.now c.args.partial.now c.requires.reached Least _ front in
-    ap length c.write_box.ensures.lows ∙ side-long c.args.self.now c.args.stage c.args.remaining.now c.args.partial.now c.requires.reached Least _ front _ _ long one
+    ap length c.write_box.ensures.lows ∙ side-long c.args.self.now c.args.stage c.args.remaining.now c.args.partial.now c.requires.reached Least _ front _ _ long (to_z-of_z w128 c.only.result (search rules) ∙ c.only.ensures)
 
 pub judge_box-requires-clause-as_many : goal.judge_box-requires-clause-as_many
 judge_box-requires-clause-as_many c =
-    let a : FitsSigned w128 c.only.result = search rules in
-    let one : to_z w128 (of_z w128 c.only.result) ≡ so_far c.args.partial.now = to_z-of_z w128 c.only.result a ∙ c.only.ensures in
-    let front = front-parts c.args.self.now c.args.stage c.args.remaining.now c.args.partial.now c.requires.reached c.args.outlook.now c.requires.outlook _ c.split_at.ensures.front in
     let rear = rear-parts c.args.self.now c.args.stage c.args.remaining.now c.args.partial.now c.requires.reached c.args.outlook.now c.requires.outlook _ c.split_at.ensures.back in
-    let long = part-long c.args.self.now c.args.stage c.args.remaining.now c.args.partial.now c.requires.reached Least _ front in
-    ap length c.write_box.ensures.highs ∙ side-long c.args.self.now c.args.stage c.args.remaining.now c.args.partial.now c.requires.reached Greatest _ rear _ _ long one
+    let long = part-long c.args.self.now c.args.stage c.args.remaining.now c.args.partial.now c.requires.reached Least _ (front-parts c.args.self.now c.args.stage c.args.remaining.now c.args.partial.now c.requires.reached c.args.outlook.now c.requires.outlook _ c.split_at.ensures.front) in
+    ap length c.write_box.ensures.highs ∙ side-long c.args.self.now c.args.stage c.args.remaining.now c.args.partial.now c.requires.reached Greatest _ rear _ _ long (to_z-of_z w128 c.only.result (search rules) ∙ c.only.ensures)
 
 pub judge_box-requires-clause-fits : goal.judge_box-requires-clause-fits
 judge_box-requires-clause-fits c =
-    let a : FitsSigned w128 c.only.result = search rules in
-    let one : to_z w128 (of_z w128 c.only.result) ≡ so_far c.args.partial.now = to_z-of_z w128 c.only.result a ∙ c.only.ensures in
+    let one : to_z w128 (of_z w128 c.only.result) ≡ so_far c.args.partial.now = to_z-of_z w128 c.only.result (search rules) ∙ c.only.ensures in
     let front = front-parts c.args.self.now c.args.stage c.args.remaining.now c.args.partial.now c.requires.reached c.args.outlook.now c.requires.outlook _ c.split_at.ensures.front in
     let rear = rear-parts c.args.self.now c.args.stage c.args.remaining.now c.args.partial.now c.requires.reached c.args.outlook.now c.requires.outlook _ c.split_at.ensures.back in
     let long = part-long c.args.self.now c.args.stage c.args.remaining.now c.args.partial.now c.requires.reached Least _ front in
-    let lows = c.write_box.ensures.lows ∙ side-is c.args.self.now c.args.stage c.args.remaining.now c.args.partial.now c.requires.reached Least _ front _ _ long one in
     let highs = c.write_box.ensures.highs ∙ side-is c.args.self.now c.args.stage c.args.remaining.now c.args.partial.now c.requires.reached Greatest _ rear _ _ long one in
-    rw (lows, highs) (box-fits c.args.self.now c.args.stage c.args.remaining.now c.args.partial.now c.requires.reached c.if-not-self.false)
+    rw ((c.write_box.ensures.lows ∙ side-is c.args.self.now c.args.stage c.args.remaining.now c.args.partial.now c.requires.reached Least _ front _ _ long one), highs) (box-fits c.args.self.now c.args.stage c.args.remaining.now c.args.partial.now c.requires.reached c.if-not-self.false)
 
 pub returns : goal.returns
 returns c =
-    let a : FitsSigned w128 c.only.result = search rules in
-    let one : to_z w128 (of_z w128 c.only.result) ≡ so_far c.args.partial.now = to_z-of_z w128 c.only.result a ∙ c.only.ensures in
+    let one : to_z w128 (of_z w128 c.only.result) ≡ so_far c.args.partial.now = to_z-of_z w128 c.only.result (search rules) ∙ c.only.ensures in
     let front = front-parts c.args.self.now c.args.stage c.args.remaining.now c.args.partial.now c.requires.reached c.args.outlook.now c.requires.outlook _ c.split_at.ensures.front in
     let rear = rear-parts c.args.self.now c.args.stage c.args.remaining.now c.args.partial.now c.requires.reached c.args.outlook.now c.requires.outlook _ c.split_at.ensures.back in
     let long = part-long c.args.self.now c.args.stage c.args.remaining.now c.args.partial.now c.requires.reached Least _ front in
-    let lows = c.write_box.ensures.lows ∙ side-is c.args.self.now c.args.stage c.args.remaining.now c.args.partial.now c.requires.reached Least _ front _ _ long one in
     let highs = c.write_box.ensures.highs ∙ side-is c.args.self.now c.args.stage c.args.remaining.now c.args.partial.now c.requires.reached Greatest _ rear _ _ long one in
-    c.judge_box.ensures ∙ rw (lows, highs) refl
+    c.judge_box.ensures ∙ rw ((c.write_box.ensures.lows ∙ side-is c.args.self.now c.args.stage c.args.remaining.now c.args.partial.now c.requires.reached Least _ front _ _ long one), highs) refl

@@ -1,4 +1,4 @@
-use Rattle.std.proofs.Common.{rules, ◌≡◌, ◌∙◌, ap, arith, length, pos, sym, FitsSigned}
+use Rattle.std.proofs.Common.{rules, ◌≡◌, ◌∙◌, ap, arith, length, pos, sym}
 use mir.Syntax.{w128}
 use Rattle.std.proofs.lemmas.Int.{to_z-of_z}
 use Rattle.label_network.specs.Meanings.{sizes_in}
@@ -46,14 +46,10 @@ pub returns-clause-low : goal.returns-clause-low
 returns-clause-low c =
     let open_is = rw (c.read_sizes.ensures, c.as_slice-pairs.ensures.value) at c.subject_pairs-open.ensures in
     let middle_is = rw (c.read_sizes.ensures, c.as_slice-pairs.ensures.value, c.as_slice.ensures.value) at c.column_points-middle.ensures in
-    let both = around c.args.self.now.pairs.items c.args.self.now.rows.items (sizes_in c.args.room.now) c.subject_pairs-open.result c.column_points-middle.result open_is middle_is in
-    let a : FitsSigned w128 c.signed.result = search rules in
-    to_z-of_z w128 c.signed.result a ∙ c.signed.ensures ∙ ap pos both.1
+    to_z-of_z w128 c.signed.result (search rules) ∙ c.signed.ensures ∙ ap pos (around c.args.self.now.pairs.items c.args.self.now.rows.items (sizes_in c.args.room.now) c.subject_pairs-open.result c.column_points-middle.result open_is middle_is).1
 
 pub returns-clause-high : goal.returns-clause-high
 returns-clause-high c =
     let open_is = rw (c.read_sizes.ensures, c.as_slice-pairs.ensures.value) at c.subject_pairs-open.ensures in
     let middle_is = rw (c.read_sizes.ensures, c.as_slice-pairs.ensures.value, c.as_slice.ensures.value) at c.column_points-middle.ensures in
-    let both = around c.args.self.now.pairs.items c.args.self.now.rows.items (sizes_in c.args.room.now) c.subject_pairs-open.result c.column_points-middle.result open_is middle_is in
-    let b : FitsSigned w128 c.signed-2.result = search rules in
-    to_z-of_z w128 c.signed-2.result b ∙ c.signed-2.ensures ∙ ap pos both.2
+    to_z-of_z w128 c.signed-2.result (search rules) ∙ c.signed-2.ensures ∙ ap pos (around c.args.self.now.pairs.items c.args.self.now.rows.items (sizes_in c.args.room.now) c.subject_pairs-open.result c.column_points-middle.result open_is middle_is).2

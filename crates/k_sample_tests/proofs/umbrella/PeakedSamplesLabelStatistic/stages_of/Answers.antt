@@ -12,9 +12,8 @@ use Rattle.k_sample_tests.proofs.umbrella.PeakedSamplesLabelStatistic.stages_of.
 
 pub new-requires : goal.new-requires
 new-requires c =
-    let samples : PeakedGroups = c.args.self.now in
     let made = c.made-made.ensures in
-    rw (c.as_slice.ensures.value ∙ made.pairs, c.as_slice-rows.ensures ∙ made.sizes, c.as_slice-columns.ensures ∙ made.columns) (is-counting samples c.made-made.result.now made c.args.judge c.requires)
+    rw (c.as_slice.ensures.value ∙ made.pairs, c.as_slice-rows.ensures ∙ made.sizes, c.as_slice-columns.ensures ∙ made.columns) (is-counting c.args.self.now c.made-made.result.now made c.args.judge c.requires)
 
 pub returns : goal.returns
 returns c =

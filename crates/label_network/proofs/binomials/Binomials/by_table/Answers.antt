@@ -1,7 +1,8 @@
 use Rattle.std.proofs.Common.{◌≡◌, ◌*◌, ◌+◌, get_or, drop, arith, drop_of_length-le}
 use Rattle.weights.specs.Labellings.{number_of_labellings}
 use Rattle.weights.proofs.Binomials.{next_factor_at}
-use Rattle.label_network.proofs.BinomialTable.{rest-le, last-factor}
+use Rattle.label_network.proofs.BinomialTable.{last-factor}
+use Rattle.label_network.proofs.ChoiceMoves.{drop-whole}
 use Rattle.label_network.proofs.binomials.Binomials.by_table.Goals.{then-count-left, else-count-left}
 use Rattle.label_network.proofs.binomials.Binomials.by_table.Goals as goal
 
@@ -9,32 +10,27 @@ pub loop-count-init : goal.loop-count-init
 loop-count-init c = record { rest = c.requires.whole; product = omega arith }
 
 pub choose-product-requires-clause-most : goal.choose-product-requires-clause-most
-choose-product-requires-clause-most c = omega (arith, c.loop-count.invariant.rest, rest-le c.loop-count.count-index c.args.counts.now, c.requires.whole, c.requires.most)
+choose-product-requires-clause-most c = omega (arith, c.loop-count.invariant.rest, drop-whole c.loop-count.count-index c.args.counts.now, c.requires.whole, c.requires.most)
 
 pub choose-product-requires-clause-fewer : goal.choose-product-requires-clause-fewer
 choose-product-requires-clause-fewer c =
-    let next = next_factor_at c.loop-count.product c.loop-count.left c.args.counts.now c.loop-count.count-index c.loop-count-test.true c.loop-count.invariant.rest c.loop-count.invariant.product in
-    next.fewer
+    (next_factor_at c.loop-count.product c.loop-count.left c.args.counts.now c.loop-count.count-index c.loop-count-test.true c.loop-count.invariant.rest c.loop-count.invariant.product).fewer
 
 pub choose-product-requires-clause-held : goal.choose-product-requires-clause-held
 choose-product-requires-clause-held c =
-    let next = next_factor_at c.loop-count.product c.loop-count.left c.args.counts.now c.loop-count.count-index c.loop-count-test.true c.loop-count.invariant.rest c.loop-count.invariant.product in
-    λ h. omega (arith, next.left_out, c.requires.held.each c.loop-count.count-index c.loop-count-test.true h)
+    λ h. omega (arith, (next_factor_at c.loop-count.product c.loop-count.left c.args.counts.now c.loop-count.count-index c.loop-count-test.true c.loop-count.invariant.rest c.loop-count.invariant.product).left_out, c.requires.held.each c.loop-count.count-index c.loop-count-test.true h)
 
 pub choose-product-requires-clause-fits : goal.choose-product-requires-clause-fits
 choose-product-requires-clause-fits c =
-    let next = next_factor_at c.loop-count.product c.loop-count.left c.args.counts.now c.loop-count.count-index c.loop-count-test.true c.loop-count.invariant.rest c.loop-count.invariant.product in
-    omega (arith, next.factor_within, c.requires.fits)
+    omega (arith, (next_factor_at c.loop-count.product c.loop-count.left c.args.counts.now c.loop-count.count-index c.loop-count-test.true c.loop-count.invariant.rest c.loop-count.invariant.product).factor_within, c.requires.fits)
 
 pub overflow_mul-product : goal.overflow_mul-product
 overflow_mul-product c =
-    let next = next_factor_at c.loop-count.product c.loop-count.left c.args.counts.now c.loop-count.count-index c.loop-count-test.true c.loop-count.invariant.rest c.loop-count.invariant.product in
-    rw c.choose-product.ensures (omega (arith, next.product_within, c.requires.fits))
+    rw c.choose-product.ensures (omega (arith, (next_factor_at c.loop-count.product c.loop-count.left c.args.counts.now c.loop-count.count-index c.loop-count-test.true c.loop-count.invariant.rest c.loop-count.invariant.product).product_within, c.requires.fits))
 
 pub overflow_sub-left : goal.overflow_sub-left
 overflow_sub-left c =
-    let next = next_factor_at c.loop-count.product c.loop-count.left c.args.counts.now c.loop-count.count-index c.loop-count-test.true c.loop-count.invariant.rest c.loop-count.invariant.product in
-    next.fewer
+    (next_factor_at c.loop-count.product c.loop-count.left c.args.counts.now c.loop-count.count-index c.loop-count-test.true c.loop-count.invariant.rest c.loop-count.invariant.product).fewer
 
 pub loop-count-preserved : goal.loop-count-preserved
 loop-count-preserved c =
@@ -46,6 +42,5 @@ loop-count-preserved c =
 
 pub returns : goal.returns
 returns c =
-    let none = drop_of_length-le c.args.counts.now c.loop-count-test.false in
-    let all : c.loop-count.product * 1 ≡ number_of_labellings c.args.counts.now = rw none at c.loop-count.invariant.product in
+    let all : c.loop-count.product * 1 ≡ number_of_labellings c.args.counts.now = rw (drop_of_length-le c.args.counts.now c.loop-count-test.false) at c.loop-count.invariant.product in
     omega arith

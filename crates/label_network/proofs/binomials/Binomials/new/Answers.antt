@@ -1,4 +1,4 @@
-use Rattle.std.proofs.Common.{◌≡◌, ◌+◌, ◌*◌, ◌++◌, [], ◌∷◌, sym, subst, arith}
+use Rattle.std.proofs.Common.{◌+◌, ◌*◌, sym, subst, arith}
 use Rattle.label_network.specs.LabelSteps.{AreBinomials}
 use Rattle.label_network.proofs.BinomialTable.{binomials-none, binomials-more, binomials-row, binomials-start}
 use Rattle.label_network.proofs.binomials.Binomials.new.Goals as goal
@@ -14,8 +14,7 @@ next_entry-entry-requires-clause-table c = subst (AreBinomials c.args.width (c.l
 
 pub loop-place-preserved : goal.loop-place-preserved
 loop-place-preserved c =
-    let grown : c.push.new.self.items ≡ c.loop-place.table.items ++ c.next_entry-entry.result ∷ [] = c.in_ok-push.ensures.items in
-    rw grown (binomials-more c.args.width c.loop-row.row c.loop-place.place c.loop-place.table.items c.next_entry-entry.result c.loop-place-test.true c.loop-place.invariant c.next_entry-entry.ensures)
+    rw c.in_ok-push.ensures.items (binomials-more c.args.width c.loop-row.row c.loop-place.place c.loop-place.table.items c.next_entry-entry.result c.loop-place-test.true c.loop-place.invariant c.next_entry-entry.ensures)
 
 pub loop-row-preserved : goal.loop-row-preserved
 loop-row-preserved c = binomials-row c.args.width c.loop-row.row c.loop-place.place c.loop-place.table.items (omega (arith, c.loop-place-test.false, c.loop-place.auto.place-end)) c.loop-place.invariant

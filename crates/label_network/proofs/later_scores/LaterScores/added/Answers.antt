@@ -1,4 +1,4 @@
-use Rattle.std.proofs.Common.{rules, ◌<◌, ◌-◌, arith, pos, get_or, length, FitsSigned, ◌∙◌, sym, ap}
+use Rattle.std.proofs.Common.{rules, ◌<◌, ◌-◌, arith, pos, get_or, length, ◌∙◌, sym, ap}
 use mir.Syntax.{w128}
 use Rattle.std.proofs.lemmas.Int.{to_z-of_z}
 use Rattle.label_network.specs.Meanings.{sizes_in}
@@ -10,55 +10,39 @@ use Rattle.label_network.proofs.later_scores.LaterScores.added.Goals as goal
 
 pub add_step-first-requires-clause-small : goal.add_step-first-requires-clause-small
 add_step-first-requires-clause-small c =
-    let t : FitsSigned w128 c.total-total.result = search rules in
-    let one : FitsSigned w128 (get_or c.args.rows.now 0 (pos 0)) = search rules in
-    let small = first-small c.args.rows.now (later_scores c.args.self.now.scores.items c.args.self.now.columns.items c.args.stage) c.total-total.result c.total-total.ensures c.requires.small in
-    rw (to_z-of_z w128 (get_or c.args.rows.now 0 (pos 0)) one, to_z-of_z w128 c.total-total.result t) (omega (arith, small))
+    rw (to_z-of_z w128 (get_or c.args.rows.now 0 (pos 0)) (search rules), to_z-of_z w128 c.total-total.result (search rules)) (omega (arith, (first-small c.args.rows.now (later_scores c.args.self.now.scores.items c.args.self.now.columns.items c.args.stage) c.total-total.result c.total-total.ensures c.requires.addable.small)))
 
 pub loop-i-init : goal.loop-i-init
 loop-i-init c =
-    let t : FitsSigned w128 c.total-total.result = search rules in
-    let one : FitsSigned w128 (get_or c.args.rows.now 0 (pos 0)) = search rules in
-    let s : FitsSigned w128 c.add_step-first.result = search rules in
-    let given = rw (to_z-of_z w128 (get_or c.args.rows.now 0 (pos 0)) one, to_z-of_z w128 c.total-total.result t) at c.add_step-first.ensures in
+    let given = rw (to_z-of_z w128 (get_or c.args.rows.now 0 (pos 0)) (search rules), to_z-of_z w128 c.total-total.result (search rules)) at c.add_step-first.ensures in
     let some : 0 < length c.args.rows.now = omega (arith, c.if-rows-eq0.false) in
-    rw (to_z-of_z w128 c.add_step-first.result s) (first-both c.args.rows.now (picked c.args.order.now (sizes_in c.args.remaining.now)) (later_scores c.args.self.now.scores.items c.args.self.now.columns.items c.args.stage) c.count-left.result c.total-total.result c.add_step-first.result (c.requires.level ∙ sym (picked-length c.args.order.now (sizes_in c.args.remaining.now))) some (c.count-left.ensures ∙ sym c.requires.whole) c.total-total.ensures given)
+    rw (to_z-of_z w128 c.add_step-first.result (search rules)) (first-both c.args.rows.now (picked c.args.order.now (sizes_in c.args.remaining.now)) (later_scores c.args.self.now.scores.items c.args.self.now.columns.items c.args.stage) c.count-left.result c.total-total.result c.add_step-first.result (c.requires.addable.level ∙ sym (picked-length c.args.order.now (sizes_in c.args.remaining.now))) some (c.count-left.ensures ∙ sym c.requires.addable.whole) c.total-total.ensures given)
 
 pub overflow_sub-left : goal.overflow_sub-left
-overflow_sub-left c = rw (c.size_at-left.ensures) (next-less c.args.rows.now (picked c.args.order.now (sizes_in c.args.remaining.now)) (later_scores c.args.self.now.scores.items c.args.self.now.columns.items c.args.stage) c.loop-i.i c.loop-i.auto.i c.loop-i-test.true (c.requires.level ∙ sym (picked-length c.args.order.now (sizes_in c.args.remaining.now))) c.loop-i.left c.loop-i.invariant.least.counted)
+overflow_sub-left c = rw (c.size_at-left.ensures) (next-less c.args.rows.now (picked c.args.order.now (sizes_in c.args.remaining.now)) (later_scores c.args.self.now.scores.items c.args.self.now.columns.items c.args.stage) c.loop-i.i c.loop-i.auto.i c.loop-i-test.true (c.requires.addable.level ∙ sym (picked-length c.args.order.now (sizes_in c.args.remaining.now))) c.loop-i.left c.loop-i.invariant.least.counted)
 
 pub ends-ends-requires-clause-few : goal.ends-ends-requires-clause-few
-ends-ends-requires-clause-few c = rw (c.size_at-left.ensures) (next-few c.args.rows.now (picked c.args.order.now (sizes_in c.args.remaining.now)) (later_scores c.args.self.now.scores.items c.args.self.now.columns.items c.args.stage) c.loop-i.i c.loop-i.auto.i c.loop-i-test.true (c.requires.level ∙ sym (picked-length c.args.order.now (sizes_in c.args.remaining.now))) c.loop-i.left c.loop-i.invariant.least.counted c.requires.whole)
+ends-ends-requires-clause-few c = rw (c.size_at-left.ensures) (next-few c.args.rows.now (picked c.args.order.now (sizes_in c.args.remaining.now)) (later_scores c.args.self.now.scores.items c.args.self.now.columns.items c.args.stage) c.loop-i.i c.loop-i.auto.i c.loop-i-test.true (c.requires.addable.level ∙ sym (picked-length c.args.order.now (sizes_in c.args.remaining.now))) c.loop-i.left c.loop-i.invariant.least.counted c.requires.addable.whole)
 
 pub ends-ends-requires-clause-held : goal.ends-ends-requires-clause-held
-ends-ends-requires-clause-held c = rw (c.size_at-left.ensures) (next-held c.args.rows.now (picked c.args.order.now (sizes_in c.args.remaining.now)) (later_scores c.args.self.now.scores.items c.args.self.now.columns.items c.args.stage) c.loop-i.i c.loop-i.auto.i c.loop-i-test.true (c.requires.level ∙ sym (picked-length c.args.order.now (sizes_in c.args.remaining.now))) c.loop-i.left c.loop-i.invariant.least.counted _ c.requires.tails)
+ends-ends-requires-clause-held c = rw (c.size_at-left.ensures) (next-held c.args.rows.now (picked c.args.order.now (sizes_in c.args.remaining.now)) (later_scores c.args.self.now.scores.items c.args.self.now.columns.items c.args.stage) c.loop-i.i c.loop-i.auto.i c.loop-i-test.true (c.requires.addable.level ∙ sym (picked-length c.args.order.now (sizes_in c.args.remaining.now))) c.loop-i.left c.loop-i.invariant.least.counted _ c.requires.addable.tails)
 
 pub add_steps-sums-requires-clause-step : goal.add_steps-sums-requires-clause-step
 add_steps-sums-requires-clause-step c =
-    let one : FitsSigned w128 (get_or c.args.rows.now c.loop-i.i (pos 0)) = search rules in
-    let two : FitsSigned w128 (get_or c.args.rows.now (c.loop-i.i - 1) (pos 0)) = search rules in
-    rw (to_z-of_z w128 (get_or c.args.rows.now c.loop-i.i (pos 0)) one, to_z-of_z w128 (get_or c.args.rows.now (c.loop-i.i - 1) (pos 0)) two) (next-step c.args.rows.now (picked c.args.order.now (sizes_in c.args.remaining.now)) (later_scores c.args.self.now.scores.items c.args.self.now.columns.items c.args.stage) c.loop-i.i c.loop-i.auto.i c.loop-i-test.true (c.requires.level ∙ sym (picked-length c.args.order.now (sizes_in c.args.remaining.now))) c.requires.steps)
+    rw (to_z-of_z w128 (get_or c.args.rows.now c.loop-i.i (pos 0)) (search rules), to_z-of_z w128 (get_or c.args.rows.now (c.loop-i.i - 1) (pos 0)) (search rules)) (next-step c.args.rows.now (picked c.args.order.now (sizes_in c.args.remaining.now)) (later_scores c.args.self.now.scores.items c.args.self.now.columns.items c.args.stage) c.loop-i.i c.loop-i.auto.i c.loop-i-test.true (c.requires.addable.level ∙ sym (picked-length c.args.order.now (sizes_in c.args.remaining.now))) c.requires.addable.steps)
 
 pub add_steps-sums-requires-clause-small_low : goal.add_steps-sums-requires-clause-small_low
 add_steps-sums-requires-clause-small_low c =
-    let one : FitsSigned w128 (get_or c.args.rows.now c.loop-i.i (pos 0)) = search rules in
-    let two : FitsSigned w128 (get_or c.args.rows.now (c.loop-i.i - 1) (pos 0)) = search rules in
-    rw (to_z-of_z w128 (get_or c.args.rows.now c.loop-i.i (pos 0)) one, to_z-of_z w128 (get_or c.args.rows.now (c.loop-i.i - 1) (pos 0)) two) (low-small c.args.rows.now (picked c.args.order.now (sizes_in c.args.remaining.now)) (later_scores c.args.self.now.scores.items c.args.self.now.columns.items c.args.stage) c.loop-i.i c.loop-i.auto.i c.loop-i-test.true (c.requires.level ∙ sym (picked-length c.args.order.now (sizes_in c.args.remaining.now))) c.loop-i.left c.loop-i.invariant.least.counted _ _ c.loop-i.invariant _ c.ends-ends.result.low c.ends-ends.ensures.low c.requires.small)
+    rw (to_z-of_z w128 (get_or c.args.rows.now c.loop-i.i (pos 0)) (search rules), to_z-of_z w128 (get_or c.args.rows.now (c.loop-i.i - 1) (pos 0)) (search rules)) (low-small c.args.rows.now (picked c.args.order.now (sizes_in c.args.remaining.now)) (later_scores c.args.self.now.scores.items c.args.self.now.columns.items c.args.stage) c.loop-i.i c.loop-i.auto.i c.loop-i-test.true (c.requires.addable.level ∙ sym (picked-length c.args.order.now (sizes_in c.args.remaining.now))) c.loop-i.left c.loop-i.invariant.least.counted _ _ c.loop-i.invariant _ c.ends-ends.result.low c.ends-ends.ensures.low c.requires.addable.small)
 
 pub add_steps-sums-requires-clause-small_high : goal.add_steps-sums-requires-clause-small_high
 add_steps-sums-requires-clause-small_high c =
-    let one : FitsSigned w128 (get_or c.args.rows.now c.loop-i.i (pos 0)) = search rules in
-    let two : FitsSigned w128 (get_or c.args.rows.now (c.loop-i.i - 1) (pos 0)) = search rules in
-    rw (to_z-of_z w128 (get_or c.args.rows.now c.loop-i.i (pos 0)) one, to_z-of_z w128 (get_or c.args.rows.now (c.loop-i.i - 1) (pos 0)) two) (high-small c.args.rows.now (picked c.args.order.now (sizes_in c.args.remaining.now)) (later_scores c.args.self.now.scores.items c.args.self.now.columns.items c.args.stage) c.loop-i.i c.loop-i.auto.i c.loop-i-test.true (c.requires.level ∙ sym (picked-length c.args.order.now (sizes_in c.args.remaining.now))) c.loop-i.left c.loop-i.invariant.least.counted _ _ c.loop-i.invariant _ c.ends-ends.result.high c.ends-ends.ensures.high c.requires.small)
+    rw (to_z-of_z w128 (get_or c.args.rows.now c.loop-i.i (pos 0)) (search rules), to_z-of_z w128 (get_or c.args.rows.now (c.loop-i.i - 1) (pos 0)) (search rules)) (high-small c.args.rows.now (picked c.args.order.now (sizes_in c.args.remaining.now)) (later_scores c.args.self.now.scores.items c.args.self.now.columns.items c.args.stage) c.loop-i.i c.loop-i.auto.i c.loop-i-test.true (c.requires.addable.level ∙ sym (picked-length c.args.order.now (sizes_in c.args.remaining.now))) c.loop-i.left c.loop-i.invariant.least.counted _ _ c.loop-i.invariant _ c.ends-ends.result.high c.ends-ends.ensures.high c.requires.addable.small)
 
 pub loop-i-preserved : goal.loop-i-preserved
 loop-i-preserved c =
-    let one : FitsSigned w128 (get_or c.args.rows.now c.loop-i.i (pos 0)) = search rules in
-    let two : FitsSigned w128 (get_or c.args.rows.now (c.loop-i.i - 1) (pos 0)) = search rules in
-    let given = rw (to_z-of_z w128 (get_or c.args.rows.now c.loop-i.i (pos 0)) one, to_z-of_z w128 (get_or c.args.rows.now (c.loop-i.i - 1) (pos 0)) two) at c.add_steps-sums.ensures in
-    let low = c.ends-ends.ensures.low ∙ ap (λ n. least_sum (c.loop-i.left - n) (later_scores c.args.self.now.scores.items c.args.self.now.columns.items c.args.stage)) c.size_at-left.ensures in
-    let high = c.ends-ends.ensures.high ∙ ap (λ n. greatest_sum (c.loop-i.left - n) (later_scores c.args.self.now.scores.items c.args.self.now.columns.items c.args.stage)) c.size_at-left.ensures in
-    rw (c.size_at-left.ensures) (next-both c.args.rows.now (picked c.args.order.now (sizes_in c.args.remaining.now)) (later_scores c.args.self.now.scores.items c.args.self.now.columns.items c.args.stage) c.loop-i.i c.loop-i.auto.i c.loop-i-test.true (c.requires.level ∙ sym (picked-length c.args.order.now (sizes_in c.args.remaining.now))) c.loop-i.left c.loop-i.invariant.least.counted _ _ c.loop-i.invariant c.ends-ends.result.low c.ends-ends.result.high c.add_steps-sums.result.low c.add_steps-sums.result.high low high given.low given.high)
+    let given = rw (to_z-of_z w128 (get_or c.args.rows.now c.loop-i.i (pos 0)) (search rules), to_z-of_z w128 (get_or c.args.rows.now (c.loop-i.i - 1) (pos 0)) (search rules)) at c.add_steps-sums.ensures in
+    rw (c.size_at-left.ensures) (next-both c.args.rows.now (picked c.args.order.now (sizes_in c.args.remaining.now)) (later_scores c.args.self.now.scores.items c.args.self.now.columns.items c.args.stage) c.loop-i.i c.loop-i.auto.i c.loop-i-test.true (c.requires.addable.level ∙ sym (picked-length c.args.order.now (sizes_in c.args.remaining.now))) c.loop-i.left c.loop-i.invariant.least.counted _ _ c.loop-i.invariant c.ends-ends.result.low c.ends-ends.result.high c.add_steps-sums.result.low c.add_steps-sums.result.high (c.ends-ends.ensures.low ∙ ap (λ n. least_sum (c.loop-i.left - n) (later_scores c.args.self.now.scores.items c.args.self.now.columns.items c.args.stage)) c.size_at-left.ensures) (c.ends-ends.ensures.high ∙ ap (λ n. greatest_sum (c.loop-i.left - n) (later_scores c.args.self.now.scores.items c.args.self.now.columns.items c.args.stage)) c.size_at-left.ensures) given.low given.high)
 
 pub returns-clause-low : goal.returns-clause-low
 returns-clause-low c = last-adding least_sum c.args.rows.now (picked c.args.order.now (sizes_in c.args.remaining.now)) (later_scores c.args.self.now.scores.items c.args.self.now.columns.items c.args.stage) c.loop-i.i c.loop-i.left _ c.loop-i-test.false c.loop-i.invariant.least

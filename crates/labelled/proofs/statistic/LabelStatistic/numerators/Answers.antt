@@ -1,5 +1,4 @@
 use Rattle.std.proofs.Common.{◌∙◌}
-use Rattle.weights.specs.Conditional.{ConditionalTest}
 use Rattle.weights.specs.declared.tails.Tail.TheVariants.{Less}
 use Rattle.stage_network.specs.Judged.{judge_of}
 use Rattle.stage_network.proofs.Following.{extreme-is}
@@ -8,10 +7,8 @@ use Rattle.labelled.proofs.statistic.LabelStatistic.numerators.Goals as goal
 
 pub tail_sums_by_rooms-requires : goal.tail_sums_by_rooms-requires
 tail_sums_by_rooms-requires g c =
-    let test : ConditionalTest = label_test (g.Self.LabelStatistic.says c.args.self.now) in
-    record { judge = judge_of test; intervals = (c.in_ok-stages.ensures Less).intervals }
+    record { judge = judge_of (label_test (g.Self.LabelStatistic.says c.args.self.now)); intervals = (c.in_ok-stages.ensures Less).intervals }
 
 pub returns : goal.returns
 returns g c t a =
-    let test : ConditionalTest = label_test (g.Self.LabelStatistic.says c.args.self.now) in
-    c.in_ok-sums.ensures.sum t a ∙ extreme-is test t (g.Self.Built.Stages.network c.in_ok-stages.stages) (c.in_ok-stages.ensures t)
+    c.in_ok-sums.ensures.sum t a ∙ extreme-is (label_test (g.Self.LabelStatistic.says c.args.self.now)) t (g.Self.Built.Stages.network c.in_ok-stages.stages) (c.in_ok-stages.ensures t)

@@ -2,7 +2,8 @@ use Rattle.std.proofs.Common.{refl, ap, sym, ◌∙◌}
 use Rattle.weights.specs.Conditional.{ConditionalTest}
 use Rattle.weights.specs.declared.tails.Tail.TheVariants.{Less}
 use Rattle.stage_network.specs.Judged.{rule_in}
-use Rattle.halves.proofs.Numerators.{judged, numerator-counted, numerator-is}
+use Rattle.stage_network.proofs.Following.{numerator-counted}
+use Rattle.halves.proofs.Numerators.{judged, numerator-is}
 use Rattle.drawn_sums.specs.DrawnSums.{passing_signs}
 use Rattle.one_sample_tests.specs.SignNetwork.{one_sample_network}
 use Rattle.one_sample_tests.specs.SignedSamples.{one_sample_test, used_scores}

@@ -1,9 +1,6 @@
-use Rattle.std.proofs.Common.{rules, ◌∙◌, ap, sym, length, FitsSigned}
-use mir.Syntax.{w128}
-use Rattle.std.proofs.lemmas.Int.{to_z-of_z}
+use Rattle.std.proofs.Common.{◌∙◌, ap, sym, length}
 use Rattle.weights.proofs.Members.{labelling_from}
 use Rattle.pooled_columns.specs.PooledColumns.{column_sizes}
-use Rattle.sequence_tests.specs.Kendall.{kendall_statistic}
 use Rattle.sequence_tests.proofs.KendallFitting.{firsts-few, rows-sum}
 use Rattle.sequence_tests.proofs.kendall.PairOrderLabelStatistic.value.Goals as goal
 
@@ -12,8 +9,3 @@ kendall_sum-requires-clause-long c = (labelling_from (column_sizes c.args.self.n
 
 pub kendall_sum-requires-clause-few : goal.kendall_sum-requires-clause-few
 kendall_sum-requires-clause-few c = rw (c.as_slice.ensures ∙ c.made.ensures.firsts) (firsts-few c.args.self.now c.made.ensures.long c.made.ensures.few)
-
-pub returns : goal.returns
-returns c =
-    let s : FitsSigned w128 c.kendall_sum.result = search rules in
-    to_z-of_z w128 c.kendall_sum.result s ∙ c.kendall_sum.ensures ∙ ap (λ vs. kendall_statistic vs c.args.labels.now) (c.as_slice.ensures ∙ c.made.ensures.firsts)

@@ -7,9 +7,6 @@ use Rattle.weights.proofs.Items.{one_item}
 use Rattle.sequence_tests.specs.Codes.{code}
 use Rattle.sequence_tests.proofs.kendall_rooms.KendallRoomsRooms.first.Goals as goal
 
-pub code_of-requires : goal.code_of-requires
-code_of-requires c = rw c.as_slice.ensures.value c.args.self.now.counts.right.few
-
 pub returns : goal.returns
 returns c =
     let s : FitsSigned w128 c.code_of.result = search rules in

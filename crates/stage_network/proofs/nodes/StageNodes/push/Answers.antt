@@ -1,5 +1,5 @@
 use Rattle.std.proofs.Common.{◌<◌, ◌-◌, ◌++◌, ◌∷◌, [], ap, ◌∙◌, arith}
-use Rattle.node_pool.specs.Nodes.{Node, node}
+use Rattle.node_pool.specs.Nodes.{node}
 use Rattle.stage_network.specs.StageSteps.{Housed}
 use Rattle.stage_network.proofs.Housing.{pushed-whole, pushed-housed}
 use Rattle.stage_network.proofs.nodes.StageNodes.push.Goals as goal
@@ -12,7 +12,5 @@ invariant_of-self-2 g c =
 
 pub returns-clause-nodes : goal.returns-clause-nodes
 returns-clause-nodes g c =
-    let p = c.self.inside in
-    let added : Node = node c.args.partial.now (g.C.Count.number c.args.weight) in
-    rw (c.push_within.ensures.items, c.reserve.ensures.items, c.in_ok-push.ensures.ok) (pushed-whole _ _ _ _ _ c.self.invariant (p.count - 1) added
+    rw (c.push_within.ensures.items, c.reserve.ensures.items, c.in_ok-push.ensures.ok) (pushed-whole _ _ _ _ _ c.self.invariant (c.self.inside.count - 1) (node c.args.partial.now (g.C.Count.number c.args.weight))
     ∙ ap (λ (h : Housed). h.nodes ++ node (h.room ++ c.args.partial.now) (g.C.Count.number c.args.weight) ∷ []) c.self.view_is)

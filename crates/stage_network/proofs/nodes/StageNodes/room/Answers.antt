@@ -15,21 +15,15 @@ pub key_at-requires : goal.key_at-requires
 key_at-requires g c =
     let p = c.self.inside in
     let low : c.args.i < length p.homes.items = omega (arith, c.requires, ap (λ (h : Housed). length h.nodes) c.self.view_is, count-whole _ _ _ _ _ c.self.invariant) in
-    let home : get_or p.homes.items c.args.i 0 ≡ c.index.result.now = sym (get_or_read p.homes.items c.args.i c.index.result.now low c.index.ensures 0) in
-    rw c.deref.ensures.value (rw (← home) (home-fits _ _ _ _ _ c.self.invariant c.args.i low))
+    rw c.deref.ensures.value (rw (← (sym (get_or_read p.homes.items c.args.i c.index.result.now low c.index.ensures 0))) (home-fits _ _ _ _ _ c.self.invariant c.args.i low))
 
-pub returns-clause-room : goal.returns-clause-room
-returns-clause-room g c = λ d.
+pub returns : goal.returns
+returns g c =
     let p = c.self.inside in
     let low : c.args.i < length p.homes.items = omega (arith, c.requires, ap (λ (h : Housed). length h.nodes) c.self.view_is, count-whole _ _ _ _ _ c.self.invariant) in
-    let home : get_or p.homes.items c.args.i 0 ≡ c.index.result.now = sym (get_or_read p.homes.items c.args.i c.index.result.now low c.index.ensures 0) in
-    let is : c.key_at.result.now ≡ key_at p.room_width p.rooms.items (get_or p.homes.items c.args.i 0) = c.key_at.ensures ∙ ap (λ r. key_at p.room_width r c.index.result.now) c.deref.ensures.value ∙ ap (key_at p.room_width p.rooms.items) (sym home) in
-    is ∙ sym (whole-room _ _ _ _ _ c.self.invariant c.args.i d low) ∙ ap (λ (h : Housed). take h.room_width (get_or h.nodes c.args.i d).key) c.self.view_is
-
-pub returns-clause-wide : goal.returns-clause-wide
-returns-clause-wide g c =
-    let p = c.self.inside in
-    let low : c.args.i < length p.homes.items = omega (arith, c.requires, ap (λ (h : Housed). length h.nodes) c.self.view_is, count-whole _ _ _ _ _ c.self.invariant) in
-    let home : get_or p.homes.items c.args.i 0 ≡ c.index.result.now = sym (get_or_read p.homes.items c.args.i c.index.result.now low c.index.ensures 0) in
-    let is : c.key_at.result.now ≡ key_at p.room_width p.rooms.items (get_or p.homes.items c.args.i 0) = c.key_at.ensures ∙ ap (λ r. key_at p.room_width r c.index.result.now) c.deref.ensures.value ∙ ap (key_at p.room_width p.rooms.items) (sym home) in
-    ap length is ∙ home-long _ _ _ _ _ c.self.invariant c.args.i low ∙ ap (λ (h : Housed). h.room_width) c.self.view_is
+    let home : c.index.result.now ≡ get_or p.homes.items c.args.i 0 = get_or_read p.homes.items c.args.i c.index.result.now low c.index.ensures 0 in
+    let is = c.key_at.ensures ∙ ap (λ r. key_at p.room_width r c.index.result.now) c.deref.ensures.value ∙ ap (key_at p.room_width p.rooms.items) home in
+    record {
+      room = λ d. is ∙ sym (whole-room _ _ _ _ _ c.self.invariant c.args.i d low) ∙ ap (λ (h : Housed). take h.room_width (get_or h.nodes c.args.i d).key) c.self.view_is;
+      wide = ap length is ∙ home-long _ _ _ _ _ c.self.invariant c.args.i low ∙ ap (λ (h : Housed). h.room_width) c.self.view_is;
+    }

@@ -1,8 +1,6 @@
-use Rattle.std.proofs.Common.{◌≡◌, ◌+◌, ◌*◌, ◌++◌, ℕ, List, length, drop, ap, sym, ◌∙◌, arith}
-use Rattle.std.specs.Prelude.{ℤ}
+use Rattle.std.proofs.Common.{◌≡◌, ◌+◌, ◌*◌, ◌++◌, length, drop, ap, sym, ◌∙◌, arith}
 use Rattle.std.proofs.lemmas.List.{with_items_is}
 use Rattle.node_pool.specs.Nodes.{weighted}
-use Rattle.stage_network.specs.Network.{Network}
 use Rattle.stage_network.proofs.OneArc.{start-arc, start-reached, start-allowed, start-more, start-fits, start-heavy}
 use Rattle.stage_network.proofs.rooms.RoomPool.pour.Goals as goal
 
@@ -21,15 +19,11 @@ advance-requires-clause-allowed g c =
     let r = c.requires in
     start-allowed _ _ _ _ r.here.shape.room_width _ r.here.nodes _ _ _ _ r.chosen r.run _ c.room-room.ensures.room _ c.loop-i.invariant.from c.loop-i-test.true _ c.partial.ensures.partial
 
-pub scaled-requires-clause-limit : goal.scaled-requires-clause-limit
-scaled-requires-clause-limit g c =
+pub scaled-requires : goal.scaled-requires
+scaled-requires g c =
     let r = c.requires in
-    omega (arith, start-fits _ _ _ _ r.here.shape.room_width _ r.here.nodes _ _ _ _ r.chosen r.run _ c.room-room.ensures.room _ c.loop-i.invariant.from c.loop-i-test.true _ c.partial.ensures.partial _ c.weight.ensures (λ k. 1), r.light.limit)
-
-pub scaled-requires-clause-fits : goal.scaled-requires-clause-fits
-scaled-requires-clause-fits g c =
-    let r = c.requires in
-    omega (arith, start-fits _ _ _ _ r.here.shape.room_width _ r.here.nodes _ _ _ _ r.chosen r.run _ c.room-room.ensures.room _ c.loop-i.invariant.from c.loop-i-test.true _ c.partial.ensures.partial _ c.weight.ensures (λ k. 1), r.light.fits)
+    let fits = start-fits _ _ _ _ r.here.shape.room_width _ r.here.nodes _ _ _ _ r.chosen r.run _ c.room-room.ensures.room _ c.loop-i.invariant.from c.loop-i-test.true _ c.partial.ensures.partial _ c.weight.ensures (λ k. 1) in
+    record { limit = omega (arith, fits, r.light.limit); fits = omega (arith, fits, r.light.fits) }
 
 pub add-requires-clause-fits : goal.add-requires-clause-fits
 add-requires-clause-fits g c =
@@ -44,22 +38,20 @@ add-requires-clause-fits g c =
 
 pub loop-i-preserved : goal.loop-i-preserved
 loop-i-preserved g c =
-    let n : Network = g.S.Stages.network c.args.stages.now in
     let r = c.requires in
-    let w : ℕ = g.S.Roomed.room_width c.args.stages.now in
-    let count : ℕ = g.C.Count.number c.weight.result in
-    let reached : List ℤ = drop w (n.next c.args.stage (c.room-room.result.now ++ c.partial.result.now) c.args.choice.now) in
+    let w = g.S.Roomed.room_width c.args.stages.now in
+    let count = g.C.Count.number c.weight.result in
+    let reached = drop w ((g.S.Stages.network c.args.stages.now).next c.args.stage (c.room-room.result.now ++ c.partial.result.now) c.args.choice.now) in
     let buffer = c.loop-i.self.next in
     let long : length c.advance.new.next ≡ length buffer.items = c.advance.auto.next ∙ ap length c.deref_mut-in-loop-i.ensures.value in
     let written = with_items_is buffer c.advance.new.next (long ∙ sym buffer.ok.0) in
-    let next : c.deref-in-loop-i.result.now ≡ reached = c.deref-in-loop-i.ensures.value ∙ written ∙ c.advance.ensures in
     record {
       from = omega (arith, c.loop-i.invariant.from);
       told = λ f.
           let summed : weighted f c.add.new.self.nodes ≡ weighted f c.loop-i.self.partials.nodes + (count * c.args.arc.weight) * f reached =
           c.in_ok-add.ensures.grown.sums f
           ∙ ap (λ m. weighted f c.loop-i.self.partials.nodes + m * f c.deref-in-loop-i.result.now) c.scaled.ensures
-          ∙ ap (λ k. weighted f c.loop-i.self.partials.nodes + (count * c.args.arc.weight) * f k) next in
+          ∙ ap (λ k. weighted f c.loop-i.self.partials.nodes + (count * c.args.arc.weight) * f k) (c.deref-in-loop-i.ensures.value ∙ written ∙ c.advance.ensures) in
           omega (arith, summed, start-more _ _ _ _ r.here.shape.room_width _ r.here.nodes _ _ _ _ r.chosen r.run _ c.room-room.ensures.room _ c.loop-i.invariant.from c.loop-i-test.true _ c.partial.ensures.partial _ c.weight.ensures (λ k. f (drop w k)), c.loop-i.invariant.told f);
       heavy = λ h. c.in_ok-add.ensures.grown.heavy
           (rw c.scaled.ensures (start-heavy _ _ _ _ r.here.shape.room_width _ r.here.nodes _ _ _ _ r.chosen r.run _ c.room-room.ensures.room _ c.loop-i.invariant.from c.loop-i-test.true _ c.partial.ensures.partial _ c.weight.ensures))

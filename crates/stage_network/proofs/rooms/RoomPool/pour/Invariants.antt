@@ -1,7 +1,6 @@
 use Rattle.std.proofs.Common.{◌≡◌, ◌≤◌, ◌+◌, ◌-◌, ℕ, List, take, drop}
 use Rattle.std.specs.Prelude.{ℤ}
 use Rattle.node_pool.specs.Nodes.{weighted}
-use Rattle.stage_network.specs.Network.{Network}
 use Rattle.stage_network.specs.NodeSteps.{AllHeavy}
 use Rattle.stage_network.specs.ArcSteps.{segment, chosen}
 use Rattle.stage_network.specs.SweepSteps.{IsFitted}
@@ -10,7 +9,7 @@ use Rattle.stage_network.proofs.rooms.RoomPool.pour.Given as goal
 -- every sum has grown by the nodes before this one
 abbrev pub invariant-loop-i : goal.invariant-loop-i
 invariant-loop-i g l =
-    let n : Network = g.S.Stages.network l.stages in
+    let n = g.S.Stages.network l.stages in
     record {
       from : l.arc.start ≤ l.i;
       told : (f : List ℤ → ℕ) → weighted f l.self.partials.nodes ≡ weighted f l.fn.self.partials.nodes + weighted (λ k. f (drop (g.S.Roomed.room_width l.stages) k)) (chosen n l.stage l.choice (take (l.i - l.arc.start) (segment l.arc.start l.arc.end l.nodes.nodes)));

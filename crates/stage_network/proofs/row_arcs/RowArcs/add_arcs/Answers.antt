@@ -1,13 +1,13 @@
-use Rattle.std.proofs.Common.{◌≡◌, ℕ, List, length, get_or, ap, sym, subst, refl, rules, ◌∙◌, FitsSigned}
-use Rattle.std.specs.Prelude.{ℤ, pos}
+use Rattle.std.proofs.Common.{◌≡◌, length, get_or, ap, sym, subst, refl, rules, ◌∙◌, FitsSigned}
+use Rattle.std.specs.Prelude.{pos}
 use Rattle.std.specs.Vec.{with_items}
 use Rattle.std.proofs.lemmas.Int.{to_z-of_z}
 use Rattle.std.proofs.lemmas.List.{with_items_is}
 use mir.Syntax.{w128}
-use Rattle.stage_network.specs.Network.{Network, IsReached, pending}
+use Rattle.stage_network.specs.Network.{IsReached, pending}
 use Rattle.stage_network.specs.Rooms.{IsArc}
-use Rattle.stage_network.proofs.Listing.{listing-reached, listing-first, listing-next, listing-done}
-use Rattle.stage_network.specs.RowSteps.{Row, all_nodes}
+use Rattle.stage_network.proofs.Listing.{buffers-same, listing-reached, listing-first, listing-next, listing-done}
+use Rattle.stage_network.specs.RowSteps.{all_nodes}
 use Rattle.stage_network.proofs.Spans.{row-arc, row-shift, shifts-push}
 use Rattle.stage_network.proofs.row_arcs.RowArcs.add_arcs.Goals as goal
 
@@ -19,39 +19,35 @@ first_choice-more-requires-clause-reached g c =
 
 pub loop-more-init : goal.loop-more-init
 loop-more-init g c =
-    let n : Network = g.S.Stages.network c.args.stages.now in
-    let s : ℕ = c.args.stage in
+    let n = g.S.Stages.network c.args.stages.now in
+    let s = c.args.stage in
     let r = c.requires in
     let was = c.args.self.now.listed in
     let chosen = with_items_is was.choice c.first_choice-more.new.choice (c.first_choice-more.auto.choice ∙ ap length c.deref_mut.ensures.value ∙ sym was.choice.ok.0) in
     let first = subst (λ j. n.choices s j ≡ pending n s j c.first_choice-more.result c.first_choice-more.new.choice) c.deref.ensures.value c.first_choice-more.ensures in
     record {
-      listing = listing-first n s (g.S.Roomed.room_width c.args.stages.now) (all_nodes c.args.rows.now.rows) c.args.start c.args.end r.here.nodes r.here.roomed r.span.order r.span.last r.span.run c.first_choice-more.result was _ r.key (rw chosen first) r.listed.listed refl refl (record {
-        arcs = r.listed.listed.fitted.arcs;
-        rooms = r.listed.listed.fitted.rooms;
-        key = r.listed.listed.fitted.key;
-        choice = ap length chosen ∙ c.first_choice-more.auto.choice ∙ ap length c.deref_mut.ensures.value ∙ r.listed.listed.fitted.choice;
-        target_room = r.listed.listed.fitted.target_room;
-      });
+      listing = listing-first n s (g.S.Roomed.room_width c.args.stages.now) (all_nodes c.args.rows.now.rows) c.args.start c.args.end r.here.nodes r.here.roomed r.span.order r.span.last r.span.run c.first_choice-more.result was _ r.key (rw chosen first) r.listed.listed refl refl (buffers-same _ _ _ _ r.listed.listed.fitted refl refl refl (ap length chosen ∙ c.first_choice-more.auto.choice ∙ ap length c.deref_mut.ensures.value) refl);
       step = r.listed.step;
       shifts = r.listed.shifts;
     }
 
-pub add_arc-requires-clause-reached : goal.add_arc-requires-clause-reached
-add_arc-requires-clause-reached g c =
+pub add_arc-requires : goal.add_arc-requires
+add_arc-requires g c =
     let r = c.requires in
-    listing-reached _ _ _ _ _ _ r.here.nodes r.here.roomed r.span.order r.span.last r.span.run c.loop-more.self.listed.key.items c.loop-more.invariant.listing.key
-
-pub add_arc-requires-clause-allowed : goal.add_arc-requires-clause-allowed
-add_arc-requires-clause-allowed g c = (rw c.loop-more-test.true at c.loop-more.invariant.listing.allowed).0
-
-pub add_arc-requires-clause-count : goal.add_arc-requires-clause-count
-add_arc-requires-clause-count g c = c.loop-more.invariant.listing.arcs.count
+    let l = c.loop-more.invariant.listing in
+    record {
+      before = r.here.nodes.before;
+      reached = listing-reached _ _ _ _ _ _ r.here.nodes r.here.roomed r.span.order r.span.last r.span.run c.loop-more.self.listed.key.items l.key;
+      allowed = (rw c.loop-more-test.true at l.allowed).0;
+      fitted = l.fitted;
+      light = l.light;
+      count = l.arcs.count;
+    }
 
 pub step-requires-clause-arc : goal.step-requires-clause-arc
 step-requires-clause-arc g c =
-    let n : Network = g.S.Stages.network c.args.stages.now in
-    let w : ℕ = g.S.Roomed.room_width c.args.stages.now in
+    let n = g.S.Stages.network c.args.stages.now in
+    let w = g.S.Roomed.room_width c.args.stages.now in
     let r = c.requires in
     let was = c.loop-more.self.listed in
     let listing = c.loop-more.invariant.listing in
@@ -64,20 +60,12 @@ next_choice-more-requires-clause-reached g c =
     subst (IsReached (g.S.Stages.network c.args.stages.now) c.args.stage) (sym (c.deref-in-loop-more-2.ensures.value ∙ c.in_ok-target.ensures.added.key))
     (listing-reached _ _ _ _ _ _ r.here.nodes r.here.roomed r.span.order r.span.last r.span.run c.loop-more.self.listed.key.items c.loop-more.invariant.listing.key)
 
-pub next_choice-more-requires-clause-allowed : goal.next_choice-more-requires-clause-allowed
-next_choice-more-requires-clause-allowed g c =
-    let added = c.in_ok-target.ensures.added in
-    let was = c.loop-more.self.listed in
-    let key : c.deref-in-loop-more-2.result.now ≡ was.key.items = c.deref-in-loop-more-2.ensures.value ∙ added.key in
-    let choice : c.deref_mut-in-loop-more-2.result.now ≡ was.choice.items = c.deref_mut-in-loop-more-2.ensures.value ∙ added.choice in
-    rw (key, choice) ((rw c.loop-more-test.true at c.loop-more.invariant.listing.allowed).0)
-
 pub loop-more-preserved : goal.loop-more-preserved
 loop-more-preserved g c =
-    let n : Network = g.S.Stages.network c.args.stages.now in
-    let s : ℕ = c.args.stage in
-    let w : ℕ = g.S.Roomed.room_width c.args.stages.now in
-    let rows : List Row = c.args.rows.now.rows in
+    let n = g.S.Stages.network c.args.stages.now in
+    let s = c.args.stage in
+    let w = g.S.Roomed.room_width c.args.stages.now in
+    let rows = c.args.rows.now.rows in
     let r = c.requires in
     let i = c.loop-more.invariant in
     let was = c.loop-more.self.listed in
@@ -88,19 +76,13 @@ loop-more-preserved g c =
     let stepped = with_items_is buffer c.step.new.step (c.step.auto.step ∙ ap length c.deref_mut-in-loop-more.ensures.value ∙ sym buffer.ok.0) in
     let key : c.deref-in-loop-more-2.result.now ≡ was.key.items = c.deref-in-loop-more-2.ensures.value ∙ added.key in
     let choice : c.deref_mut-in-loop-more-2.result.now ≡ was.choice.items = c.deref_mut-in-loop-more-2.ensures.value ∙ added.choice in
-    let z : ℤ = c.index-step.result.now in
+    let z = c.index-step.result.now in
     let fz : FitsSigned w128 z = search rules in
     let at : z ≡ get_or (with_items buffer c.step.new.step).items 0 (pos 0) = search rules in
     let raised : z ≡ get_or (g.S.Roomed.step_of c.args.stages.now s c.room-room.result.now was.choice.items) 0 (pos 0) = at ∙ ap (λ x. get_or x 0 (pos 0)) (stepped ∙ c.step.ensures) ∙ ap (λ choice. get_or (g.S.Roomed.step_of c.args.stages.now s c.room-room.result.now choice) 0 (pos 0)) (c.deref-in-loop-more.ensures.value ∙ added.choice) in
     let later = subst (λ j. n.later s j was.choice.items ≡ pending n s j c.next_choice-more.result c.next_choice-more.new.choice) key (subst (λ choice. n.later s c.deref-in-loop-more-2.result.now choice ≡ pending n s c.deref-in-loop-more-2.result.now c.next_choice-more.result c.next_choice-more.new.choice) choice c.next_choice-more.ensures) in
     record {
-      listing = listing-next n s w (all_nodes rows) c.args.start c.args.end r.here.nodes r.here.roomed r.span.order r.span.last r.span.run c.next_choice-more.result was mid _ _ (rw c.loop-more-test.true at i.listing) added refl refl refl (record {
-        arcs = added.fitted.arcs;
-        rooms = added.fitted.rooms;
-        key = added.fitted.key;
-        choice = ap length chosen ∙ c.next_choice-more.auto.choice ∙ ap length c.deref_mut-in-loop-more-2.ensures.value ∙ added.fitted.choice;
-        target_room = added.fitted.target_room;
-      }) (rw chosen later);
+      listing = listing-next n s w (all_nodes rows) c.args.start c.args.end r.here.nodes r.here.roomed r.span.order r.span.last r.span.run c.next_choice-more.result was mid _ _ (rw c.loop-more-test.true at i.listing) added refl refl refl (buffers-same _ _ _ _ added.fitted refl refl refl (ap length chosen ∙ c.next_choice-more.auto.choice ∙ ap length c.deref_mut-in-loop-more-2.ensures.value) refl) (rw chosen later);
       step = ap length stepped ∙ c.step.auto.step ∙ ap length c.deref_mut-in-loop-more.ensures.value ∙ i.step;
       shifts = rw (added.arcs, c.in_ok-push_shift.ensures, to_z-of_z w128 z fz) (shifts-push n s w rows was.arcs.arcs c.loop-more.self.shifts.items _ _ i.shifts (row-shift n s w rows c.args.row c.args.start c.args.end r.span c.room-room.result.now c.room-room.ensures.room (c.room-room.ensures.wide ∙ r.here.room_width) was.choice.items _ _ r.here.shifting r.here.nodes.before r.row _ _ z raised));
     }

@@ -2,15 +2,14 @@ use Rattle.std.proofs.Common.{◌≡◌, ◌+◌, ◌-◌, ◌++◌, ℕ, zero, 
 use Rattle.std.specs.Prelude.{ℤ, pos}
 use Rattle.std.proofs.lemmas.List.{take_all, with_items_is}
 use mir.Syntax.{w128}
-use Rattle.node_pool.specs.Nodes.{Node, weighted}
+use Rattle.node_pool.specs.Nodes.{weighted}
 use Rattle.dense_rows.specs.Rows.{row_nodes}
 use Rattle.dense_rows.proofs.RowNodes.{row-none}
-use Rattle.stage_network.specs.Network.{Network}
-use Rattle.stage_network.specs.ArcSteps.{Arc, IsPlace, spread_out, bucket, lift}
+use Rattle.stage_network.specs.ArcSteps.{IsPlace, spread_out, bucket, lift}
 use Rattle.stage_network.proofs.Roomwise.{lift-weighted, whole-weighted}
 use Rattle.stage_network.proofs.Gathered.{spread-here}
 use Rattle.stage_network.proofs.OneArc.{no_arc, place_is}
-use Rattle.stage_network.specs.RowSteps.{Row, all_nodes}
+use Rattle.stage_network.specs.RowSteps.{all_nodes}
 use Rattle.stage_network.proofs.Shifted.{shift-low, shift-more}
 use Rattle.stage_network.proofs.Spans.{no_row}
 use Rattle.stage_network.proofs.row_filling.RoomRow.fill.Goals as goal
@@ -21,57 +20,52 @@ map-replicate number (suc m) x e = rw (e, map-replicate number m x e) refl
 
 pub loop-place-init : goal.loop-place-init
 loop-place-init g c =
-    let n : Network = g.S.Stages.network c.args.stages.now in
-    let w : ℕ = g.S.Roomed.room_width c.args.stages.now in
     let num = g.C.Count.number in
-    let L : ℤ = to_z w128 (of_z w128 c.in_ok-lowest.lowest) in
-    let S : ℤ = pos c.in_ok-lowest.stride in
-    let arcs : List Arc = c.args.all.now.listed.arcs.arcs in
+    let L = to_z w128 (of_z w128 c.in_ok-lowest.lowest) in
+    let S = pos c.in_ok-lowest.stride in
+    let arcs = c.args.all.now.listed.arcs.arcs in
     let none : row_nodes L S (map num c.as_mut_slice-into.result.now) ≡ [] = ap (row_nodes L S) (ap (map num) (c.as_mut_slice-into.ensures.value ∙ c.in_ok-write_cells.ensures) ∙ map-replicate num c.in_ok-lowest.len c.args.self.now.none c.requires.ready.none) ∙ row-none L S c.in_ok-lowest.len in
     let here : bucket c.args.target (take c.first-place.result arcs) ≡ bucket c.args.target arcs = c.first-place.ensures.all ∙ ap (bucket c.args.target) (take_all (length arcs) arcs (omega arith)) in
     record {
       told = λ f.
-          let zero : weighted f (row_nodes L S (map num c.as_mut_slice-into.result.now)) ≡ 0 = ap (weighted f) none in
-          omega (arith, zero, ap (λ ws. weighted (λ k. f (drop w k)) (spread_out n c.args.stage (all_nodes c.args.rows.now.rows) ws)) here);
+          omega (arith, ap (weighted f) none, ap (λ ws. weighted (λ k. f (drop (g.S.Roomed.room_width c.args.stages.now) k)) (spread_out (g.S.Stages.network c.args.stages.now) c.args.stage (all_nodes c.args.rows.now.rows) ws)) here);
       low = c.first-place.ensures.low;
       here = c.first-place.ensures.here;
       long = refl;
     }
 
-pub pour_row-requires-clause-row : goal.pour_row-requires-clause-row
-pour_row-requires-clause-row g c =
+pub pour_row-requires : goal.pour_row-requires
+pour_row-requires g c =
+    let n = g.S.Stages.network c.args.stages.now in
+    let w = g.S.Roomed.room_width c.args.stages.now in
+    let rows = c.args.rows.now.rows in
     let r = c.requires in
     let i = c.loop-place.invariant in
-    shift-low (g.S.Stages.network c.args.stages.now) c.args.stage _ c.args.rows.now.rows _ _ _ r.here.nodes r.listed.listed.arcs.fine r.listed.shifts c.args.target c.loop-place.place c.loop-place-test.true i.low i.here c.index.result.now c.index.ensures
-
-pub pour_row-requires-clause-light : goal.pour_row-requires-clause-light
-pour_row-requires-clause-light g c = λ d.
-    let r = c.requires in
-    let i = c.loop-place.invariant in
-    let more = shift-more (g.S.Stages.network c.args.stages.now) c.args.stage (g.S.Roomed.room_width c.args.stages.now) c.args.rows.now.rows _ _ _ r.here.nodes r.listed.listed.arcs.fine r.listed.shifts c.args.target c.loop-place.place c.loop-place-test.true i.low i.here c.index.result.now c.index.ensures c.arc-arc.result.weight (c.arc-arc.ensures.weight no_arc) d (λ k. 1) in
-    record { limit = omega (arith, more, i.told (λ k. 1), r.light.limit); fits = omega (arith, more, i.told (λ k. 1), r.light.fits) }
+    record {
+      row = shift-low n c.args.stage w rows _ _ _ r.here.nodes r.listed.listed.arcs.fine r.listed.shifts c.args.target c.loop-place.place c.loop-place-test.true i.low i.here c.index.result.now c.index.ensures;
+      light = λ d.
+          let more = shift-more n c.args.stage w rows _ _ _ r.here.nodes r.listed.listed.arcs.fine r.listed.shifts c.args.target c.loop-place.place c.loop-place-test.true i.low i.here c.index.result.now c.index.ensures c.arc-arc.result.weight (c.arc-arc.ensures.weight no_arc) d (λ k. 1) in
+          record { limit = omega (arith, more, i.told (λ k. 1), r.light.limit); fits = omega (arith, more, i.told (λ k. 1), r.light.fits) };
+    }
 
 pub loop-place-smaller : goal.loop-place-smaller
-loop-place-smaller g c =
-    let place : IsPlace c.args.all.now.listed.arcs.arcs _ (c.loop-place.place - 1) c.arc-arc.result.next = c.arc-arc.ensures.next no_arc in
-    omega (arith, place.low, c.loop-place-test.true)
+loop-place-smaller g c = omega (arith, (c.arc-arc.ensures.next no_arc).low, c.loop-place-test.true)
 
 pub loop-place-preserved : goal.loop-place-preserved
 loop-place-preserved g c =
-    let n : Network = g.S.Stages.network c.args.stages.now in
-    let s : ℕ = c.args.stage in
-    let w : ℕ = g.S.Roomed.room_width c.args.stages.now in
-    let rows : List Row = c.args.rows.now.rows in
-    let arcs : List Arc = c.args.all.now.listed.arcs.arcs in
-    let j : ℕ = c.loop-place.place - 1 in
+    let n = g.S.Stages.network c.args.stages.now in
+    let s = c.args.stage in
+    let w = g.S.Roomed.room_width c.args.stages.now in
+    let rows = c.args.rows.now.rows in
+    let arcs = c.args.all.now.listed.arcs.arcs in
+    let j = c.loop-place.place - 1 in
     let r = c.requires in
     let i = c.loop-place.invariant in
     let there : (get_or arcs j no_arc).target ≡ c.args.target = i.here j no_arc (place_is c.loop-place.place c.loop-place-test.true) in
     let place : IsPlace arcs (get_or arcs j no_arc).target j c.arc-arc.result.next = c.arc-arc.ensures.next no_arc in
-    let on : bucket c.args.target (take c.arc-arc.result.next arcs) ≡ bucket c.args.target (take j arcs) = subst (λ t. bucket t (take c.arc-arc.result.next arcs) ≡ bucket t (take j arcs)) there place.all in
     record {
       told = λ f.
-          let left = ap (λ ws. weighted (λ k. f (drop w k)) (spread_out n s (all_nodes rows) ws)) on in
+          let left = ap (λ ws. weighted (λ k. f (drop w k)) (spread_out n s (all_nodes rows) ws)) (subst (λ t. bucket t (take c.arc-arc.result.next arcs) ≡ bucket t (take j arcs)) there place.all) in
           let more = shift-more n s w rows _ _ _ r.here.nodes r.listed.listed.arcs.fine r.listed.shifts c.args.target c.loop-place.place c.loop-place-test.true i.low i.here c.index.result.now c.index.ensures c.arc-arc.result.weight (c.arc-arc.ensures.weight no_arc) no_row f in
           omega (arith, c.in_ok-pour_row.ensures.told no_row f, more, left, i.told f);
       low = omega (arith, place.low, i.low);
@@ -81,16 +75,16 @@ loop-place-preserved g c =
 
 pub returns-clause-told : goal.returns-clause-told
 returns-clause-told g c = λ d f.
-    let n : Network = g.S.Stages.network c.args.stages.now in
-    let s : ℕ = c.args.stage in
-    let w : ℕ = g.S.Roomed.room_width c.args.stages.now in
+    let n = g.S.Stages.network c.args.stages.now in
+    let s = c.args.stage in
+    let w = g.S.Roomed.room_width c.args.stages.now in
     let num = g.C.Count.number in
-    let nodes : List Node = all_nodes c.args.rows.now.rows in
-    let rooms : List Node = c.args.all.now.listed.rooms.nodes in
-    let arcs : List Arc = c.args.all.now.listed.arcs.arcs in
+    let nodes = all_nodes c.args.rows.now.rows in
+    let rooms = c.args.all.now.listed.rooms.nodes in
+    let arcs = c.args.all.now.listed.arcs.arcs in
     let r : List ℤ = (get_or rooms c.args.target d).key in
-    let L : ℤ = to_z w128 (of_z w128 c.in_ok-lowest.lowest) in
-    let S : ℤ = pos c.in_ok-lowest.stride in
+    let L = to_z w128 (of_z w128 c.in_ok-lowest.lowest) in
+    let S = pos c.in_ok-lowest.stride in
     let i = c.loop-place.invariant in
     let cells = c.write_cells.new.cells in
     let written = with_items_is cells c.loop-place.into (i.long ∙ ap length c.as_mut_slice-into.ensures.value ∙ sym cells.ok.0) in

@@ -1,5 +1,5 @@
-use Rattle.std.proofs.Common.{◌≡◌, ◌-◌, ◌++◌, ◌∷◌, [], ℕ, List, length, map, take, drop, ap, sym, ◌∙◌, arith, rules, FitsSigned, to_z, of_z, append-nil}
-use Rattle.std.specs.Prelude.{ℤ, pos}
+use Rattle.std.proofs.Common.{◌≡◌, ◌-◌, ◌++◌, ◌∷◌, [], List, length, map, drop, ap, sym, ◌∙◌, arith, rules, to_z, of_z, append-nil}
+use Rattle.std.specs.Prelude.{pos}
 use Rattle.std.proofs.lemmas.Int.{to_z-of_z}
 use Rattle.std.proofs.lemmas.List.{take_all, length-drop, drop-map}
 use Rattle.std.proofs.lemmas.List.Concat.{flat_map-append}
@@ -17,17 +17,13 @@ returns-clause-nodes g c =
     let num = g.C.Count.number in
     let was = c.args.self.now in
     let cells = c.as_slice-cells.result.now in
-    let s : ℤ = pos was.stride in
-    let first : ℕ = c.first_full-first.result in
-    let z : ℤ = c.in_ok-number.number in
-    let f : FitsSigned w128 z = search rules in
-    let fl : FitsSigned w128 was.lowest = search rules in
-    let rest : map num (take (length cells - first) (drop first cells)) ≡ drop first (map num cells) = ap (map num) (take_all (length cells - first) (drop first cells) (omega (arith, length-drop first cells))) ∙ sym (drop-map num first cells) in
-    let row : Row = record { room = c.args.room.now; lowest = to_z w128 (of_z w128 z); stride = s; cells = map num c.trimmed.result.now } in
-    one-more c.args.kept.now.rows c.push.new.self.rows row c.in_ok-push.ensures.rows
+    let s = pos was.stride in
+    let first = c.first_full-first.result in
+    let z = c.in_ok-number.number in
+    one-more c.args.kept.now.rows c.push.new.self.rows (record { room = c.args.room.now; lowest = to_z w128 (of_z w128 z); stride = s; cells = map num c.trimmed.result.now }) c.in_ok-push.ensures.rows
     ∙ ap (λ ns. all_nodes c.args.kept.now.rows ++ lift c.args.room.now ns)
-    (ap (λ l. row_nodes l s (map num c.trimmed.result.now)) (to_z-of_z w128 z f ∙ (rw (to_z-of_z w128 was.lowest fl) at c.in_ok-number.ensures))
+    (ap (λ l. row_nodes l s (map num c.trimmed.result.now)) (to_z-of_z w128 z (search rules) ∙ (rw (to_z-of_z w128 was.lowest (search rules)) at c.in_ok-number.ensures))
     ∙ c.trimmed.ensures (stepped was.lowest s first) s
-    ∙ ap (row_nodes (stepped was.lowest s first) s) rest
+    ∙ ap (row_nodes (stepped was.lowest s first) s) (ap (map num) (take_all (length cells - first) (drop first cells) (omega (arith, length-drop first cells))) ∙ sym (drop-map num first cells))
     ∙ sym (c.first_full-first.ensures.empty was.lowest s)
     ∙ ap (λ xs. row_nodes was.lowest s (map num xs)) c.as_slice-cells.ensures.value)

@@ -1,4 +1,4 @@
-use Rattle.std.proofs.Common.{◌≡◌, length, map, take, drop, get_or, ap, ◌∙◌, arith}
+use Rattle.std.proofs.Common.{length, map, take, drop, ap, ◌∙◌, arith}
 use Rattle.std.proofs.lemmas.List.{length-map}
 use Rattle.stage_network.specs.declared.row_heads.Head.{Head}
 use Rattle.stage_network.specs.RowSteps.{Row}
@@ -14,9 +14,7 @@ pub cells_at-requires : goal.cells_at-requires
 cells_at-requires g c =
     let p = c.self.inside in
     let within = within-at (length (map g.C.Count.number p.cells.items)) p.heads.items c.args.i c.index-head.result.now c.self.invariant.within (row-below p.width p.rooms.items (map g.C.Count.number p.cells.items) p.heads.items c.args.self.now c.self.view_is c.args.i c.requires) in
-    let start : c.index-head.result.now.start ≡ (get_or p.heads.items c.args.i c.index-head.result.now).start = ap (λ (h : Head). h.start) c.index-head.ensures in
-    let len : c.index-head.result.now.len ≡ (get_or p.heads.items c.args.i c.index-head.result.now).len = ap (λ (h : Head). h.len) c.index-head.ensures in
-    omega (arith, within, start, len, length-map p.cells.items g.C.Count.number, ap length c.deref.ensures.value)
+    omega (arith, within, ap (λ (h : Head). h.start) c.index-head.ensures, ap (λ (h : Head). h.len) c.index-head.ensures, length-map p.cells.items g.C.Count.number, ap length c.deref.ensures.value)
 
 pub returns : goal.returns
 returns g c = λ d.

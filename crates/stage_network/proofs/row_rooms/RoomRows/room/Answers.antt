@@ -12,5 +12,4 @@ room_at-requires g c =
 pub returns-clause-room : goal.returns-clause-room
 returns-clause-room g c = λ d.
     let p = c.self.inside in
-    let is = rw c.deref.ensures.value at c.room_at.ensures.room in
-    is ∙ ap (λ (r : Row). r.room) (row-is p.width p.rooms.items (map g.C.Count.number p.cells.items) p.heads.items c.args.self.now c.self.view_is c.args.i c.requires d no_head)
+    (rw c.deref.ensures.value at c.room_at.ensures.room) ∙ ap (λ (r : Row). r.room) (row-is p.width p.rooms.items (map g.C.Count.number p.cells.items) p.heads.items c.args.self.now c.self.view_is c.args.i c.requires d no_head)

@@ -1,25 +1,23 @@
-use Rattle.std.proofs.Common.{◌≡◌, ℕ, List, length, get_or, refl, ap, sym, subst, ◌∙◌}
-use Rattle.std.specs.Prelude.{ℤ}
+use Rattle.std.proofs.Common.{◌≡◌, length, get_or, refl, ap, sym, subst, ◌∙◌}
 use Rattle.std.proofs.lemmas.List.{with_items_is}
 use Rattle.node_pool.specs.Nodes.{Node}
-use Rattle.stage_network.specs.Network.{Network, IsReached, pending}
+use Rattle.stage_network.specs.Network.{IsReached, pending}
 use Rattle.stage_network.proofs.OneArc.{key_is}
-use Rattle.stage_network.proofs.Listing.{listing-reached, listing-first, listing-next, listing-done}
+use Rattle.stage_network.proofs.Listing.{buffers-same, listing-reached, listing-first, listing-next, listing-done}
 use Rattle.stage_network.proofs.stage_arcs.StageArcs.add_run.Goals as goal
 
 pub first_choice-more-requires-clause-reached : goal.first_choice-more-requires-clause-reached
 first_choice-more-requires-clause-reached g c =
-    let n : Network = g.S.Stages.network c.args.stages.now in
-    let written = with_items_is c.args.self.now.key c.write_key.new.key (c.write_key.auto.key ∙ ap length c.deref_mut.ensures.value ∙ sym c.args.self.now.key.ok.0) in
+    let n = g.S.Stages.network c.args.stages.now in
     let r = c.requires in
-    subst (IsReached n c.args.stage) (sym (c.deref.ensures.value ∙ written))
+    subst (IsReached n c.args.stage) (sym (c.deref.ensures.value ∙ with_items_is c.args.self.now.key c.write_key.new.key (c.write_key.auto.key ∙ ap length c.deref_mut.ensures.value ∙ sym c.args.self.now.key.ok.0)))
     (listing-reached n c.args.stage (g.S.Roomed.room_width c.args.stages.now) c.args.nodes.now.nodes c.args.start c.args.end r.here.nodes r.here.roomed r.some r.within r.run c.write_key.new.key (key_is c.args.nodes.now.nodes c.args.start _ _ _ _ c.write_key.ensures c.room.ensures.room c.partial.ensures.partial))
 
 pub loop-more-init : goal.loop-more-init
 loop-more-init g c =
-    let n : Network = g.S.Stages.network c.args.stages.now in
-    let s : ℕ = c.args.stage in
-    let k : List ℤ = c.write_key.new.key in
+    let n = g.S.Stages.network c.args.stages.now in
+    let s = c.args.stage in
+    let k = c.write_key.new.key in
     let r = c.requires in
     let was = c.args.self.now in
     let written = with_items_is was.key k (c.write_key.auto.key ∙ ap length c.deref_mut.ensures.value ∙ sym was.key.ok.0) in
@@ -27,30 +25,26 @@ loop-more-init g c =
     let key : (d : Node) → k ≡ (get_or c.args.nodes.now.nodes c.args.start d).key = key_is c.args.nodes.now.nodes c.args.start _ _ _ _ c.write_key.ensures c.room.ensures.room c.partial.ensures.partial in
     let first = subst (λ j. n.choices s j ≡ pending n s j c.first_choice-more.result c.first_choice-more.new.choice) c.deref.ensures.value c.first_choice-more.ensures in
     record {
-      listing = listing-first n s (g.S.Roomed.room_width c.args.stages.now) c.args.nodes.now.nodes c.args.start c.args.end r.here.nodes r.here.roomed r.some r.within r.run c.first_choice-more.result was _ (λ d. written ∙ key d) (rw chosen first) r.listed refl refl (record {
-        arcs = r.listed.fitted.arcs;
-        rooms = r.listed.fitted.rooms;
-        key = ap length written ∙ c.write_key.auto.key ∙ ap length c.deref_mut.ensures.value ∙ r.listed.fitted.key;
-        choice = ap length chosen ∙ c.first_choice-more.auto.choice ∙ ap length c.deref_mut-2.ensures.value ∙ r.listed.fitted.choice;
-        target_room = r.listed.fitted.target_room;
-      });
+      listing = listing-first n s (g.S.Roomed.room_width c.args.stages.now) c.args.nodes.now.nodes c.args.start c.args.end r.here.nodes r.here.roomed r.some r.within r.run c.first_choice-more.result was _ (λ d. written ∙ key d) (rw chosen first) r.listed refl refl (buffers-same _ _ _ _ r.listed.fitted refl refl (ap length written ∙ c.write_key.auto.key ∙ ap length c.deref_mut.ensures.value) (ap length chosen ∙ c.first_choice-more.auto.choice ∙ ap length c.deref_mut-2.ensures.value) refl);
     }
 
-pub add_arc-requires-clause-reached : goal.add_arc-requires-clause-reached
-add_arc-requires-clause-reached g c =
+pub add_arc-requires : goal.add_arc-requires
+add_arc-requires g c =
     let r = c.requires in
-    listing-reached _ _ _ _ _ _ r.here.nodes r.here.roomed r.some r.within r.run c.loop-more.self.key.items c.loop-more.invariant.listing.key
-
-pub add_arc-requires-clause-allowed : goal.add_arc-requires-clause-allowed
-add_arc-requires-clause-allowed g c = (rw c.loop-more-test.true at c.loop-more.invariant.listing.allowed).0
-
-pub add_arc-requires-clause-count : goal.add_arc-requires-clause-count
-add_arc-requires-clause-count g c = c.loop-more.invariant.listing.arcs.count
+    let l = c.loop-more.invariant.listing in
+    record {
+      before = r.here.nodes.before;
+      reached = listing-reached _ _ _ _ _ _ r.here.nodes r.here.roomed r.some r.within r.run c.loop-more.self.key.items l.key;
+      allowed = (rw c.loop-more-test.true at l.allowed).0;
+      fitted = l.fitted;
+      light = l.light;
+      count = l.arcs.count;
+    }
 
 pub loop-more-preserved : goal.loop-more-preserved
 loop-more-preserved g c =
-    let n : Network = g.S.Stages.network c.args.stages.now in
-    let s : ℕ = c.args.stage in
+    let n = g.S.Stages.network c.args.stages.now in
+    let s = c.args.stage in
     let was = c.loop-more.self in
     let mid = c.add_arc.new.self in
     let r = c.requires in
@@ -60,13 +54,7 @@ loop-more-preserved g c =
     let choice : c.deref_mut-in-loop-more.result.now ≡ was.choice.items = c.deref_mut-in-loop-more.ensures.value ∙ added.choice in
     let later = subst (λ j. n.later s j was.choice.items ≡ pending n s j c.next_choice-more.result c.next_choice-more.new.choice) key (subst (λ choice. n.later s c.deref-in-loop-more.result.now choice ≡ pending n s c.deref-in-loop-more.result.now c.next_choice-more.result c.next_choice-more.new.choice) choice c.next_choice-more.ensures) in
     record {
-      listing = listing-next n s (g.S.Roomed.room_width c.args.stages.now) c.args.nodes.now.nodes c.args.start c.args.end r.here.nodes r.here.roomed r.some r.within r.run c.next_choice-more.result was mid _ _ (rw c.loop-more-test.true at c.loop-more.invariant.listing) added refl refl refl (record {
-        arcs = added.fitted.arcs;
-        rooms = added.fitted.rooms;
-        key = added.fitted.key;
-        choice = ap length chosen ∙ c.next_choice-more.auto.choice ∙ ap length c.deref_mut-in-loop-more.ensures.value ∙ added.fitted.choice;
-        target_room = added.fitted.target_room;
-      }) (rw chosen later);
+      listing = listing-next n s (g.S.Roomed.room_width c.args.stages.now) c.args.nodes.now.nodes c.args.start c.args.end r.here.nodes r.here.roomed r.some r.within r.run c.next_choice-more.result was mid _ _ (rw c.loop-more-test.true at c.loop-more.invariant.listing) added refl refl refl (buffers-same _ _ _ _ added.fitted refl refl refl (ap length chosen ∙ c.next_choice-more.auto.choice ∙ ap length c.deref_mut-in-loop-more.ensures.value) refl) (rw chosen later);
     }
 
 pub next_choice-more-requires-clause-reached : goal.next_choice-more-requires-clause-reached
@@ -74,14 +62,6 @@ next_choice-more-requires-clause-reached g c =
     let r = c.requires in
     subst (IsReached (g.S.Stages.network c.args.stages.now) c.args.stage) (sym (c.deref-in-loop-more.ensures.value ∙ c.in_ok-add_arc.ensures.added.key))
     (listing-reached _ _ _ _ _ _ r.here.nodes r.here.roomed r.some r.within r.run c.loop-more.self.key.items c.loop-more.invariant.listing.key)
-
-pub next_choice-more-requires-clause-allowed : goal.next_choice-more-requires-clause-allowed
-next_choice-more-requires-clause-allowed g c =
-    let n : Network = g.S.Stages.network c.args.stages.now in
-    let added = c.in_ok-add_arc.ensures.added in
-    let key : c.deref-in-loop-more.result.now ≡ c.loop-more.self.key.items = c.deref-in-loop-more.ensures.value ∙ added.key in
-    let choice : c.deref_mut-in-loop-more.result.now ≡ c.loop-more.self.choice.items = c.deref_mut-in-loop-more.ensures.value ∙ added.choice in
-    rw (key, choice) ((rw c.loop-more-test.true at c.loop-more.invariant.listing.allowed).0)
 
 pub returns : goal.returns
 returns g c =

@@ -1,11 +1,8 @@
-use Rattle.std.proofs.Common.{◌≡◌, ◌≤◌, ◌+◌, ◌-◌, ◌*◌, ◌<◌, ℕ, List, length, ap, sym, ◌∙◌, arith, refl, rules}
-use Rattle.std.specs.List.{IsDistinct}
-use Rattle.node_pool.specs.Nodes.{Node, key_eq, keys}
+use Rattle.std.proofs.Common.{◌≡◌, ◌≤◌, ◌+◌, ◌-◌, ◌*◌, ◌<◌, ℕ, length, ap, sym, ◌∙◌, arith, refl, rules}
+use Rattle.node_pool.specs.Nodes.{Node}
 use Rattle.node_pool.specs.PoolSteps.{nodes_of}
 use Rattle.node_pool.proofs.NodeLists.{length-nodes}
 use Rattle.weights.specs.declared.tails.Tail.{Tail}
-use Rattle.stage_network.specs.declared.tail_sums.Kept.{Kept}
-use Rattle.stage_network.specs.Network.{Network}
 use Rattle.stage_network.specs.FromKeys.{course_from}
 use Rattle.stage_network.specs.NodeSteps.{AllHeavy}
 use Rattle.stage_network.specs.SweepSteps.{sum_for, counted, stays, staying}
@@ -18,29 +15,18 @@ use Rattle.stage_network.proofs.sweep.Sweep.from_keys.Goals as goal
 few-in : (o m g : ℕ) → o ≤ m → m < 18446744073709551616 → o ≤ (g + 1) * 18446744073709551615
 few-in o m g h small = grind (arith, h, small)
 
-pub settle_keys-requires-clause-wide : goal.settle_keys-requires-clause-wide
-settle_keys-requires-clause-wide g c = c.in_ok-pool.ensures.fitted.wide
-
-pub settle_keys-requires-clause-here : goal.settle_keys-requires-clause-here
-settle_keys-requires-clause-here g c = c.new-nodes.ensures.room_width ∙ c.room_width-width.ensures.width
-
-pub settle_keys-requires-clause-deep : goal.settle_keys-requires-clause-deep
-settle_keys-requires-clause-deep g c = omega (arith, c.new-nodes.ensures.width, c.width.ensures, c.room_width-width.ensures.roomed.within, c.room_width-width.ensures.width)
-
 pub returns-clause-sweeping : goal.returns-clause-sweeping
 returns-clause-sweeping g c =
-    let n : Network = g.S.Stages.network c.args.stages.now in
-    let w : ℕ = c.room_width-width.result in
-    let keep : Kept = c.args.keep in
-    let at : ℕ = c.args.stage in
+    let n = g.S.Stages.network c.args.stages.now in
+    let w = c.room_width-width.result in
+    let keep = c.args.keep in
+    let at = c.args.stage in
     let starts = c.requires.starts in
-    let small : length c.args.weights.now < 18446744073709551616 = search rules in
-    let all : List Node = nodes_of n.width c.args.keys.now c.args.weights.now in
-    let nodes : List Node = c.settle_keys.new.kept.nodes in
+    let all = nodes_of n.width c.args.keys.now c.args.weights.now in
+    let nodes = c.settle_keys.new.kept.nodes in
     let kept : nodes ≡ staying n keep at all = c.in_ok-sums.ensures.nodes in
     let wide : (m : ℕ) → m ≡ w + (c.width.result - w) → m ≡ n.width = λ m e. omega (arith, e, c.width.ensures, c.room_width-width.ensures.roomed.within, c.room_width-width.ensures.width) in
     let heavy : AllHeavy nodes = rw kept (all_filter (λ (a : Node). 1 ≤ a.weight) (λ a. stays n keep at a.key) all starts.heavy) in
-    let distinct : IsDistinct key_eq (keys nodes) = rw kept (open-distinct (stays n keep at) all starts.distinct) in
     let opened : (t : Tail) → (sum_for c.in_ok-sums.sums t).opened ≡ counted n keep t at nodes = λ t.
     c.in_ok-sums.ensures.opened t ∙ sym (ap (counted n keep t at) kept ∙ counted-staying n keep t at all) in
     record {
@@ -66,6 +52,6 @@ returns-clause-sweeping g c =
       gone = 0;
       stands = omega arith;
       within = starts.within;
-      swept = swept-first n (course_from n keep at c.args.keys.now c.args.weights.now) c.in_ok-sums.sums nodes kept starts.heavy heavy distinct c.in_ok-sums.ensures.sum opened;
-      few = λ t. few-in (sum_for c.in_ok-sums.sums t).opened (length c.args.weights.now) at (omega (arith, c.in_ok-sums.ensures.opened t, counted-le n keep t at all, length-nodes n.width c.args.keys.now c.args.weights.now)) small;
+      swept = swept-first n (course_from n keep at c.args.keys.now c.args.weights.now) c.in_ok-sums.sums nodes kept starts.heavy heavy (rw kept (open-distinct (stays n keep at) all starts.distinct)) c.in_ok-sums.ensures.sum opened;
+      few = λ t. few-in (sum_for c.in_ok-sums.sums t).opened (length c.args.weights.now) at (omega (arith, c.in_ok-sums.ensures.opened t, counted-le n keep t at all, length-nodes n.width c.args.keys.now c.args.weights.now)) (search rules);
     }

@@ -1,20 +1,11 @@
 use Rattle.weights.specs.declared.tails.Tail.TheVariants.{Less, Greater, Two}
 use Rattle.stage_network.proofs.tail_sums.TailSums.with_node.Goals as goal
 
-pub with_node-requires-clause-fits : goal.with_node-requires-clause-fits
-with_node-requires-clause-fits c = c.requires.fits Less
+pub with_node-requires : goal.with_node-requires
+with_node-requires c = record { fits = c.requires.fits Less; few = c.requires.few Less }
 
-pub with_node-requires-clause-few : goal.with_node-requires-clause-few
-with_node-requires-clause-few c = c.requires.few Less
+pub with_node-requires-2 : goal.with_node-requires-2
+with_node-requires-2 c = record { fits = c.requires.fits Greater; few = c.requires.few Greater }
 
-pub with_node-requires-2-clause-fits : goal.with_node-requires-2-clause-fits
-with_node-requires-2-clause-fits c = c.requires.fits Greater
-
-pub with_node-requires-2-clause-few : goal.with_node-requires-2-clause-few
-with_node-requires-2-clause-few c = c.requires.few Greater
-
-pub with_node-requires-3-clause-fits : goal.with_node-requires-3-clause-fits
-with_node-requires-3-clause-fits c = c.requires.fits Two
-
-pub with_node-requires-3-clause-few : goal.with_node-requires-3-clause-few
-with_node-requires-3-clause-few c = c.requires.few Two
+pub with_node-requires-3 : goal.with_node-requires-3
+with_node-requires-3 c = record { fits = c.requires.fits Two; few = c.requires.few Two }

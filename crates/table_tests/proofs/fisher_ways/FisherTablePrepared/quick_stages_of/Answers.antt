@@ -1,4 +1,4 @@
-use Rattle.std.proofs.Common.{◌≡◌, ◌∙◌, false, sym, subst, rules}
+use Rattle.std.proofs.Common.{◌≡◌, ◌∙◌, false, rules, subst, sym}
 use Rattle.std.proofs.lemmas.Result.{IfOk-weaker}
 use Rattle.stage_network.specs.Follows.{Follows}
 use Rattle.room_network.specs.Meanings.{Meaning}
@@ -16,4 +16,4 @@ returns-then-made c =
 pub returns : goal.returns
 returns c t has same =
     let large : is_two_by_two c.args.self.now ≡ false = search rules in
-    subst (λ (m : Meaning). Follows (fisher_test c.args.self.now) t (room_network m sorted_weight)) c.in_ok-sorted.ensures.built (along-sorted c.args.self.now c.made.ensures.fitting large c.args.tail t has same)
+    subst (λ (m : Meaning). Follows (fisher_test c.args.self.now) t (room_network m sorted_weight)) (sym c.in_ok-sorted.ensures) (along-sorted c.args.self.now c.made.ensures.fitting large c.args.tail t has same)

@@ -1,18 +1,13 @@
-use Rattle.std.proofs.Common.{◌∙◌, rules, sym, FitsSigned}
+use Rattle.std.proofs.Common.{◌∙◌, sym}
 use mir.Syntax.{w128}
 use Rattle.std.proofs.lemmas.Int.{to_z-of_z}
-use Rattle.table_tests.proofs.LinearTests.{are-scored}
-use Rattle.table_tests.proofs.Products.{product-table}
+use Rattle.label_network.proofs.LinearValues.{statistic-table}
 use Rattle.table_tests.proofs.linear_ways.LinearTablePlain.value.Goals as goal
 
 pub labelled_sum-requires : goal.labelled_sum-requires
-labelled_sum-requires c =
-    rw (c.as_slice.ensures ∙ c.made-made.ensures.row_scores, c.as_slice-2.ensures ∙ c.made-made.ensures.column_scores, c.as_slice-3.ensures ∙ c.made-made.ensures.margins.columns)
-    (are-scored c.args.self.now c.made-made.ensures.fitting c.args.labels.now c.requires)
+labelled_sum-requires c = rw (c.row_scores.ensures, c.column_scores.ensures, c.column_sums.ensures) (c.facts.ensures.labels c.args.labels.now c.requires)
 
 pub returns : goal.returns
 returns c =
-    let s : FitsSigned w128 c.labelled_sum.result = search rules in
-    to_z-of_z w128 c.labelled_sum.result s ∙ c.labelled_sum.ensures
-    ∙ rw (c.as_slice.ensures ∙ c.made-made.ensures.row_scores, c.as_slice-2.ensures ∙ c.made-made.ensures.column_scores, c.as_slice-3.ensures ∙ c.made-made.ensures.margins.columns)
-    (sym (product-table c.args.self.now.row_scores c.args.self.now.column_scores _ c.args.labels.now))
+    to_z-of_z w128 c.labelled_sum.result (record { sfits = c.labelled_sum.type_inv }) ∙ c.labelled_sum.ensures
+    ∙ rw (c.row_scores.ensures, c.column_scores.ensures, c.column_sums.ensures) (sym (statistic-table c.args.self.now.row_scores c.args.self.now.column_scores _ c.args.labels.now))

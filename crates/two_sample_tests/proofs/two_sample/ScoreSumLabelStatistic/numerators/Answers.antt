@@ -1,4 +1,4 @@
-use Rattle.std.proofs.Common.{◌≡◌, get_or, rules, FitsSigned, sym, ◌∙◌, ap}
+use Rattle.std.proofs.Common.{◌≡◌, get_or, rules, sym, ◌∙◌, ap}
 use Rattle.std.specs.Prelude.{slice_index}
 use Rattle.std.proofs.lemmas.Int.{to_z-of_z}
 use Rattle.std.proofs.lemmas.Result.{IfOk-weaker}
@@ -13,9 +13,9 @@ use Rattle.two_sample_tests.specs.EvenSteps.{AreEven, least_sum}
 use Rattle.drawn_sums.specs.DrawnSums.{passing_draws}
 use Rattle.two_sample_tests.proofs.DrawnSamples.{numerator-drawn}
 use Rattle.two_sample_tests.proofs.EvenSums.{fit-rising, numerator-rises}
-use Rattle.weights.specs.Conditional.{ConditionalTest}
 use Rattle.weights.specs.declared.tails.Tail.TheVariants.{Less}
 use Rattle.halves.proofs.Numerators.{judged, numerator-is}
+use Rattle.labelled.specs.declared.linear.ScoredLabels.{ScoredLabels}
 use Rattle.label_network.specs.LabelNetwork.{label_network}
 use Rattle.two_sample_tests.specs.Columns.{two_sample_meaning}
 use Rattle.two_sample_tests.specs.TwoSamples.{TwoSamples, pooled_scores, two_sample_test}
@@ -24,24 +24,20 @@ use Rattle.two_sample_tests.proofs.two_sample.ScoreSumLabelStatistic.numerators.
 pub rising_sums-requires-clause-fits : goal.rising_sums-requires-clause-fits
 rising_sums-requires-clause-fits c =
     let samples : TwoSamples = c.args.self.now in
-    let sizes : c.as_slice-sizes.result.now ≡ group_sizes samples.groups = c.as_slice-sizes.ensures ∙ c.made-made.ensures.sizes in
-    let are : AreEven c.in-Some.even (pooled_scores samples) = rw (c.as_slice-scores.ensures ∙ c.made-made.ensures.scores) at c.in-Some.ensures in
-    let fits : FitsSigned w128 c.least_sum-base.result = search rules in
-    let base : c.least_sum-base.result ≡ least_sum c.in-Some.even (slice_index (group_sizes samples.groups) 1) = c.least_sum-base.ensures.is ∙ ap (λ ns. least_sum c.in-Some.even (slice_index ns 1)) sizes in
-    rw (to_z-of_z w128 c.least_sum-base.result fits ∙ base, sizes) (fit-rising samples c.made-made.ensures.fitting c.in-Some.even are c.args.judge c.requires.judge)
+    let sizes : c.as_slice-sizes.result.now ≡ group_sizes samples.groups = c.as_slice-sizes.ensures ∙ ap (λ (s : ScoredLabels). s.sizes) (c.scored-made.ensures.scored ∙ c.made.ensures.is) in
+    let are : AreEven c.in-Some.even (pooled_scores samples) = rw (c.as_slice-scores.ensures ∙ ap (λ (s : ScoredLabels). s.scores) (c.scored-made.ensures.scored ∙ c.made.ensures.is)) at c.in-Some.ensures in
+    rw (to_z-of_z w128 c.least_sum-base.result (search rules) ∙ (c.least_sum-base.ensures.is ∙ ap (λ ns. least_sum c.in-Some.even (slice_index ns 1)) sizes), sizes) (fit-rising samples c.made.ensures.fitting c.in-Some.even are c.args.judge c.requires.judge)
 
 pub returns-in-Some : goal.returns-in-Some
 returns-in-Some c =
     let samples : TwoSamples = c.args.self.now in
-    let sizes : c.as_slice-sizes.result.now ≡ group_sizes samples.groups = c.as_slice-sizes.ensures ∙ c.made-made.ensures.sizes in
-    let are : AreEven c.in-Some.even (pooled_scores samples) = rw (c.as_slice-scores.ensures ∙ c.made-made.ensures.scores) at c.in-Some.ensures in
-    let fits : FitsSigned w128 c.least_sum-base.result = search rules in
-    let base : c.least_sum-base.result ≡ least_sum c.in-Some.even (slice_index (group_sizes samples.groups) 1) = c.least_sum-base.ensures.is ∙ ap (λ ns. least_sum c.in-Some.even (slice_index ns 1)) sizes in
-    let told = rw (to_z-of_z w128 c.least_sum-base.result fits ∙ base, sizes, c.requires.judge) at c.rising_sums.ensures in
+    let sizes : c.as_slice-sizes.result.now ≡ group_sizes samples.groups = c.as_slice-sizes.ensures ∙ ap (λ (s : ScoredLabels). s.sizes) (c.scored-made.ensures.scored ∙ c.made.ensures.is) in
+    let are : AreEven c.in-Some.even (pooled_scores samples) = rw (c.as_slice-scores.ensures ∙ ap (λ (s : ScoredLabels). s.scores) (c.scored-made.ensures.scored ∙ c.made.ensures.is)) at c.in-Some.ensures in
+    let told = rw (to_z-of_z w128 c.least_sum-base.result (search rules) ∙ (c.least_sum-base.ensures.is ∙ ap (λ ns. least_sum c.in-Some.even (slice_index ns 1)) sizes), sizes, c.requires.judge) at c.rising_sums.ensures in
     IfOk-weaker c.rising_sums.result
     (λ sums. (t : Tail) → (sum_for sums t).sum ≡ passing_labellings (rule_in (judge_of (two_sample_test samples)) t) (least_sum c.in-Some.even (slice_index (group_sizes samples.groups) 1)) c.in-Some.even.step (group_sizes samples.groups))
     (AreNumerators (two_sample_test samples) c.args.tails)
-    (λ sums each t asked. each t ∙ sym (numerator-rises samples c.made-made.ensures.fitting c.in-Some.even are t)) told
+    (λ sums each t asked. each t ∙ sym (numerator-rises samples c.made.ensures.fitting c.in-Some.even are t)) told
 
 pub returns-in-Some-2 : goal.returns-in-Some-2
 returns-in-Some-2 c t a =
@@ -49,16 +45,14 @@ returns-in-Some-2 c t a =
     let told = rw c.in-Some-2.is at c.in_ok-sums.ensures in
     told t a
     ∙ ap (λ judge. passing_draws (rule_in judge t) (get_or c.as_slice-sizes.result.now 1 0) c.as_slice-scores.result.now) c.requires.judge
-    ∙ ap (λ scores. passing_draws (rule_in (judge_of (two_sample_test samples)) t) (get_or c.as_slice-sizes.result.now 1 0) scores) (c.as_slice-scores.ensures ∙ c.made-made.ensures.scores)
-    ∙ ap (λ sizes. passing_draws (rule_in (judge_of (two_sample_test samples)) t) (get_or sizes 1 0) (pooled_scores samples)) (c.as_slice-sizes.ensures ∙ c.made-made.ensures.sizes)
-    ∙ sym (numerator-drawn samples c.made-made.ensures.fitting t)
+    ∙ ap (λ scores. passing_draws (rule_in (judge_of (two_sample_test samples)) t) (get_or c.as_slice-sizes.result.now 1 0) scores) (c.as_slice-scores.ensures ∙ ap (λ (s : ScoredLabels). s.scores) (c.scored-made.ensures.scored ∙ c.made.ensures.is))
+    ∙ ap (λ sizes. passing_draws (rule_in (judge_of (two_sample_test samples)) t) (get_or sizes 1 0) (pooled_scores samples)) (c.as_slice-sizes.ensures ∙ ap (λ (s : ScoredLabels). s.sizes) (c.scored-made.ensures.scored ∙ c.made.ensures.is))
+    ∙ sym (numerator-drawn samples c.made.ensures.fitting t)
 
 pub tail_sums-requires-clause-intervals : goal.tail_sums-requires-clause-intervals
 tail_sums-requires-clause-intervals c =
-    let test : ConditionalTest = two_sample_test c.args.self.now in
-    judged test _ (label_network (two_sample_meaning c.args.self.now)) _ c.in_ok-stages.ensures c.requires.judge (c.sound.ensures.follows Less)
+    judged (two_sample_test c.args.self.now) _ (label_network (two_sample_meaning c.args.self.now)) _ c.in_ok-stages.ensures c.requires.judge (c.sound.ensures.follows Less)
 
 pub returns : goal.returns
 returns c t a =
-    let test : ConditionalTest = two_sample_test c.args.self.now in
-    numerator-is test t _ (label_network (two_sample_meaning c.args.self.now)) _ c.in_ok-stages.ensures (c.sound.ensures.follows t) (c.in_ok-sums-2.ensures t a)
+    numerator-is (two_sample_test c.args.self.now) t _ (label_network (two_sample_meaning c.args.self.now)) _ c.in_ok-stages.ensures (c.sound.ensures.follows t) (c.in_ok-sums-2.ensures t a)

@@ -1,6 +1,0 @@
-use Rattle.std.proofs.Common.{◌≡◌, ◌++◌, take}
-use Rattle.sample_reader.specs.PooledSample.{labels_of}
-use Rattle.homogeneity.proofs.ranked.push_labels.Given as goal
-
-abbrev pub invariant-loop-subject : goal.invariant-loop-subject
-invariant-loop-subject l = l.labels ≡ l.fn.labels ++ labels_of (take l.subject-index l.subjects)

@@ -1,7 +1,0 @@
-use Rattle.homogeneity.proofs.ZelenSeats.{choice-seat}
-use Rattle.homogeneity.proofs.zelen_rooms.ZelenRooms.choice_seat.Goals as goal
-
-pub returns : goal.returns
-returns c =
-    let s = c.args.self.now.rests in
-    choice-seat s.strata s.sum s.right.summed s.right.fits c.args._stage c.args._room.now c.args._choice.now c.requires.reached c.requires.before c.requires.allowed

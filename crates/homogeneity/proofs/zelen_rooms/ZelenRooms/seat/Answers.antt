@@ -1,7 +1,0 @@
-use Rattle.homogeneity.proofs.ZelenSeats.{seat}
-use Rattle.homogeneity.proofs.zelen_rooms.ZelenRooms.seat.Goals as goal
-
-pub returns : goal.returns
-returns c =
-    let s = c.args.self.now.rests in
-    seat s.strata s.sum s.right.summed s.right.fits c.args._stage c.args._room.now c.requires
