@@ -25,6 +25,7 @@ pub mod ServingLaw
 pub mod MirroredWays
 pub mod ServedFold
 pub mod ServingFollows
+pub mod PackedServings
 pub mod ServingSteps
 pub mod MirrorSteps
 pub mod RowSteps

@@ -27,7 +27,7 @@ use Rattle.block_tests.specs.BlockNetworks.{arrangement_test, block_at, first_ar
 use Rattle.block_tests.specs.BlockSteps.{AreStages, IsSmall, IsWhole}
 use Rattle.block_tests.specs.BlockTests.{cut, page_sum, treatment_sums}
 use Rattle.block_tests.proofs.Arranged.{first-labelling, length-first}
-use Rattle.block_tests.proofs.Different.{places-different}
+use Rattle.stage_network.proofs.Ranges.{range-different}
 use Rattle.block_tests.proofs.Lines.{over-lines}
 use Rattle.block_tests.proofs.PageOrder.{page-least, page-most}
 use Rattle.block_tests.proofs.SquareLaws.{first-small, over-pos, over-stages-within}
@@ -161,7 +161,7 @@ module _ (k : ℕ) (blocks : List (List ℕ)) (judge : Judge) (s : AreStages k b
     slots_some = omega arith;
     slots_few = omega arith;
     some_choice = λ g h. some-place (length (page_lines (block_at blocks g))) (some-line (block_at blocks g));
-    different = λ g h. places-different 0 (length (page_lines (block_at blocks g)));
+    different = λ g h. range-different 0 (length (page_lines (block_at blocks g)));
     weighty = λ g c h m. line-weight (block_at blocks g) c m;
     fits = total-fits (line_addends blocks judge) blocks (λ g h. page-total blocks judge g) s.ways_fit;
     between = λ g h. page-adds blocks judge g;

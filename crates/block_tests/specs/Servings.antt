@@ -2,7 +2,7 @@
 -- that occurs in a block, its numbers ascending; a choice says which of the treatments that have
 -- no number of the block yet get it. A room tells which treatments these are, and a partial the
 -- treatments' sums.
-use Rattle.std.specs.Prelude.{◌≡◌, ℕ, zero, suc, ◌+◌, ◌-◌, ◌*◌, ◌/◌, ◌≤◌, ◌<◌, ℤ, pos, min, max, List, [], ◌∷◌, ◌++◌, length, map, drop, get_or, nat_abs, replicate, Bool, true, false, nat_eq, nat_le, slice_index_or, if◌then◌else◌}
+use Rattle.std.specs.Prelude.{◌≡◌, ℕ, zero, suc, ◌+◌, ◌-◌, ◌*◌, ◌/◌, ◌^◌, ◌≤◌, ◌<◌, ℤ, pos, min, max, List, [], ◌∷◌, ◌++◌, length, map, drop, get_or, nat_abs, replicate, Bool, true, false, nat_eq, nat_le, nat_lt, slice_index_or, if◌then◌else◌}
 use Rattle.std.specs.List.{All, flat_map, sum, sum_by}
 use Rattle.weights.specs.Grouped.{choices, minus}
 use Rattle.weights.specs.InOrder.{in_order}
@@ -239,6 +239,10 @@ alike k = replicate k 1
 abbrev pub served_network : ℕ → List Serving → List ℕ → Judge → Network
 served_network k vs mirrors judge =
     folded (groups_in_order (alike k)) (serving_network k vs mirrors judge)
+
+-- one number has a digit for each of k treatments that holds its sum after so many servings
+abbrev pub has_room_for : ℕ → ℕ → Bool
+has_room_for k count = nat_lt (16 * count) (2 ^ (127 / k))
 
 -- servings of k treatments that have a lawful network
 pub record AreServings (k : ℕ) (vs : List Serving) (judge : Judge) : Type 0 where

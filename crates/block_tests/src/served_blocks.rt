@@ -1,7 +1,7 @@
 // The network of servings with treatments in order.
-ghost use Rattle.std.specs.Prelude.{◌≡◌, ◌<◌, ℕ, length, true, All, IfOk};
+ghost use Rattle.std.specs.Prelude.{◌≡◌, ◌<◌, ◌≤◌, ℕ, length, true, All, IfOk};
 ghost use Rattle.block_tests.specs.Mirrors.{AreEven, AreMirrors};
-ghost use Rattle.block_tests.specs.Servings.{AreServings, alike, all_servings};
+ghost use Rattle.block_tests.specs.Servings.{AreServings, alike, all_servings, has_room_for};
 ghost use Rattle.block_tests.specs.Upright.{mirror_at};
 
 use crate::block::Block;
@@ -9,6 +9,7 @@ use crate::mirroring::are_even;
 use crate::served_sums::{ServedSums, ServingRooms};
 use crate::servings::{Servings, servings_of};
 use ordered_groups::InOrder;
+use packed_keys::{Packed, bits_for};
 use room_network::RoomNetwork;
 use stage_network::Judge;
 use std::alloc::Global;
@@ -19,7 +20,19 @@ use weights::NoMemory;
 /// their sums. A block of k numbers costs a key at most k 2^(k - 1) arcs, where it has k!
 /// arrangements, and keys that meet within a block are one. Where the blocks are the same from both
 /// ends, so are keys between blocks that are mirror images.
-pub type ServedBlocks = InOrder<ServingRooms, ServedSums>;
+pub type OrderedBlocks = InOrder<ServingRooms, ServedSums>;
+
+/// The same with the treatments' sums in one number.
+pub type ServedBlocks = Packed<OrderedBlocks>;
+
+/// Whether one number has room for the sums of treatments after so many servings.
+pub(crate) fn has_room_for(treatments: usize, count: usize) -> bool
+    requires some { 2 ≤ treatments }
+    requires few { count ≤ 170000 }
+    ensures { result ≡ has_room_for treatments count }
+{
+    16 * (count as u64) < 1 << bits_for(treatments)
+}
 
 // The servings of these blocks.
 fn all_of(
@@ -49,7 +62,7 @@ pub(crate) fn served_blocks(
     blocks: &[Block],
     treatments: usize,
     judge: Judge,
-) -> Result<ServedBlocks, NoMemory>
+) -> Result<OrderedBlocks, NoMemory>
     requires { AreServings treatments (all_servings blocks.now) judge }
     ensures sizes { IfOk result (λ s. s.2 ≡ alike treatments) }
     ensures treatments { IfOk result (λ s. s.1.servings.treatments ≡ treatments) }

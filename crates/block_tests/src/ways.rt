@@ -1,5 +1,5 @@
 // Both ways to the answer of a test of blocks.
-ghost use Rattle.std.specs.Prelude.{◌≡◌, ◌≤◌, ◌⊎◌, IfOk};
+ghost use Rattle.std.specs.Prelude.{◌≡◌, ◌/◌, ◌≤◌, ◌⊎◌, is_some, length, true, IfOk, IfSome};
 ghost use Rattle.weights.specs.declared.TheConstants.{MAX};
 ghost use Rattle.weights.specs.declared.tails.Tail.{Tail};
 ghost use Rattle.stage_network.specs.Follows.{Follows};
@@ -7,17 +7,19 @@ ghost use Rattle.ordered_groups.specs.OrderedNetworks.{ordered_network};
 ghost use Rattle.block_tests.specs.BlockNetworks.{line_addends, square_addends};
 ghost use Rattle.block_tests.specs.BlockSteps.{AreStages, cells_sum};
 ghost use Rattle.block_tests.specs.BlockTests.{block_counts, block_test, squared};
-ghost use Rattle.block_tests.specs.Servings.{serving_network};
+ghost use Rattle.packed_keys.specs.PackedKeys.{MayBePacked, packed_network};
+ghost use Rattle.block_tests.specs.Servings.{all_servings, has_room_for, serving_network};
 ghost use Rattle.block_tests.specs.declared.kinds.BlockKind.TheVariants.{Friedman, Cochran};
 
 use crate::block::first_arrangements;
 use crate::block_test::BlockTest;
 use crate::kinds::BlockKind;
 use crate::page::{PageBlocks, page_blocks};
-use crate::served_blocks::{ServedBlocks, served_blocks};
+use crate::served_blocks::{OrderedBlocks, ServedBlocks, has_room_for, served_blocks};
 use crate::squares::{SquareBlocks, block_copies};
 use enumerate::{Plain, next_joined};
-use stage_network::{AdditiveStages, Judge, OneOf, Prepared};
+use packed_keys::{Packed, bits_for};
+use stage_network::{AdditiveStages, Judge, OneOf, Prepared, Stages};
 use std::alloc::Global;
 use weights::{Bytes, Frame, NoMemory, Tail};
 
@@ -78,14 +80,43 @@ fn square_stages(
 
 // The network of a test whose treatments' sums are squared, with numbers that are given to
 // treatments one after another.
-fn served_stages(alloc: Global, test: &BlockTest) -> Result<ServedBlocks, NoMemory>
-    requires { (test.now.kind ≡ Friedman) ⊎ (test.now.kind ≡ Cochran) }
-    ensures { IfOk result (λ s. (t : Tail) → Follows (block_test test.now) t
+fn ordered_stages(alloc: Global, test: &BlockTest) -> Result<OrderedBlocks, NoMemory>
+    requires kind { (test.now.kind ≡ Friedman) ⊎ (test.now.kind ≡ Cochran) }
+    requires some { 2 ≤ test.now.blocks.treatments }
+    ensures follows { IfOk result (λ s. (t : Tail) → Follows (block_test test.now) t
         (ordered_network s.2 (serving_network s.1.servings.treatments s.1.servings.items.items
         s.1.servings.mirrors.items s.1.servings.judge))) }
+    ensures packs { let k = test.now.blocks.treatments in
+        let count = length (all_servings (block_counts test.now)) in
+        IfOk result (λ s. has_room_for k count ≡ true
+        → MayBePacked s.1.servings.treatments (127 / k) (ordered_network s.2
+        (serving_network s.1.servings.treatments s.1.servings.items.items
+        s.1.servings.mirrors.items s.1.servings.judge))) }
+    ensures items { let vs = all_servings (block_counts test.now) in
+        IfOk result (λ s. s.1.servings.items.items ≡ vs) }
 {
     let stages = served_blocks(alloc, test.blocks(), test.treatments(), test.judge())?;
     Ok(stages)
+}
+
+// The same with the sums in one number. None exactly where one number has no room for them.
+fn served_stages(alloc: Global, test: &BlockTest) -> Result<Option<ServedBlocks>, NoMemory>
+    requires kind { (test.now.kind ≡ Friedman) ⊎ (test.now.kind ≡ Cochran) }
+    requires some { 2 ≤ test.now.blocks.treatments }
+    ensures follows { IfOk result (λ made. IfSome made (λ s. (t : Tail)
+        → Follows (block_test test.now) t (packed_network s.0.1.servings.treatments s.1
+        (ordered_network s.0.2 (serving_network s.0.1.servings.treatments
+        s.0.1.servings.items.items s.0.1.servings.mirrors.items s.0.1.servings.judge))))) }
+    ensures room { let count = length (all_servings (block_counts test.now)) in
+        IfOk result (λ made. is_some made ≡ has_room_for test.now.blocks.treatments count) }
+{
+    let treatments = test.treatments();
+    let stages = ordered_stages(alloc, test)?;
+    let count = stages.stages();
+    if !has_room_for(treatments, count) {
+        return Ok(None);
+    }
+    Ok(Some(Packed::new(stages, bits_for(treatments))))
 }
 
 // The network of Page's test.
@@ -141,10 +172,10 @@ impl Prepared for BlockTest {
     // Where blocks have more than a few treatments, numbers are given to these one after another.
     fn quick_stages_of(&self, alloc: Global, tail: Tail) -> Result<Self::Built, NoMemory> {
         match self.kind() {
-            BlockKind::Friedman if self.treatments() >= FEW => {
-                let stages = served_stages(alloc, self)?;
-                Ok(OneOf::First(OneOf::First(stages)))
-            }
+            BlockKind::Friedman if self.treatments() >= FEW => match served_stages(alloc, self)? {
+                Some(stages) => Ok(OneOf::First(OneOf::First(stages))),
+                None => self.stages_of(alloc, tail),
+            },
             BlockKind::Friedman | BlockKind::Page | BlockKind::Cochran => {
                 self.stages_of(alloc, tail)
             }

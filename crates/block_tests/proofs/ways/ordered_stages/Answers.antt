@@ -1,0 +1,44 @@
+use Rattle.std.proofs.Common.{◌≡◌, ◌<◌, ◌∙◌, ◌⊎◌, ℕ, List, ap, length, subst}
+use Rattle.std.specs.Prelude.{All}
+use Rattle.weights.specs.declared.tails.Tail.{Tail}
+use Rattle.weights.specs.declared.tails.Tail.TheVariants.{Greater}
+use Rattle.stage_network.specs.Follows.{Follows}
+use Rattle.stage_network.specs.Judged.{judge_of}
+use Rattle.block_tests.specs.BlockTests.{BlockTests, block_counts, block_test}
+use Rattle.block_tests.specs.Mirrors.{AreEven, AreMirrors}
+use Rattle.block_tests.specs.Servings.{alike, all_servings, served_network}
+use Rattle.block_tests.specs.PreparedSteps.{AreFitting}
+use Rattle.block_tests.specs.Upright.{mirror_at}
+use Rattle.block_tests.specs.declared.kinds.BlockKind.TheVariants.{Cochran, Friedman}
+use Rattle.block_tests.proofs.PackedServings.{packed-sums}
+use Rattle.block_tests.proofs.ServingFollows.{tests-follow, tests-servings}
+use Rattle.block_tests.proofs.ways.ordered_stages.Goals as goal
+
+pub served_blocks-requires : goal.served_blocks-requires
+served_blocks-requires c = rw (c.treatments.ensures, c.blocks-2.ensures.blocks, c.judge.ensures.judge) (tests-servings c.args.test.now c.judge.ensures.fitting c.requires.kind Greater)
+
+-- mirrors that are made of a test's blocks
+record AreFor (tests : BlockTests) (mirrors : List ℕ) : Type 0 where
+  mirrors_are : AreMirrors tests.blocks.treatments (all_servings (block_counts tests)) mirrors
+  follows : (t : Tail) → Follows (block_test tests) t (served_network tests.blocks.treatments (all_servings (block_counts tests)) mirrors (judge_of (block_test tests)))
+
+made-for : (tests : BlockTests) → AreFitting tests → (tests.kind ≡ Friedman) ⊎ (tests.kind ≡ Cochran) → (k : ℕ) (blocks : List (List ℕ)) (mirrors : List ℕ) → k ≡ tests.blocks.treatments → blocks ≡ block_counts tests
+    → AreMirrors k (all_servings blocks) mirrors → ((g : ℕ) → g < length (all_servings blocks) → 0 < mirror_at mirrors g → All AreEven blocks) → AreFor tests mirrors
+made-for tests f kind k blocks mirrors e i m even =
+    let own = subst (λ bs. AreMirrors tests.blocks.treatments (all_servings bs) mirrors) i (subst (λ j. AreMirrors j (all_servings blocks) mirrors) e m) in
+    record {
+      mirrors_are = own;
+      follows = λ t. tests-follow tests f kind t mirrors own (subst (λ (bs : List (List ℕ)). (g : ℕ) → g < length (all_servings bs) → 0 < mirror_at mirrors g → All AreEven bs) i even);
+    }
+
+pub returns-clause-follows : goal.returns-clause-follows
+returns-clause-follows c t =
+    rw (c.in_ok-stages.ensures.sizes ∙ ap alike c.treatments.ensures, c.in_ok-stages.ensures.treatments ∙ c.treatments.ensures, c.in_ok-stages.ensures.items ∙ ap all_servings c.blocks-2.ensures.blocks, c.in_ok-stages.ensures.judge ∙ c.judge.ensures.judge)
+    ((made-for c.args.test.now c.judge.ensures.fitting c.requires.kind c.treatments.result c.blocks-2.result.now c.in_ok-stages.stages.1.servings.mirrors.items c.treatments.ensures c.blocks-2.ensures.blocks c.in_ok-stages.ensures.mirrors c.in_ok-stages.ensures.even).follows t)
+
+pub returns-clause-packs : goal.returns-clause-packs
+returns-clause-packs c room =
+    let it = made-for c.args.test.now c.judge.ensures.fitting c.requires.kind c.treatments.result c.blocks-2.result.now c.in_ok-stages.stages.1.servings.mirrors.items c.treatments.ensures c.blocks-2.ensures.blocks c.in_ok-stages.ensures.mirrors c.in_ok-stages.ensures.even in
+    let k : ℕ = c.args.test.now.blocks.treatments in
+    rw (c.in_ok-stages.ensures.sizes ∙ ap alike c.treatments.ensures, c.in_ok-stages.ensures.treatments ∙ c.treatments.ensures, c.in_ok-stages.ensures.items ∙ ap all_servings c.blocks-2.ensures.blocks, c.in_ok-stages.ensures.judge ∙ c.judge.ensures.judge)
+    (packed-sums k (all_servings (block_counts c.args.test.now)) (judge_of (block_test c.args.test.now)) (tests-servings c.args.test.now c.judge.ensures.fitting c.requires.kind Greater) c.in_ok-stages.stages.1.servings.mirrors.items it.mirrors_are c.requires.some room (block_test c.args.test.now) Greater (it.follows Greater))

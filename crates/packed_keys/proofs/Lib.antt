@@ -1,0 +1,4 @@
+pub mod DigitLists
+pub mod Widths
+pub mod Rewriting
+pub mod PackedParts

@@ -1,0 +1,119 @@
+-- What the bodies of a packed network read of its keys, and what follows from its partials being digits.
+use Rattle.std.proofs.Common.{◌≡◌, ℕ, ◌+◌, ◌-◌, ◌^◌, ◌<◌, ◌≤◌, List, ◌++◌, drop, length, take, refl, sym, ◌∙◌, ap, subst, arith, length-append, length-drop}
+use Rattle.std.specs.Prelude.{ℤ}
+use Rattle.std.specs.List.{Contains}
+use Rattle.std.proofs.lemmas.List.{length-take, take-append-drop}
+use Rattle.weights.specs.Conditional.{ConditionalTest}
+use Rattle.weights.specs.declared.TheConstants.{MAX}
+use Rattle.weights.specs.declared.tails.Tail.{Tail}
+use Rattle.stage_network.specs.Completions.{total_weight}
+use Rattle.stage_network.specs.Follows.{Follows}
+use Rattle.stage_network.specs.Laws.{IsLawful}
+use Rattle.stage_network.specs.Network.{Network, IsReached}
+use Rattle.stage_network.specs.Rooms.{IsArc, IsPlace, IsRoomed}
+use Rattle.stage_network.proofs.Steps.{reached-next}
+use Rattle.room_network.proofs.RoomKeys.{back_is, front_is}
+use Rattle.packed_keys.specs.PackedKeys.{MayBePacked, packed, packed_key, packed_network, unpacked, unpacked_key}
+use Rattle.packed_keys.specs.PackedSteps.{AreDigits}
+use Rattle.packed_keys.proofs.DigitLists.{unpacked-packed}
+use Rattle.packed_keys.proofs.Rewriting.{reached, rewritten-follows, rewritten-lawful, rewritten-roomed, same-total}
+
+module _ (w bits : ℕ) (n : Network) (m : MayBePacked w bits n) where
+  abbrev k : ℕ
+  k = n.width - w
+
+  abbrev write : List ℤ → List ℤ
+  write = packed_key w (2 ^ bits)
+
+  abbrev read : List ℤ → List ℤ
+  read = unpacked_key w (2 ^ bits) k
+
+  room-long : (g : ℕ) (key : List ℤ) → IsReached n g key → length (take w key) ≡ w
+  room-long g key r = length-take w key ∙ omega (arith, m.long g key r, m.within)
+
+  partial-long : (g : ℕ) (key : List ℤ) → IsReached n g key → length (drop w key) ≡ k
+  partial-long g key r = length-drop w key ∙ ap (λ i. i - w) (m.long g key r)
+
+  back : (g : ℕ) (key : List ℤ) → IsReached n g key → read (write key) ≡ key
+  back g key r =
+      let long : length (take w key) ≡ w = room-long g key r in
+      let part : List ℤ = packed (2 ^ bits) (drop w key) in
+      ap (λ room. room ++ unpacked (2 ^ bits) k (drop w (write key))) (front_is w (take w key) part long)
+      ∙ ap (λ p. take w key ++ unpacked (2 ^ bits) k p) (back_is w (take w key) part long)
+      ∙ ap (λ p. take w key ++ p) (unpacked-packed (2 ^ bits) k (drop w key) (partial-long g key r) (m.each g key r))
+      ∙ take-append-drop w key
+
+  long : (g : ℕ) (key : List ℤ) → IsReached n g key → length (write key) ≡ w + 1
+  long g key r = length-append (take w key) (packed (2 ^ bits) (drop w key)) ∙ omega (arith, room-long g key r)
+
+  kept : (g : ℕ) (key : List ℤ) → IsReached n g key → take w (write key) ≡ take w key
+  kept g key r = front_is w (take w key) (packed (2 ^ bits) (drop w key)) (room-long g key r)
+
+  pub read-reached : (g : ℕ) (key : List ℤ) → IsReached (packed_network w bits n) g key → IsReached n g (read key)
+  read-reached g key r = (reached n (w + 1) write read back g key r).0
+
+  pub packed-lawful : IsLawful n → IsLawful (packed_network w bits n)
+  packed-lawful l = rewritten-lawful n (w + 1) write read back m.judged.judge m.judged.intervals (omega arith) (omega (arith, m.room)) long l
+
+  pub packed-roomed : IsLawful n → IsRoomed n w → IsRoomed (packed_network w bits n) w
+  packed-roomed l h = rewritten-roomed n (w + 1) write read back w (omega arith) kept l h
+
+  pub packed-total : (g : ℕ) (key : List ℤ) → IsReached (packed_network w bits n) g key → total_weight (packed_network w bits n) g key ≡ total_weight n g (read key)
+  packed-total g key r = same-total n (w + 1) write read back g key r
+
+  pub packed-follows : (test : ConditionalTest) (tail : Tail) → Follows test tail n → Follows test tail (packed_network w bits n)
+  packed-follows test tail f = rewritten-follows n (w + 1) write read back test tail f
+
+  pub packed-long : (g : ℕ) (key : List ℤ) → IsReached (packed_network w bits n) g key → length key ≡ w + 1
+  packed-long g key r =
+      let here = reached n (w + 1) write read back g key r in
+      ap length (sym here.1) ∙ long g (read key) here.0
+
+  -- a key of a room and a partial
+  pub one-number : (g : ℕ) (room partial : List ℤ) → length room ≡ w → IsReached (packed_network w bits n) g (room ++ partial) → length partial ≡ 1
+  one-number g room partial l r = omega (arith, packed-long g (room ++ partial) r, length-append room partial, l)
+
+  pub read-parts : (room partial : List ℤ) → length room ≡ w → read (room ++ partial) ≡ room ++ unpacked (2 ^ bits) k partial
+  read-parts room partial l =
+      ap (λ q. q ++ unpacked (2 ^ bits) k (drop w (room ++ partial))) (front_is w room partial l)
+      ∙ ap (λ p. room ++ unpacked (2 ^ bits) k p) (back_is w room partial l)
+
+  pub parts-reached : (g : ℕ) (room partial : List ℤ) → length room ≡ w → IsReached (packed_network w bits n) g (room ++ partial) → IsReached n g (room ++ unpacked (2 ^ bits) k partial)
+  parts-reached g room partial l r = subst (IsReached n g) (read-parts room partial l) (read-reached g (room ++ partial) r)
+
+  pub in-place : (g : ℕ) (room : List ℤ) → IsPlace (packed_network w bits n) w g room → IsPlace n w g room
+  in-place g room p = record { partial = unpacked (2 ^ bits) k p.partial; wide = p.wide; reached = parts-reached g room p.partial p.wide p.reached }
+
+  pub in-arc : (g : ℕ) (room : List ℤ) (c : List ℕ) → IsArc (packed_network w bits n) w g room c → IsArc n w g room c
+  in-arc g room c a = record {
+    partial = unpacked (2 ^ bits) k a.partial;
+    wide = a.wide;
+    reached = parts-reached g room a.partial a.wide a.reached;
+    allowed = subst (λ key. Contains (n.choices g key) c) (read-parts room a.partial a.wide) a.allowed;
+  }
+
+  -- the partial that a choice leads to has digits
+  pub next-digits : (g : ℕ) (key : List ℤ) (c : List ℕ) → IsReached n g key → g < n.count → Contains (n.choices g key) c → AreDigits bits (drop w (n.next g key c))
+  next-digits g key c r before o =
+      let there : IsReached n (g + 1) (n.next g key c) = reached-next n g key c r before o in
+      record {
+        each = m.each (g + 1) (n.next g key c) there;
+        fits = subst (λ i. (2 ^ bits) ^ i ≤ MAX + 1) (sym (partial-long (g + 1) (n.next g key c) there)) m.fits;
+        narrow = m.narrow;
+      }
+
+  -- and is packed
+  pub next-packed : (g : ℕ) (room partial : List ℤ) (c : List ℕ) → length room ≡ w → IsReached (packed_network w bits n) g (room ++ partial) → g < n.count → Contains (n.choices g (room ++ unpacked (2 ^ bits) k partial)) c
+      → drop w ((packed_network w bits n).next g (room ++ partial) c) ≡ packed (2 ^ bits) (drop w (n.next g (room ++ unpacked (2 ^ bits) k partial) c))
+  next-packed g room partial c l r before o =
+      let here : IsReached n g (room ++ unpacked (2 ^ bits) k partial) = parts-reached g room partial l r in
+      let next : List ℤ = n.next g (room ++ unpacked (2 ^ bits) k partial) c in
+      ap (λ key. drop w (write (n.next g key c))) (read-parts room partial l)
+      ∙ back_is w (take w next) (packed (2 ^ bits) (drop w next)) (room-long (g + 1) next (reached-next n g (room ++ unpacked (2 ^ bits) k partial) c here before o))
+
+  pub first-digits : AreDigits bits (drop w n.first)
+  first-digits = record {
+    each = m.each 0 n.first refl;
+    fits = subst (λ i. (2 ^ bits) ^ i ≤ MAX + 1) (sym (partial-long 0 n.first refl)) m.fits;
+    narrow = m.narrow;
+  }

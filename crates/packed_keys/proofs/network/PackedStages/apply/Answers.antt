@@ -1,0 +1,14 @@
+use Rattle.std.proofs.Common.{List, ℤ, subst, sym}
+use Rattle.std.specs.List.{Contains}
+use Rattle.stage_network.specs.Network.{Network, IsReached}
+use Rattle.packed_keys.proofs.PackedParts.{next-digits}
+use Rattle.packed_keys.proofs.network.PackedStages.apply.Goals as goal
+
+pub pack_key-requires-clause-digits : goal.pack_key-requires-clause-digits
+pack_key-requires-clause-digits g c =
+    let n : Network = g.S.Stages.network c.self.inside.stages in
+    let reached : IsReached n c.args.stage c.read.new.key = rw (← c.self.view_is) at c.read.ensures.reached in
+    let allowed : Contains (n.choices c.args.stage c.read.new.key) c.args.choice.now =
+    subst (λ (key : List ℤ). Contains (n.choices c.args.stage key) c.args.choice.now) (sym (rw (← c.self.view_is) at c.read.ensures.is)) (rw (← c.self.view_is) at c.requires.allowed) in
+    rw (c.room_width.ensures.width, c.apply-weight.ensures.next)
+    (next-digits (g.S.Roomed.room_width c.self.inside.stages) c.self.inside.bits n c.self.invariant.may c.args.stage c.read.new.key c.args.choice.now reached (rw (← c.self.view_is) at c.requires.before) allowed)

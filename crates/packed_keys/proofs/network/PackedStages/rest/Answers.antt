@@ -1,0 +1,13 @@
+use Rattle.std.proofs.Common.{◌∙◌, ap, sym}
+use Rattle.stage_network.specs.Completions.{total_weight}
+use Rattle.stage_network.specs.Network.{Network}
+use Rattle.packed_keys.proofs.PackedParts.{packed-total}
+use Rattle.packed_keys.proofs.network.PackedStages.rest.Goals as goal
+
+pub returns : goal.returns
+returns g c =
+    let n : Network = g.S.Stages.network c.self.inside.stages in
+    rw (← c.self.view_is)
+    (c.rest.ensures
+    ∙ ap (total_weight n c.args.stage) (rw (← c.self.view_is) at c.read.ensures.is)
+    ∙ sym (packed-total (g.S.Roomed.room_width c.self.inside.stages) c.self.inside.bits n c.self.invariant.may c.args.stage c.args.key.now (rw (← c.self.view_is) at c.requires)))

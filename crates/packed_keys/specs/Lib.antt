@@ -1,0 +1,2 @@
+pub mod PackedKeys
+pub mod PackedSteps

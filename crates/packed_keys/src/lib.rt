@@ -1,0 +1,8 @@
+//! Networks whose keys take little room: the numbers of a partial stand in one number, as digits.
+#![tactic(auto)]
+
+mod digits;
+mod network;
+
+pub use digits::bits_for;
+pub use network::Packed;

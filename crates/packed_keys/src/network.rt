@@ -1,0 +1,251 @@
+// Networks whose partials stand in one number.
+ghost use Rattle.std.specs.Prelude.{◌≡◌, ◌+◌, ◌-◌, ◌^◌, ◌≤◌, ◌++◌, drop, length};
+ghost use Rattle.stage_network.specs.Network.{IsReached};
+ghost use Rattle.packed_keys.specs.PackedKeys.{MayBePacked, packed_key, packed_network};
+ghost use Rattle.packed_keys.specs.PackedKeys.{unpacked, unpacked_key};
+ghost use Rattle.packed_keys.specs.PackedSteps.{AreDigits};
+
+use crate::digits::{packed_number, unpack};
+use stage_network::{Roomed, Stages, Verdict, behind, front, write_key};
+use std::marker::Model;
+use weights::{Tail, only};
+
+/// A network in whose keys the numbers of a partial are digits of one number, of so many bits each.
+/// It has as many keys as before, and they take less room. It is seen as the network and the bits.
+#[derive(Drop)]
+pub struct Packed<S: Roomed> {
+    stages: S,
+    bits: u32,
+    // How many numbers a partial has.
+    slots: usize,
+}
+
+impl<S: Roomed> Model for Packed<S> {
+    ghost use Rattle.std.specs.Prelude.{ℕ};
+    ghost use Rattle.packed_keys.specs.PackedSteps.{IsPacked};
+
+    ghost Value = { S × ℕ };
+
+    ghost view = { λ p. (p.stages, p.bits) };
+
+    ghost invariant = { λ p.
+        IsPacked (S.room_width p.stages) p.bits p.slots (S.Stages.network p.stages) };
+}
+
+// Writes a key with its partial packed.
+fn pack_key(width: usize, bits: u32, key: &[i128], packed: &mut [i128])
+    requires within { width ≤ length key.now }
+    requires digits { AreDigits bits (drop width key.now) }
+    requires room { length packed.old ≡ width + 1 }
+    ensures { packed.new ≡ packed_key width (2 ^ bits) key.now }
+{
+    let number = packed_number(bits, behind(key, width));
+    write_key(front(key, width), [number].as_slice(), packed);
+}
+
+// Writes the key that a packed one stands for.
+fn unpack_key(width: usize, bits: u32, packed: &[i128], key: &mut [i128])
+    requires narrow { bits ≤ 63 }
+    requires packed { length packed.now ≡ width + 1 }
+    requires within { width ≤ length key.old }
+    requires few { length key.old ≤ 16 }
+    ensures { key.new
+        ≡ unpacked_key width (2 ^ bits) (length key.old - width) packed.now }
+{
+    let mut numbers = [0i128; 16];
+    let partial = &mut numbers[..key.len() - width];
+    unpack(bits, only(behind(packed, width)), partial);
+    write_key(front(packed, width), partial, key);
+}
+
+impl<S: Roomed> Packed<S> {
+    /// A network with its partials packed.
+    pub fn new(stages: S, bits: u32) -> Packed<S>
+        requires { MayBePacked (S.room_width stages) bits (S.Stages.network stages) }
+        ensures { result ≡ (stages, bits) }
+    {
+        let slots = stages.width() - stages.room_width();
+        Packed {
+            stages,
+            bits,
+            slots,
+        }
+    }
+
+    // Writes the key of the network that a reached key stands for.
+    fn read(&self, _stage: usize, packed: &[i128], key: &mut [i128])
+        requires reached { let n = S.Stages.network self.now.0 in
+            IsReached (packed_network (S.room_width self.now.0) self.now.1 n) _stage packed.now }
+        requires room { length key.old ≡ (S.Stages.network self.now.0).width }
+        ensures is { let n = S.Stages.network self.now.0 in
+            let w = S.room_width self.now.0 in
+            key.new ≡ unpacked_key w (2 ^ self.now.1) (n.width - w) packed.now }
+        ensures reached { IsReached (S.Stages.network self.now.0) _stage key.new }
+    {
+        let _lawful = self.stages.stages();
+        unpack_key(self.stages.room_width(), self.bits, packed, key);
+    }
+
+    // Writes the partial of the network that a reached one stands for.
+    #[inline(always)]
+    fn read_partial(&self, _stage: usize, _room: &[i128], packed: &[i128], partial: &mut [i128])
+        requires place { length _room.now ≡ S.room_width self.now.0 }
+        requires reached { let n = S.Stages.network self.now.0 in
+            IsReached (packed_network (S.room_width self.now.0) self.now.1 n) _stage
+            (_room.now ++ packed.now) }
+        requires room { let n = S.Stages.network self.now.0 in
+            length partial.old ≡ n.width - S.room_width self.now.0 }
+        ensures is { let n = S.Stages.network self.now.0 in
+            partial.new
+            ≡ unpacked (2 ^ self.now.1) (n.width - S.room_width self.now.0) packed.now }
+        ensures reached { IsReached (S.Stages.network self.now.0) _stage
+            (_room.now ++ partial.new) }
+    {
+        unpack(self.bits, only(packed), partial);
+    }
+}
+
+impl<S: Roomed> Stages for Packed<S> {
+    ghost use Rattle.packed_keys.specs.PackedKeys.{packed_network};
+
+    ghost network = { λ p. packed_network (S.room_width p.0) p.1 (S.Stages.network p.0) };
+
+    fn stages(&self) -> usize {
+        self.stages.stages()
+    }
+
+    fn width(&self) -> usize {
+        self.stages.room_width() + 1
+    }
+
+    fn choice_width(&self) -> usize {
+        self.stages.choice_width()
+    }
+
+    fn first_key(&self, key: &mut [i128]) {
+        let _lawful = self.stages.stages();
+        let mut numbers = [0i128; 16];
+        let first = &mut numbers[..self.stages.width()];
+        self.stages.first_key(first);
+        pack_key(self.stages.room_width(), self.bits, first, key);
+    }
+
+    fn first_choice(&self, stage: usize, key: &[i128], choice: &mut [u64]) -> bool {
+        let _lawful = self.stages.stages();
+        let mut numbers = [0i128; 16];
+        let here = &mut numbers[..self.stages.width()];
+        self.read(stage, key, here);
+        self.stages.first_choice(stage, here, choice)
+    }
+
+    fn next_choice(&self, stage: usize, key: &[i128], choice: &mut [u64]) -> bool {
+        let _lawful = self.stages.stages();
+        let mut numbers = [0i128; 16];
+        let here = &mut numbers[..self.stages.width()];
+        self.read(stage, key, here);
+        self.stages.next_choice(stage, here, choice)
+    }
+
+    fn apply(&self, stage: usize, key: &[i128], choice: &[u64], next: &mut [i128]) -> u128 {
+        let _lawful = self.stages.stages();
+        let mut numbers = [0i128; 16];
+        let here = &mut numbers[..self.stages.width()];
+        self.read(stage, key, here);
+        let mut others = [0i128; 16];
+        let there = &mut others[..self.stages.width()];
+        let weight = self.stages.apply(stage, here, choice, there);
+        pack_key(self.stages.room_width(), self.bits, there, next);
+        weight
+    }
+
+    fn rest(&self, stage: usize, key: &[i128]) -> u128 {
+        let _lawful = self.stages.stages();
+        let mut numbers = [0i128; 16];
+        let here = &mut numbers[..self.stages.width()];
+        self.read(stage, key, here);
+        self.stages.rest(stage, here)
+    }
+
+    fn verdict(&self, stage: usize, key: &[i128], tail: Tail) -> Verdict {
+        let _lawful = self.stages.stages();
+        let mut numbers = [0i128; 16];
+        let here = &mut numbers[..self.stages.width()];
+        self.read(stage, key, here);
+        self.stages.verdict(stage, here, tail)
+    }
+
+    fn value(&self, key: &[i128]) -> i128 {
+        let count = self.stages.stages();
+        let mut numbers = [0i128; 16];
+        let here = &mut numbers[..self.stages.width()];
+        self.read(count, key, here);
+        self.stages.value(here)
+    }
+}
+
+impl<S: Roomed> Roomed for Packed<S> {
+    ghost room_width = { λ p. S.room_width p.0 };
+
+    ghost step_width = { λ p. S.step_width p.0 };
+
+    ghost step_of = { λ p. S.step_of p.0 };
+
+    ghost outlook_width = { λ p. S.outlook_width p.0 };
+
+    ghost outlook_of = { λ p. S.outlook_of p.0 };
+
+    fn room_width(&self) -> usize {
+        let _lawful = self.stages.stages();
+        self.stages.room_width()
+    }
+
+    fn step_width(&self) -> usize {
+        self.stages.step_width()
+    }
+
+    fn step(&self, stage: usize, room: &[i128], choice: &[u64], step: &mut [i128]) {
+        self.stages.step(stage, room, choice, step);
+    }
+
+    #[inline(always)]
+    fn advance(
+        &self,
+        stage: usize,
+        room: &[i128],
+        choice: &[u64],
+        step: &[i128],
+        partial: &[i128],
+        next: &mut [i128],
+    ) {
+        let mut numbers = [0i128; 8];
+        let here = &mut numbers[..self.slots];
+        self.read_partial(stage, room, partial, here);
+        let mut others = [0i128; 8];
+        let there = &mut others[..self.slots];
+        self.stages.advance(stage, room, choice, step, here, there);
+        next[0] = packed_number(self.bits, there);
+    }
+
+    fn outlook_width(&self) -> usize {
+        self.stages.outlook_width()
+    }
+
+    fn outlook(&self, stage: usize, room: &[i128], outlook: &mut [i128]) {
+        self.stages.outlook(stage, room, outlook);
+    }
+
+    #[inline(always)]
+    fn verdict_by(
+        &self,
+        stage: usize,
+        room: &[i128],
+        outlook: &[i128],
+        partial: &[i128],
+        tail: Tail,
+    ) -> Verdict {
+        let mut numbers = [0i128; 8];
+        let here = &mut numbers[..self.slots];
+        self.read_partial(stage, room, partial, here);
+        self.stages.verdict_by(stage, room, outlook, here, tail)
+    }
+}
