@@ -14,7 +14,7 @@ use Rattle.stage_network.specs.SweepSteps.{HasSwept, IsSweeping, first_course, s
 use Rattle.stage_network.proofs.Courses.{sweeping-nodes, swept-light}
 use Rattle.pieces.specs.Cuts.{closed_sum}
 use Rattle.pieces.proofs.Arriving.{cut-told, cut-closed, cut-members}
-use Rattle.pieces.proofs.Found.{AreFound}
+use Rattle.pieces.proofs.FoundKeys.{AreFound}
 
 module _ {C : Type 0} (n : Network) (tails : Tails) (t : Tail) (own : asks tails t ≡ true) (alone : (u : Tail) → asks tails u ≡ true → u ≡ t) (width step_width limit : ℕ) (sweep : Sweep C) (s : IsSweeping n width step_width limit (first_course n (Open tails)) sweep) (at : ℕ) (h : at ≤ n.count) (stage : sweep.stage ≡ at) where
   gone : s.gone ≡ at

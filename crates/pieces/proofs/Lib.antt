@@ -7,6 +7,6 @@ pub mod CutSums
 pub mod WrittenPieces
 mod Ascending
 mod Laying
-mod Found
+mod FoundKeys
 mod Finding
 pub mod WholeRuns

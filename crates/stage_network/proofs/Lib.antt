@@ -6,7 +6,7 @@ pub mod DistributionLines
 pub mod WalkedLines
 pub mod Judging
 pub mod Following
-pub mod Growing
+pub mod LastingVerdicts
 pub mod Bounds
 pub mod NodeSums
 pub mod Conserved

@@ -10,7 +10,7 @@ use Rattle.stage_network.proofs.Conserved.{all_weaker}
 use Rattle.pieces.specs.declared.ordering.Entry.{Entry}
 use Rattle.pieces.specs.Ordering.{entry_node}
 use Rattle.pieces.proofs.Ascending.{AllInRooms}
-use Rattle.pieces.proofs.Found.{found-cut}
+use Rattle.pieces.proofs.FoundKeys.{found-cut}
 use Rattle.pieces.proofs.Finding.{found-of, closed-of}
 use Rattle.pieces.proofs.cutting.cut_in.Goals as goal
 

@@ -1,7 +1,7 @@
 use Rattle.std.proofs.Common.{◌*◌}
 use mir.Syntax.{w128}
 use Rattle.std.proofs.lemmas.Int.{to_z-of_z}
-use Rattle.stage_network.proofs.Growing.{within-quotient}
+use Rattle.stage_network.proofs.LastingVerdicts.{within-quotient}
 use Rattle.stage_network.proofs.lasting.same_apart.Goals as goal
 
 pub returns-else-factor-eq0 : goal.returns-else-factor-eq0

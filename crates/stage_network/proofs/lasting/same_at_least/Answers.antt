@@ -1,7 +1,7 @@
 use Rattle.std.proofs.Common.{arith}
 use mir.Syntax.{w128}
 use Rattle.std.proofs.lemmas.Int.{to_z-of_z}
-use Rattle.stage_network.proofs.Growing.{settled-same}
+use Rattle.stage_network.proofs.LastingVerdicts.{settled-same}
 use Rattle.stage_network.proofs.lasting.same_at_least.Goals as goal
 
 pub returns : goal.returns

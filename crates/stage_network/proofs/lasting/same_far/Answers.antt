@@ -2,7 +2,7 @@ use Rattle.std.proofs.Common.{◌≤◌, arith}
 use mir.Syntax.{w128}
 use Rattle.std.proofs.lemmas.Int.{to_z-of_z}
 use Rattle.std.specs.Prelude.{pos, ◌+ℤ◌}
-use Rattle.stage_network.proofs.Growing.{far-same}
+use Rattle.stage_network.proofs.LastingVerdicts.{far-same}
 use Rattle.stage_network.proofs.lasting.same_far.Goals as goal
 
 pub returns : goal.returns

@@ -2,7 +2,7 @@ use Rattle.std.proofs.Common.{◌≡◌, rules}
 use mir.Syntax.{w128}
 use Rattle.std.proofs.lemmas.Int.{to_z-of_z}
 use Rattle.stage_network.specs.Judged.{offset}
-use Rattle.stage_network.proofs.Growing.{far-grown}
+use Rattle.stage_network.proofs.LastingVerdicts.{far-grown}
 use Rattle.stage_network.proofs.lasting.same_for.Goals as goal
 
 pub returns-in-AtMost : goal.returns-in-AtMost
