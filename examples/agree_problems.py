@@ -1,5 +1,5 @@
-"""Makes problems of one, two and several samples, of blocks, of strata, of tables and of twins from a seed, and compares a
-program's ways to the report of each; `agree` runs it.
+"""Makes problems of one, two and several samples, of blocks, of strata, of tables and of bivariate samples from a seed, and
+compares a program's ways to the report of each; `agree` runs it.
 
 A line for each problem: 0 where both reports are the same, else 1, and what was tried. Where they differ, the file and
 both reports are shown on standard error.
@@ -16,8 +16,8 @@ SAMPLES = ("kw", "jt", "umbrella")
 BLOCKS = ("friedman",)
 STRATA = ("stratranksum", "strata")
 TABLES = ("linear", "fisher")
-TWINS = ("kendall",)
-TESTS = (*ONE_SAMPLE, *TWO_SAMPLES, *SAMPLES, *BLOCKS, *STRATA, *TABLES, *TWINS)
+BIVARIATE = ("kendall",)
+TESTS = (*ONE_SAMPLE, *TWO_SAMPLES, *SAMPLES, *BLOCKS, *STRATA, *TABLES, *BIVARIATE)
 # what a problem has at most, so that the slower way takes about a hundredth of a second
 MOST = 30_000
 
@@ -88,7 +88,7 @@ def strata_of_tables(dice):
     return [[f"s{stratum}", *(dice.randint(0, 6) for _ in range(4))] for stratum in range(dice.randint(1, 6))]
 
 
-def twins(dice):
+def bivariate(dice):
     # with few values or many, on either side
     most = [dice.choice([1, 2, 4, 99]) for _ in range(2)]
     return [[dice.randint(0, side) for side in most] for _ in range(dice.randint(2, 9))]
@@ -107,7 +107,7 @@ LAYOUTS = {
     strata_of_samples: STRATA[:1],
     strata_of_tables: STRATA[1:],
     table: TABLES,
-    twins: TWINS,
+    bivariate: BIVARIATE,
 }
 
 
@@ -122,7 +122,7 @@ def tell(place):
     """What came of the problem at a place, and what is shown of it."""
     # a seed for each, so that a problem is the same whatever was made before
     dice = random.Random(f"{SEED} {place}")
-    test = TESTS[place % len(TESTS)]
+    test = TRIED[place % len(TRIED)]
     rows = next(layout for layout, tests in LAYOUTS.items() if test in tests)(dice)
     text = "".join(",".join(map(str, row)) + "\n" for row in [[f"c{i}" for i in range(len(rows[0]))], *rows])
     name = f"{place}.csv"
@@ -135,6 +135,7 @@ def tell(place):
 
 
 PROGRAM, COUNT, SEED = sys.argv[1], int(sys.argv[2]), sys.argv[3]
+TRIED = sys.argv[4:] or TESTS
 with ThreadPoolExecutor() as pool:
     for what, difference in pool.map(tell, range(COUNT)):
         print(what)

@@ -131,7 +131,7 @@ def strata_of_samples(number, size, dice):
     return csv(rows)
 
 
-def twins(number, dice, ties=None):
+def bivariate(number, dice, ties=None):
     first = distinct(number, dice)
     second = [round(value + dice.gauss(0, 1), 3) for value in first]
     if ties:
@@ -182,8 +182,8 @@ GROWTH = [
         (["stratranksum"], f"n strata of {size}", lambda n, dice, size=size: strata_of_samples(n, size, dice))
         for size in (4, 10, 40)
     ),
-    (["kendall"], "n pairs without ties", twins),
-    (["kendall"], "n pairs of some 12 by 4 values", lambda n, dice: twins(n, dice, (12, 4))),
+    (["kendall"], "n pairs without ties", bivariate),
+    (["kendall"], "n pairs of some 12 by 4 values", lambda n, dice: bivariate(n, dice, (12, 4))),
     (["runs"], "n and n", lambda n, dice: sequence([n, n], dice)),
 ]
 
@@ -478,7 +478,7 @@ PEERS = [
     (["rawsigned"], "60 differences", lambda dice: differences(60, dice), {
         "exactRankTests": "exactRankTests::perm.test(d[[1]], exact = TRUE)",
     }),
-    (["kendall"], "33 pairs without ties", lambda dice: twins(33, dice), {
+    (["kendall"], "33 pairs without ties", lambda dice: bivariate(33, dice), {
         "stats": "cor.test(d[[1]], d[[2]], method = 'kendall', exact = TRUE)",
     }),
     (["strata"], "15 tables of ten", lambda dice: strata(15, 10, dice), {

@@ -227,7 +227,7 @@ def strata_of_groups(test, dice):
     return problem.in_order(dice.sample(labels, 2)) if dice.random() < 0.3 else problem
 
 
-def twins(test, dice):
+def bivariate(test, dice):
     first, second = values_of(dice), values_of(dice)
     rows = [[first(), second()] for _ in range(dice.randint(1, 8))]
     while ways(Counter(row[1] for row in rows).values()) > 3000:
@@ -245,7 +245,7 @@ def make(test, dice):
     """A problem of the test, in its layout."""
     layouts = {
         pairs: PAIRS, groups: GROUPS, blocks: BLOCKS, strata: STRATA, strata_of_groups: ["stratranksum"],
-        twins: ["kendall"], sequence: ["runs"], table: TESTS,
+        bivariate: ["kendall"], sequence: ["runs"], table: TESTS,
     }
     layout = next(layout for layout, tests in layouts.items() if test in tests)
     problem = replace(layout(test, dice), spelling=dice.randrange(10**6))
@@ -663,7 +663,7 @@ def kendall_of_the_numbers_of_labels_is_jt(problem, _):
 
 
 @holds_for("kendall")
-def twins_changed_have_the_same_ratios(problem, _):
+def values_changed_have_the_same_ratios(problem, _):
     turned = ask(replace(problem, rows=[row[::-1] for row in problem.rows]))
     return turned.words["statistic"] == ask(problem).words["statistic"] and turned.tails == ask(problem).tails
 

@@ -18,7 +18,7 @@ const LAYOUTS = {
     fields: ['Name of the stratum', 'Count a', 'Count b', 'Count c', 'Count d'],
   },
   stratified: { row: 'a stratum, a label and a value', missing: true, fields: ['Stratum', 'Label', 'Value'] },
-  twins: { row: 'two values of one subject', missing: true, fields: ['First value', 'Second value'] },
+  bivariate: { row: 'two values of one subject', missing: true, fields: ['First value', 'Second value'] },
   sequence: { row: 'a label, in the order of the sequence', missing: true, fields: ['Label'] },
 };
 
@@ -185,7 +185,7 @@ const TESTS = {
     two: () => 'either',
   },
   kendall: {
-    group: 'Two values of each subject, and sequences', layout: 'twins', tails: ONE_SIDE_OR_TWO,
+    group: 'Two values of each subject, and sequences', layout: 'bivariate', tails: ONE_SIDE_OR_TWO,
     question: 'Do two quantities rise together?', title: 'Kendall’s rank correlation',
     rearrangements: 'ways to give the second values to the subjects',
     statistic: () => 'the number of pairs of subjects that stand in one order, less that of pairs in the other',

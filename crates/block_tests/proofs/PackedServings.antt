@@ -41,8 +41,8 @@ module _ (k : ℕ) (vs : List Serving) (judge : Judge) (a : AreServings k vs jud
   turned : AreTurned (alike k) (serving_network k vs mirrors judge) judge
   turned = treatments-turned k vs judge a mirrors m
 
-  ordered : MayBeOrdered (alike k) (serving_network k vs mirrors judge)
-  ordered = may-be-ordered (alike k) (serving_network k vs mirrors judge) judge turned
+  ordered : MayBeOrdered true (alike k) (serving_network k vs mirrors judge)
+  ordered = may-be-ordered true (alike k) (serving_network k vs mirrors judge) judge turned
 
   pub packed-sums : 2 ≤ k → has_room_for k (length vs) ≡ true → (test : ConditionalTest) (tail : Tail) → Follows test tail (served_network k vs mirrors judge) → MayBePacked k (127 / k) (served_network k vs mirrors judge)
   packed-sums some room test tail f = record {

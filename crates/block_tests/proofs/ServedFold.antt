@@ -281,7 +281,7 @@ module _ (k : ℕ) (vs : List Serving) (judge : Judge) (a : AreServings k vs jud
   }
 
   pub served-follows : (test : ConditionalTest) (tail : Tail) → judge ≡ judge_of test → Follows test tail n → Follows test tail (served_network k vs mirrors judge)
-  served-follows = ordered-follows (alike k) n judge treatments-turned
+  served-follows = ordered-follows true (alike k) n judge treatments-turned
 
 -- as the network of servings asks for
 pub treatments-housed : (k : ℕ) (vs : List Serving) (judge : Judge) → AreServings k vs judge → (mirrors : List ℕ) → (j : ℕ) (us : List Serving) → AreItsRooms (serving_plan k vs) (serving_plan j us) (served_sums k vs mirrors judge) (alike k)

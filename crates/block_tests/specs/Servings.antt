@@ -238,7 +238,7 @@ alike k = replicate k 1
 -- with the treatments in order, first by whether they are served, then by their sums
 abbrev pub served_network : ℕ → List Serving → List ℕ → Judge → Network
 served_network k vs mirrors judge =
-    folded (groups_in_order (alike k)) (serving_network k vs mirrors judge)
+    folded (groups_in_order true (alike k)) (serving_network k vs mirrors judge)
 
 -- one number has a digit for each of k treatments that holds its sum after so many servings
 abbrev pub has_room_for : ℕ → ℕ → Bool

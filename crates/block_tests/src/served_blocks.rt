@@ -65,6 +65,7 @@ pub(crate) fn served_blocks(
 ) -> Result<OrderedBlocks, NoMemory>
     requires { AreServings treatments (all_servings blocks.now) judge }
     ensures sizes { IfOk result (λ s. s.2 ≡ alike treatments) }
+    ensures sums { IfOk result (λ s. s.3 ≡ true) }
     ensures treatments { IfOk result (λ s. s.1.servings.treatments ≡ treatments) }
     ensures items { IfOk result (λ s. s.1.servings.items.items ≡ all_servings blocks.now) }
     ensures judge { IfOk result (λ s. s.1.servings.judge ≡ judge) }
@@ -82,6 +83,6 @@ pub(crate) fn served_blocks(
     let rooms = ServingRooms { servings: given };
     let sums = ServedSums { servings: summed };
     let stages = RoomNetwork::new(rooms, sums);
-    let ordered = InOrder::new(stages, ServingRooms { servings: beside }, sizes);
+    let ordered = InOrder::new(stages, ServingRooms { servings: beside }, sizes, true);
     Ok(ordered)
 }

@@ -84,12 +84,12 @@ fn ordered_stages(alloc: Global, test: &BlockTest) -> Result<OrderedBlocks, NoMe
     requires kind { (test.now.kind ≡ Friedman) ⊎ (test.now.kind ≡ Cochran) }
     requires some { 2 ≤ test.now.blocks.treatments }
     ensures follows { IfOk result (λ s. (t : Tail) → Follows (block_test test.now) t
-        (ordered_network s.2 (serving_network s.1.servings.treatments s.1.servings.items.items
+        (ordered_network s.3 s.2 (serving_network s.1.servings.treatments s.1.servings.items.items
         s.1.servings.mirrors.items s.1.servings.judge))) }
     ensures packs { let k = test.now.blocks.treatments in
         let count = length (all_servings (block_counts test.now)) in
         IfOk result (λ s. has_room_for k count ≡ true
-        → MayBePacked s.1.servings.treatments (127 / k) (ordered_network s.2
+        → MayBePacked s.1.servings.treatments (127 / k) (ordered_network s.3 s.2
         (serving_network s.1.servings.treatments s.1.servings.items.items
         s.1.servings.mirrors.items s.1.servings.judge))) }
     ensures items { let vs = all_servings (block_counts test.now) in
@@ -105,7 +105,7 @@ fn served_stages(alloc: Global, test: &BlockTest) -> Result<Option<ServedBlocks>
     requires some { 2 ≤ test.now.blocks.treatments }
     ensures follows { IfOk result (λ made. IfSome made (λ s. (t : Tail)
         → Follows (block_test test.now) t (packed_network s.0.1.servings.treatments s.1
-        (ordered_network s.0.2 (serving_network s.0.1.servings.treatments
+        (ordered_network s.0.3 s.0.2 (serving_network s.0.1.servings.treatments
         s.0.1.servings.items.items s.0.1.servings.mirrors.items s.0.1.servings.judge))))) }
     ensures room { let count = length (all_servings (block_counts test.now)) in
         IfOk result (λ made. is_some made ≡ has_room_for test.now.blocks.treatments count) }

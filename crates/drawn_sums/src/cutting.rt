@@ -75,17 +75,17 @@ fn is_dense(sorted: &[i128], stride: u64, most: usize) -> bool
 }
 
 // How many subjects a sweep by tie groups takes one by one: of each group no more than are drawn.
-fn steps_of(sorted: &[i128], most: usize) -> usize {
-    let mut steps = 0usize;
+fn subjects_taken(sorted: &[i128], most: usize) -> usize {
+    let mut taken = 0usize;
     let mut alike = 0usize;
     for i in 0..sorted.len() {
         let is_next = i > 0 && sorted[i] == sorted[i - 1];
         alike = if is_next { alike.saturating_add(1) } else { 1 };
         if alike <= most {
-            steps = steps.saturating_add(1);
+            taken = taken.saturating_add(1);
         }
     }
-    steps
+    taken
 }
 
 // Whether the draws are counted: their rows are not too long, and tie groups would save little.
@@ -94,7 +94,7 @@ fn is_drawn(first: &[i128], second: &[i128], sorted: &[i128], stride: u64, most:
 {
     is_dense(first, stride, most)
         && is_dense(second, stride, most)
-        && sorted.len() / 4 <= steps_of(sorted, most)
+        && sorted.len() / 4 <= subjects_taken(sorted, most)
 }
 
 // How many sums the scores of all may have where any number of so many subjects is drawn.

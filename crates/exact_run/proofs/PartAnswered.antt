@@ -6,7 +6,7 @@ use Rattle.weights.specs.Results.{and_then, with_value}
 use Rattle.record_reader.specs.Records.{records_of}
 use Rattle.settings.specs.Meaning.{command_for, command_of, is_complete, is_help, meaning_for, meaning_of, meaning_of_given, meaning_of_test, paired, settings_of}
 use Rattle.settings.specs.Tests.{test_named}
-use Rattle.settings.specs.Words.{Given, none_given, with_words}
+use Rattle.settings.specs.Words.{WordsSoFar, none_given, with_words}
 use Rattle.settings.specs.declared.command_line.CommandLine.TheVariants as command
 use Rattle.settings.specs.declared.names.OptionName.TheVariants as option
 use Rattle.settings.specs.declared.names.TestName.{TestName}
@@ -92,7 +92,7 @@ from-change : {S T F : Type 0} (change : S → T) (r : Result S F) (y : T) → w
 from-change change (Ok x) y e = (x, cc)
 from-change change (Err fault) y e = absurd cc
 
-of-name : (given : Given) (name : TestName) (settings : Settings) → meaning_for given name ≡ Ok (command.Test settings) → settings.test ≢ test.Shift
+of-name : (given : WordsSoFar) (name : TestName) (settings : Settings) → meaning_for given name ≡ Ok (command.Test settings) → settings.test ≢ test.Shift
 of-name given name settings e = by (is_complete name given) e
   where
     by : (b : Bool) → cond b (with_value command_of (and_then paired (settings_of given name))) (Err Form) ≡ Ok (command.Test settings) → settings.test ≢ test.Shift

@@ -2,41 +2,45 @@
 ghost use Rattle.std.specs.Prelude.{◌≡◌, Ok, IfErr, IfOk};
 ghost use Rattle.record_reader.specs.Layouts.{MayPick};
 ghost use Rattle.weights.specs.Results.{with_fault};
-ghost use Rattle.sample_reader.specs.Data.{sequence_data_of, twin_data_of};
+ghost use Rattle.sample_reader.specs.Bivariate.{bivariate_in};
+ghost use Rattle.sample_reader.specs.Data.{bivariate_data_of, sequence_data_of};
 ghost use Rattle.sample_reader.specs.Sequences.{sequence_in};
-ghost use Rattle.sample_reader.specs.Twins.{twins_in};
 ghost use Rattle.exact_run.specs.CauseSteps.{Fulfils, IsCauseOf};
 ghost use Rattle.exact_run.specs.Question.{layout_refusal};
-ghost use Rattle.exact_run.specs.SequenceQuestions.{kendall_of, runs_of, sequence_sizes, twin_sizes};
+ghost use Rattle.exact_run.specs.SequenceQuestions.{bivariate_sizes, kendall_of, runs_of, sequence_sizes};
 
 use crate::refusing::layout_refusal;
 use crate::reports::{ALL, report_on};
 use crate::requests::Request;
 use record_reader::Rows;
 use report::{Extra, Refusal, Sizes};
-use sample_reader::{Layout, Sequence, Twins, sequence, twins};
+use sample_reader::{BivariateSample, Layout, Sequence, bivariate_sample, sequence};
 use sequence_tests::{prepare_kendall, prepare_runs};
 use settings::Settings;
 use std::alloc::Global;
 use weights::Bytes;
 
-// The twins of the rows, or the refusal of their fault.
-fn twins_read(alloc: Global, settings: &Settings, rows: &Rows) -> Result<Twins, Refusal>
+// The bivariate sample of the rows, or the refusal of their fault.
+fn bivariate_read(
+    alloc: Global,
+    settings: &Settings,
+    rows: &Rows,
+) -> Result<BivariateSample, Refusal>
     requires { MayPick 2 2 settings.now.picks }
-    ensures ok { let found = twins_in settings.now.missing settings.now.picks rows.now in
-        IfOk result (λ twins. with_fault layout_refusal found ≡ Ok (twin_data_of twins)) }
-    ensures err { let found = twins_in settings.now.missing settings.now.picks rows.now in
+    ensures ok { let found = bivariate_in settings.now.missing settings.now.picks rows.now in
+        IfOk result (λ sample. with_fault layout_refusal found ≡ Ok (bivariate_data_of sample)) }
+    ensures err { let found = bivariate_in settings.now.missing settings.now.picks rows.now in
         IfErr result (IsCauseOf (with_fault layout_refusal found)) }
 {
-    twins(alloc, rows, &settings.picks, settings.missing).map_err(layout_refusal)
+    bivariate_sample(alloc, rows, &settings.picks, settings.missing).map_err(layout_refusal)
 }
 
-fn twin_sizes(twins: &Twins) -> Sizes
-    ensures { result ≡ twin_sizes (twin_data_of twins.now) }
+fn bivariate_sizes(sample: &BivariateSample) -> Sizes
+    ensures { result ≡ bivariate_sizes (bivariate_data_of sample.now) }
 {
     Sizes::Pairs {
-        rows: twins.rows,
-        used: twins.rows,
+        rows: sample.rows,
+        used: sample.rows,
     }
 }
 
@@ -45,9 +49,9 @@ pub(crate) fn kendall_report(alloc: Global, request: &Request) -> Result<Bytes, 
     requires { MayPick 2 2 request.now.settings.now.picks }
     ensures { Fulfils request.now kendall_of result }
 {
-    let twins = twins_read(alloc, request.settings, request.rows)?;
-    let problem = prepare_kendall(alloc, &twins);
-    let heading = request.heading(twin_sizes(&twins), Layout::Twins, Extra::None);
+    let sample = bivariate_read(alloc, request.settings, request.rows)?;
+    let problem = prepare_kendall(alloc, &sample);
+    let heading = request.heading(bivariate_sizes(&sample), Layout::Bivariate, Extra::None);
     report_on(alloc, request.asking, &heading, ALL, problem)
 }
 

@@ -72,7 +72,7 @@ pub(crate) fn stratified_rank_report(alloc: Global, request: &Request) -> Result
     ensures { Fulfils request.now stratified_ranks_of result }
 {
     let samples = samples_of(alloc, request.settings, request.rows)?;
-    let problem = prepare_ranks(alloc, &samples);
     let heading = request.heading(sizes_of(&samples), Layout::StrataGroups, Extra::None);
+    let problem = prepare_ranks(alloc, samples);
     report_on(alloc, request.asking, &heading, ALL, problem)
 }

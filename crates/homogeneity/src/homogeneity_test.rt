@@ -37,8 +37,8 @@ pub fn prepare_zelen(alloc: Global, strata: &Strata) -> Result<Homogeneity, Prep
 /// # Errors
 /// `TooWide(Total)` where there are more labellings than `weights::MAX`, or else `NoMemory` where
 /// memory runs out. The statistic of at most 10,000 subjects is never too wide.
-pub fn prepare_ranks(alloc: Global, samples: &StrataGroups) -> Result<Homogeneity, PrepareFault>
-    ensures { Prepares homogeneity_test (OneOf.Second (strata_data_of samples.now)) result }
+pub fn prepare_ranks(alloc: Global, samples: StrataGroups) -> Result<Homogeneity, PrepareFault>
+    ensures { Prepares homogeneity_test (OneOf.Second (strata_data_of samples)) result }
 {
     Ok(OneOf::Second(StratifiedRanks::prepare(alloc, samples)?))
 }

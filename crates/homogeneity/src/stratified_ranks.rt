@@ -6,34 +6,30 @@ ghost use Rattle.homogeneity.specs.RankMade.{AreRanked};
 ghost use Rattle.homogeneity.specs.StratifiedRanks.{stratified_rank_test};
 
 use crate::rank_made::{RankedStrata, made_of};
-use sample_reader::{Labels, StrataGroups};
+use sample_reader::StrataGroups;
 use std::alloc::Global;
 use std::marker::Model;
-use weights::{Ints, Nums, PrepareFault, WideOf};
+use weights::{PrepareFault, WideOf};
 
 /// A stratified rank sum test whose data are checked. It is seen as the samples that it was
 /// prepared of.
 #[derive(Drop)]
 pub struct StratifiedRanks {
     // What it was prepared of, by which contracts name it.
-    strata: Labels,
-    labels: Labels,
-    places: Nums,
-    members: Nums,
-    values: Ints,
+    samples: StrataGroups,
     made: RankedStrata,
 }
 
 impl Model for StratifiedRanks {
+    ghost use Rattle.sample_reader.specs.Data.{strata_data_of};
     ghost use Rattle.sample_reader.specs.StrataGroups.{StrataGroupData};
-    ghost use Rattle.homogeneity.specs.RankMade.{AreRanked, samples_of};
+    ghost use Rattle.homogeneity.specs.RankMade.{AreRanked};
 
     ghost Value = { StrataGroupData };
 
-    ghost view = { λ t. samples_of t.strata t.labels t.places t.members t.values };
+    ghost view = { λ t. strata_data_of t.samples };
 
-    ghost invariant = { λ t.
-        AreRanked (samples_of t.strata t.labels t.places t.members t.values) t.made };
+    ghost invariant = { λ t. AreRanked (strata_data_of t.samples) t.made };
 }
 
 impl StratifiedRanks {
@@ -44,21 +40,14 @@ impl StratifiedRanks {
     /// where memory runs out. The statistic of at most 10,000 subjects is never too wide.
     pub(crate) fn prepare(
         alloc: Global,
-        samples: &StrataGroups,
+        samples: StrataGroups,
     ) -> Result<StratifiedRanks, PrepareFault>
-        ensures { Prepares stratified_rank_test (strata_data_of samples.now) result }
+        ensures { Prepares stratified_rank_test (strata_data_of samples) result }
     {
-        let Some(made) = made_of(alloc, samples)? else {
+        let Some(made) = made_of(alloc, &samples)? else {
             return Err(PrepareFault::TooWide(WideOf::Total));
         };
-        Ok(StratifiedRanks {
-            strata: samples.strata.copy()?,
-            labels: samples.labels.copy()?,
-            places: samples.places.copy()?,
-            members: samples.members.copy()?,
-            values: samples.values.copy()?,
-            made,
-        })
+        Ok(StratifiedRanks { samples, made })
     }
 
     /// What was made of the samples.

@@ -1,10 +1,8 @@
 -- The sums of squares at the corners of a box, whose ends no single group passes.
-use Rattle.std.proofs.Common.{◌≡◌, ℕ, zero, suc, ◌+◌, ◌*◌, ◌≤◌, ◌⊎◌, List, [], ◌∷◌, length, max, get_or, inl, inr, ap, arith}
+use Rattle.std.proofs.Common.{◌≡◌, ℕ, suc, ◌*◌, ◌≤◌, ◌⊎◌, List, [], ◌∷◌, length, max, get_or, inl, inr, ap, arith}
 use Rattle.std.specs.Prelude.{ℤ, pos, unsigned_abs}
 use Rattle.completion_bounds.specs.Boxes.{factored_squares, greatest_size, greatest_squares}
 use Rattle.weights.specs.Numbers.{absolute_sum}
-use Rattle.label_network.proofs.Absolute.{size-plus}
-use Rattle.k_sample_tests.specs.RankSums.{plus_each}
 
 -- the greatest absolute value is that of an end
 of_end : (l h : ℤ) → (greatest_size l h ≡ unsigned_abs l) ⊎ (greatest_size l h ≡ unsigned_abs h)
@@ -35,10 +33,3 @@ module _ (most bound : ℕ) where
         | inl e ↦ omega (arith, ap (λ n. f * (n * n)) e, one f fs x b (l 0), rest)
         | inr e ↦ omega (arith, ap (λ n. f * (n * n)) e, one f fs y b (h 0), rest)
       ]
-
--- sums that are each no more than the two that are summed
-pub plus-within : (most : ℕ) (p a : List ℤ) → ((i : ℕ) → unsigned_abs (get_or p i (pos 0)) + unsigned_abs (get_or a i (pos 0)) ≤ most) → (i : ℕ) → unsigned_abs (get_or (plus_each p a) i (pos 0)) ≤ most
-plus-within most [] a h i = omega arith
-plus-within most (x ∷ p) [] h i = omega arith
-plus-within most (x ∷ p) (y ∷ a) h zero = omega (arith, h 0, size-plus x y)
-plus-within most (x ∷ p) (y ∷ a) h (suc i) = plus-within most p a (λ j. h (suc j)) i

@@ -1,6 +1,6 @@
 -- Neighbouring groups of equal size may change places in every key of the network of their squared sums.
 use Rattle.std.proofs.Common.{◌≡◌, ℕ, zero, suc, ◌+◌, ◌*◌, ◌/◌, ◌<◌, List, [], ◌∷◌, ◌++◌, length, map, take, drop, min, replicate, true, refl, sym, ◌∙◌, ap, subst, arith}
-use Rattle.std.specs.Prelude.{ℤ, pos, nat_abs, ◌≤ℤ◌, slice_index, ◌+ℤ◌, ◌*ℤ◌}
+use Rattle.std.specs.Prelude.{ℤ, pos, nat_abs, ◌≤ℤ◌, slice_index, ◌+ℤ◌, ◌-ℤ◌, ◌*ℤ◌}
 use Rattle.std.specs.List.{sum_by, Contains}
 use Rattle.std.proofs.lemmas.List.{length-map}
 use Rattle.weights.specs.Grouped.{choices, minus}
@@ -20,20 +20,23 @@ use Rattle.label_network.specs.LabelNetwork.{label_network, over_rooms}
 use Rattle.label_network.specs.LabelRooms.{label_weight}
 use Rattle.label_network.specs.Linear.{score_of}
 use Rattle.label_network.specs.LaterSums.{greatest_sum, later_scores, least_sum}
-use Rattle.label_network.specs.Meanings.{AreReached, Meaning, sizes_in}
+use Rattle.label_network.specs.Meanings.{AreReached, IsMeasure, Meaning, sizes_in}
 use Rattle.label_network.proofs.LabelPlans.{label_width}
 use Rattle.label_network.proofs.Narrowing.{chosen}
 use Rattle.label_network.proofs.OverRooms.{over_measure, over_place}
 use Rattle.label_network.proofs.Rows.{length-pos}
 use Rattle.scores.specs.PlaceScores.{common_multiple}
 use Rattle.k_sample_tests.specs.KruskalWallis.{size_factors}
-use Rattle.k_sample_tests.specs.PackedSumSteps.{sums_meaning}
-use Rattle.k_sample_tests.specs.RankSums.{plus_each, score_parts, squares_meaning}
+use Rattle.k_sample_tests.specs.SumMeanings.{sums_meaning}
+use Rattle.k_sample_tests.specs.CentredSums.{IsCentred, centred_meaning, from_middle}
+use Rattle.packed_keys.specs.PackedGroups.{plus_each}
+use Rattle.k_sample_tests.specs.RankSums.{score_parts, squares_meaning}
 use Rattle.k_sample_tests.specs.RankSumSteps.{IsSquaring}
 use Rattle.k_sample_tests.specs.declared.rank_sums.RankSums.{RankSums}
 use Rattle.label_network.proofs.ChoiceSwaps.{labellings-swap, minus-swap, swapped_choices, swapped_member}
 use Rattle.ordered_groups.proofs.OrderedKeys.{AreTurned}
 use Rattle.ordered_groups.proofs.PlaceOrder.{IsTurn, back-key, front-key, same_at, swap-same, turn}
+use Rattle.k_sample_tests.proofs.CentredNarrows.{centred_measure}
 use Rattle.k_sample_tests.proofs.RankNarrows.{length-parts, length-plus, squares_measure}
 
 plus_each-swap : (i : ℕ) (p a : List ℤ) → length a ≡ length p → plus_each (swap_at i p) (swap_at i a) ≡ swap_at i (plus_each p a)
@@ -84,9 +87,10 @@ swap-replicate zero (suc zero) z = refl
 swap-replicate zero (suc (suc n)) z = refl
 swap-replicate (suc i) (suc n) z = ap (λ zs. z ∷ zs) (swap-replicate i n z)
 
-module _ (factors : List ℕ) (bound : ℕ) (scores : List ℤ) (columns rows : List ℕ) (judge : Judge) (h : IsSquaring factors bound scores columns rows judge) (even : (i : ℕ) → same_at i rows ≡ true → swap_at i factors ≡ factors) where
+module _ (factors : List ℕ) (bound : ℕ) (scores : List ℤ) (columns rows : List ℕ) (judge : Judge) (h : IsSquaring factors bound scores columns rows judge) (even : (i : ℕ) → same_at i rows ≡ true → swap_at i factors ≡ factors)
+    (outlook : ℕ → List ℕ → List ℤ) (low high : ℕ → List ℕ → List ℤ → ℤ) (measure : IsMeasure (record (squares_meaning factors bound scores columns rows judge) { outlook = outlook; low = low; high = high })) where
   abbrev m : Meaning
-  m = squares_meaning factors bound scores columns rows judge
+  m = record (squares_meaning factors bound scores columns rows judge) { outlook = outlook; low = low; high = high }
 
   abbrev n : Network
   n = label_network m
@@ -113,7 +117,7 @@ module _ (factors : List ℕ) (bound : ℕ) (scores : List ℤ) (columns rows : 
   sizes-long g k r = length-map (room k) nat_abs ∙ room-long g k r
 
   partial-long : (g : ℕ) (k : List ℤ) → IsReached n g k → length (partial k) ≡ length rows
-  partial-long g k r = (squares_measure factors bound scores columns rows judge h).wide g (sizes_in (room k)) (partial k) (reached-label g k r)
+  partial-long g k r = measure.wide g (sizes_in (room k)) (partial k) (reached-label g k r)
 
   choices-at : (g : ℕ) (k : List ℤ) → g < length columns → n.choices g k ≡ choices (slice_index columns g) (sizes_in (room k))
   choices-at g k before = choices_before (weighed (over_rooms m) label_weight) g (room k) before
@@ -212,107 +216,128 @@ module _ (factors : List ℕ) (bound : ℕ) (scores : List ℤ) (columns rows : 
   rises g k c r before o =
       let key : AKey g k = a-key g k r in
       rw (room-next (over_rooms m) label_weight (label_width columns rows) g k c key.long, partial-next (over_rooms m) label_weight (label_width columns rows) g k c key.long)
-      ((over_measure m (squares_measure factors bound scores columns rows judge h)).low_rises g (room k) (partial k) c key.reached before (subst (λ cs. Contains cs c) (choices-at g k before) o))
+      ((over_measure m measure).low_rises g (room k) (partial k) c key.reached before (subst (λ cs. Contains cs c) (choices-at g k before) o))
 
   falls : (g : ℕ) (k : List ℤ) (c : List ℕ) → IsReached n g k → g < n.count → Contains (n.choices g k) c → m.high (g + 1) (sizes_in (room (n.next g k c))) (partial (n.next g k c)) ≤ℤ m.high g (sizes_in (room k)) (partial k)
   falls g k c r before o =
       let key : AKey g k = a-key g k r in
       rw (room-next (over_rooms m) label_weight (label_width columns rows) g k c key.long, partial-next (over_rooms m) label_weight (label_width columns rows) g k c key.long)
-      ((over_measure m (squares_measure factors bound scores columns rows judge h)).high_falls g (room k) (partial k) c key.reached before (subst (λ cs. Contains cs c) (choices-at g k before) o))
+      ((over_measure m measure).high_falls g (room k) (partial k) c key.reached before (subst (λ cs. Contains cs c) (choices-at g k before) o))
 
-  abbrev squares_intervals : HasIntervals n judge
-  squares_intervals = record {
+  abbrev sums_intervals : HasIntervals n judge
+  sums_intervals = record {
     low = λ g k. m.low g (sizes_in (room k)) (partial k);
     high = λ g k. m.high g (sizes_in (room k)) (partial k);
     verdicts = λ t g k r. refl;
     low_rises = rises;
     high_falls = falls;
-    low_ends = λ k r. (squares_measure factors bound scores columns rows judge h).low_ends (sizes_in (room k)) (partial k) (reached-label n.count k r);
-    high_ends = λ k r. (squares_measure factors bound scores columns rows judge h).high_ends (sizes_in (room k)) (partial k) (reached-label n.count k r);
+    low_ends = λ k r. measure.low_ends (sizes_in (room k)) (partial k) (reached-label n.count k r);
+    high_ends = λ k r. measure.high_ends (sizes_in (room k)) (partial k) (reached-label n.count k r);
   }
 
-  abbrev later : ℕ → List ℤ
-  later g = later_scores scores columns g
-
   -- the ends of the box of a key whose groups change places
-  module _ (i g : ℕ) (s : same_at i rows ≡ true) (k : List ℤ) (r : IsReached n g k) where
+  module _ (i g : ℕ) (k : List ℤ) (r : IsReached n g k) where
     abbrev here : List ℤ
     here = turn (length rows) i k
 
     abbrev sizes : List ℕ
     sizes = sizes_in (room k)
 
-    box-side : (part : ℕ → ℤ) → plus_each (partial here) (map part (sizes_in (room here))) ≡ swap_at i (plus_each (partial k) (map part sizes))
+    pub box-side : (part : ℕ → ℤ) → plus_each (partial here) (map part (sizes_in (room here))) ≡ swap_at i (plus_each (partial k) (map part sizes))
     box-side part =
         ap (λ q. plus_each (partial here) (map part q)) (turn-sizes i g k r)
         ∙ ap (λ q. plus_each q (map part (swap_at i sizes))) (turn-partial i g k r)
         ∙ ap (plus_each (swap_at i (partial k))) (map-swap part i sizes)
         ∙ plus_each-swap i (partial k) (map part sizes) (length-map sizes part ∙ sizes-long g k r ∙ sym (partial-long g k r))
 
-    side-long : (part : ℕ → ℤ) → length (plus_each (partial k) (map part sizes)) ≡ length rows
+    pub side-long : (part : ℕ → ℤ) → length (plus_each (partial k) (map part sizes)) ≡ length rows
     side-long part = length-plus (partial k) (map part sizes) (length-map sizes part ∙ sizes-long g k r ∙ sym (partial-long g k r)) ∙ partial-long g k r
 
-    abbrev low-part : ℕ → ℤ
-    low-part c = least_sum c (later g)
+  -- where the ends of intervals stay, groups of equal size may be put in order
+  module _ (low-turn : (i g : ℕ) → same_at i rows ≡ true → (k : List ℤ) → IsReached n g k → low g (sizes_in (room (turn (length rows) i k))) (partial (turn (length rows) i k)) ≡ low g (sizes_in (room k)) (partial k))
+      (high-turn : (i g : ℕ) → same_at i rows ≡ true → (k : List ℤ) → IsReached n g k → high g (sizes_in (room (turn (length rows) i k))) (partial (turn (length rows) i k)) ≡ high g (sizes_in (room k)) (partial k)) where
+    pub rows-turned : AreTurned rows n judge
+    rows-turned = record {
+      few = h.few_rows;
+      wide = refl;
+      long = key_long (over_rooms m) label_weight (label_width columns rows) (over_measure m measure);
+      turned = equal-turned;
+      intervals = sums_intervals;
+      low = λ g k j r (i, s, e). ap (sums_intervals.low g) e ∙ low-turn i g s k r;
+      high = λ g k j r (i, s, e). ap (sums_intervals.high g) e ∙ high-turn i g s k r;
+    }
 
-    abbrev high-part : ℕ → ℤ
-    high-part c = greatest_sum c (later g)
+-- ---- the two measures
 
-    abbrev lows : List ℤ
-    lows = plus_each (partial k) (map low-part sizes)
+module _ (factors : List ℕ) (bound : ℕ) (scores : List ℤ) (columns rows : List ℕ) (judge : Judge) (h : IsSquaring factors bound scores columns rows judge) (even : (i : ℕ) → same_at i rows ≡ true → swap_at i factors ≡ factors) where
+  -- the ends of a box that change places with the groups have the same squares
+  least-even : (i : ℕ) → same_at i rows ≡ true → (lows highs : List ℤ) → length lows ≡ length rows → length highs ≡ length rows → least_squares (swap_at i lows) (swap_at i highs) factors ≡ least_squares lows highs factors
+  least-even i s lows highs l k = ap (least_squares (swap_at i lows) (swap_at i highs)) (sym (even i s)) ∙ least-swap i lows highs factors (k ∙ sym l) (h.one_each ∙ sym l)
 
-    abbrev highs : List ℤ
-    highs = plus_each (partial k) (map high-part sizes)
+  greatest-even : (i : ℕ) → same_at i rows ≡ true → (lows highs : List ℤ) → length lows ≡ length rows → length highs ≡ length rows → greatest_squares (swap_at i lows) (swap_at i highs) factors ≡ greatest_squares lows highs factors
+  greatest-even i s lows highs l k = ap (greatest_squares (swap_at i lows) (swap_at i highs)) (sym (even i s)) ∙ greatest-swap i lows highs factors (k ∙ sym l) (h.one_each ∙ sym l)
 
-    as-many : length highs ≡ length lows
-    as-many = side-long high-part ∙ sym (side-long low-part)
+  abbrev low-part : ℕ → ℕ → ℤ
+  low-part g c = least_sum c (later_scores scores columns g)
 
-    factors-long : length factors ≡ length lows
-    factors-long = h.one_each ∙ sym (side-long low-part)
+  abbrev high-part : ℕ → ℕ → ℤ
+  high-part g c = greatest_sum c (later_scores scores columns g)
 
-    low-turn : m.low g (sizes_in (room here)) (partial here) ≡ m.low g sizes (partial k)
-    low-turn =
-        ap (λ v. pos (min v bound)) (
-        ap (λ a. least_squares a (plus_each (partial here) (map high-part (sizes_in (room here)))) factors) (box-side low-part)
-        ∙ ap (λ b. least_squares (swap_at i lows) b factors) (box-side high-part)
-        ∙ ap (λ f. least_squares (swap_at i lows) (swap_at i highs) f) (sym (even i s))
-        ∙ least-swap i lows highs factors as-many factors-long)
+  abbrev plain : Meaning
+  plain = squares_meaning factors bound scores columns rows judge
 
-    high-turn : m.high g (sizes_in (room here)) (partial here) ≡ m.high g sizes (partial k)
-    high-turn =
-        ap (λ v. pos (min v bound)) (
-        ap (λ a. greatest_squares a (plus_each (partial here) (map high-part (sizes_in (room here)))) factors) (box-side low-part)
-        ∙ ap (λ b. greatest_squares (swap_at i lows) b factors) (box-side high-part)
-        ∙ ap (λ f. greatest_squares (swap_at i lows) (swap_at i highs) f) (sym (even i s))
-        ∙ greatest-swap i lows highs factors as-many factors-long)
+  pub squares-turned : AreTurned rows (label_network plain) judge
+  squares-turned =
+      let side = box-side factors bound scores columns rows judge h even plain.outlook plain.low plain.high (squares_measure factors bound scores columns rows judge h) in
+      let long = side-long factors bound scores columns rows judge h even plain.outlook plain.low plain.high (squares_measure factors bound scores columns rows judge h) in
+      rows-turned factors bound scores columns rows judge h even plain.outlook plain.low plain.high (squares_measure factors bound scores columns rows judge h)
+      (λ i g s k r. ap (λ v. pos (min v bound))
+      (rw (side i g k r (low-part g), side i g k r (high-part g)) (least-even i s _ _ (long i g k r (low-part g)) (long i g k r (high-part g)))))
+      (λ i g s k r. ap (λ v. pos (min v bound))
+      (rw (side i g k r (low-part g), side i g k r (high-part g)) (greatest-even i s _ _ (long i g k r (low-part g)) (long i g k r (high-part g)))))
 
-  equal-low : (g : ℕ) (k j : List ℤ) → IsReached n g k → IsTurn rows k j → squares_intervals.low g j ≡ squares_intervals.low g k
-  equal-low g k j r (i, s, e) = ap (squares_intervals.low g) e ∙ low-turn i g s k r
+  module _ (base middle : ℕ) (c : IsCentred factors bound base middle scores columns rows) where
+    abbrev shifts : List ℤ
+    shifts = from_middle middle rows
 
-  equal-high : (g : ℕ) (k j : List ℤ) → IsReached n g k → IsTurn rows k j → squares_intervals.high g j ≡ squares_intervals.high g k
-  equal-high g k j r (i, s, e) = ap (squares_intervals.high g) e ∙ high-turn i g s k r
+    abbrev centred : Meaning
+    centred = centred_meaning factors bound base middle scores columns rows judge
 
-  -- so groups of equal size may be put in order
-  pub rows-turned : AreTurned rows n judge
-  rows-turned = record {
-    few = h.few_rows;
-    wide = refl;
-    long = key_long (over_rooms m) label_weight (label_width columns rows) (over_measure m (squares_measure factors bound scores columns rows judge h));
-    turned = equal-turned;
-    intervals = squares_intervals;
-    low = equal-low;
-    high = equal-high;
-  }
+    shifts-long : length shifts ≡ length rows
+    shifts-long = length-parts (pos 0 -ℤ pos middle) rows
+
+    -- groups of equal size are seen from one middle
+    shifts-even : (i : ℕ) → same_at i rows ≡ true → swap_at i shifts ≡ shifts
+    shifts-even i s = sym (map-swap (λ n. pos n *ℤ (pos 0 -ℤ pos middle)) i rows) ∙ ap (from_middle middle) (swap-same i rows s)
+
+    seen-swap : (i : ℕ) → same_at i rows ≡ true → (ends : List ℤ) → length ends ≡ length rows → plus_each (swap_at i ends) shifts ≡ swap_at i (plus_each ends shifts)
+    seen-swap i s ends l = ap (plus_each (swap_at i ends)) (sym (shifts-even i s)) ∙ plus_each-swap i ends shifts (shifts-long ∙ sym l)
+
+    seen-long : (ends : List ℤ) → length ends ≡ length rows → length (plus_each ends shifts) ≡ length rows
+    seen-long ends l = length-plus ends shifts (shifts-long ∙ sym l) ∙ l
+
+    pub centred-turned : AreTurned rows (label_network centred) judge
+    centred-turned =
+        let measure = centred_measure factors bound base middle scores columns rows judge h c in
+        let side = box-side factors bound scores columns rows judge h even centred.outlook centred.low centred.high measure in
+        let long = side-long factors bound scores columns rows judge h even centred.outlook centred.low centred.high measure in
+        rows-turned factors bound scores columns rows judge h even centred.outlook centred.low centred.high measure
+        (λ i g s k r. ap (λ v. pos (min (base + v) bound))
+        (rw (side i g k r (low-part g), side i g k r (high-part g), seen-swap i s _ (long i g k r (low-part g)), seen-swap i s _ (long i g k r (high-part g)))
+        (least-even i s _ _ (seen-long _ (long i g k r (low-part g))) (seen-long _ (long i g k r (high-part g))))))
+        (λ i g s k r. ap (λ v. pos (min (base + v) bound))
+        (rw (side i g k r (low-part g), side i g k r (high-part g), seen-swap i s _ (long i g k r (low-part g)), seen-swap i s _ (long i g k r (high-part g)))
+        (greatest-even i s _ _ (seen-long _ (long i g k r (low-part g))) (seen-long _ (long i g k r (high-part g))))))
 
 -- ---- the factors of a test
 
 -- groups of equal size have equal factors
-even-factors : (sizes : List ℕ) (i : ℕ) → same_at i sizes ≡ true → swap_at i (size_factors sizes) ≡ size_factors sizes
+pub even-factors : (sizes : List ℕ) (i : ℕ) → same_at i sizes ≡ true → swap_at i (size_factors sizes) ≡ size_factors sizes
 even-factors sizes i s = sym (map-swap (λ n. common_multiple sizes / n) i sizes) ∙ ap (map (λ n. common_multiple sizes / n)) (swap-same i sizes s)
 
 pub groups-turned : (m : RankSums) (sizes : List ℕ) → sizes ≡ m.rows.items → m.factors.items ≡ size_factors sizes → AreTurned sizes (label_network (sums_meaning m)) m.judge
 groups-turned m sizes rows_are factors_are =
     subst (λ ns. AreTurned ns (label_network (sums_meaning m)) m.judge) (sym rows_are)
-    (rows-turned m.factors.items m.bound m.later.scores.items m.later.columns.items m.rows.items m.judge m.right.squaring
+    (squares-turned m.factors.items m.bound m.later.scores.items m.later.columns.items m.rows.items m.judge m.right.squaring
     (subst (λ ns. (i : ℕ) → same_at i ns ≡ true → swap_at i m.factors.items ≡ m.factors.items) rows_are
     (subst (λ fs. (i : ℕ) → same_at i sizes ≡ true → swap_at i fs ≡ fs) (sym factors_are) (even-factors sizes))))

@@ -5,7 +5,6 @@ use Rattle.std.specs.List.{All, AllByRecursion}
 use Rattle.std.proofs.Math.Nat.{div-le_self, mul-le-mul, mul-le-mul_left, mul-le-mul_right}
 use Rattle.std.proofs.lemmas.List.{length-map}
 use Rattle.std.proofs.lemmas.List.Elements.{recursion_from_All}
-use Rattle.weights.specs.declared.tails.Tail.{Tail}
 use Rattle.weights.specs.declared.TheConstants.{MAX}
 use Rattle.weights.specs.declared.wide.WideOf.TheVariants.{Total, Statistic}
 use Rattle.weights.specs.declared.wide.PrepareFault.{PrepareFault}
@@ -27,26 +26,23 @@ use Rattle.sample_reader.specs.Groups.{group_sizes}
 use Rattle.sample_reader.specs.declared.samples.Groups.{Groups}
 use Rattle.stage_network.specs.declared.verdicts.Judge.{Judge}
 use Rattle.stage_network.specs.Judged.{judge_of}
-use Rattle.stage_network.specs.Follows.{Follows}
 use Rattle.label_network.proofs.Endings.{labelling_value}
 use Rattle.label_network.specs.LabelRooms.{IsLabelled}
 use Rattle.label_network.specs.LabelNetwork.{IsMargin, label_network, over_rooms}
 use Rattle.label_network.specs.LaterSums.{subjects}
 use Rattle.label_network.specs.Meanings.{IsMeasure, Meaning}
 use Rattle.labelled.specs.LabelTests.{IsSound, IsWithin}
-use Rattle.labelled.proofs.LabelLaws.{label-follows, label-judge, label-sound}
+use Rattle.labelled.proofs.LabelLaws.{label-judge, label-sound}
 use Rattle.pooled_columns.specs.PooledColumns.{column_scores, column_sizes, pooled_values}
+use Rattle.pooled_columns.specs.ScoredGroups.{AreSubjectsOf}
 use Rattle.pooled_columns.proofs.PooledValues.{pooled-rises}
 use Rattle.pooled_columns.proofs.TieColumns.{grouped}
 use Rattle.k_sample_tests.specs.KruskalWallis.{ScoredGroups, group_sums, kruskal_wallis_says, kruskal_wallis_test, pooled_scores, size_factors, squares_statistic}
-use Rattle.k_sample_tests.specs.PackedSums.{packed_meaning}
 use Rattle.k_sample_tests.specs.RankSums.{unpacked_meaning}
-use Rattle.k_sample_tests.specs.RankSumSteps.{AreFitting, IsMadeOf, IsScoredBy, IsSquaring}
+use Rattle.k_sample_tests.specs.RankSumSteps.{AreFitting, IsMadeOf, IsSquaring}
 use Rattle.k_sample_tests.proofs.FittingUmbrella.{columns-sum}
 use Rattle.pooled_columns.proofs.GroupFacts.{few_rows, few_subjects, none-empty, observed-labelling, sizes-whole, some_rows}
 use Rattle.k_sample_tests.proofs.GroupSums.{squares-most, sums-within}
-use Rattle.k_sample_tests.proofs.PackedKeys.{packed_squares}
-use Rattle.k_sample_tests.proofs.PackedValues.{packed-value}
 use Rattle.k_sample_tests.proofs.RankNarrows.{squares_measure}
 use Rattle.k_sample_tests.proofs.RankValues.{value-is}
 
@@ -127,7 +123,7 @@ module _ (samples : ScoredGroups) (f : AreFitting samples) where
   unpacked-measure : IsMeasure (unpacked_meaning samples)
   unpacked-measure = squares_measure (size_factors (group_sizes samples.groups)) (kruskal_wallis_test samples).bound (column_scores samples.kind (pooled_values samples.groups)) (column_sizes (pooled_values samples.groups)) (group_sizes samples.groups) (judge_of (kruskal_wallis_test samples)) (is-squaring (judge_of (kruskal_wallis_test samples)) refl)
 
-  unpacked-value : (xs : List ℕ) → squares_statistic (group_sizes samples.groups) (pooled_scores samples) xs ≡ labelling_value (unpacked_meaning samples) xs
+  pub unpacked-value : (xs : List ℕ) → squares_statistic (group_sizes samples.groups) (pooled_scores samples) xs ≡ labelling_value (unpacked_meaning samples) xs
   unpacked-value xs =
       ap (λ s. squares_statistic (group_sizes samples.groups) s xs) (sym column-subjects)
       ∙ sym (value-is (size_factors (group_sizes samples.groups)) (kruskal_wallis_test samples).bound (column_scores samples.kind (pooled_values samples.groups)) (column_sizes (pooled_values samples.groups)) (group_sizes samples.groups) (judge_of (kruskal_wallis_test samples)) columns-level xs)
@@ -146,18 +142,6 @@ module _ (samples : ScoredGroups) (f : AreFitting samples) where
     where
       labelled : IsLabelled (column_sizes (pooled_values samples.groups)) (group_sizes samples.groups)
       labelled = record { level = columns-sum samples.groups ∙ sym f.whole; units = omega (arith, f.whole, f.few); few = f.few_rows; total = f.total_fits }
-
-  -- where all scores together are less than half of the base
-  module _ (tail : Tail) (half : ℕ) (e : absolute_sum (pooled_scores samples) < half) where
-    small-sums : absolute_sum (subjects (column_scores samples.kind (pooled_values samples.groups)) (column_sizes (pooled_values samples.groups))) < half
-    small-sums = omega (arith, column-total, e)
-
-    pub follows-packed : Follows (kruskal_wallis_test samples) tail (label_network (packed_meaning half (unpacked_meaning samples)))
-    follows-packed = label-follows (kruskal_wallis_says samples) (packed_meaning half (unpacked_meaning samples))
-        (packed_squares (size_factors (group_sizes samples.groups)) (kruskal_wallis_test samples).bound (column_scores samples.kind (pooled_values samples.groups)) (column_sizes (pooled_values samples.groups)) (group_sizes samples.groups) (judge_of (kruskal_wallis_test samples)) (is-squaring (judge_of (kruskal_wallis_test samples)) refl) half small-sums) refl refl
-        (λ xs m. unpacked-value xs
-        ∙ sym (packed-value (size_factors (group_sizes samples.groups)) (kruskal_wallis_test samples).bound (column_scores samples.kind (pooled_values samples.groups)) (column_sizes (pooled_values samples.groups)) (group_sizes samples.groups) (judge_of (kruskal_wallis_test samples)) half columns-level small-sums xs))
-        tail
 
 -- ---- of the groups of a file
 
@@ -186,11 +170,10 @@ pub record AreFound (kind : ScoreKind) (groups : Groups) (scored : Scored) (mult
   pub bound_is : bound ≡ (kruskal_wallis_test (record { kind = kind; groups = data_of groups })).bound
   pub fitting : AreFitting (record { kind = kind; groups = data_of groups })
 
-pub are-found : (kind : ScoreKind) (groups : Groups) (values : List ℤ) (sizes : List ℕ) (scored : Scored) (multiple most bound : ℕ)
-    → values ≡ pooled_values (data_of groups) → sizes ≡ group_sizes (data_of groups) → AreScores kind values scored → multiple ≡ common_multiple sizes → most ≡ max scored.sum scored.scale
+pub are-found : (kind : ScoreKind) (groups : Groups) (sizes : List ℕ) (scored : Scored) (multiple most bound : ℕ)
+    → sizes ≡ group_sizes (data_of groups) → AreScores kind (pooled_values (data_of groups)) scored → multiple ≡ common_multiple sizes → most ≡ max scored.sum scored.scale
     → (multiple * (most * most) ≤ MAX) × (bound ≡ multiple * (most * most)) → number_of_labellings groups.sizes ≤ MAX → AreFound kind groups scored multiple bound
-are-found kind groups values sizes scored multiple most bound v s a n x b total =
-    let scores : AreScores kind (pooled_values (data_of groups)) scored = subst (λ vs. AreScores kind vs scored) v a in
+are-found kind groups sizes scored multiple most bound s scores n x b total =
     let multiple_is : multiple ≡ common_multiple (group_sizes (data_of groups)) = n ∙ ap common_multiple s in
     let most_is : most ≡ max (score_sum kind (pooled_values (data_of groups))) (scale_of kind (pooled_values (data_of groups))) = x ∙ rw (scores.sum, scores.scale) refl in
     let bound_is : bound ≡ (kruskal_wallis_test (record { kind = kind; groups = data_of groups })).bound = b.1 ∙ rw (multiple_is, most_is) refl in
@@ -216,7 +199,7 @@ multiple-wide kind groups wide =
     let whole : common_multiple (group_sizes (data_of groups)) * 1 ≤ common_multiple (group_sizes (data_of groups)) * (most * most) = mul-le-mul_left (common_multiple (group_sizes (data_of groups))) square in
     omega (arith, wide, whole)
 
-pub scores-refused : (kind : ScoreKind) (groups : Groups) (e : PrepareFault) → IsScoredBy kind (pooled_values (data_of groups)) (Err e) → IsMadeOf (record { kind = kind; groups = data_of groups }) (Err e)
+pub scores-refused : (kind : ScoreKind) (groups : Groups) (e : PrepareFault) → AreSubjectsOf kind (data_of groups) (Err e) → IsMadeOf (record { kind = kind; groups = data_of groups }) (Err e)
 scores-refused kind groups (TooWide Total) is = is
 scores-refused kind groups (TooWide Statistic) is = scores-wide kind groups is
 scores-refused kind groups NoMemory is = tt

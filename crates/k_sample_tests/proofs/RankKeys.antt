@@ -31,12 +31,12 @@ use Rattle.label_network.proofs.Rows.{length-abs}
 use Rattle.label_network.proofs.Sizes.{sizes-of_pos}
 use Rattle.k_sample_tests.specs.RankSums.{greatest_parts, least_parts, score_parts}
 use Rattle.k_sample_tests.specs.RankSumSteps.{AreAddable, AreTabled, parts_of}
-use Rattle.k_sample_tests.specs.PackedSumSteps.{sums_meaning}
+use Rattle.k_sample_tests.specs.SumMeanings.{sums_meaning}
 use Rattle.k_sample_tests.specs.declared.rank_sums.RankSums.{RankSums}
 use Rattle.k_sample_tests.proofs.PairFits.{at-within}
 use Rattle.k_sample_tests.proofs.RankNarrows.{IsPartial, column-size, reached_left, reached_partial}
 
-size-within : (p : List ℤ) (i : ℕ) → unsigned_abs (get_or p i (pos 0)) ≤ absolute_sum p
+pub size-within : (p : List ℤ) (i : ℕ) → unsigned_abs (get_or p i (pos 0)) ≤ absolute_sum p
 size-within [] i = omega arith
 size-within (a ∷ p) zero = omega arith
 size-within (a ∷ p) (suc i) = omega (arith, size-within p i)

@@ -25,7 +25,8 @@ use Rattle.label_network.proofs.Later.{fits-length, later-end, later-next, sizes
 use Rattle.label_network.proofs.LaterArcs.{part-arc}
 use Rattle.label_network.proofs.Narrowing.{IsLeft, IsNarrowing, measured, reached-kept, reached-left}
 use Rattle.label_network.proofs.LinearArcs.{part-none}
-use Rattle.k_sample_tests.specs.RankSums.{greatest_parts, least_parts, plus_each, score_parts, squares_meaning}
+use Rattle.packed_keys.specs.PackedGroups.{plus_each}
+use Rattle.k_sample_tests.specs.RankSums.{greatest_parts, least_parts, score_parts, squares_meaning}
 use Rattle.k_sample_tests.specs.RankSumSteps.{IsSquaring}
 
 -- ---- one group
@@ -71,12 +72,12 @@ narrower (p ∷ ps) (m ∷ ms) (k ∷ x) c v later l f h e =
 
 -- after the last column the box is one point
 
-lows-end : (p : List ℤ) (r : List ℕ) → length p ≡ length r → plus_each p (least_parts [] r) ≡ p
+pub lows-end : (p : List ℤ) (r : List ℕ) → length p ≡ length r → plus_each p (least_parts [] r) ≡ p
 lows-end [] r l = refl
 lows-end (p ∷ ps) [] l = absurd (omega (arith, l))
 lows-end (p ∷ ps) (m ∷ ms) l = rw (part-none int_min m, +ℤ_idr p, lows-end ps ms (omega (arith, l))) refl
 
-highs-end : (p : List ℤ) (r : List ℕ) → length p ≡ length r → plus_each p (greatest_parts [] r) ≡ p
+pub highs-end : (p : List ℤ) (r : List ℕ) → length p ≡ length r → plus_each p (greatest_parts [] r) ≡ p
 highs-end [] r l = refl
 highs-end (p ∷ ps) [] l = absurd (omega (arith, l))
 highs-end (p ∷ ps) (m ∷ ms) l = rw (part-none int_max m, +ℤ_idr p, highs-end ps ms (omega (arith, l))) refl
@@ -128,7 +129,7 @@ module _ (factors : List ℕ) (bound : ℕ) (scores : List ℤ) (columns rows : 
           small = omega (arith, k.small, column-size, sizes-plus (score_of scores g) p x, (ap (λ n. n * unsigned_abs (score_of scores g)) c.whole));
         }
 
-    in-box : IsNarrower (plus_each p (least_parts (replicate (slice_index columns g) (score_of scores g) ++ later_scores scores columns (g + 1)) r)) (plus_each p (greatest_parts (replicate (slice_index columns g) (score_of scores g) ++ later_scores scores columns (g + 1)) r)) (plus_each (plus_each p (score_parts (score_of scores g) x)) (least_parts (later_scores scores columns (g + 1)) (minus r x))) (plus_each (plus_each p (score_parts (score_of scores g) x)) (greatest_parts (later_scores scores columns (g + 1)) (minus r x)))
+    pub in-box : IsNarrower (plus_each p (least_parts (replicate (slice_index columns g) (score_of scores g) ++ later_scores scores columns (g + 1)) r)) (plus_each p (greatest_parts (replicate (slice_index columns g) (score_of scores g) ++ later_scores scores columns (g + 1)) r)) (plus_each (plus_each p (score_parts (score_of scores g) x)) (least_parts (later_scores scores columns (g + 1)) (minus r x))) (plus_each (plus_each p (score_parts (score_of scores g) x)) (greatest_parts (later_scores scores columns (g + 1)) (minus r x)))
     in-box = narrower p r x (slice_index columns g) (score_of scores g) (later_scores scores columns (g + 1)) wide-left c.fitting (omega (arith, c.whole)) room
 
   capped : (a b : ℕ) → a ≤ b → pos (min a bound) ≤ℤ pos (min b bound)

@@ -19,7 +19,8 @@ use Rattle.label_network.proofs.LaterArcs.{more-times}
 use Rattle.scores.specs.Scores.{labelled_sum}
 use Rattle.scores.proofs.LabelledSums.{labelled-none}
 use Rattle.k_sample_tests.specs.KruskalWallis.{group_sums}
-use Rattle.k_sample_tests.specs.RankSums.{plus_each, score_parts, squares_meaning}
+use Rattle.packed_keys.specs.PackedGroups.{plus_each}
+use Rattle.k_sample_tests.specs.RankSums.{score_parts, squares_meaning}
 use Rattle.k_sample_tests.proofs.RankNarrows.{length-parts, length-plus}
 
 -- ---- one group

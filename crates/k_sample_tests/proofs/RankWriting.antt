@@ -7,7 +7,7 @@ use Rattle.std.proofs.lemmas.List.FromFn.{get_or-range_with_len}
 use Rattle.weights.specs.Labellings.{labels}
 use Rattle.scores.specs.Scores.{labelled_sum}
 use Rattle.k_sample_tests.specs.KruskalWallis.{group_sums}
-use Rattle.k_sample_tests.specs.RankSums.{plus_each}
+use Rattle.packed_keys.specs.PackedGroups.{plus_each}
 use Rattle.k_sample_tests.proofs.RankValues.{length-labels}
 
 pub plus-at : (p a : List ℤ) (i : ℕ) → length a ≡ length p → i < length p → get_or (plus_each p a) i (pos 0) ≡ get_or p i (pos 0) +ℤ get_or a i (pos 0)

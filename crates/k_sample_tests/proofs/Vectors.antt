@@ -1,5 +1,5 @@
 -- Worked rows of the definition, by computation.
-use Rattle.std.specs.Prelude.{◌≡◌, pos, negsuc, [], ◌∷◌, codes}
+use Rattle.std.specs.Prelude.{◌≡◌, pos, [], ◌∷◌, codes}
 use Rattle.std.proofs.Common.{refl}
 use Rattle.weights.specs.Conditional.{numerator, observed_statistic, total}
 use Rattle.weights.specs.declared.tails.Tail.TheVariants.{Less, Greater, Two}
@@ -8,9 +8,10 @@ use Rattle.midranks.specs.Midranks.{doubled_midrank, number_below, number_equal}
 use Rattle.scores.specs.PlaceScores.{common_multiple}
 use Rattle.scores.specs.declared.kinds.ScoreKind.TheVariants.{Wilcoxon}
 use Rattle.sample_reader.specs.PooledSample.{paired_subjects}
+use Rattle.completion_bounds.specs.Boxes.{factored_squares}
+use Rattle.packed_keys.specs.PackedGroups.{plus_each}
+use Rattle.k_sample_tests.specs.CentredSums.{from_middle, middle_squares}
 use Rattle.k_sample_tests.specs.KruskalWallis.{ScoredGroups, kruskal_wallis_test}
-use Rattle.k_sample_tests.specs.PackedSums.{numeral, pack, unpack}
-use Rattle.k_sample_tests.specs.RankSums.{half_for}
 use Rattle.k_sample_tests.specs.Umbrella.{PeakedGroups, umbrella_test, used_pairs}
 
 -- of three groups that rise to the second, it is above both others
@@ -116,23 +117,9 @@ beside_greater : numerator (kruskal_wallis_test beside) Greater ≡ 3
 unfolding paired_subjects number_below number_equal doubled_midrank common_multiple lcm beside
 beside_greater = refl
 
--- the sums 1 and -3 in the base 16: the digits 9 and 5
-packed_pair : pack 8 (pos 1 ∷ negsuc 2 ∷ []) ≡ pos 89
-packed_pair = refl
+-- seen from the middle score 4, the sums 3 and 9 are -1 and 1: 2 * 1 + 1, and all labellings have 96 more
+beside_middle : middle_squares 2 4 12 3 ≡ 96
+beside_middle = refl
 
-unpacked_pair : unpack 8 2 (pos 89) ≡ pos 1 ∷ negsuc 2 ∷ []
-unpacked_pair = refl
-
--- a step of 2 and -1 takes 14 off, and leads to 3 and -4
-step_number : numeral 16 (pos 2 ∷ negsuc 0 ∷ []) ≡ negsuc 13
-step_number = refl
-
-led_pair : unpack 8 2 (pos 75) ≡ pos 3 ∷ negsuc 3 ∷ []
-led_pair = refl
-
--- of three groups each has 42 bits, and of eight 15
-half_of_three : half_for 3 ≡ 2199023255552
-half_of_three = refl
-
-half_of_eight : half_for 8 ≡ 16384
-half_of_eight = refl
+beside_seen : factored_squares (plus_each (pos 3 ∷ pos 9 ∷ []) (from_middle 4 (1 ∷ 2 ∷ []))) (2 ∷ 1 ∷ []) ≡ 3
+beside_seen = refl

@@ -1,9 +1,9 @@
 pub mod Umbrella
 pub mod KruskalWallis
 pub mod PairCounts
-pub mod PackedSums
 pub mod RankSums
+pub mod CentredSums
 pub mod KSamples
 pub mod UmbrellaSteps
 pub mod RankSumSteps
-pub mod PackedSumSteps
+pub mod SumMeanings

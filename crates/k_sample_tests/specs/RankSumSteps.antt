@@ -1,5 +1,5 @@
 -- Words for the bodies of the test of Kruskal and Wallis.
-use Rattle.std.specs.Prelude.{◌≡◌, ℕ, ◌+◌, ◌-◌, ◌<◌, ◌≤◌, ℤ, pos, unsigned_abs, List, length, map, get_or, Result, Ok, Err}
+use Rattle.std.specs.Prelude.{◌≡◌, ℕ, ◌+◌, ◌-◌, ◌^◌, ◌<◌, ◌≤◌, ℤ, pos, ◌+ℤ◌, unsigned_abs, List, length, map, get_or, Result, Ok, Err}
 use Rattle.std.specs.List.{All, Contains, sum}
 use Rattle.weights.specs.Labellings.{labellings, number_of_labellings}
 use Rattle.stage_network.specs.Judged.{JudgeFits}
@@ -8,10 +8,7 @@ use Rattle.stage_network.specs.declared.verdicts.Judge.{Judge}
 use Rattle.weights.specs.declared.wide.PrepareFault.{PrepareFault}
 use Rattle.completion_bounds.specs.Boxes.{factored_squares}
 use Rattle.record_reader.specs.declared.TheConstants.{MOST_ROWS}
-use Rattle.scores.specs.Scores.{AreScores, score_sum}
 use Rattle.weights.specs.Numbers.{absolute_sum}
-use Rattle.scores.specs.declared.kinds.ScoreKind.{ScoreKind}
-use Rattle.scores.specs.declared.kinds.Scored.{Scored}
 use Rattle.sample_reader.specs.Groups.{group_sizes}
 use Rattle.sample_reader.specs.PooledSample.{labels_of, pooled}
 use Rattle.labelled.specs.LabelTests.{IsRefusedBy}
@@ -31,6 +28,11 @@ pub record AreAddable (partial added : List ℤ) : Type 0 where
 -- what groups of these sizes get of the later scores at an end, each by itself
 abbrev pub parts_of : End → List ℤ → List ℕ → List ℤ
 parts_of end later sizes = map (λ n. part_sum (better_of end) n later) sizes
+
+-- place by place, the two sum to less than 32 bits hold
+pub record AreNarrow (partial added : List ℤ) : Type 0 where
+  pub each : (i : ℕ) → i < length partial
+      → unsigned_abs (get_or partial i (pos 0) +ℤ get_or added i (pos 0)) < 2 ^ 31
 
 -- of the later scores as many are held as each of the sizes
 pub record AreTabled (width : ℕ) (later : List ℤ) (sizes : List ℕ) : Type 0 where
@@ -76,6 +78,7 @@ pub record AreFitting (samples : ScoredGroups) : Type 0 where
 -- what is made of them
 pub record AreScored (samples : ScoredGroups) (made : GroupScores) : Type 0 where
   pub sizes : made.sizes ≡ group_sizes samples.groups
+  pub labels : made.labels ≡ labels_of (pooled samples.groups)
   pub factors : made.factors.items ≡ size_factors (group_sizes samples.groups)
   pub bound : made.bound ≡ (kruskal_wallis_test samples).bound
   pub scale : made.scale ≡ (kruskal_wallis_test samples).scale
@@ -85,11 +88,6 @@ pub record AreScored (samples : ScoredGroups) (made : GroupScores) : Type 0 wher
   pub column_scores : made.columns.scores
       ≡ column_scores samples.kind (pooled_values samples.groups)
   pub fitting : AreFitting samples
-
--- the scores of values, or their sum is too wide
-abbrev pub IsScoredBy : ScoreKind → List ℤ → Result Scored PrepareFault → Type 0
-IsScoredBy kind values (Ok scored) = AreScores kind values scored
-IsScoredBy kind values (Err fault) = IsRefusedBy (score_sum kind values) fault
 
 -- that is made, or the bound is too wide
 abbrev pub IsMadeOf : ScoredGroups → Result GroupScores PrepareFault → Type 0

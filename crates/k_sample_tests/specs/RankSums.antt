@@ -1,7 +1,7 @@
 -- The network of the test of Kruskal and Wallis: a stage is a distinct value, ascending, with the
 -- subjects that have it, and its choice says how many of them are of each group. A key's partial is
 -- the sum of scores that each group has so far.
-use Rattle.std.specs.Prelude.{ℕ, ◌-◌, ◌*◌, ◌/◌, ◌^◌, ℤ, pos, ◌+ℤ◌, ◌*ℤ◌, List, [], ◌∷◌, ◌++◌, length, map, min, replicate}
+use Rattle.std.specs.Prelude.{ℕ, ◌*◌, ℤ, pos, ◌*ℤ◌, List, ◌++◌, length, map, min, replicate}
 use Rattle.weights.specs.declared.tails.Tail.{Tail}
 use Rattle.completion_bounds.specs.Boxes.{factored_squares, greatest_squares, least_squares}
 use Rattle.sample_reader.specs.Groups.{group_sizes}
@@ -12,18 +12,13 @@ use Rattle.label_network.specs.LabelNetwork.{label_network}
 use Rattle.label_network.specs.LaterSums.{greatest_sum, later_scores, least_sum}
 use Rattle.label_network.specs.Linear.{score_of}
 use Rattle.label_network.specs.Meanings.{Meaning}
+use Rattle.packed_keys.specs.PackedGroups.{plus_each}
 use Rattle.pooled_columns.specs.PooledColumns.{column_scores, column_sizes, pooled_values}
 use Rattle.k_sample_tests.specs.KruskalWallis.{ScoredGroups, kruskal_wallis_test, size_factors}
 
 -- what counts of subjects with one score add to the groups' sums
 abbrev pub score_parts : ℤ → List ℕ → List ℤ
 score_parts s counts = map (λ n. pos n *ℤ s) counts
-
--- the sums, place by place
-abbrev pub plus_each : List ℤ → List ℤ → List ℤ
-plus_each [] added = []
-plus_each (p ∷ partial) [] = []
-plus_each (p ∷ partial) (a ∷ added) = (p +ℤ a) ∷ plus_each partial added
 
 -- the least that groups of the sizes that remain can get of the later scores, each by itself
 abbrev pub least_parts : List ℤ → List ℕ → List ℤ
@@ -78,7 +73,3 @@ unpacked_meaning samples =
 
 abbrev pub kruskal_wallis_network : ScoredGroups → Tail → Network
 kruskal_wallis_network samples tail = label_network (unpacked_meaning samples)
-
--- half of the base in which 127 bits hold a digit of each of k groups
-abbrev pub half_for : ℕ → ℕ
-half_for k = 2 ^ (127 / k - 1)

@@ -1,5 +1,5 @@
 // The statistic of a test of Kruskal and Wallis, and its networks.
-ghost use Rattle.std.specs.Prelude.{◌≡◌, ◌<◌, true, length, IfOk};
+ghost use Rattle.std.specs.Prelude.{◌≡◌, ◌/◌, ◌^◌, ◌<◌, false, true, length, IfOk};
 ghost use Rattle.weights.specs.Numbers.{absolute_sum};
 ghost use Rattle.weights.specs.declared.tails.Tail.{Tail};
 ghost use Rattle.sample_reader.specs.Groups.{group_sizes};
@@ -7,24 +7,30 @@ ghost use Rattle.stage_network.specs.Follows.{Follows};
 ghost use Rattle.stage_network.specs.Judged.{judge_of};
 ghost use Rattle.label_network.specs.LabelNetwork.{label_network};
 ghost use Rattle.ordered_groups.specs.OrderedNetworks.{ordered_network};
+ghost use Rattle.packed_keys.specs.PackedKeys.{packed_network};
+ghost use Rattle.pooled_columns.specs.PooledColumns.{column_scores, pooled_values};
+ghost use Rattle.k_sample_tests.specs.CentredSums.{AreHeld};
 ghost use Rattle.k_sample_tests.specs.KruskalWallis.{kruskal_wallis_test, pooled_scores};
-ghost use Rattle.k_sample_tests.specs.PackedSums.{packed_meaning};
-ghost use Rattle.k_sample_tests.specs.RankSums.{half_for, unpacked_meaning};
-ghost use Rattle.k_sample_tests.specs.PackedSumSteps.{AreSums, sums_meaning};
+ghost use Rattle.k_sample_tests.specs.RankSums.{unpacked_meaning};
+ghost use Rattle.k_sample_tests.specs.SumMeanings.{AreSums, seen_meaning, sums_meaning};
 
+use crate::centred_sums::CentredSums;
 use crate::group_sums::squares_statistic;
 use crate::kruskal_wallis::SquaredSums;
-use crate::packed_sums::{PackedSums, half_for};
 use crate::rank_sums::RankSums;
 use label_network::{LabelRooms, LabelStages, label_stages};
 use labelled::LabelStatistic;
 use ordered_groups::InOrder;
+use packed_keys::{PackedGroups, bits_for};
 use stage_network::{Judge, OneOf};
 use std::alloc::Global;
 use weights::{NoMemory, Tail};
 
-// The network of the groups' sums with groups of equal size in order.
-type EqualGroups = InOrder<LabelRooms, RankSums>;
+// The network of the groups' sums with groups of equal size in order and the sums in one number.
+type EqualGroups = PackedGroups<LabelRooms, CentredSums>;
+
+// The same with a number for each group.
+type OrderedSums = InOrder<LabelRooms, RankSums>;
 
 // The sums of the groups' scores as what is measured.
 fn rank_sums(alloc: Global, problem: &SquaredSums, judge: Judge) -> Result<RankSums, NoMemory>
@@ -63,33 +69,60 @@ fn written_stages(
     Ok(stages)
 }
 
-// Whether one number holds the sums of all groups, since no sum comes to half of the base.
-fn fits_one(problem: &SquaredSums) -> bool
-    ensures { result ≡ true → absolute_sum (pooled_scores problem.now)
-        < half_for (length (group_sizes problem.now.groups)) }
+// Whether no score is negative.
+fn are_held(scores: &[i128]) -> bool
+    ensures { result ≡ true → AreHeld scores.now }
 {
-    let made = problem.made();
-    made.sum < half_for(made.sizes.as_slice().len()) as u128
+    for i in 0..scores.len() {
+        if scores[i] < 0 {
+            return false;
+        }
+    }
+    true
 }
 
-// The network with one number for all groups, which holds their sums.
+// Whether one number holds the sums of all groups: no score is negative, and all scores together
+// are less than a digit holds.
+fn fits_one(problem: &SquaredSums) -> bool
+    ensures small { result ≡ true → absolute_sum (pooled_scores problem.now)
+        < 2 ^ (127 / length (group_sizes problem.now.groups)) }
+    ensures held { result ≡ true → AreHeld
+        (column_scores problem.now.kind (pooled_values problem.now.groups)) }
+{
+    let made = problem.made();
+    let bits = bits_for(made.sizes.as_slice().len());
+    made.sum < 1 << bits && are_held(made.columns.scores.as_slice())
+}
+
+// The network with groups of equal size in order and the sums of all groups in one number.
 fn packed_stages(
     alloc: Global,
     problem: &SquaredSums,
     judge: Judge,
-) -> Result<LabelStages<PackedSums>, NoMemory>
+) -> Result<EqualGroups, NoMemory>
     requires judge { judge ≡ judge_of (kruskal_wallis_test problem.now) }
     requires small { absolute_sum (pooled_scores problem.now)
-        < half_for (length (group_sizes problem.now.groups)) }
+        < 2 ^ (127 / length (group_sizes problem.now.groups)) }
+    requires held { AreHeld
+        (column_scores problem.now.kind (pooled_values problem.now.groups)) }
     ensures { IfOk result (λ s. (t : Tail) → Follows (kruskal_wallis_test problem.now) t
-        (label_network (packed_meaning s.1.half (sums_meaning s.1.sums)))) }
+        (packed_network (length s.1.sums.rows.items) s.3
+        (ordered_network false s.2 (label_network (seen_meaning s.1))))) }
 {
     let made = problem.made();
-    let sums = rank_sums(alloc, problem, judge)?;
-    let packed = PackedSums::new(sums, made.sum);
     let columns = made.columns.sizes.as_slice();
-    let stages = label_stages(alloc, columns, made.sizes.as_slice(), packed)?;
-    Ok(stages)
+    let groups = made.sizes.as_slice();
+    let sums = rank_sums(alloc, problem, judge)?;
+    let multiple = made.factors[0] * groups[0] as u128;
+    let count = made.scores.as_slice().len() as u64;
+    let seen = CentredSums::new(sums, multiple, made.sum, count);
+    let stages = label_stages(alloc, columns, groups, seen)?;
+    let rooms = LabelRooms::new(alloc, columns, groups)?;
+    let sizes = Vec::from_slice(alloc, groups)?;
+    let ordered = InOrder::new(stages, rooms, sizes, false);
+    let sizes = Vec::from_slice(alloc, groups)?;
+    let packed = PackedGroups::new(ordered, sizes, bits_for(groups.len()));
+    Ok(packed)
 }
 
 // How many groups have as many subjects as the one beside them.
@@ -103,15 +136,15 @@ fn equal_neighbours(sizes: &[u64]) -> usize {
     equal
 }
 
-// The network with groups of equal size in order.
+// The network with groups of equal size in order and a number for each.
 fn ordered_stages(
     alloc: Global,
     problem: &SquaredSums,
     judge: Judge,
-) -> Result<EqualGroups, NoMemory>
+) -> Result<OrderedSums, NoMemory>
     requires { judge ≡ judge_of (kruskal_wallis_test problem.now) }
     ensures { IfOk result (λ s. (t : Tail) → Follows (kruskal_wallis_test problem.now) t
-        (ordered_network s.2 (label_network (sums_meaning s.1)))) }
+        (ordered_network s.3 s.2 (label_network (sums_meaning s.1)))) }
 {
     let made = problem.made();
     let stages = written_stages(alloc, problem, judge)?;
@@ -119,14 +152,14 @@ fn ordered_stages(
     let groups = made.sizes.as_slice();
     let rooms = LabelRooms::new(alloc, columns, groups)?;
     let sizes = Vec::from_slice(alloc, groups)?;
-    let ordered = InOrder::new(stages, rooms, sizes);
+    let ordered = InOrder::new(stages, rooms, sizes, true);
     Ok(ordered)
 }
 
 impl LabelStatistic for SquaredSums {
     ghost use Rattle.k_sample_tests.specs.KruskalWallis.{kruskal_wallis_says};
 
-    type Built = OneOf<OneOf<EqualGroups, LabelStages<PackedSums>>, LabelStages<RankSums>>;
+    type Built = OneOf<OneOf<EqualGroups, OrderedSums>, LabelStages<RankSums>>;
 
     ghost says = { kruskal_wallis_says };
 
@@ -162,14 +195,14 @@ impl LabelStatistic for SquaredSums {
         Ok(OneOf::Second(stages))
     }
 
-    // With groups of equal size in order where there are enough of these that the keys become
-    // fewer than the orders cost, or else with one number for all groups where it holds their sums.
+    // With groups of equal size in order: in one number where it holds their sums, or else where
+    // there are enough of these groups that the keys become fewer than the orders cost.
     fn quick_stages_of(&self, alloc: Global, judge: Judge) -> Result<Self::Built, NoMemory> {
-        if equal_neighbours(self.made().sizes.as_slice()) >= 2 {
-            let stages = ordered_stages(alloc, self, judge)?;
-            Ok(OneOf::First(OneOf::First(stages)))
-        } else if fits_one(self) {
+        if fits_one(self) {
             let stages = packed_stages(alloc, self, judge)?;
+            Ok(OneOf::First(OneOf::First(stages)))
+        } else if equal_neighbours(self.made().sizes.as_slice()) >= 2 {
+            let stages = ordered_stages(alloc, self, judge)?;
             Ok(OneOf::First(OneOf::Second(stages)))
         } else {
             let stages = written_stages(alloc, self, judge)?;

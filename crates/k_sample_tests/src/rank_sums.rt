@@ -9,11 +9,12 @@ ghost use Rattle.room_network.specs.Meanings.{IsRoom};
 ghost use Rattle.label_network.specs.LabelNetwork.{over_rooms};
 ghost use Rattle.label_network.specs.Meanings.{sizes_in};
 ghost use Rattle.stage_network.specs.Judged.{rule_in, verdict_of};
-ghost use Rattle.k_sample_tests.specs.RankSums.{greatest_parts, least_parts, plus_each, score_parts, squares_meaning};
+ghost use Rattle.packed_keys.specs.PackedGroups.{plus_each};
+ghost use Rattle.k_sample_tests.specs.RankSums.{greatest_parts, least_parts, score_parts, squares_meaning};
 ghost use Rattle.k_sample_tests.specs.RankSumSteps.{AreAddable, AreEnough, AreRankSums, AreTabled, IsSquaring, parts_of};
 
 use crate::group_sums::squares_of;
-use completion_bounds::{box_bounds, narrow_squares};
+use completion_bounds::box_bounds;
 use label_network::{End, LaterScores, read_sizes};
 use room_network::Measure;
 use stage_network::{Interval, Judge, Verdict};
@@ -49,7 +50,7 @@ fn most_of(sizes: &[u64], all: u64) -> u64
 
 // Writes what subjects with one score add to each group.
 #[inline(always)]
-fn score_parts(score: i128, counts: &[u64], parts: &mut [i128])
+pub(crate) fn score_parts(score: i128, counts: &[u64], parts: &mut [i128])
     requires fits { sum counts.now * unsigned_abs score ≤ MAX }
     requires room { length parts.old ≡ length counts.now }
     ensures { parts.new ≡ score_parts score counts.now }
@@ -61,7 +62,7 @@ fn score_parts(score: i128, counts: &[u64], parts: &mut [i128])
 
 // Writes sums with what is added to each.
 #[inline(always)]
-fn plus_each(partial: &[i128], added: &[i128], next: &mut [i128])
+pub(crate) fn plus_each(partial: &[i128], added: &[i128], next: &mut [i128])
     requires fits { AreAddable partial.now added.now }
     requires one_each { length added.now ≡ length partial.now }
     requires room { length next.old ≡ length partial.now }
@@ -152,9 +153,9 @@ impl RankSums {
         write_parts(End::Greatest, &self.later, stage, sizes, greatest);
     }
 
-    // Between which sums of squares a key ends, whose groups can come to sums between these.
+    /// Between which sums of squares a key ends, whose groups can come to sums between these.
     #[inline(always)]
-    fn interval(&self, least: &[i128], greatest: &[i128], partial: &[i128]) -> Interval
+    pub(crate) fn interval(&self, least: &[i128], greatest: &[i128], partial: &[i128]) -> Interval
         requires one_each { length partial.now ≡ length self.now.rows.items }
         requires few_rows { length self.now.rows.items ≤ 8 }
         requires factors { length self.now.factors.items ≡ length self.now.rows.items }
@@ -185,23 +186,27 @@ impl RankSums {
         }
     }
 
-    // What is known of such a key.
+    /// What is known of a key that ends between these.
     #[inline(always)]
-    pub(crate) fn judge_box(&self, lows: &[i32], highs: &[i32], tail: Tail) -> Verdict
-        requires one_each { length lows.now ≡ length self.now.rows.items }
-        requires as_many { length highs.now ≡ length self.now.rows.items }
-        requires fits { greatest_squares lows.now highs.now self.now.factors.items < 2 ^ 128 }
-        ensures { let factors = self.now.factors.items in
-            let low = pos (min (least_squares lows.now highs.now factors) self.now.bound) in
-            let high = pos (min (greatest_squares lows.now highs.now factors) self.now.bound) in
-            result ≡ verdict_of (rule_in self.now.judge tail) low high }
+    pub(crate) fn judged(&self, interval: Interval, tail: Tail) -> Verdict
+        ensures { result
+            ≡ verdict_of (rule_in self.now.judge tail) interval.low interval.high }
     {
-        let (low, high) = narrow_squares(lows, highs, self.factors.as_slice());
-        let interval = Interval {
-            low: low.min(self.bound) as i128,
-            high: high.min(self.bound) as i128,
-        };
         self.judge.verdict(tail, interval)
+    }
+
+    /// The groups' sizes.
+    pub(crate) fn rows(&self) -> &[u64]
+        ensures { result.now ≡ self.now.rows.items }
+    {
+        self.rows.as_slice()
+    }
+
+    /// The factors of the groups' squares.
+    pub(crate) fn factors(&self) -> &[u128]
+        ensures { result.now ≡ self.now.factors.items }
+    {
+        self.factors.as_slice()
     }
 }
 

@@ -65,6 +65,14 @@ impl<S: LabelStatistic> Labelled<S> {
     {
         Labelled { statistic, frame }
     }
+
+    /// The statistic, and what is to be said of its test.
+    pub fn parts(self) -> (S, Frame)
+        ensures statistic { result.0 ≡ self }
+        ensures frame { IsFrameOf (label_test (S.says self)) result.1 }
+    {
+        (self.statistic, self.frame)
+    }
 }
 
 impl<S: LabelStatistic> Plain for Labelled<S> {

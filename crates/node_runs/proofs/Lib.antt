@@ -1,3 +1,4 @@
 pub mod Ascending
 pub mod Passing
 pub mod Merges
+pub mod Aside

@@ -1,7 +1,7 @@
 -- How runs are merged.
-use Rattle.std.specs.Prelude.{◌≡◌, ℕ, ℤ, pos, ◌≤◌, ◌<ℤ◌, List, [], ◌∷◌, ◌++◌, length, map, drop, Bool, true, false, ⊤, slice_index_or}
+use Rattle.std.specs.Prelude.{◌≡◌, ℕ, ℤ, pos, ◌+◌, ◌*◌, ◌≤◌, ◌<ℤ◌, List, [], ◌∷◌, ◌++◌, length, map, drop, Bool, true, false, ⊤, slice_index_or}
 use Rattle.std.specs.List.{AllByRecursion}
-use Rattle.node_pool.specs.Nodes.{Node, NodeRow}
+use Rattle.node_pool.specs.Nodes.{Node, NodeRow, weighted}
 use Rattle.node_pool.specs.Pool.{Pool}
 use Rattle.node_runs.specs.Runs.{IsGrown}
 
@@ -46,3 +46,10 @@ pub record IsRunPool (width : ℕ) (is_merging : Bool) (table : Pool) : Type 0 w
   pub wide : table.width ≡ width
   pub one : is_merging ≡ true → width ≡ 1
   pub idle : is_merging ≡ true → table.nodes ≡ []
+
+-- of nodes the first ones are of one key: they weigh this, and the others are left
+pub record IsJoined (nodes : List Node) (key : List ℤ) (weight : ℕ)
+    (left : List Node) : Type 0 where
+  pub sums : (f : List ℤ → ℕ) → weight * f key + weighted f left ≡ weighted f nodes
+  pub heavy : AllByRecursion (λ (a : Node). 1 ≤ a.weight) nodes
+      → (1 ≤ weight) × AllByRecursion (λ (a : Node). 1 ≤ a.weight) left

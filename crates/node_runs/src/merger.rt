@@ -113,9 +113,9 @@ fn is_over<C: Count>(nodes: &NodeList<C>, number: i128) -> bool
     count == 0 || number_at(nodes, count - 1) < number
 }
 
-// The sum of two counts.
+/// The sum of two counts.
 #[inline(always)]
-fn plus<C: Count>(a: C, b: C) -> C
+pub fn plus<C: Count>(a: C, b: C) -> C
     requires { C.number a + C.number b ≤ C.LIMIT }
     ensures { C.number result ≡ C.number a + C.number b }
 {
@@ -227,6 +227,14 @@ impl<C: Count> Merger<C> {
         self.into.clear();
         self.at = 0;
         Ok(())
+    }
+
+    /// Whether a key comes behind those that the run has passed.
+    #[inline(always)]
+    pub fn takes(&self, key: &[i128]) -> bool
+        requires { length key.now ≡ 1 }
+    {
+        is_over(&self.into, key[0])
     }
 
     /// Takes in the next key of a run. False where it does not ascend: then no key is changed.

@@ -1,6 +1,6 @@
 // Keys with weights, merged or hashed.
 ghost use Rattle.std.specs.Prelude.{◌≡◌, ℕ, ℤ, List, ◌+◌, ◌<◌, ◌≤◌, [], ◌∷◌, length};
-ghost use Rattle.std.specs.Prelude.{IfOk, OnOk, slice_index_or};
+ghost use Rattle.std.specs.Prelude.{IfOk, OnOk, false, slice_index_or};
 ghost use Rattle.std.specs.List.{IsDistinct};
 ghost use Rattle.node_pool.specs.Nodes.{Node, key_eq, keys, node, weighted};
 ghost use Rattle.node_runs.specs.Runs.{IsGrown, IsPoured};
@@ -12,7 +12,9 @@ use std::marker::Model;
 use weights::{Count, NoMemory};
 
 /// A finite map from keys, lists of `width` numbers, to weights, that is filled by runs. A few runs
-/// of keys of one number are merged as long as they ascend; all other keys are hashed.
+/// of keys of one number are merged as long as they ascend; all other keys are hashed. Keys that do
+/// not ascend within their run are put aside, sorted and merged as a run of their own, by
+/// `add_or_keep` and `add_loose`.
 #[derive(Drop)]
 pub struct RunPool<C: Count> {
     width: usize,
@@ -154,6 +156,15 @@ impl<C: Count> RunPool<C> {
         } else {
             Ok(())
         }
+    }
+
+    /// Whether the next key of a run comes behind those that the run has passed, or need not.
+    #[inline(always)]
+    pub fn takes(&self, key: &[i128]) -> bool
+        requires { length key.now ≡ self.now.width }
+        ensures { result ≡ false → self.now.width ≡ 1 }
+    {
+        !self.is_merging || self.merger.takes(key)
     }
 
     /// Adds a weight to a key's, which is 0 where the key is not held.

@@ -1,6 +1,6 @@
 -- What the bodies of a network in order read of its keys.
 use Rattle.std.proofs.Common.{◌≡◌, ℕ, ◌<◌, List, ◌++◌, length, take, drop, sym, ◌∙◌, ap, subst}
-use Rattle.std.specs.Prelude.{ℤ}
+use Rattle.std.specs.Prelude.{ℤ, Bool}
 use Rattle.std.specs.List.{Contains}
 use Rattle.stage_network.specs.Network.{Network, IsReached}
 use Rattle.stage_network.specs.Rooms.{IsArc, IsPlace}
@@ -12,17 +12,17 @@ use Rattle.room_network.proofs.RoomLaws.{widths_kept}
 use Rattle.ordered_groups.specs.OrderedNetworks.{ordered_network}
 use Rattle.ordered_groups.specs.OrderSteps.{IsInOrder}
 
-module _ (rooms plan : Plan) (m : Meaning) (sizes : List ℕ) (i : IsInOrder rooms plan m sizes) where
+module _ (rooms plan : Plan) (m : Meaning) (sizes : List ℕ) (by_sums : Bool) (i : IsInOrder rooms plan m sizes by_sums) where
   abbrev n : Network
   n = room_network m plan.weight
 
   kept : KeepsWidth m.floor
   kept = widths_kept rooms m i.sound i.its_rooms.housed
 
-  pub in-arc : (w g : ℕ) (room : List ℤ) (c : List ℕ) → IsArc (ordered_network sizes n) w g room c → IsArc n w g room c
+  pub in-arc : (w g : ℕ) (room : List ℤ) (c : List ℕ) → IsArc (ordered_network by_sums sizes n) w g room c → IsArc n w g room c
   in-arc w g room c v = record { partial = v.partial; wide = v.wide; reached = i.ordered.reached g (room ++ v.partial) v.reached; allowed = v.allowed }
 
-  pub in-place : (w g : ℕ) (room : List ℤ) → IsPlace (ordered_network sizes n) w g room → IsPlace n w g room
+  pub in-place : (w g : ℕ) (room : List ℤ) → IsPlace (ordered_network by_sums sizes n) w g room → IsPlace n w g room
   in-place w g room v = record { partial = v.partial; wide = v.wide; reached = i.ordered.reached g (room ++ v.partial) v.reached }
 
   -- a room is one of the rooms beside the network

@@ -9,3 +9,4 @@ mod places;
 
 pub use keys::{put_groups_in_order, put_sums_in_order};
 pub use network::InOrder;
+pub use places::are_in_order;

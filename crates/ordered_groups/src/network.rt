@@ -1,6 +1,8 @@
 // Networks of rooms in whose keys groups are in order.
 ghost use Rattle.std.specs.Prelude.{◌≡◌};
+ghost use Rattle.room_network.specs.Plans.{Plan};
 ghost use Rattle.room_network.specs.RoomNetworks.{room_network};
+ghost use Rattle.ordered_groups.specs.OrderSteps.{IsInOrder};
 ghost use Rattle.ordered_groups.specs.OrderedNetworks.{AreItsRooms, MayBeOrdered};
 
 use crate::keys::{put_groups_in_order, put_sums_in_order};
@@ -9,51 +11,65 @@ use stage_network::{Roomed, Stages, Verdict, behind, front};
 use std::marker::Model;
 use weights::Tail;
 
-/// A network of rooms in which groups of equal size that stand side by side are in order: by what
-/// remains of them, and then by their sums. For k such groups it has up to k! times fewer keys. It
-/// is seen as its rooms, its measure, and the groups' sizes.
+/// A network of rooms in which groups of equal size that stand side by side are in order. Where
+/// this is by what remains of them and then by their sums, k such groups have up to k! times fewer
+/// keys. Where it is by what remains of them alone, there are as few rooms, with more keys in each, but a
+/// choice that leaves the groups in order only adds to their sums. It is seen as its rooms, its
+/// measure, the groups' sizes, and whether they are in order by their sums too.
 #[derive(Drop)]
 pub struct InOrder<R: Rooms, M: Measure> {
     stages: RoomNetwork<R, M>,
     // Its rooms once more: they tell a step what a choice leaves of the groups.
     rooms: R,
     sizes: Vec<u64>,
+    by_sums: bool,
 }
 
 impl<R: Rooms, M: Measure> Model for InOrder<R, M> {
-    ghost use Rattle.std.specs.Prelude.{ℕ, List};
+    ghost use Rattle.std.specs.Prelude.{ℕ, Bool, List};
     ghost use Rattle.ordered_groups.specs.OrderSteps.{IsInOrder};
 
-    ghost Value = { R × M × List ℕ };
+    ghost Value = { R × M × List ℕ × Bool };
 
-    ghost view = { λ s. (s.stages.0, s.stages.1, s.sizes.items) };
+    ghost view = { λ s. (s.stages.0, s.stages.1, s.sizes.items, s.by_sums) };
 
     ghost invariant = { λ s.
-        IsInOrder (R.plan s.rooms) (R.plan s.stages.0) (M.meaning s.stages.1) s.sizes.items };
+        IsInOrder (R.plan s.rooms) (R.plan s.stages.0) (M.meaning s.stages.1) s.sizes.items
+        s.by_sums };
 }
 
 impl<R: Rooms, M: Measure> InOrder<R, M> {
-    /// A network with groups of these sizes in order, made of it and of rooms like its own.
-    pub fn new(stages: RoomNetwork<R, M>, rooms: R, sizes: Vec<u64>) -> InOrder<R, M>
+    /// A network with groups of these sizes in order, by sums too or by what remains alone, made of
+    /// it and of rooms like its own.
+    pub fn new(stages: RoomNetwork<R, M>, rooms: R, sizes: Vec<u64>, by_sums: bool) -> InOrder<R, M>
         requires rooms { let m = M.meaning stages.1 in
             AreItsRooms (R.plan rooms) (R.plan stages.0) m sizes.items }
         requires ordered { let n = room_network (M.meaning stages.1) (R.plan stages.0).weight in
-            MayBeOrdered sizes.items n }
-        ensures { result ≡ (stages.0, stages.1, sizes.items) }
+            MayBeOrdered by_sums sizes.items n }
+        ensures { result ≡ (stages.0, stages.1, sizes.items, by_sums) }
     {
         let _count = rooms.stages();
         InOrder {
             stages,
             rooms,
             sizes,
+            by_sums,
         }
+    }
+
+    /// Nothing: what `new` asked of it, and that its rooms are sound, is ensured.
+    pub fn sound(&self)
+        ensures { let m = M.meaning self.now.1 in
+            (rooms : Plan) × IsInOrder rooms (R.plan self.now.0) m self.now.2 self.now.3 }
+    {
+        let _by_sums = self.by_sums;
     }
 }
 
 impl<R: Rooms, M: Measure> Stages for InOrder<R, M> {
     ghost use Rattle.ordered_groups.specs.OrderedNetworks.{ordered_network};
 
-    ghost network = { λ s. ordered_network s.2
+    ghost network = { λ s. ordered_network s.3 s.2
         (room_network (M.meaning s.1) (R.plan s.0).weight) };
 
     fn stages(&self) -> usize {
@@ -71,7 +87,7 @@ impl<R: Rooms, M: Measure> Stages for InOrder<R, M> {
     fn first_key(&self, key: &mut [i128]) {
         let _lawful = self.stages.stages();
         self.stages.first_key(key);
-        put_groups_in_order(self.sizes.as_slice(), key);
+        put_groups_in_order(self.by_sums, self.sizes.as_slice(), key);
     }
 
     fn first_choice(&self, stage: usize, key: &[i128], choice: &mut [u64]) -> bool {
@@ -85,7 +101,7 @@ impl<R: Rooms, M: Measure> Stages for InOrder<R, M> {
     fn apply(&self, stage: usize, key: &[i128], choice: &[u64], next: &mut [i128]) -> u128 {
         let _lawful = self.stages.stages();
         let weight = self.stages.apply(stage, key, choice, next);
-        put_groups_in_order(self.sizes.as_slice(), next);
+        put_groups_in_order(self.by_sums, self.sizes.as_slice(), next);
         weight
     }
 
@@ -148,7 +164,7 @@ impl<R: Rooms, M: Measure> Roomed for InOrder<R, M> {
         let inner = behind(step, room.len());
         self.stages
             .advance(stage, room, choice, inner, partial, next);
-        put_sums_in_order(sizes, front(step, room.len()), next);
+        put_sums_in_order(self.by_sums, sizes, front(step, room.len()), next);
     }
 
     fn outlook_width(&self) -> usize {

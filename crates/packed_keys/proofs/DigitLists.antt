@@ -114,3 +114,9 @@ pub set-only : (zs : List ℤ) (z : ℤ) → length zs ≡ 1 → set zs 0 z ≡ 
 set-only [] z l = absurd (omega (arith, l))
 set-only (y ∷ []) z l = refl
 set-only (y ∷ x ∷ zs) z l = absurd (omega (arith, l))
+
+pub set-both : (zs : List ℤ) (y z : ℤ) → length zs ≡ 2 → set (set zs 0 y) 1 z ≡ y ∷ z ∷ []
+set-both [] y z l = absurd (omega (arith, l))
+set-both (x ∷ []) y z l = absurd (omega (arith, l))
+set-both (x ∷ v ∷ []) y z l = refl
+set-both (x ∷ v ∷ u ∷ zs) y z l = absurd (omega (arith, l))

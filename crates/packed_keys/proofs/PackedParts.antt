@@ -81,6 +81,16 @@ module _ (w bits : ℕ) (n : Network) (m : MayBePacked w bits n) where
   pub parts-reached : (g : ℕ) (room partial : List ℤ) → length room ≡ w → IsReached (packed_network w bits n) g (room ++ partial) → IsReached n g (room ++ unpacked (2 ^ bits) k partial)
   parts-reached g room partial l r = subst (IsReached n g) (read-parts room partial l) (read-reached g (room ++ partial) r)
 
+  -- the one number of a reached partial
+  pub is-packed : (g : ℕ) (room partial : List ℤ) → length room ≡ w → IsReached (packed_network w bits n) g (room ++ partial) → packed (2 ^ bits) (unpacked (2 ^ bits) k partial) ≡ partial
+  is-packed g room partial l r =
+      let key : List ℤ = room ++ partial in
+      let here = reached n (w + 1) write read back g key r in
+      ap (packed (2 ^ bits)) (sym (back_is w room (unpacked (2 ^ bits) k partial) l) ∙ ap (drop w) (sym (read-parts room partial l)))
+      ∙ sym (back_is w (take w (read key)) (packed (2 ^ bits) (drop w (read key))) (room-long g (read key) here.0))
+      ∙ ap (drop w) here.1
+      ∙ back_is w room partial l
+
   pub in-place : (g : ℕ) (room : List ℤ) → IsPlace (packed_network w bits n) w g room → IsPlace n w g room
   in-place g room p = record { partial = unpacked (2 ^ bits) k p.partial; wide = p.wide; reached = parts-reached g room p.partial p.wide p.reached }
 

@@ -1,2 +1,3 @@
 pub mod PackedKeys
 pub mod PackedSteps
+pub mod PackedGroups

@@ -1,8 +1,14 @@
 -- Words for the bodies of packed networks.
-use Rattle.std.specs.Prelude.{◌≡◌, ℕ, ◌+◌, ◌-◌, ◌^◌, ◌≤◌, ℤ, List, length}
+use Rattle.std.specs.Prelude.{◌≡◌, ℕ, ◌+◌, ◌-◌, ◌^◌, ◌≤◌, ℤ, Bool, false, List, length}
 use Rattle.std.specs.List.{AllByRecursion}
 use Rattle.weights.specs.declared.TheConstants.{MAX}
 use Rattle.stage_network.specs.Network.{Network}
+use Rattle.room_network.specs.Meanings.{Meaning}
+use Rattle.room_network.specs.Plans.{Plan}
+use Rattle.room_network.specs.RoomNetworks.{room_network}
+use Rattle.ordered_groups.specs.OrderSteps.{IsInOrder}
+use Rattle.ordered_groups.specs.OrderedNetworks.{ordered_network}
+use Rattle.packed_keys.specs.PackedGroups.{AddsSteps}
 use Rattle.packed_keys.specs.PackedKeys.{IsDigit, MayBePacked}
 
 -- digits of so many bits that one number holds
@@ -14,3 +20,16 @@ pub record AreDigits (bits : ℕ) (partial : List ℤ) : Type 0 where
 pub record IsPacked (w bits slots : ℕ) (n : Network) : Type 0 where
   pub slots_are : slots ≡ n.width - w
   pub may : MayBePacked w bits n
+
+-- groups of these sizes in order by what remains of them alone, with steps that add, and their sums
+-- in one number of digits of so many bits, both known beside the network too
+pub record IsPackedGroups (plan : Plan) (m : Meaning) (sizes : List ℕ) (by_sums : Bool)
+    (bits : ℕ) (own_sizes : List ℕ) (own_bits : ℕ) : Type 0 where
+  pub rooms : Plan
+  pub ordered : IsInOrder rooms plan m sizes false
+  pub may : MayBePacked m.floor.width bits
+      (ordered_network false sizes (room_network m plan.weight))
+  pub adds : AddsSteps m
+  pub by_left : by_sums ≡ false
+  pub sizes_are : own_sizes ≡ sizes
+  pub bits_are : own_bits ≡ bits

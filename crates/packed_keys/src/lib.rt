@@ -2,7 +2,9 @@
 #![tactic(auto)]
 
 mod digits;
+mod groups;
 mod network;
 
 pub use digits::bits_for;
+pub use groups::PackedGroups;
 pub use network::Packed;

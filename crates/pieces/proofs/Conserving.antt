@@ -1,17 +1,16 @@
 -- From a key on, what closes and what stays open for a tail is all that is extreme.
-use Rattle.std.proofs.Common.{◌≡◌, ℕ, zero, suc, ◌+◌, ◌*◌, ◌<◌, ◌≤◌, List, [], ◌∷◌, cond, refl, sym, ◌∙◌, ap, arith}
+use Rattle.std.proofs.Common.{◌≡◌, ℕ, zero, suc, ◌+◌, ◌*◌, ◌<◌, ◌≤◌, List, cond, refl, sym, ◌∙◌, ap, arith}
 use Rattle.std.specs.Prelude.{ℤ}
-use Rattle.std.specs.List.{sum_by, AllByRecursion, Contains}
-use Rattle.std.proofs.lemmas.List.Sums.{sum_by-cons}
+use Rattle.std.specs.List.{sum_by, Contains}
 use Rattle.std.proofs.lemmas.List.Elements.{recursion_from_All, All-contains_itself}
 use Rattle.weights.specs.declared.tails.Tail.{Tail}
+use Rattle.weights.proofs.Sums.{sum_by-plus, sum_by-same_where}
 use Rattle.stage_network.specs.declared.stages.Verdict.{Verdict}
 use Rattle.stage_network.specs.declared.stages.Verdict.TheVariants.{Inside, Outside, Undecided}
 use Rattle.stage_network.specs.Network.{Network, IsReached}
 use Rattle.stage_network.specs.Completions.{completions, path_weight, is_extreme, is_inside, total_weight, extreme_weight}
 use Rattle.stage_network.specs.Laws.{IsLawful}
 use Rattle.stage_network.specs.Opened.{is_open, is_undecided}
-use Rattle.stage_network.proofs.Conserved.{all_weaker}
 use Rattle.stage_network.proofs.Steps.{filter_all, filter_none, reached-next, extreme_weight-step}
 
 -- what f says of the keys that are reached m stages on through open keys alone
@@ -27,19 +26,10 @@ closing n t (suc m) g k =
     cond (is_inside (n.verdict t g k)) (total_weight n g k) 0
     + cond (is_open n t g k) (sum_by (λ c. n.weight g k c * closing n t m (g + 1) (n.next g k c)) (n.choices g k)) 0
 
--- sums whose terms agree at each member
-sum_by-within : {X : Type 0} (f h : X → ℕ) (xs : List X) → AllByRecursion (λ x. f x ≡ h x) xs → sum_by f xs ≡ sum_by h xs
-sum_by-within f h [] a = refl
-sum_by-within f h (x ∷ xs) a = omega (arith, sum_by-cons f x xs, sum_by-cons h x xs, a.0, sum_by-within f h xs a.1)
-
-sum_by-plus : {X : Type 0} (f h : X → ℕ) (xs : List X) → sum_by (λ x. f x + h x) xs ≡ sum_by f xs + sum_by h xs
-sum_by-plus f h [] = refl
-sum_by-plus f h (x ∷ xs) = omega (arith, sum_by-cons (λ y. f y + h y) x xs, sum_by-cons f x xs, sum_by-cons h x xs, sum_by-plus f h xs)
-
 -- over the choices of a key
 pub over-choices : (n : Network) (g : ℕ) (k : List ℤ) (f h : List ℕ → ℕ) → ((c : List ℕ) → Contains (n.choices g k) c → f c ≡ h c) → sum_by f (n.choices g k) ≡ sum_by h (n.choices g k)
-over-choices n g k f h same = sum_by-within f h (n.choices g k)
-    (all_weaker (Contains (n.choices g k)) (λ c. f c ≡ h c) same (n.choices g k) (recursion_from_All _ _ (All-contains_itself (n.choices g k))))
+over-choices n g k f h same =
+    sum_by-same_where (Contains (n.choices g k)) f h same (n.choices g k) (recursion_from_All (Contains (n.choices g k)) (n.choices g k) (All-contains_itself (n.choices g k)))
 
 spread-out : (a b c : ℕ) → a * (b + c) ≡ a * b + a * c
 spread-out a b c = grind arith

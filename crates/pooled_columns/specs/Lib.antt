@@ -1,2 +1,3 @@
 pub mod PooledColumns
 pub mod ColumnSteps
+pub mod ScoredGroups

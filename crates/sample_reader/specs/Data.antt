@@ -1,14 +1,14 @@
 -- What samples stand for.
+use Rattle.sample_reader.specs.Bivariate.{BivariateData}
 use Rattle.sample_reader.specs.CellLayouts.{BlockData}
 use Rattle.sample_reader.specs.Groups.{GroupData}
 use Rattle.sample_reader.specs.Sequences.{SequenceData}
 use Rattle.sample_reader.specs.StrataGroups.{StrataGroupData}
-use Rattle.sample_reader.specs.Twins.{TwinData}
+use Rattle.sample_reader.specs.declared.samples.BivariateSample.{BivariateSample}
 use Rattle.sample_reader.specs.declared.samples.Blocks.{Blocks}
 use Rattle.sample_reader.specs.declared.samples.Groups.{Groups}
 use Rattle.sample_reader.specs.declared.samples.Sequence.{Sequence}
 use Rattle.sample_reader.specs.declared.samples.StrataGroups.{StrataGroups}
-use Rattle.sample_reader.specs.declared.samples.Twins.{Twins}
 
 abbrev pub data_of : Groups → GroupData
 data_of groups = record { labels = groups.labels; members = groups.members; values = groups.values }
@@ -26,8 +26,8 @@ strata_data_of samples = record {
   values = samples.values;
 }
 
-abbrev pub twin_data_of : Twins → TwinData
-twin_data_of twins = record { first = twins.first; second = twins.second }
+abbrev pub bivariate_data_of : BivariateSample → BivariateData
+bivariate_data_of sample = record { first = sample.first; second = sample.second }
 
 abbrev pub sequence_data_of : Sequence → SequenceData
 sequence_data_of sequence = record { labels = sequence.labels; members = sequence.members }

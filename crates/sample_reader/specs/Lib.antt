@@ -1,3 +1,4 @@
+pub mod Bivariate
 pub mod CellLayouts
 pub mod Cells
 pub mod Data
@@ -10,5 +11,4 @@ pub mod Orders
 pub mod PooledSample
 pub mod Sequences
 pub mod StrataGroups
-pub mod Twins
 pub mod Values

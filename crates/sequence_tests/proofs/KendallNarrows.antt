@@ -18,7 +18,7 @@ use Rattle.room_network.specs.Numbers.{IsNumber, IsOutcome, so_far}
 use Rattle.room_network.specs.declared.numbers.Operation.TheVariants.{Sum}
 use Rattle.sequence_tests.specs.KendallNetwork.{added, kendall_meaning, kendall_numbers, open_pairs, rises, turn}
 use Rattle.sequence_tests.specs.KendallRooms.{counts_left, kendall_floor, kendall_plan}
-use Rattle.sequence_tests.specs.KendallSteps.{AreTwins, IsKendall}
+use Rattle.sequence_tests.specs.KendallSteps.{AreKendallCounts, IsKendall}
 use Rattle.sequence_tests.proofs.CodeLaws.{sum-first}
 use Rattle.sequence_tests.proofs.KendallPlans.{after-few, choice, choice-few, left-sum}
 
@@ -57,7 +57,7 @@ module _ (columns rows : List ℕ) (judge : Judge) where
   partial-long zero room p r = ap length r.1
   partial-long (suc g) room p (s, q, c, r, before, o, e, f) = ap length f
 
-  module _ (a : AreTwins columns rows) (g : ℕ) (room : List ℤ) (r : IsReached (alone (kendall_plan columns rows)) g room) (before : g < length columns) (c : List ℕ) (o : Contains ((kendall_floor columns rows).choices g room) c) where
+  module _ (a : AreKendallCounts columns rows) (g : ℕ) (room : List ℤ) (r : IsReached (alone (kendall_plan columns rows)) g room) (before : g < length columns) (c : List ℕ) (o : Contains ((kendall_floor columns rows).choices g room) c) where
     abbrev left : List ℕ
     left = counts_left columns (length rows) g room
 
@@ -88,7 +88,7 @@ module _ (columns rows : List ℕ) (judge : Judge) where
   more-none : (s : ℤ) → s +ℤ pos (open_pairs columns (length columns)) ≡ s
   more-none s = rw (open-end columns (length columns) (omega arith)) (omega (arith, ints))
 
-  module _ (a : AreTwins columns rows) where
+  module _ (a : AreKendallCounts columns rows) where
     pub kendall_measure : IsMeasure (kendall_meaning columns rows judge)
     kendall_measure = record {
       wide = partial-long;
@@ -121,8 +121,8 @@ module _ (columns rows : List ℕ) (judge : Judge) where
 
   pub kendall_number : IsKendall columns rows judge → IsNumber (kendall_floor columns rows) (kendall_numbers columns rows judge)
   kendall_number h = record {
-    narrows = kendall_measure h.twins;
-    steps = λ g room c p v. omega (arith, partial-few h.twins g room p v.reached, turn-few h.twins g room (room-reached g room p v.reached) v.before c v.allowed);
-    lows = λ g room p r. low-outcome h.twins g room p r h.rules_fit;
-    highs = λ g room p r. high-outcome h.twins g room p r h.rules_fit;
+    narrows = kendall_measure h.counts;
+    steps = λ g room c p v. omega (arith, partial-few h.counts g room p v.reached, turn-few h.counts g room (room-reached g room p v.reached) v.before c v.allowed);
+    lows = λ g room p r. low-outcome h.counts g room p r h.rules_fit;
+    highs = λ g room p r. high-outcome h.counts g room p r h.rules_fit;
   }

@@ -11,12 +11,12 @@ use Rattle.label_network.specs.LabelSteps.{IsHeld}
 use Rattle.label_network.proofs.Narrowing.{chosen, fits-self, minus-within}
 use Rattle.label_network.proofs.Sizes.{fewer-labellings, held-within}
 use Rattle.sequence_tests.specs.KendallRooms.{counts_left, kendall_floor, kendall_plan}
-use Rattle.sequence_tests.specs.KendallSteps.{AreTwins, IsCode, TwinChoice, TwinSeat}
+use Rattle.sequence_tests.specs.KendallSteps.{AreKendallCounts, IsCode, KendallChoice, KendallSeat}
 use Rattle.sequence_tests.proofs.CodeLaws.{code-small}
 use Rattle.sequence_tests.proofs.Held.{held-arranged}
 use Rattle.sequence_tests.proofs.KendallPlans.{IsLeftRoom, enough, first_is, left_room, left-few, left-fits, left-is, left-long, rest_is}
 
-module _ (columns rows : List ℕ) (a : AreTwins columns rows) (g : ℕ) (room : List ℤ) (r : IsReached (alone (kendall_plan columns rows)) g room) where
+module _ (columns rows : List ℕ) (a : AreKendallCounts columns rows) (g : ℕ) (room : List ℤ) (r : IsReached (alone (kendall_plan columns rows)) g room) where
   abbrev here : IsLeftRoom columns rows a g room
   here = left_room columns rows a g room r
 
@@ -26,8 +26,8 @@ module _ (columns rows : List ℕ) (a : AreTwins columns rows) (g : ℕ) (room :
   left-held : (width : ℕ) → IsHeld width rows → IsHeld width left
   left-held width h = subst (IsHeld width) (sym (left-is columns rows a g room r)) (held-arranged width here.counts here.counts (fits-self here.counts) (held-within width rows here.counts here.within h))
 
-  pub twin_seat : TwinSeat columns rows g room
-  twin_seat = record {
+  pub kendall_seat : KendallSeat columns rows g room
+  kendall_seat = record {
     coded = record {
       is_code = subst IsCode (sym here.is) (record { one = refl; whole = refl; small = code-small here.counts here.for.few });
       stage = here.stage;
@@ -40,8 +40,8 @@ module _ (columns rows : List ℕ) (a : AreTwins columns rows) (g : ℕ) (room :
     first = first_is columns rows a g room r;
   }
 
-  pub twin_choice : (x : List ℕ) → Contains ((kendall_floor columns rows).choices g room) x → TwinChoice columns rows g room x
-  twin_choice x o =
+  pub kendall_choice : (x : List ℕ) → Contains ((kendall_floor columns rows).choices g room) x → KendallChoice columns rows g room x
+  kendall_choice x o =
       let c : IsChoice (slice_index columns g) left x = chosen (slice_index columns g) left x o in
       let long = left-long columns rows a g room r in
       let few = left-few columns rows a g room r in

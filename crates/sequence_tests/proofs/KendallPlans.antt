@@ -24,7 +24,7 @@ use Rattle.label_network.proofs.Narrowing.{chosen, fits-self, minus-within}
 use Rattle.label_network.proofs.Sizes.{fewer-labellings}
 use Rattle.sequence_tests.specs.Codes.{code, counts_of_code}
 use Rattle.sequence_tests.specs.KendallRooms.{counts_left, kendall_plan, room_of_counts}
-use Rattle.sequence_tests.specs.KendallSteps.{AreTwins}
+use Rattle.sequence_tests.specs.KendallSteps.{AreKendallCounts}
 use Rattle.sequence_tests.proofs.Arranged.{arranged, choices-arranged, labellings-arranged, length-arranged, minus-arranged, padded-some, some-arranged, sum-arranged}
 use Rattle.sequence_tests.proofs.CodeLaws.{code-same, read-code}
 
@@ -105,12 +105,12 @@ module _ (columns rows : List ℕ) where
           ∙ sum_by-same _ _ (λ w. sym (regroup (number_of_labellings c) (table_weight w) (f (arranged r c ∷ moved (minus r c) w)))) (tables (drop (g + 1) columns) (minus r c))
 
   -- the law, by the grouping law
-  module _ (a : AreTwins columns rows) where
+  module _ (a : AreKendallCounts columns rows) where
     for-first : AreFor 0 rows
     for-first = record { long = refl; whole = a.level; few = a.few }
 
-    pub twins_give : Gives plan (labellings rows) (λ xs. 1) (λ xs. moved rows (columns_of (length rows) columns xs))
-    twins_give = record {
+    pub kendall_gives : Gives plan (labellings rows) (λ xs. 1) (λ xs. moved rows (columns_of (length rows) columns xs))
+    kendall_gives = record {
       law = λ f.
           ways_are (length columns - 0) 0 rows f (omega arith) for-first
           ∙ grouping columns rows (λ w. f (moved rows w)) a.level

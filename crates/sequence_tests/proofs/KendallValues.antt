@@ -61,17 +61,17 @@ over-alike b P Q each f ps bs one other =
     out true = refl
     out false = sum_by-zero ps
 
-twins-block : (c : ℕ) (v : ℤ) (rest : List ℤ) (xs : List ℕ) → c ≤ length xs → paired_subjects (replicate c v ++ rest) xs ≡ paired_subjects (replicate c v) (take c xs) ++ paired_subjects rest (drop c xs)
+paired-block : (c : ℕ) (v : ℤ) (rest : List ℤ) (xs : List ℕ) → c ≤ length xs → paired_subjects (replicate c v ++ rest) xs ≡ paired_subjects (replicate c v) (take c xs) ++ paired_subjects rest (drop c xs)
 unfolding paired_subjects
-twins-block zero v rest xs h = refl
-twins-block (suc c) v rest [] h = absurd (omega (arith, h))
-twins-block (suc c) v rest (x ∷ xs) h = ap (λ ts. record { value = v; label = x } ∷ ts) (twins-block c v rest xs (omega (arith, h)))
+paired-block zero v rest xs h = refl
+paired-block (suc c) v rest [] h = absurd (omega (arith, h))
+paired-block (suc c) v rest (x ∷ xs) h = ap (λ ts. record { value = v; label = x } ∷ ts) (paired-block c v rest xs (omega (arith, h)))
 
-twins-all : (P : ℤ → Type 0) (firsts : List ℤ) (xs : List ℕ) → AllByRecursion P firsts → AllByRecursion (λ t. P t.value) (paired_subjects firsts xs)
+paired-all : (P : ℤ → Type 0) (firsts : List ℤ) (xs : List ℕ) → AllByRecursion P firsts → AllByRecursion (λ t. P t.value) (paired_subjects firsts xs)
 unfolding paired_subjects
-twins-all P [] xs a = tt
-twins-all P (v ∷ firsts) [] a = tt
-twins-all P (v ∷ firsts) (x ∷ xs) a = (a.0, twins-all P firsts xs a.1)
+paired-all P [] xs a = tt
+paired-all P (v ∷ firsts) [] a = tt
+paired-all P (v ∷ firsts) (x ∷ xs) a = (a.0, paired-all P firsts xs a.1)
 
 -- sums over the second values
 seconds : (h : ℕ → ℕ) (firsts : List ℤ) (xs : List ℕ) → length xs ≡ length firsts → sum_by (λ (t : Subject). h t.label) (paired_subjects firsts xs) ≡ sum_by h xs
@@ -124,15 +124,15 @@ pairs-are f (t ∷ ts) xs up long =
     let enough : c + sum (counts_in ts) ≡ length xs = omega (arith, long, sum-first c (counts_in ts)) in
     let here : List Subject = paired_subjects (replicate c t.value) (take c xs) in
     let there : List Subject = paired_subjects (values_of_ties ts) (drop c xs) in
-    let alike = twins-all (λ v. v ≡ t.value) (replicate c t.value) (take c xs) (all-replicate (λ v. v ≡ t.value) c t.value refl) in
-    let later = twins-all (λ w. t.value <ℤ w) (values_of_ties ts) (drop c xs) (all-later (λ w. t.value <ℤ w) ts up.0) in
+    let alike = paired-all (λ v. v ≡ t.value) (replicate c t.value) (take c xs) (all-replicate (λ v. v ≡ t.value) c t.value refl) in
+    let later = paired-all (λ w. t.value <ℤ w) (values_of_ties ts) (drop c xs) (all-later (λ w. t.value <ℤ w) ts up.0) in
     let tied = over-alike false (λ v. v ≡ t.value) (λ v. v ≡ t.value) (λ v w p q. test-not_less v w (omega (arith, ints, p, q))) f here here alike alike in
     let risen = over-alike true (λ v. v ≡ t.value) (λ w. t.value <ℤ w) (λ v w p q. test-less v w (rw p q)) f here there alike later in
     let fallen = over-alike false (λ w. t.value <ℤ w) (λ v. v ≡ t.value) (λ v w p q. test-not_less v w (omega (arith, ints, p, q))) f there here later alike in
     let here_long : length (take c xs) ≡ length (replicate c t.value) = omega (arith, enough, length-take c xs, length-replicate c t.value) in
     let there_long : length (drop c xs) ≡ length (values_of_ties ts) = omega (arith, enough, length-drop c xs, length-values ts) in
     let rest_long : length (drop c xs) ≡ sum (counts_in ts) = omega (arith, enough, length-drop c xs) in
-    ap (λ tw. over_pairs f tw tw) (twins-block c t.value (values_of_ties ts) xs (omega (arith, enough)))
+    ap (λ tw. over_pairs f tw tw) (paired-block c t.value (values_of_ties ts) xs (omega (arith, enough)))
     ∙ over-parts f here there
     ∙ omega (arith, tied, risen ∙ all-crossed f (replicate c t.value) (values_of_ties ts) (take c xs) (drop c xs) here_long there_long, fallen, pairs-are f ts (drop c xs) up.1 rest_long)
 

@@ -1,10 +1,9 @@
 -- What is counted in Kendall's test is what is counted in the test turned, in the ratio of the totals.
-use Rattle.std.proofs.Common.{◌≡◌, ℕ, zero, suc, ◌+◌, ◌*◌, ◌/◌, ◌<◌, ◌≤◌, List, [], ◌∷◌, length, map, Bool, true, false, cond, refl, sym, ◌∙◌, ap, arith, mul_comm}
+use Rattle.std.proofs.Common.{◌≡◌, ℕ, zero, suc, ◌*◌, ◌/◌, ◌<◌, ◌≤◌, List, [], ◌∷◌, length, map, Bool, true, false, cond, refl, sym, ◌∙◌, ap, arith, mul_comm}
 use Rattle.std.specs.Prelude.{ℤ, pos, ◌<ℤ◌}
 use Rattle.std.specs.List.{AllByRecursion, sum_by}
 use Rattle.std.specs.Ordering.{int_eq}
 use Rattle.std.proofs.Math.Nat.{mul-le-mul_right}
-use Rattle.std.proofs.lemmas.Nat.{div-mul-add}
 use Rattle.weights.specs.declared.lines.Line.{Line}
 use Rattle.weights.specs.declared.rules.Rule.TheVariants.{AtLeast, AtMost, Far}
 use Rattle.weights.specs.declared.tails.Tail.{Tail}
@@ -21,14 +20,14 @@ use Rattle.stage_network.specs.declared.verdicts.Judge.{Judge}
 use Rattle.stage_network.proofs.DistributionLines.{distribution-is, spread-is}
 use Rattle.stage_network.proofs.Following.{numerator-by_rule, rule-of}
 use Rattle.labelled.proofs.LabelLaws.{total-some}
-use Rattle.sample_reader.specs.Twins.{TwinData}
+use Rattle.sample_reader.specs.Bivariate.{BivariateData}
 use Rattle.pooled_columns.specs.PooledColumns.{column_sizes}
-use Rattle.turned_tables.proofs.Reduced.{no-rest}
+use Rattle.turned_tables.proofs.Reduced.{no-rest, quotient}
 use Rattle.turned_tables.proofs.Weighed.{cancel}
-use Rattle.sequence_tests.specs.Kendall.{twin_says, twin_test}
-use Rattle.sequence_tests.specs.declared.kendall_twins.MadeTwins.{MadeTwins}
-use Rattle.sequence_tests.specs.TwinSteps.{AreMade}
-use Rattle.sequence_tests.specs.TurnedTwins.{AreInRatio, IsPart, turned_twins, weighed_line}
+use Rattle.sequence_tests.specs.Kendall.{kendall_says, kendall_test}
+use Rattle.sequence_tests.specs.declared.kendall_made.KendallMade.{KendallMade}
+use Rattle.sequence_tests.specs.KendallMade.{AreMade}
+use Rattle.sequence_tests.specs.TurnedKendall.{AreInRatio, IsPart, turned_bivariate, weighed_line}
 use Rattle.sequence_tests.proofs.SameSum.{observed-turned}
 use Rattle.sequence_tests.proofs.TurnedSums.{sums-turned, total-is}
 
@@ -37,57 +36,51 @@ use Rattle.sequence_tests.proofs.TurnedSums.{sums-turned, total-is}
 abbrev judge_by : ℤ → Judge
 judge_by z = record { less = AtMost z; greater = AtLeast z; two = Far 1 (pos 0) (distance 1 (pos 0) z) }
 
-pub judge-turned : (t : TwinData) → judge_of (twin_test t) ≡ judge_of (twin_test (turned_twins t))
+pub judge-turned : (t : BivariateData) → judge_of (kendall_test t) ≡ judge_of (kendall_test (turned_bivariate t))
 judge-turned t = ap judge_by (observed-turned t)
 
-rule-turned : (t : TwinData) (tail : Tail) → rule_of (twin_test t) tail ≡ rule_of (twin_test (turned_twins t)) tail
-rule-turned t tail = sym (rule-of (twin_test t) tail) ∙ ap (λ judge. rule_in judge tail) (judge-turned t) ∙ rule-of (twin_test (turned_twins t)) tail
+rule-turned : (t : BivariateData) (tail : Tail) → rule_of (kendall_test t) tail ≡ rule_of (kendall_test (turned_bivariate t)) tail
+rule-turned t tail = sym (rule-of (kendall_test t) tail) ∙ ap (λ judge. rule_in judge tail) (judge-turned t) ∙ rule-of (kendall_test (turned_bivariate t)) tail
 
-numerator-sums : (t : TwinData) (tail : Tail) → numerator (twin_test t) tail ≡ statistic_sums (twin_test t) (passes (rule_of (twin_test t) tail))
+numerator-sums : (t : BivariateData) (tail : Tail) → numerator (kendall_test t) tail ≡ statistic_sums (kendall_test t) (passes (rule_of (kendall_test t) tail))
 numerator-sums t tail =
-    numerator-by_rule (twin_test t) tail
-    ∙ ap (sum_by unit_weight) (filter-same (λ r. passes (rule_of (twin_test t) tail) (measured (twin_test t) tail r)) (λ r. passes (rule_of (twin_test t) tail) ((twin_says t).statistic r)) (λ r. ap (passes (rule_of (twin_test t) tail)) (measured-is (twin_test t) refl tail r)) (labellings (column_sizes t.second)))
+    numerator-by_rule (kendall_test t) tail
+    ∙ ap (sum_by unit_weight) (filter-same (λ r. passes (rule_of (kendall_test t) tail) (measured (kendall_test t) tail r)) (λ r. passes (rule_of (kendall_test t) tail) ((kendall_says t).statistic r)) (λ r. ap (passes (rule_of (kendall_test t) tail)) (measured-is (kendall_test t) refl tail r)) (labellings (column_sizes t.second)))
 
-pub numerators-turned : (t : TwinData) → length t.second ≡ length t.first → (tail : Tail) → numerator (twin_test t) tail * total (twin_test (turned_twins t)) ≡ numerator (twin_test (turned_twins t)) tail * total (twin_test t)
+pub numerators-turned : (t : BivariateData) → length t.second ≡ length t.first → (tail : Tail) → numerator (kendall_test t) tail * total (kendall_test (turned_bivariate t)) ≡ numerator (kendall_test (turned_bivariate t)) tail * total (kendall_test t)
 numerators-turned t long tail =
-    ap (λ n. n * total (twin_test (turned_twins t))) (numerator-sums t tail)
-    ∙ sums-turned t long (passes (rule_of (twin_test t) tail))
-    ∙ ap (λ rule. statistic_sums (twin_test (turned_twins t)) (passes rule) * total (twin_test t)) (rule-turned t tail)
-    ∙ sym (ap (λ n. n * total (twin_test t)) (numerator-sums (turned_twins t) tail))
+    ap (λ n. n * total (kendall_test (turned_bivariate t))) (numerator-sums t tail)
+    ∙ sums-turned t long (passes (rule_of (kendall_test t) tail))
+    ∙ ap (λ rule. statistic_sums (kendall_test (turned_bivariate t)) (passes rule) * total (kendall_test t)) (rule-turned t tail)
+    ∙ sym (ap (λ n. n * total (kendall_test t)) (numerator-sums (turned_bivariate t) tail))
 
-numerator-within : (t : TwinData) (tail : Tail) → numerator (twin_test t) tail ≤ total (twin_test t)
-numerator-within t tail = omega (arith, numerator-sums t tail, sum_by-filter-≤ unit_weight (λ r. passes (rule_of (twin_test t) tail) ((twin_says t).statistic r)) (labellings (column_sizes t.second)))
+numerator-within : (t : BivariateData) (tail : Tail) → numerator (kendall_test t) tail ≤ total (kendall_test t)
+numerator-within t tail = omega (arith, numerator-sums t tail, sum_by-filter-≤ unit_weight (λ r. passes (rule_of (kendall_test t) tail) ((kendall_says t).statistic r)) (labellings (column_sizes t.second)))
 
 -- a numerator of the test turned is a part of its total, that gives the numerator
-pub record Gives (t : TwinData) (tail : Tail) (part of all : ℕ) : Type 0 where
+pub record Gives (t : BivariateData) (tail : Tail) (part of all : ℕ) : Type 0 where
   pub is_part : IsPart part of all
-  pub law : (found : ℕ) → found * of ≡ part * all → found ≡ numerator (twin_test t) tail
+  pub law : (found : ℕ) → found * of ≡ part * all → found ≡ numerator (kendall_test t) tail
 
-pub gives : (t u : TwinData) (here there : MadeTwins) (tail : Tail) (part : ℕ) → u ≡ turned_twins t → AreMade t here → AreMade u there → part ≡ numerator (twin_test u) tail → Gives t tail part there.total here.total
+pub gives : (t u : BivariateData) (here there : KendallMade) (tail : Tail) (part : ℕ) → u ≡ turned_bivariate t → AreMade t here → AreMade u there → part ≡ numerator (kendall_test u) tail → Gives t tail part there.total here.total
 gives t u here there tail part e a b p =
-    let v : TwinData = turned_twins t in
-    let all : here.total ≡ total (twin_test t) = a.total ∙ sym (total-is t) in
-    let of : there.total ≡ total (twin_test v) = b.total ∙ ap (λ x. number_of_labellings (column_sizes x.second)) e ∙ sym (total-is v) in
-    let there_part : part ≡ numerator (twin_test v) tail = p ∙ ap (λ x. numerator (twin_test x) tail) e in
-    let some : 0 < there.total = omega (arith, of, total-some (twin_says v)) in
-    let ratio : numerator (twin_test t) tail * there.total ≡ part * here.total =
-    ap (λ n. numerator (twin_test t) tail * n) of ∙ numerators-turned t a.long tail ∙ sym (ap (λ n. n * here.total) there_part ∙ ap (λ n. numerator (twin_test v) tail * n) all) in
+    let v : BivariateData = turned_bivariate t in
+    let all : here.total ≡ total (kendall_test t) = a.total ∙ sym (total-is t) in
+    let of : there.total ≡ total (kendall_test v) = b.total ∙ ap (λ x. number_of_labellings (column_sizes x.second)) e ∙ sym (total-is v) in
+    let there_part : part ≡ numerator (kendall_test v) tail = p ∙ ap (λ x. numerator (kendall_test x) tail) e in
+    let some : 0 < there.total = omega (arith, of, total-some (kendall_says v)) in
+    let ratio : numerator (kendall_test t) tail * there.total ≡ part * here.total =
+    ap (λ n. numerator (kendall_test t) tail * n) of ∙ numerators-turned t a.long tail ∙ sym (ap (λ n. n * here.total) there_part ∙ ap (λ n. numerator (kendall_test v) tail * n) all) in
     record {
       is_part = record {
         some = some;
         within = omega (arith, there_part, of, numerator-within v tail);
-        whole = no-rest (numerator (twin_test t) tail) there.total (here.total * part) some (ratio ∙ mul_comm part here.total);
+        whole = no-rest (numerator (kendall_test t) tail) there.total (here.total * part) some (ratio ∙ mul_comm part here.total);
       };
-      law = λ n f. cancel n (numerator (twin_test t) tail) there.total some (f ∙ sym ratio);
+      law = λ n f. cancel n (numerator (kendall_test t) tail) there.total some (f ∙ sym ratio);
     }
 
 -- ---- the distribution
-
-quotient : (a of m : ℕ) → 0 < of → a * of ≡ m → m / of ≡ a
-quotient a of m some e = rw (← e) (by (a * of) (omega arith) (div-mul-add a of 0 some))
-  where
-    by : (m : ℕ) → m ≡ a * of + 0 → (a * of + 0) / of ≡ a → m / of ≡ a
-    by m e f = rw e f
 
 module _ (all of : ℕ) (some : 0 < of) where
   -- a weight whose part of the other total is a whole number, and of which something is left
@@ -124,46 +117,46 @@ module _ (all of : ℕ) (some : 0 < of) where
       both true n w e = e
       both false n w e = omega arith
 
-module _ (t : TwinData) (long : length t.second ≡ length t.first) where
-  abbrev u : TwinData
-  u = turned_twins t
+module _ (t : BivariateData) (long : length t.second ≡ length t.first) where
+  abbrev u : BivariateData
+  u = turned_bivariate t
 
   abbrev all : ℕ
-  all = total (twin_test t)
+  all = total (kendall_test t)
 
   abbrev of : ℕ
-  of = total (twin_test u)
+  of = total (kendall_test u)
 
   some : 0 < of
-  some = omega (arith, total-some (twin_says u))
+  some = omega (arith, total-some (kendall_says u))
 
   other : 0 < all
-  other = omega (arith, total-some (twin_says t))
+  other = omega (arith, total-some (kendall_says t))
 
   -- each line weighs in the ratio what its value does in the other test
-  each-ratio : (vs : List ℤ) → AllByRecursion (λ v. IsRatio all of some (value_weight (twin_test u) v)) vs
+  each-ratio : (vs : List ℤ) → AllByRecursion (λ v. IsRatio all of some (value_weight (kendall_test u) v)) vs
   each-ratio [] = tt
-  each-ratio (v ∷ vs) = (record { count = statistic_sums (twin_test t) (λ z. int_eq z v); ratio = sums-turned t long (λ z. int_eq z v) }, each-ratio vs)
+  each-ratio (v ∷ vs) = (record { count = statistic_sums (kendall_test t) (λ z. int_eq z v); ratio = sums-turned t long (λ z. int_eq z v) }, each-ratio vs)
 
-  lines-ratio : AllByRecursion (IsRatio all of some) (distribution (twin_test u))
+  lines-ratio : AllByRecursion (IsRatio all of some) (distribution (kendall_test u))
   lines-ratio =
-      let values : List ℤ = ascending_values (map (twin_says u).statistic (labellings (column_sizes u.second))) in
-      all_map (IsRatio all of some) (value_weight (twin_test u)) values (each-ratio values)
+      let values : List ℤ = ascending_values (map (kendall_says u).statistic (labellings (column_sizes u.second))) in
+      all_map (IsRatio all of some) (value_weight (kendall_test u)) values (each-ratio values)
 
-  told : (p : ℤ → Bool) → line_sum p (map (weighed_line all of) (distribution (twin_test u))) ≡ statistic_sums (twin_test t) p
+  told : (p : ℤ → Bool) → line_sum p (map (weighed_line all of) (distribution (kendall_test u))) ≡ statistic_sums (kendall_test t) p
   told p =
-      let d = distribution-is (twin_test u) (all-weigh (labellings (column_sizes u.second))) in
-      cancel (line_sum p (map (weighed_line all of) (distribution (twin_test u)))) (statistic_sums (twin_test t) p) of some
-      (weighed-told all of some p (distribution (twin_test u)) lines-ratio ∙ ap (λ n. n * all) (d.told p) ∙ sym (sums-turned t long p))
+      let d = distribution-is (kendall_test u) (all-weigh (labellings (column_sizes u.second))) in
+      cancel (line_sum p (map (weighed_line all of) (distribution (kendall_test u)))) (statistic_sums (kendall_test t) p) of some
+      (weighed-told all of some p (distribution (kendall_test u)) lines-ratio ∙ ap (λ n. n * all) (d.told p) ∙ sym (sums-turned t long p))
 
-  spread-turned : distribution (twin_test t) ≡ map (weighed_line all of) (distribution (twin_test u))
+  spread-turned : distribution (kendall_test t) ≡ map (weighed_line all of) (distribution (kendall_test u))
   spread-turned =
-      let d = distribution-is (twin_test u) (all-weigh (labellings (column_sizes u.second))) in
-      sym (spread-is (twin_test t) (map (weighed_line all of) (distribution (twin_test u))) (all-weigh (labellings (column_sizes t.second))) (record {
-        ascending = weighed-ascending all of some (distribution (twin_test u)) d.ascending;
-        positive = weighed-positive all of some other (distribution (twin_test u)) lines-ratio d.positive;
+      let d = distribution-is (kendall_test u) (all-weigh (labellings (column_sizes u.second))) in
+      sym (spread-is (kendall_test t) (map (weighed_line all of) (distribution (kendall_test u))) (all-weigh (labellings (column_sizes t.second))) (record {
+        ascending = weighed-ascending all of some (distribution (kendall_test u)) d.ascending;
+        positive = weighed-positive all of some other (distribution (kendall_test u)) lines-ratio d.positive;
         told = told;
       }))
 
-pub are-in-ratio : (t : TwinData) → length t.second ≡ length t.first → AreInRatio t (turned_twins t)
+pub are-in-ratio : (t : BivariateData) → length t.second ≡ length t.first → AreInRatio t (turned_bivariate t)
 are-in-ratio t long = record { observed = observed-turned t; numerators = numerators-turned t long; distributions = spread-turned t long }

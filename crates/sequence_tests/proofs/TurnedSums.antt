@@ -6,21 +6,20 @@ use Rattle.std.proofs.lemmas.List.{length-map, map-id}
 use Rattle.std.proofs.lemmas.List.Elements.{All-contains_itself, recursion_from_All}
 use Rattle.std.proofs.lemmas.List.Sums.{sum_by-cons}
 use Rattle.weights.specs.Conditional.{total}
-use Rattle.weights.specs.Grouped.{columns_of, table_weight, tables}
+use Rattle.weights.specs.Grouped.{columns_of}
 use Rattle.weights.specs.Labellings.{labellings, number_of_labellings}
 use Rattle.weights.proofs.Chosen.{one_if}
 use Rattle.weights.proofs.GroupingLaw.{by_columns, grouping}
 use Rattle.weights.proofs.Members.{IsLabelling, labelling_from}
 use Rattle.weights.proofs.OneOrder.{sum_by-in_order}
-use Rattle.weights.proofs.Sums.{sum_by-filter, sum_by-map, sum_by-same_where, sum_by-times}
-use Rattle.weights.proofs.Tables.{IsTable, tables-each}
+use Rattle.weights.proofs.Sums.{sum_by-filter, sum_by-map, sum_by-same_where}
 use Rattle.midranks.specs.Ties.{tie_groups}
 use Rattle.midranks.specs.declared.ties.Tie.{Tie}
 use Rattle.midranks.proofs.OneGrouping.{groups-are}
 use Rattle.midranks.proofs.TieLemmas.{groups-ascend, groups-counts, sum_by-groups}
+use Rattle.sample_reader.specs.Bivariate.{BivariateData}
 use Rattle.sample_reader.specs.Groups.{GroupData}
 use Rattle.sample_reader.specs.PooledSample.{may_precede, paired_subjects, values_of}
-use Rattle.sample_reader.specs.Twins.{TwinData}
 use Rattle.sample_reader.specs.declared.subjects.Subject.{Subject}
 use Rattle.stage_network.specs.Follows.{statistic_sums}
 use Rattle.labelled.proofs.LabelLaws.{total-of}
@@ -28,31 +27,16 @@ use Rattle.pooled_columns.specs.PooledColumns.{column_sizes}
 use Rattle.pooled_columns.proofs.PooledValues.{pooled-rises}
 use Rattle.pooled_columns.proofs.TieColumns.{grouped}
 use Rattle.turned_tables.specs.Turned.{turned}
-use Rattle.turned_tables.proofs.Bijection.{sums, turning}
+use Rattle.turned_tables.proofs.Bijection.{sums}
 use Rattle.turned_tables.proofs.Shapes.{wide-table}
-use Rattle.turned_tables.proofs.Weighed.{weights-turned}
-use Rattle.sequence_tests.specs.Kendall.{kendall_statistic, place_among, places_of, twin_says, twin_subjects, twin_test}
-use Rattle.sequence_tests.specs.TurnedTwins.{turned_twins}
+use Rattle.turned_tables.proofs.Weighed.{weighed-turned}
+use Rattle.sequence_tests.specs.Kendall.{kendall_says, kendall_statistic, kendall_subjects, kendall_test, place_among, places_of}
+use Rattle.sequence_tests.specs.TurnedKendall.{turned_bivariate}
 use Rattle.sequence_tests.proofs.KendallValues.{values_of_ties}
 use Rattle.sequence_tests.proofs.Places.{sizes-sum}
 use Rattle.sequence_tests.proofs.TableSums.{sum-turned, table-is, table_sum}
 
--- ---- weighed sums over tables
-
-term-turned : (a b f g p q : ℕ) → a * p ≡ b * q → f ≡ g → (a * f) * p ≡ (b * g) * q
-term-turned a b f g p q e h =
-    let one : (a * f) * p ≡ (a * p) * f = grind arith in
-    let two : (b * g) * q ≡ (b * q) * g = grind arith in
-    one ∙ ap (λ n. n * f) e ∙ ap (λ n. (b * q) * n) h ∙ sym two
-
--- of what a table and the table turned have in common
-weighed-turned : (columns rows : List ℕ) (f g : List (List ℕ) → ℕ) → sum columns ≡ sum rows → ((w : List (List ℕ)) → IsTable columns rows w → f w ≡ g (turned (length rows) w)) → by_columns columns rows f * number_of_labellings columns ≡ by_columns rows columns g * number_of_labellings rows
-weighed-turned columns rows f g level same =
-    sym (sum_by-times (number_of_labellings columns) (λ w. table_weight w * f w) (tables columns rows))
-    ∙ sum_by-same_where (IsTable columns rows) (λ w. (table_weight w * f w) * number_of_labellings columns) (λ w. (table_weight (turned (length rows) w) * g (turned (length rows) w)) * number_of_labellings rows) (λ w t.
-    term-turned (table_weight w) (table_weight (turned (length rows) w)) (f w) (g (turned (length rows) w)) (number_of_labellings columns) (number_of_labellings rows) (weights-turned columns rows w level t) (same w t)) (tables columns rows) (tables-each columns rows)
-    ∙ turning columns rows level (λ u. (table_weight u * g u) * number_of_labellings rows)
-    ∙ sum_by-times (number_of_labellings rows) (λ u. table_weight u * g u) (tables rows columns)
+-- ---- sums over tables
 
 -- whether the K of a table of so many rows passes
 abbrev passing : (ℤ → Bool) → ℕ → List (List ℕ) → ℕ
@@ -75,9 +59,9 @@ values-paired f (v ∷ vs) (x ∷ xs) e =
     ∙ ap (λ n. f v + n) (values-paired f vs xs (omega (arith, e)))
     ∙ sym (sum_by-cons f v vs)
 
-module _ (t : TwinData) where
+module _ (t : BivariateData) where
   abbrev firsts : List ℤ
-  firsts = values_of (twin_subjects t)
+  firsts = values_of (kendall_subjects t)
 
   abbrev columns : List ℕ
   columns = column_sizes t.first
@@ -88,7 +72,7 @@ module _ (t : TwinData) where
   module _ (long : length t.second ≡ length t.first) where
     first-sums : (f : ℤ → ℕ) → sum_by f firsts ≡ sum_by f t.first
     first-sums f =
-        sum_by-map f (λ (s : Subject). s.value) (twin_subjects t)
+        sum_by-map f (λ (s : Subject). s.value) (kendall_subjects t)
         ∙ sum_by-in_order may_precede (λ (s : Subject). f s.value) (paired_subjects t.first (places_of t.second))
         ∙ values-paired f t.first (places_of t.second) (length-map t.second (place_among (tie_groups t.second)) ∙ long)
 
@@ -115,20 +99,20 @@ module _ (t : TwinData) where
         ∙ table-is (tie_groups firsts) (length rows) xs (groups-ascend firsts) (l.over.long ∙ sym level ∙ sym (ap sum first-columns)) l.over.below
         ∙ ap (λ cs. table_sum (length rows) (columns_of (length rows) cs xs)) first-columns
 
-    sums-are : (p : ℤ → Bool) → statistic_sums (twin_test t) p ≡ by_columns columns rows (passing p (length rows))
+    sums-are : (p : ℤ → Bool) → statistic_sums (kendall_test t) p ≡ by_columns columns rows (passing p (length rows))
     sums-are p =
         sum_by-filter (λ xs. 1) (λ xs. p (kendall_statistic firsts xs)) (labellings rows)
         ∙ sum_by-same_where (Contains (labellings rows)) (λ xs. cond (p (kendall_statistic firsts xs)) 1 0) (λ xs. passing p (length rows) (columns_of (length rows) columns xs)) (λ xs m. ap (λ z. one_if (p z)) (statistic-is xs m)) (labellings rows)
         (recursion_from_All (Contains (labellings rows)) (labellings rows) (All-contains_itself (labellings rows)))
         ∙ sym (grouping columns rows (passing p (length rows)) level)
 
-  pub total-is : total (twin_test t) ≡ number_of_labellings rows
-  total-is = total-of (twin_says t)
+  pub total-is : total (kendall_test t) ≡ number_of_labellings rows
+  total-is = total-of (kendall_says t)
 
 -- the sums of the test turned
-pub sums-turned : (t : TwinData) → length t.second ≡ length t.first → (p : ℤ → Bool) → statistic_sums (twin_test t) p * total (twin_test (turned_twins t)) ≡ statistic_sums (twin_test (turned_twins t)) p * total (twin_test t)
+pub sums-turned : (t : BivariateData) → length t.second ≡ length t.first → (p : ℤ → Bool) → statistic_sums (kendall_test t) p * total (kendall_test (turned_bivariate t)) ≡ statistic_sums (kendall_test (turned_bivariate t)) p * total (kendall_test t)
 sums-turned t long p =
-    ap (λ n. statistic_sums (twin_test t) p * n) (total-is (turned_twins t))
+    ap (λ n. statistic_sums (kendall_test t) p * n) (total-is (turned_bivariate t))
     ∙ ap (λ n. n * number_of_labellings (column_sizes t.first)) (sums-are t long p)
     ∙ passing-turned p (column_sizes t.first) (column_sizes t.second) (level t long)
-    ∙ sym (ap (λ n. n * total (twin_test t)) (sums-are (turned_twins t) (sym long) p) ∙ ap (λ n. by_columns (column_sizes t.second) (column_sizes t.first) (passing p (length (column_sizes t.first))) * n) (total-is t))
+    ∙ sym (ap (λ n. n * total (kendall_test t)) (sums-are (turned_bivariate t) (sym long) p) ∙ ap (λ n. by_columns (column_sizes t.second) (column_sizes t.first) (passing p (length (column_sizes t.first))) * n) (total-is t))

@@ -9,8 +9,8 @@ use Rattle.weights.specs.InOrder.{in_order}
 use Rattle.labelled.specs.LabelTests.{LabelTest, label_test}
 use Rattle.midranks.specs.Ties.{tie_groups}
 use Rattle.midranks.specs.declared.ties.Tie.{Tie}
+use Rattle.sample_reader.specs.Bivariate.{BivariateData}
 use Rattle.sample_reader.specs.PooledSample.{labels_of, may_precede, paired_subjects, values_of}
-use Rattle.sample_reader.specs.Twins.{TwinData}
 use Rattle.sample_reader.specs.declared.subjects.Subject.{Subject}
 use Rattle.pooled_columns.specs.PooledColumns.{column_sizes}
 
@@ -44,17 +44,18 @@ places_of values = map (place_among (tie_groups values)) values
 
 -- the subjects in ascending order of their first values, each labelled by the place of its second
 -- value among the distinct ones
-abbrev pub twin_subjects : TwinData → List Subject
-twin_subjects twins = in_order may_precede (paired_subjects twins.first (places_of twins.second))
+abbrev pub kendall_subjects : BivariateData → List Subject
+kendall_subjects sample =
+    in_order may_precede (paired_subjects sample.first (places_of sample.second))
 
 -- all ways to give the second values to the subjects, each distinct value as often as it occurs; K
 -- is at most the square of the number of subjects
-abbrev pub twin_says : TwinData → LabelTest
-twin_says twins =
-    let firsts = values_of (twin_subjects twins) in record {
-      sizes = column_sizes twins.second;
+abbrev pub kendall_says : BivariateData → LabelTest
+kendall_says sample =
+    let firsts = values_of (kendall_subjects sample) in record {
+      sizes = column_sizes sample.second;
       statistic = kendall_statistic firsts;
-      observed = labels_of (twin_subjects twins);
+      observed = labels_of (kendall_subjects sample);
       tails = every_tail;
       factor = 1;
       centre = pos 0;
@@ -63,5 +64,5 @@ twin_says twins =
     }
 
 -- the test of Kendall's K of two values of each subject
-abbrev pub twin_test : TwinData → ConditionalTest
-twin_test twins = label_test (twin_says twins)
+abbrev pub kendall_test : BivariateData → ConditionalTest
+kendall_test sample = label_test (kendall_says sample)

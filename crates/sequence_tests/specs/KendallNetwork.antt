@@ -3,8 +3,8 @@ use Rattle.std.specs.Prelude.{ℕ, ◌+◌, ◌*◌, ℤ, pos, ◌-ℤ◌, List,
 use Rattle.std.specs.List.{sum}
 use Rattle.weights.specs.declared.tails.Tail.{Tail}
 use Rattle.weights.specs.Grouped.{minus}
+use Rattle.sample_reader.specs.Bivariate.{BivariateData}
 use Rattle.sample_reader.specs.PooledSample.{values_of}
-use Rattle.sample_reader.specs.Twins.{TwinData}
 use Rattle.stage_network.specs.Judged.{judge_of}
 use Rattle.stage_network.specs.Network.{Network}
 use Rattle.stage_network.specs.declared.verdicts.Judge.{Judge}
@@ -14,7 +14,7 @@ use Rattle.room_network.specs.RoomNetworks.{room_network}
 use Rattle.room_network.specs.declared.numbers.Operation.TheVariants.{Sum}
 use Rattle.label_network.specs.LabelRooms.{label_weight}
 use Rattle.pooled_columns.specs.PooledColumns.{column_sizes}
-use Rattle.sequence_tests.specs.Kendall.{twin_subjects, twin_test}
+use Rattle.sequence_tests.specs.Kendall.{kendall_subjects, kendall_test}
 use Rattle.sequence_tests.specs.KendallRooms.{counts_left, kendall_floor}
 
 -- the pairs of a subject here and a later one whose second value is greater, by the counts of both
@@ -48,13 +48,13 @@ abbrev pub kendall_meaning : List ℕ → List ℕ → Judge → Meaning
 kendall_meaning columns rows judge =
     number_meaning (kendall_floor columns rows) (kendall_numbers columns rows judge)
 
-abbrev pub twin_meaning : TwinData → Meaning
-twin_meaning twins = kendall_meaning (column_sizes (values_of (twin_subjects twins)))
-    (column_sizes twins.second) (judge_of (twin_test twins))
+abbrev pub sample_meaning : BivariateData → Meaning
+sample_meaning sample = kendall_meaning (column_sizes (values_of (kendall_subjects sample)))
+    (column_sizes sample.second) (judge_of (kendall_test sample))
 
-abbrev pub twin_stages : TwinData → Network
-twin_stages twins = room_network (twin_meaning twins) label_weight
+abbrev pub kendall_stages : BivariateData → Network
+kendall_stages sample = room_network (sample_meaning sample) label_weight
 
 -- one network for all tails
-abbrev pub twin_network : TwinData → Tail → Network
-twin_network twins tail = twin_stages twins
+abbrev pub kendall_network : BivariateData → Tail → Network
+kendall_network sample tail = kendall_stages sample

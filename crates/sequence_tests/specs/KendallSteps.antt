@@ -14,7 +14,7 @@ use Rattle.sequence_tests.specs.Kendall.{one_where_greater, one_where_less}
 use Rattle.sequence_tests.specs.KendallRooms.{code_in, counts_left, kendall_floor, kendall_plan}
 
 -- few subjects and labellings
-pub record AreTwins (columns rows : List ℕ) : Type 0 where
+pub record AreKendallCounts (columns rows : List ℕ) : Type 0 where
   pub level : sum columns ≡ sum rows
   pub few : sum rows ≤ 120
   pub short : length rows ≤ 120
@@ -40,7 +40,7 @@ pub record IsCoded (columns : List ℕ) (g : ℕ) (room : List ℤ) : Type 0 whe
 
 -- and rules of which no number of K passes a limit
 pub record IsKendall (columns rows : List ℕ) (judge : Judge) : Type 0 where
-  pub twins : AreTwins columns rows
+  pub counts : AreKendallCounts columns rows
   pub rules_fit : (v : ℤ) → unsigned_abs v ≤ 14400 → JudgeFits judge v
 
 -- 1 where the second of two numbers is greater, or where it is less
@@ -53,7 +53,7 @@ pairs_with rises v x subjects =
     sum_by (λ b. if int_lt v b.value then ordered rises x b.label else 0) subjects
 
 -- what is known of a room that is reached, and of what is left there
-pub record TwinSeat (columns rows : List ℕ) (g : ℕ) (room : List ℤ) : Type 0 where
+pub record KendallSeat (columns rows : List ℕ) (g : ℕ) (room : List ℤ) : Type 0 where
   pub coded : IsCoded columns g room
   pub some : AreSome rows (counts_left columns (length rows) g room)
   pub held : (width : ℕ) → IsHeld width rows
@@ -67,7 +67,7 @@ pub record TwinSeat (columns rows : List ℕ) (g : ℕ) (room : List ℤ) : Type
       floor.choices g room ≡ x ∷ floor.later g room x
 
 -- and of a choice there
-pub record TwinChoice (columns rows : List ℕ) (g : ℕ) (room : List ℤ) (x : List ℕ) : Type 0 where
+pub record KendallChoice (columns rows : List ℕ) (g : ℕ) (room : List ℤ) (x : List ℕ) : Type 0 where
   pub whole : slice_index columns g ≡ sum x
   pub fitting : fits x (counts_left columns (length rows) g room) ≡ true
   pub some : AreSome rows x

@@ -5,7 +5,7 @@ pub mod KendallRooms
 pub mod KendallNetwork
 pub mod RunCounts
 pub mod SequenceTests
-pub mod TurnedTwins
+pub mod TurnedKendall
 pub mod KendallSteps
-pub mod TwinSteps
+pub mod KendallMade
 pub mod RunSteps

@@ -2,8 +2,8 @@
 ghost use Rattle.std.specs.Prelude.{◌≡◌, ◌*◌, true, IfOk};
 ghost use Rattle.stage_network.specs.Follows.{AreNumerators};
 ghost use Rattle.stage_network.specs.Judged.{judge_of};
-ghost use Rattle.sequence_tests.specs.Kendall.{twin_test};
-ghost use Rattle.sequence_tests.specs.TurnedTwins.{IsPart, turned_twins};
+ghost use Rattle.sequence_tests.specs.Kendall.{kendall_test};
+ghost use Rattle.sequence_tests.specs.TurnedKendall.{IsPart, turned_bivariate};
 
 use crate::pair_order::PairOrder;
 use crate::turned::turned_of;
@@ -20,8 +20,8 @@ fn sums_as_they_stand(
     judge: Judge,
     tails: Tails,
 ) -> Result<TailSums, NoMemory>
-    requires { judge ≡ judge_of (twin_test order.now) }
-    ensures { IfOk result (AreNumerators (twin_test order.now) tails) }
+    requires { judge ≡ judge_of (kendall_test order.now) }
+    ensures { IfOk result (AreNumerators (kendall_test order.now) tails) }
 {
     let stages = order.quick_stages_of(alloc, judge)?;
     let sums = tail_sums_by_rooms(alloc, &stages, tails)?;
@@ -50,9 +50,9 @@ fn sums_by_turning(
     judge: Judge,
     tails: Tails,
 ) -> Result<TailSums, NoMemory>
-    requires turned { turned.now ≡ turned_twins order.now }
-    requires judge { judge ≡ judge_of (twin_test order.now) }
-    ensures { IfOk result (AreNumerators (twin_test order.now) tails) }
+    requires turned { turned.now ≡ turned_bivariate order.now }
+    requires judge { judge ≡ judge_of (kendall_test order.now) }
+    ensures { IfOk result (AreNumerators (kendall_test order.now) tails) }
 {
     let here = order.made();
     let there = turned.made();
@@ -73,8 +73,8 @@ pub(crate) fn quick_sums(
     judge: Judge,
     tails: Tails,
 ) -> Result<TailSums, NoMemory>
-    requires { judge ≡ judge_of (twin_test order.now) }
-    ensures { IfOk result (AreNumerators (twin_test order.now) tails) }
+    requires { judge ≡ judge_of (kendall_test order.now) }
+    ensures { IfOk result (AreNumerators (kendall_test order.now) tails) }
 {
     match turned_of(alloc, order)? {
         Some(turned) => sums_by_turning(alloc, order, &turned, judge, tails),

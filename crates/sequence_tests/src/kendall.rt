@@ -1,18 +1,18 @@
 // Two values of each subject that are prepared for Kendall's test.
 ghost use Rattle.weights.specs.Wide.{Prepares};
-ghost use Rattle.sample_reader.specs.Data.{twin_data_of};
-ghost use Rattle.sequence_tests.specs.Kendall.{twin_test};
+ghost use Rattle.sample_reader.specs.Data.{bivariate_data_of};
+ghost use Rattle.sequence_tests.specs.Kendall.{kendall_test};
 
 use crate::by_turning::quick_sums;
+use crate::kendall_made::kendall_subjects;
 use crate::kendall_measure::KendallMeasure;
 use crate::kendall_rooms::KendallRooms;
 use crate::kendall_sums::kendall_sum;
-use crate::kendall_twins::twin_subjects;
 use crate::pair_order::PairOrder;
 use labelled::{LabelStatistic, Labelled};
 use pooled_columns::labels_in;
 use room_network::{Numbered, RoomNetwork};
-use sample_reader::Twins;
+use sample_reader::BivariateSample;
 use stage_network::{Judge, TailSums};
 use std::alloc::Global;
 use weights::{NoMemory, PrepareFault, Tail, Tails};
@@ -21,12 +21,12 @@ use weights::{NoMemory, PrepareFault, Tail, Tails};
 pub type Kendall = Labelled<PairOrder>;
 
 /// Prepares two values of each subject.
-pub(crate) fn prepare(alloc: Global, twins: &Twins) -> Result<Kendall, PrepareFault>
-    ensures { Prepares twin_test (twin_data_of twins.now) result }
+pub(crate) fn prepare(alloc: Global, sample: &BivariateSample) -> Result<Kendall, PrepareFault>
+    ensures { Prepares kendall_test (bivariate_data_of sample.now) result }
 {
-    let first = &twins.first;
-    let second = &twins.second;
-    let subjects = twin_subjects(alloc, first.as_slice(), second.as_slice())?;
+    let first = &sample.first;
+    let second = &sample.second;
+    let subjects = kendall_subjects(alloc, first.as_slice(), second.as_slice())?;
     let order = PairOrder::of(alloc, first, second, &subjects)?;
     let observed = labels_in(alloc, &subjects)?;
     let total = order.made().total;
@@ -34,16 +34,16 @@ pub(crate) fn prepare(alloc: Global, twins: &Twins) -> Result<Kendall, PrepareFa
 }
 
 impl LabelStatistic for PairOrder {
-    ghost use Rattle.sequence_tests.specs.Kendall.{twin_says};
-    ghost use Rattle.sequence_tests.specs.KendallNetwork.{twin_stages};
+    ghost use Rattle.sequence_tests.specs.Kendall.{kendall_says};
+    ghost use Rattle.sequence_tests.specs.KendallNetwork.{kendall_stages};
 
     type Built = RoomNetwork<KendallRooms, Numbered<KendallMeasure>>;
 
-    ghost says = { twin_says };
+    ghost says = { kendall_says };
 
-    ghost network = { twin_stages };
+    ghost network = { kendall_stages };
 
-    ghost runs = { twin_stages };
+    ghost runs = { kendall_stages };
 
     fn sound(&self) {
         let _made = self.made();

@@ -3,8 +3,8 @@ ghost use Rattle.std.specs.Prelude.{◌≡◌, IfOk};
 ghost use Rattle.sequence_tests.specs.KendallNetwork.{kendall_meaning};
 ghost use Rattle.sequence_tests.specs.KendallSteps.{IsKendall};
 
+use crate::kendall_counts::KendallCounts;
 use crate::pairs::{open_pairs, turn};
-use crate::twin_counts::TwinCounts;
 use room_network::{NumberMeasure, Operation};
 use stage_network::{Interval, Judge};
 use std::alloc::Global;
@@ -14,7 +14,7 @@ use weights::NoMemory;
 /// there are, or take it away.
 #[derive(Drop)]
 pub struct KendallMeasure {
-    counts: TwinCounts,
+    counts: KendallCounts,
     judge: Judge,
     ghost right: { IsKendall counts.columns.items counts.rows.items judge },
 }
@@ -33,7 +33,7 @@ impl KendallMeasure {
             kendall_meaning m.counts.columns.items m.counts.rows.items m.judge
             ≡ kendall_meaning columns.now rows.now judge) }
     {
-        let counts = TwinCounts::new(alloc, columns, rows)?;
+        let counts = KendallCounts::new(alloc, columns, rows)?;
         Ok(KendallMeasure { counts, judge })
     }
 }

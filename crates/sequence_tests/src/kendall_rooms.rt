@@ -1,11 +1,11 @@
 // The rooms of Kendall's test.
 ghost use Rattle.std.specs.Prelude.{◌≡◌, IfOk};
 ghost use Rattle.label_network.specs.LabelSteps.{IsHeld};
-ghost use Rattle.sequence_tests.specs.KendallSteps.{AreTwins};
+ghost use Rattle.sequence_tests.specs.KendallSteps.{AreKendallCounts};
 
 use crate::codes::code_of;
 use crate::counts::{first_choice, next_choice};
-use crate::twin_counts::TwinCounts;
+use crate::kendall_counts::KendallCounts;
 use label_network::{Binomials, weight_in};
 use room_network::Rooms;
 use std::alloc::Global;
@@ -16,7 +16,7 @@ use weights::{NoMemory, total_of};
 /// counts that are left.
 #[derive(Drop)]
 pub struct KendallRooms {
-    counts: TwinCounts,
+    counts: KendallCounts,
     binomials: Binomials,
     ghost held: { IsHeld binomials.width counts.rows.items },
 }
@@ -26,12 +26,12 @@ impl KendallRooms {
     /// each distinct second one. There are at most [`MAX`](weights::MAX) ways to give the second
     /// values to the subjects.
     pub fn new(alloc: Global, columns: &[u64], rows: &[u64]) -> Result<KendallRooms, NoMemory>
-        requires { AreTwins columns.now rows.now }
+        requires { AreKendallCounts columns.now rows.now }
         ensures columns { IfOk result (λ rooms. rooms.counts.columns.items ≡ columns.now) }
         ensures rows { IfOk result (λ rooms. rooms.counts.rows.items ≡ rows.now) }
     {
         let binomials = Binomials::for_rows(alloc, rows)?;
-        let counts = TwinCounts::new(alloc, columns, rows)?;
+        let counts = KendallCounts::new(alloc, columns, rows)?;
         Ok(KendallRooms { counts, binomials })
     }
 }

@@ -1,10 +1,10 @@
 // Kendall's K of two values of each subject.
 ghost use Rattle.std.specs.Prelude.{◌≡◌, ◌≤◌, length};
 ghost use Rattle.weights.specs.Wide.{Prepares};
-ghost use Rattle.sequence_tests.specs.Kendall.{twin_subjects, twin_test};
-ghost use Rattle.sequence_tests.specs.TwinSteps.{AreMade, twins_from};
+ghost use Rattle.sequence_tests.specs.Kendall.{kendall_subjects, kendall_test};
+ghost use Rattle.sequence_tests.specs.KendallMade.{AreMade, bivariate_from};
 
-use crate::kendall_twins::MadeTwins;
+use crate::kendall_made::KendallMade;
 use pooled_columns::column_sizes;
 use sample_reader::{Subject, values};
 use std::alloc::Global;
@@ -17,18 +17,18 @@ pub struct PairOrder {
     // What it was prepared of, by which contracts name it.
     first: Ints,
     second: Ints,
-    made: MadeTwins,
+    made: KendallMade,
 }
 
 impl Model for PairOrder {
-    ghost use Rattle.sample_reader.specs.Twins.{TwinData};
-    ghost use Rattle.sequence_tests.specs.TwinSteps.{AreMade, twins_from};
+    ghost use Rattle.sample_reader.specs.Bivariate.{BivariateData};
+    ghost use Rattle.sequence_tests.specs.KendallMade.{AreMade, bivariate_from};
 
-    ghost Value = { TwinData };
+    ghost Value = { BivariateData };
 
-    ghost view = { λ t. twins_from t.first t.second };
+    ghost view = { λ t. bivariate_from t.first t.second };
 
-    ghost invariant = { λ t. AreMade (twins_from t.first t.second) t.made };
+    ghost invariant = { λ t. AreMade (bivariate_from t.first t.second) t.made };
 }
 
 impl PairOrder {
@@ -41,8 +41,8 @@ impl PairOrder {
     ) -> Result<PairOrder, PrepareFault>
         requires long { length second.now ≡ length first.now }
         requires few { length first.now ≤ 120 }
-        requires subjects { subjects.now ≡ twin_subjects (twins_from first.now second.now) }
-        ensures { Prepares twin_test (twins_from first.now second.now) result }
+        requires subjects { subjects.now ≡ kendall_subjects (bivariate_from first.now second.now) }
+        ensures { Prepares kendall_test (bivariate_from first.now second.now) result }
     {
         let rows = column_sizes(alloc, second.as_slice())?;
         let Some(total) = multinomial(rows.as_slice()) else {
@@ -53,7 +53,7 @@ impl PairOrder {
         Ok(PairOrder {
             first: first.copy()?,
             second: second.copy()?,
-            made: MadeTwins {
+            made: KendallMade {
                 columns,
                 rows,
                 firsts,
@@ -77,7 +77,7 @@ impl PairOrder {
     }
 
     /// What was made of the values.
-    pub(crate) fn made(&self) -> &MadeTwins
+    pub(crate) fn made(&self) -> &KendallMade
         ensures { AreMade self.now result.now }
     {
         &self.made

@@ -1,9 +1,9 @@
 // Kendall's test turned: the two values of each subject change places.
 ghost use Rattle.std.specs.Prelude.{◌≡◌, length, IfOk, IfSome};
-ghost use Rattle.sample_reader.specs.Twins.{TwinData};
-ghost use Rattle.sequence_tests.specs.TurnedTwins.{AreInRatio, turned_twins};
+ghost use Rattle.sample_reader.specs.Bivariate.{BivariateData};
+ghost use Rattle.sequence_tests.specs.TurnedKendall.{AreInRatio, turned_bivariate};
 
-use crate::kendall_twins::twin_subjects;
+use crate::kendall_made::kendall_subjects;
 use crate::pair_order::PairOrder;
 use crate::work::is_less_turned;
 use std::alloc::Global;
@@ -13,13 +13,14 @@ use weights::{NoMemory, PrepareFault};
 /// is the same, the numerators of each tail are in the ratio of the totals, and so are the lines of
 /// the distributions.
 pub fn turned_tests()
-    ensures { (t : TwinData) → length t.second ≡ length t.first → AreInRatio t (turned_twins t) }
+    ensures { (t : BivariateData) → length t.second ≡ length t.first
+        → AreInRatio t (turned_bivariate t) }
 {}
 
 /// The test turned, which serves where it is less work. None where it is not, and where its total
 /// is too wide.
 pub(crate) fn turned_of(alloc: Global, order: &PairOrder) -> Result<Option<PairOrder>, NoMemory>
-    ensures { IfOk result (λ found. IfSome found (λ turned. turned ≡ turned_twins order.now)) }
+    ensures { IfOk result (λ found. IfSome found (λ turned. turned ≡ turned_bivariate order.now)) }
 {
     let made = order.made();
     if !is_less_turned(made.columns.as_slice(), made.rows.as_slice()) {
@@ -27,7 +28,7 @@ pub(crate) fn turned_of(alloc: Global, order: &PairOrder) -> Result<Option<PairO
     }
     let first = order.second();
     let second = order.first();
-    let subjects = twin_subjects(alloc, first.as_slice(), second.as_slice())?;
+    let subjects = kendall_subjects(alloc, first.as_slice(), second.as_slice())?;
     match PairOrder::of(alloc, first, second, &subjects) {
         Ok(turned) => Ok(Some(turned)),
         Err(PrepareFault::NoMemory) => Err(NoMemory),

@@ -40,6 +40,10 @@ segment-at s e i nodes d h k l =
     let on : s + (i - s) ≡ i = omega (arith, h) in
     get_or-take (e - s) (drop s nodes) (i - s) d (omega (arith, h, k)) ∙ get_or-drop s nodes (i - s) d ∙ ap (λ j. get_or nodes j d) on
 
+-- those before a place behind them are all of them
+pub segment-all : (s e i : ℕ) (nodes : List Node) → s < e → e ≤ length nodes → e ≤ i → take (i - s) (segment s e nodes) ≡ segment s e nodes
+segment-all s e i nodes h k low = take_all (i - s) (segment s e nodes) (omega (arith, length-segment s e nodes (omega (arith, h)) k, h, low))
+
 -- the nodes that an arc leads to, one more
 module _ (n : Network) (g : ℕ) (c : List ℕ) (f : List ℤ → ℕ) (nodes : List Node) (s e i : ℕ) (d : Node) (h : s ≤ i) (k : i < e) (l : e ≤ length nodes) where
   part : Node → ℕ

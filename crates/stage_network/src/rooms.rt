@@ -13,20 +13,22 @@ use crate::links::Link;
 use crate::nodes::StageNodes;
 use crate::stage_arcs::StageArcs;
 use crate::stages::{Roomed, Stages};
-use node_runs::RunPool;
+use node_runs::{Lead, RunPool, add_loose, add_or_keep};
 use std::alloc::Global;
 use weights::{Count, NoMemory};
 
-/// The partials of one room, with buffers for a step and for the partial that it leads to.
+/// The partials of one room, with those that did not ascend within the run that is added, and
+/// buffers for a step and for the partial that it leads to.
 #[derive(Drop)]
 pub struct RoomPool<C: Count> {
     pub partials: RunPool<C>,
+    pub loose: Vec<Lead<C>>,
     pub step: Vec<i128>,
     pub next: Vec<i128>,
 }
 
 // The partials that no more arcs than these lead to are merged, and not hashed.
-const FEW: usize = 4;
+const FEW: usize = 16;
 
 // Whether few arcs lead to a room.
 fn has_few(arcs: &Arcs, target: usize) -> bool
@@ -66,6 +68,7 @@ impl<C: Count> RoomPool<C> {
         let width = stages.width() - stages.room_width();
         Ok(RoomPool {
             partials: RunPool::new(alloc, width)?,
+            loose: Vec::new(alloc),
             step: vec![in alloc; 0i128; stages.step_width()]?,
             next: vec![in alloc; 0i128; width]?,
         })
@@ -106,6 +109,7 @@ impl<C: Count> RoomPool<C> {
     {
         let room = nodes.room(arc.start);
         stages.step(stage, room, choice, &mut self.step);
+        self.loose.clear();
         self.partials.begin_run()?;
         for i in arc.start..arc.end {
             stages.advance(
@@ -116,9 +120,14 @@ impl<C: Count> RoomPool<C> {
                 nodes.partial(i),
                 &mut self.next,
             );
-            self.partials
-                .add(&self.next, scaled(nodes.weight(i), arc.weight))?;
+            add_or_keep(
+                &mut self.partials,
+                &mut self.loose,
+                &self.next,
+                scaled(nodes.weight(i), arc.weight),
+            )?;
         }
+        add_loose(&mut self.loose, &mut self.partials)?;
         Ok(())
     }
 

@@ -1,6 +1,6 @@
 -- The distribution of Fisher's test of a table is that of the table turned, each line in the ratio
 -- of the totals.
-use Rattle.std.proofs.Common.{◌≡◌, ℕ, ◌+◌, ◌*◌, ◌/◌, ◌<◌, ◌≤◌, List, [], ◌∷◌, map, Bool, true, false, cond, refl, sym, ◌∙◌, ap, subst, arith, inl, inr, length}
+use Rattle.std.proofs.Common.{◌≡◌, ℕ, ◌*◌, ◌/◌, ◌<◌, ◌≤◌, List, [], ◌∷◌, map, Bool, true, false, cond, refl, sym, ◌∙◌, ap, subst, arith, inl, inr, length}
 use Rattle.std.specs.Prelude.{All, ℤ, pos, nat_abs, ◌<ℤ◌, Contains}
 use Rattle.std.specs.List.{AllByRecursion, filter, sum_by}
 use Rattle.std.specs.Ordering.{int_eq}
@@ -8,7 +8,6 @@ use Rattle.std.proofs.Math.Nat.{mul-le-mul_right, mul_comm}
 use Rattle.std.proofs.lemmas.Bool.{cases_lt}
 use Rattle.std.proofs.lemmas.Int.{ints}
 use Rattle.std.proofs.lemmas.List.Elements.{All-contains_itself, All-from_recursion, recursion_from_All}
-use Rattle.std.proofs.lemmas.Nat.{div-mul-add}
 use Rattle.weights.specs.declared.TheConstants.{MAX}
 use Rattle.weights.specs.declared.lines.Line.{Line}
 use Rattle.weights.specs.Conditional.{ascending_values, distribution, total, unit_weight, value_weight}
@@ -24,7 +23,7 @@ use Rattle.stage_network.proofs.DistributionLines.{distribution-is, spread-is, v
 use Rattle.stage_network.proofs.FittingLines.{tails-fit, test-weighs}
 use Rattle.table_reader.specs.TableLayout.{TableData}
 use Rattle.turned_tables.specs.Turned.{turned}
-use Rattle.turned_tables.proofs.Reduced.{no-rest}
+use Rattle.turned_tables.proofs.Reduced.{no-rest, quotient}
 use Rattle.turned_tables.proofs.Weighed.{cancel, cancel-≤, weights-turned}
 use Rattle.table_tests.specs.FisherExact.{first_cell, fisher_test, rarity}
 use Rattle.table_tests.specs.Tables.{column_sums, is_two_by_two, row_sums}
@@ -33,14 +32,6 @@ use Rattle.table_tests.proofs.FisherTests.{given-table, rarity-is, rules-fit, to
 use Rattle.table_tests.proofs.MarginSums.{level}
 use Rattle.table_tests.proofs.TurnedData.{turned-columns, turned-rows}
 use Rattle.table_tests.proofs.TurnedTests.{PassesTurned, lines-turned, numerators-turned, rare, rare-ratio, total-turned, turned-shape, weight_of}
-
--- quotients that leave no rest
-
-pub quotient : (a of m : ℕ) → 0 < of → a * of ≡ m → m / of ≡ a
-quotient a of m some e = rw (← e) (by (a * of) (omega arith) (div-mul-add a of 0 some))
-  where
-    by : (n : ℕ) → n + 0 ≡ n → (n + 0) / of ≡ a → n / of ≡ a
-    by n same h = rw (← same) h
 
 lesser : (a b c d of all : ℕ) → 0 < of → 0 < all → a * of ≡ b * all → c * of ≡ d * all → b < d → a < c
 lesser a b c d of all some other e f l = elim (cases_lt a c) [

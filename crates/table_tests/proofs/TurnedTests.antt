@@ -1,5 +1,5 @@
 -- Fisher's test of a table and of the table turned: what is counted is in the ratio of the totals.
-use Rattle.std.proofs.Common.{◌≡◌, ℕ, ◌*◌, ◌<◌, List, length, Bool, true, false, cond, ◌&&◌, refl, sym, ◌∙◌, ap, arith, nat_eq}
+use Rattle.std.proofs.Common.{◌≡◌, ℕ, ◌*◌, ◌<◌, List, length, Bool, true, false, cond, ◌&&◌, refl, sym, ◌∙◌, ap, nat_eq}
 use Rattle.std.specs.Prelude.{pos, nat_le, Contains}
 use Rattle.std.specs.List.{filter, sum, sum_by}
 use Rattle.std.specs.Ordering.{int_eq}
@@ -12,12 +12,11 @@ use Rattle.weights.specs.Labellings.{labellings, number_of_labellings}
 use Rattle.weights.proofs.Chosen.{one_if}
 use Rattle.weights.proofs.FirstLabel.{number_of_labellings-positive}
 use Rattle.weights.proofs.GroupingLaw.{grouping}
-use Rattle.weights.proofs.Sums.{sum_by-filter, sum_by-same_where, sum_by-times}
-use Rattle.weights.proofs.Tables.{IsTable, tables-each}
+use Rattle.weights.proofs.Sums.{sum_by-filter, sum_by-same_where}
 use Rattle.table_reader.specs.TableLayout.{TableData}
 use Rattle.turned_tables.specs.Turned.{turned}
-use Rattle.turned_tables.proofs.Bijection.{alike, turning}
-use Rattle.turned_tables.proofs.Weighed.{cancel, compared, weights-turned}
+use Rattle.turned_tables.proofs.Bijection.{alike}
+use Rattle.turned_tables.proofs.Weighed.{cancel, compared, weighed-turned, weights-turned}
 use Rattle.table_tests.specs.FisherExact.{first_cell, fisher_test, rarity}
 use Rattle.table_tests.specs.Tables.{column_sums, columns_in, is_two_by_two, observed_labels, row_sums}
 use Rattle.table_tests.specs.Turned.{AreTurned}
@@ -41,26 +40,14 @@ rare-is p t =
     ∙ ap (λ k. sum_by (λ xs. one_if (p (table_weight (columns_of k (column_sums t) xs)))) (labellings (row_sums t))) (sym (length-rows t))
     ∙ sym (grouping (column_sums t) (row_sums t) (λ w. one_if (p (table_weight w))) (sym (level t)))
 
-term-turned : (a b o r p q : ℕ) → a * p ≡ b * q → o ≡ r → (a * o) * p ≡ (b * r) * q
-term-turned a b o r p q e f =
-    let one : (a * o) * p ≡ (a * p) * o = grind arith in
-    let two : (b * r) * q ≡ (b * q) * r = grind arith in
-    one ∙ ap (λ n. n * o) e ∙ ap (λ n. (b * q) * n) f ∙ sym two
-
 -- what passes in the one and, turned, in the other
 abbrev pub PassesTurned : List ℕ → List ℕ → (ℕ → Bool) → (ℕ → Bool) → Type 0
 PassesTurned columns rows p q = (a b : ℕ) → a * number_of_labellings columns ≡ b * number_of_labellings rows → p a ≡ q b
 
 passing-turned : (columns rows : List ℕ) (p q : ℕ → Bool) → sum columns ≡ sum rows → PassesTurned columns rows p q → passing p columns rows * number_of_labellings columns ≡ passing q rows columns * number_of_labellings rows
 passing-turned columns rows p q level passes =
-    sym (sum_by-times (number_of_labellings columns) (λ w. table_weight w * one_if (p (table_weight w))) (tables columns rows))
-    ∙ sum_by-same_where (IsTable columns rows) (λ w. (table_weight w * one_if (p (table_weight w))) * number_of_labellings columns)
-    (λ w. (table_weight (turned (length rows) w) * one_if (q (table_weight (turned (length rows) w)))) * number_of_labellings rows) (λ w i.
-    let e = weights-turned columns rows w level i in
-    term-turned (table_weight w) (table_weight (turned (length rows) w)) (one_if (p (table_weight w))) (one_if (q (table_weight (turned (length rows) w)))) (number_of_labellings columns) (number_of_labellings rows) e
-    (ap one_if (passes (table_weight w) (table_weight (turned (length rows) w)) e))) (tables columns rows) (tables-each columns rows)
-    ∙ turning columns rows level (λ u. (table_weight u * one_if (q (table_weight u))) * number_of_labellings rows)
-    ∙ sum_by-times (number_of_labellings rows) (λ u. table_weight u * one_if (q (table_weight u))) (tables rows columns)
+    weighed-turned columns rows (λ w. one_if (p (table_weight w))) (λ w. one_if (q (table_weight w))) level (λ w i.
+    ap one_if (passes (table_weight w) (table_weight (turned (length rows) w)) (weights-turned columns rows w level i)))
 
 -- the weight of a value
 abbrev pub weight_of : TableData → ℕ → ℕ

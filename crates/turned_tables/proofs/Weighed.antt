@@ -5,14 +5,16 @@ use Rattle.std.specs.Prelude.{nat_le}
 use Rattle.std.specs.List.{sum}
 use Rattle.std.proofs.Math.Nat.{le_of_mul-le-mul_left, mul-le-mul, mul-le-mul_right}
 use Rattle.std.proofs.lemmas.Bool.Decides.{leb_tells}
-use Rattle.weights.specs.Grouped.{table_weight}
+use Rattle.weights.specs.Grouped.{table_weight, tables}
 use Rattle.weights.specs.Labellings.{number_of_labellings}
 use Rattle.weights.proofs.FirstLabel.{number_of_labellings-positive}
-use Rattle.weights.proofs.Tables.{IsTable}
+use Rattle.weights.proofs.GroupingLaw.{by_columns}
+use Rattle.weights.proofs.Sums.{sum_by-same_where, sum_by-times}
+use Rattle.weights.proofs.Tables.{IsTable, tables-each}
 use Rattle.completion_bounds.proofs.Factorials.{factorial, factorial_least, factorials, total, weight-factorials}
 use Rattle.turned_tables.specs.Turned.{turned}
 use Rattle.turned_tables.specs.TurnedLaws.{AreWeights, ComparesTurned}
-use Rattle.turned_tables.proofs.Bijection.{sums}
+use Rattle.turned_tables.proofs.Bijection.{sums, turning}
 use Rattle.turned_tables.proofs.Shapes.{level-totals, turned-sums}
 use Rattle.turned_tables.proofs.TurnedLines.{cell_factorials, cells-turned}
 
@@ -92,3 +94,20 @@ pub compared-turned : (columns rows : List ℕ) (w v : List (List ℕ)) → sum 
 compared-turned columns rows w v level t s =
     compared (table_weight w) (table_weight v) (table_weight (turned (length rows) w)) (table_weight (turned (length rows) v)) (number_of_labellings columns) (number_of_labellings rows) (number_of_labellings-positive columns) (number_of_labellings-positive rows)
     (weights-turned columns rows w level t) (weights-turned columns rows v level s)
+
+-- ---- weighed sums over tables
+
+term-turned : (a b f g p q : ℕ) → a * p ≡ b * q → f ≡ g → (a * f) * p ≡ (b * g) * q
+term-turned a b f g p q e h =
+    let one : (a * f) * p ≡ (a * p) * f = grind arith in
+    let two : (b * g) * q ≡ (b * q) * g = grind arith in
+    one ∙ ap (λ n. n * f) e ∙ ap (λ n. (b * q) * n) h ∙ sym two
+
+-- of what a table and the table turned have in common
+pub weighed-turned : (columns rows : List ℕ) (f g : List (List ℕ) → ℕ) → sum columns ≡ sum rows → ((w : List (List ℕ)) → IsTable columns rows w → f w ≡ g (turned (length rows) w)) → by_columns columns rows f * number_of_labellings columns ≡ by_columns rows columns g * number_of_labellings rows
+weighed-turned columns rows f g level same =
+    sym (sum_by-times (number_of_labellings columns) (λ w. table_weight w * f w) (tables columns rows))
+    ∙ sum_by-same_where (IsTable columns rows) (λ w. (table_weight w * f w) * number_of_labellings columns) (λ w. (table_weight (turned (length rows) w) * g (turned (length rows) w)) * number_of_labellings rows) (λ w t.
+    term-turned (table_weight w) (table_weight (turned (length rows) w)) (f w) (g (turned (length rows) w)) (number_of_labellings columns) (number_of_labellings rows) (weights-turned columns rows w level t) (same w t)) (tables columns rows) (tables-each columns rows)
+    ∙ turning columns rows level (λ u. (table_weight u * g u) * number_of_labellings rows)
+    ∙ sum_by-times (number_of_labellings rows) (λ u. table_weight u * g u) (tables rows columns)

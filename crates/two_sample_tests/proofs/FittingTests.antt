@@ -1,14 +1,13 @@
 -- What holds of a test of two samples whose total and bound pass no limit.
-use Rattle.std.proofs.Common.{◌≡◌, ℕ, ◌+◌, ◌<◌, ◌≤◌, List, [], ◌∷◌, length, map, refl, sym, ◌∙◌, ap, subst, arith, lit≤}
-use Rattle.std.specs.Prelude.{ℤ, slice_index, Result, Ok, Err}
-use Rattle.std.specs.List.{AllByRecursion, sum}
+use Rattle.std.proofs.Common.{◌≡◌, ℕ, ◌+◌, List, [], ◌∷◌, length, refl, sym, ◌∙◌, ap, subst, arith}
+use Rattle.std.specs.Prelude.{slice_index, Some, Err}
+use Rattle.std.specs.List.{sum}
 use Rattle.std.proofs.lemmas.List.{length-map}
 use Rattle.std.proofs.lemmas.List.Sums.{sum_by-cons}
 use Rattle.weights.specs.declared.wide.PrepareFault.{PrepareFault}
+use Rattle.weights.specs.declared.wide.PrepareFault.TheVariants.{TooWide, NoMemory}
+use Rattle.weights.specs.Wide.{Prepares, too_wide}
 use Rattle.weights.specs.Labellings.{counts_of}
-use Rattle.midranks.specs.Ties.{tie_groups}
-use Rattle.midranks.specs.declared.ties.Tie.{Tie}
-use Rattle.midranks.proofs.TieLemmas.{groups-counts}
 use Rattle.scores.specs.Scores.{score_of}
 use Rattle.scores.specs.declared.kinds.ScoreKind.{ScoreKind}
 use Rattle.sample_reader.specs.Groups.{group_sizes}
@@ -18,17 +17,14 @@ use Rattle.stage_network.specs.Judged.{judge_of}
 use Rattle.stage_network.specs.Network.{Network}
 use Rattle.label_network.specs.LabelNetwork.{label_network}
 use Rattle.label_network.specs.Linear.{linear_meaning}
-use Rattle.labelled.specs.LabelTests.{IsRefusedBy, IsSound, IsWithin, LabelTest, label_test}
-use Rattle.labelled.specs.LinearTests.{AreFittingLabels, AreScoredLabels, IsFittedTo, linear_label_meaning, linear_says}
-use Rattle.labelled.specs.declared.linear.ScoredLabels.{ScoredLabels}
+use Rattle.labelled.specs.LabelTests.{IsSound, IsWithin, LabelTest, label_test}
+use Rattle.labelled.specs.LinearTests.{AreFittingLabels, linear_label_meaning, linear_label_test, linear_says}
 use Rattle.labelled.proofs.LinearLaws.{is-within as linear-within, linear-sound}
 use Rattle.pooled_columns.specs.PooledColumns.{column_scores, column_sizes, pooled_values}
-use Rattle.pooled_columns.proofs.GroupFacts.{few_subjects, none-empty, observed-labelling, rows-long, sizes-whole}
-use Rattle.pooled_columns.proofs.PooledValues.{pooled-rises}
-use Rattle.pooled_columns.proofs.TieColumns.{grouped}
+use Rattle.pooled_columns.proofs.GroupFacts.{few_subjects, rows-long}
 use Rattle.two_sample_tests.specs.Columns.{row_scores, scored_samples, two_sample_meaning}
-use Rattle.two_sample_tests.specs.SampleSteps.{AreFitting, IsMadeOf}
-use Rattle.two_sample_tests.specs.TwoSamples.{TwoSamples, pooled_scores, two_sample_says}
+use Rattle.two_sample_tests.specs.SampleSteps.{AreFitting}
+use Rattle.two_sample_tests.specs.TwoSamples.{TwoSamples, pooled_scores, two_sample_says, two_sample_test}
 use Rattle.two_sample_tests.proofs.SameTests.{same-says}
 
 sum-two : (a b : ℕ) → sum (a ∷ b ∷ []) ≡ a + b
@@ -59,49 +55,20 @@ module _ (samples : TwoSamples) (f : AreFitting samples) where
 sizes-two : (k : ℕ) (members : List ℕ) → k ≡ 2 → counts_of k members ≡ slice_index (counts_of k members) 0 ∷ slice_index (counts_of k members) 1 ∷ []
 sizes-two k members e = rw e refl
 
-counts-some : (ts : List Tie) → AllByRecursion (λ t. 0 < t.count) ts → AllByRecursion (λ c. 0 < c) (map (λ t. t.count) ts)
-counts-some [] all = tt
-counts-some (t ∷ ts) all = (all.0, counts-some ts all.1)
-
 module _ (groups : Groups) (two : length groups.labels ≡ 2) (kind : ScoreKind) where
   abbrev samples : TwoSamples
   samples = record { kind = kind; groups = data_of groups }
 
-  abbrev values : List ℤ
-  values = pooled_values (data_of groups)
-
-  size-some : (i : ℕ) → i < 2 → 1 ≤ slice_index (group_sizes (data_of groups)) i
-  size-some i h = none-empty groups i 0 (omega (arith, h, rows-long groups, two))
-
-  as-many : length (pooled_scores samples) ≡ length values
-  as-many = length-map values (score_of kind values)
-
-  pub some-values : 2 ≤ length values
-  some-values = omega (arith, size-some 0 (omega arith), size-some 1 (omega arith), sizes-whole groups, ap sum (sizes-two (length groups.labels) groups.members two), sum-two (slice_index (group_sizes (data_of groups)) 0) (slice_index (group_sizes (data_of groups)) 1))
-
-  pub are-scored : AreScoredLabels (scored_samples samples)
-  are-scored = record {
-    wide = sym (rows-long groups ∙ two);
-    some_labels = omega (arith, rows-long groups, two);
-    few_labels = omega (arith, rows-long groups, two);
-    long = length-map (tie_groups values) (λ (t : Tie). score_of kind values t.value) ∙ sym (length-map (tie_groups values) (λ (t : Tie). t.count));
-    each = counts-some (tie_groups values) (groups-counts values);
-    subjects_are = grouped (score_of kind values) values (pooled-rises (data_of groups));
-    whole = sizes-whole groups ∙ sym as-many;
-    some = omega (arith, as-many, some-values);
-    few = omega (arith, as-many, few_subjects groups);
-    observed = observed-labelling groups;
-    label_some = lit≤ tt;
-    label_small = lit≤ tt;
-  }
-
   pub fitting-of : AreFittingLabels (scored_samples samples) → AreFitting samples
   fitting-of fit = record {
     sizes_are = sizes-two (length groups.labels) groups.members two;
-    few = omega (arith, as-many, few_subjects groups);
+    few = omega (arith, length-map (pooled_values (data_of groups)) (score_of kind (pooled_values (data_of groups))), few_subjects groups);
     labels = fit;
   }
 
-  pub made-of : (made : Result ScoredLabels PrepareFault) → IsFittedTo (scored_samples samples) made → IsMadeOf samples made
-  made-of (Ok made) fitted = record { is = fitted.0; fitting = fitting-of fitted.1 }
-  made-of (Err fault) refused = subst (λ (t : LabelTest). IsRefusedBy t.bound fault) (same-says samples (rows-long groups ∙ two)) refused
+  pub same : linear_says (scored_samples samples) ≡ two_sample_says samples
+  same = same-says samples (rows-long groups ∙ two)
+
+  pub refused-as : (fault : PrepareFault) → Prepares linear_label_test (scored_samples samples) (Err fault) → Prepares two_sample_test samples (Err fault)
+  refused-as (TooWide what) is = subst (λ (t : LabelTest). too_wide (label_test t) ≡ Some what) same is
+  refused-as NoMemory is = tt

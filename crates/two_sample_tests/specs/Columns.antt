@@ -3,8 +3,6 @@
 use Rattle.std.specs.Prelude.{ℤ, pos, List, [], ◌∷◌}
 use Rattle.weights.specs.declared.tails.Tail.{Tail}
 use Rattle.sample_reader.specs.Groups.{group_sizes}
-use Rattle.sample_reader.specs.PooledSample.{labels_of, pooled}
-use Rattle.scores.specs.Scores.{scale_of}
 use Rattle.stage_network.specs.Judged.{judge_of}
 use Rattle.stage_network.specs.Network.{Network}
 use Rattle.label_network.specs.LabelNetwork.{label_network}
@@ -12,7 +10,8 @@ use Rattle.label_network.specs.Linear.{linear_meaning}
 use Rattle.label_network.specs.Meanings.{Meaning}
 use Rattle.labelled.specs.declared.linear.ScoredLabels.{ScoredLabels}
 use Rattle.pooled_columns.specs.PooledColumns.{column_scores, column_sizes, pooled_values}
-use Rattle.two_sample_tests.specs.TwoSamples.{TwoSamples, pooled_scores, two_sample_test}
+use Rattle.pooled_columns.specs.ScoredGroups.{scored_groups}
+use Rattle.two_sample_tests.specs.TwoSamples.{TwoSamples, two_sample_test}
 
 -- a subject of the second sample counts once, and one of the first not at all
 abbrev pub row_scores : List ℤ
@@ -20,16 +19,7 @@ row_scores = pos 0 ∷ pos 1 ∷ []
 
 -- the samples as labels and subjects with scores
 abbrev pub scored_samples : TwoSamples → ScoredLabels
-scored_samples samples =
-    let values = pooled_values samples.groups in record {
-      sizes = group_sizes samples.groups;
-      label_scores = row_scores;
-      scores = pooled_scores samples;
-      columns = column_sizes values;
-      column_scores = column_scores samples.kind values;
-      observed = labels_of (pooled samples.groups);
-      scale = scale_of samples.kind values;
-    }
+scored_samples samples = scored_groups samples.kind row_scores samples.groups
 
 abbrev pub two_sample_meaning : TwoSamples → Meaning
 two_sample_meaning samples =

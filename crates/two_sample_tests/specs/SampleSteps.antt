@@ -1,13 +1,11 @@
 -- What is kept of a prepared test.
-use Rattle.std.specs.Prelude.{◌≡◌, ◌≤◌, [], ◌∷◌, length, slice_index, Result, Ok, Err}
+use Rattle.std.specs.Prelude.{◌≡◌, ◌≤◌, [], ◌∷◌, length, slice_index}
 use Rattle.record_reader.specs.declared.TheConstants.{MOST_ROWS}
 use Rattle.sample_reader.specs.Groups.{group_sizes}
-use Rattle.weights.specs.declared.wide.PrepareFault.{PrepareFault}
-use Rattle.labelled.specs.LabelTests.{IsRefusedBy}
 use Rattle.labelled.specs.LinearTests.{AreFittingLabels}
 use Rattle.labelled.specs.declared.linear.ScoredLabels.{ScoredLabels}
 use Rattle.two_sample_tests.specs.Columns.{scored_samples}
-use Rattle.two_sample_tests.specs.TwoSamples.{TwoSamples, pooled_scores, two_sample_says}
+use Rattle.two_sample_tests.specs.TwoSamples.{TwoSamples, pooled_scores}
 
 -- two samples, and a total and a bound that pass no limit
 pub record AreFitting (samples : TwoSamples) : Type 0 where
@@ -20,8 +18,3 @@ pub record AreFitting (samples : TwoSamples) : Type 0 where
 pub record AreScored (samples : TwoSamples) (made : ScoredLabels) : Type 0 where
   pub is : made ≡ scored_samples samples
   pub fitting : AreFitting samples
-
--- or else the bound of their test is too wide
-abbrev pub IsMadeOf : TwoSamples → Result ScoredLabels PrepareFault → Type 0
-IsMadeOf samples (Ok made) = AreScored samples made
-IsMadeOf samples (Err fault) = IsRefusedBy (two_sample_says samples).bound fault

@@ -1,15 +1,16 @@
 // Two samples that are prepared for their test.
-ghost use Rattle.std.specs.Prelude.{◌≡◌, length};
+ghost use Rattle.std.specs.Prelude.{◌≡◌, length, IfOk};
 ghost use Rattle.weights.specs.Wide.{Prepares};
 ghost use Rattle.sample_reader.specs.Data.{data_of};
+ghost use Rattle.two_sample_tests.specs.Columns.{row_scores};
 ghost use Rattle.two_sample_tests.specs.TwoSamples.{two_sample_test};
 ghost use Rattle.two_sample_tests.specs.SampleSteps.{AreScored};
 
 use crate::even_scores::{even_scores, least_sum};
-use crate::scored_samples::made_of;
 use drawn_sums::drawn_sums;
 use label_network::{LabelStages, LinearMeasure};
 use labelled::{LabelStatistic, Labelled, LinearSum};
+use pooled_columns::prepare_scored;
 use rising_pairs::rising_sums;
 use room_network::Numbered;
 use sample_reader::{Groups, Labels};
@@ -17,7 +18,7 @@ use scores::{ScoreKind, labelled_sum};
 use stage_network::{Judge, TailSums};
 use std::alloc::Global;
 use std::marker::Model;
-use weights::{Ints, NoMemory, Nums, PrepareFault, Tail, Tails, WideOf, multinomial};
+use weights::{Ints, NoMemory, Nums, PrepareFault, Tail, Tails};
 
 /// A test of two samples whose data are checked.
 pub type TwoSample = Labelled<ScoreSum>;
@@ -54,6 +55,16 @@ impl ScoreSum {
     }
 }
 
+// A subject of the second sample counts once, and one of the first not at all.
+fn row_scores(alloc: Global) -> Result<Ints, NoMemory>
+    ensures { IfOk result (λ scores. scores ≡ row_scores) }
+{
+    let mut scores = Ints::empty(alloc);
+    scores.push(0)?;
+    scores.push(1)?;
+    Ok(scores)
+}
+
 /// Prepares the test of two samples by the scores of a kind: the sum of the scores of the group
 /// with the second label, over all labellings of the pooled sample with the groups' sizes.
 ///
@@ -66,11 +77,9 @@ pub fn prepare(alloc: Global, kind: ScoreKind, groups: &Groups) -> Result<TwoSam
     ensures { Prepares two_sample_test
         (record { kind = kind; groups = data_of groups.now }) result }
 {
-    let Some(total) = multinomial(groups.sizes.as_slice()) else {
-        return Err(PrepareFault::TooWide(WideOf::Total));
-    };
-    let made = made_of(alloc, kind, groups)?;
-    let frame = made.frame(total);
+    let prepared = prepare_scored(alloc, kind, groups, row_scores(alloc)?, 1)?;
+    let (made, frame) = prepared.parts();
+    let _scored = made.scored();
     let sum = ScoreSum {
         kind,
         labels: groups.labels.copy()?,

@@ -1,11 +1,11 @@
-use Rattle.std.proofs.Common.{◌≡◌, ◌∙◌, ℕ, List, ap, arith, length, refl, subst, sym}
+use Rattle.std.proofs.Common.{◌≡◌, ◌∙◌, ℕ, List, ap, arith, length, refl, subst, sym, true}
 use Rattle.sample_reader.specs.Groups.{group_sizes}
 use Rattle.stage_network.specs.Follows.{Follows}
 use Rattle.label_network.specs.LabelNetwork.{IsMargin, label_network, over_rooms}
 use Rattle.label_network.specs.Meanings.{Meaning}
 use Rattle.ordered_groups.proofs.OrderedKeys.{AreTurned, may-be-ordered, ordered-follows}
 use Rattle.k_sample_tests.specs.KruskalWallis.{ScoredGroups, kruskal_wallis_test, size_factors}
-use Rattle.k_sample_tests.specs.PackedSumSteps.{AreSums, sums_meaning}
+use Rattle.k_sample_tests.specs.SumMeanings.{AreSums, sums_meaning}
 use Rattle.k_sample_tests.specs.RankSumSteps.{AreFitting}
 use Rattle.k_sample_tests.specs.declared.rank_sums.RankSums.{RankSums}
 use Rattle.k_sample_tests.proofs.EqualKeys.{groups-turned}
@@ -54,7 +54,7 @@ pub new-ordered-requires-clause-ordered : goal.new-ordered-requires-clause-order
 new-ordered-requires-clause-ordered c =
     let made = c.made-made.ensures in
     let s = c.in_ok-stages.stages.1 in
-    may-be-ordered c.in_ok-sizes.sizes.items (label_network (sums_meaning s)) s.judge
+    may-be-ordered true c.in_ok-sizes.sizes.items (label_network (sums_meaning s)) s.judge
     (turned c.args.problem.now s made.fitting c.in_ok-stages.ensures.sums c.in_ok-sizes.sizes.items (c.in_ok-sizes.ensures.items ∙ c.as_slice-groups.ensures ∙ made.sizes))
 
 pub returns : goal.returns
@@ -64,7 +64,7 @@ returns c t =
     let s = c.in_ok-stages.stages.1 in
     let sums = c.in_ok-stages.ensures.sums in
     rw c.new-ordered.ensures
-    (ordered-follows c.in_ok-sizes.sizes.items (label_network (sums_meaning s)) s.judge
+    (ordered-follows true c.in_ok-sizes.sizes.items (label_network (sums_meaning s)) s.judge
     (turned samples s made.fitting sums c.in_ok-sizes.sizes.items (c.in_ok-sizes.ensures.items ∙ c.as_slice-groups.ensures ∙ made.sizes))
     (kruskal_wallis_test samples) t
     (ap (λ (m : Meaning). m.judge) sums.meaning)

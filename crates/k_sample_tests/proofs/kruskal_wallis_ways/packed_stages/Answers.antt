@@ -1,46 +1,72 @@
-use Rattle.std.proofs.Common.{◌≡◌, ◌∙◌, ℕ, List, ap, length, subst, sym, arith}
-use Rattle.sample_reader.specs.Groups.{group_sizes}
-use Rattle.stage_network.specs.Follows.{Follows}
-use Rattle.label_network.specs.LabelNetwork.{label_network}
+use Rattle.std.proofs.Common.{◌≡◌, ◌∙◌, ◌*◌, ◌/◌, ap, arith, get_or, length, sym}
 use Rattle.label_network.specs.Meanings.{Meaning}
-use Rattle.k_sample_tests.specs.KruskalWallis.{ScoredGroups, kruskal_wallis_test}
-use Rattle.k_sample_tests.specs.PackedSums.{packed_meaning}
-use Rattle.k_sample_tests.specs.PackedSumSteps.{sums_meaning}
-use Rattle.k_sample_tests.specs.RankSums.{half_for, unpacked_meaning}
-use Rattle.k_sample_tests.specs.declared.packed_sums.PackedSums.{PackedSums}
-use Rattle.k_sample_tests.specs.declared.rank_sums.RankSums.{RankSums}
-use Rattle.k_sample_tests.proofs.FittingKruskalWallis.{column-total, follows-packed, margin}
+use Rattle.scores.specs.PlaceScores.{common_multiple}
+use Rattle.sample_reader.specs.Groups.{group_sizes}
+use Rattle.k_sample_tests.specs.KruskalWallis.{ScoredGroups}
+use Rattle.k_sample_tests.specs.SumMeanings.{AreSums}
+use Rattle.k_sample_tests.proofs.FittingCentred.{multiple-is, multiple-some, multiple-within, packed-seen, seen-adds, seen-ordered, seen-packed, size-parts, some-scores, square-within}
+use Rattle.k_sample_tests.proofs.FittingKruskalWallis.{column-total}
 use Rattle.k_sample_tests.proofs.kruskal_wallis_ways.packed_stages.Goals as goal
 
-abbrev rows-of : Meaning → List ℕ
-rows-of m = m.rows
+pub overflow_mul-multiple : goal.overflow_mul-multiple
+overflow_mul-multiple c =
+    let made = c.made-made.ensures in
+    let samples : ScoredGroups = c.args.problem.now in
+    let multiple : c.index.result.now * get_or c.as_slice-groups.result.now 0 0 ≡ common_multiple (group_sizes samples.groups) = multiple-is samples made.fitting c.index.result.now c.index.result.now c.as_slice-groups.result.now (c.index.ensures ∙ ap (λ fs. get_or fs 0 c.index.result.now) made.factors) (c.as_slice-groups.ensures ∙ made.sizes) in
+    rw multiple (omega (arith, multiple-within samples made.fitting, made.fitting.bound_fits))
 
-pub new-packed-requires-clause-some : goal.new-packed-requires-clause-some
-new-packed-requires-clause-some c = rw (ap rows-of c.in_ok-sums.ensures.meaning) c.made-made.ensures.fitting.some
+pub new-seen-requires-clause-any : goal.new-seen-requires-clause-any
+new-seen-requires-clause-any c = rw (c.as_slice.ensures ∙ c.made-made.ensures.scores) (some-scores c.args.problem.now c.made-made.ensures.fitting)
 
-pub new-packed-requires-clause-all : goal.new-packed-requires-clause-all
-new-packed-requires-clause-all c =
+pub new-seen-requires-clause-some : goal.new-seen-requires-clause-some
+new-seen-requires-clause-some c =
+    let made = c.made-made.ensures in
+    let samples : ScoredGroups = c.args.problem.now in
+    let multiple : c.index.result.now * get_or c.as_slice-groups.result.now 0 0 ≡ common_multiple (group_sizes samples.groups) = multiple-is samples made.fitting c.index.result.now c.index.result.now c.as_slice-groups.result.now (c.index.ensures ∙ ap (λ fs. get_or fs 0 c.index.result.now) made.factors) (c.as_slice-groups.ensures ∙ made.sizes) in
+    rw multiple (multiple-some samples made.fitting)
+
+pub new-seen-requires-clause-parts : goal.new-seen-requires-clause-parts
+new-seen-requires-clause-parts c =
+    let made = c.made-made.ensures in
+    let samples : ScoredGroups = c.args.problem.now in
+    let multiple : c.index.result.now * get_or c.as_slice-groups.result.now 0 0 ≡ common_multiple (group_sizes samples.groups) = multiple-is samples made.fitting c.index.result.now c.index.result.now c.as_slice-groups.result.now (c.index.ensures ∙ ap (λ fs. get_or fs 0 c.index.result.now) made.factors) (c.as_slice-groups.ensures ∙ made.sizes) in
+    rw (multiple, c.in_ok-sums.ensures.factors, ap (λ (m : Meaning). m.rows) c.in_ok-sums.ensures.meaning) (size-parts samples made.fitting)
+
+pub new-seen-requires-clause-all : goal.new-seen-requires-clause-all
+new-seen-requires-clause-all c =
     let made = c.made-made.ensures in
     rw (c.in_ok-sums.ensures.scores, ap (λ (m : Meaning). m.columns) c.in_ok-sums.ensures.meaning) (made.sum ∙ sym (column-total c.args.problem.now made.fitting))
 
-pub new-packed-requires-clause-small : goal.new-packed-requires-clause-small
-new-packed-requires-clause-small c = rw (c.made-made.ensures.sum, ap rows-of c.in_ok-sums.ensures.meaning) c.requires.small
-
-pub label_stages-requires : goal.label_stages-requires
-label_stages-requires c =
+pub new-seen-requires-clause-bound : goal.new-seen-requires-clause-bound
+new-seen-requires-clause-bound c =
     let made = c.made-made.ensures in
-    margin c.args.problem.now made.fitting (packed_meaning c.new-packed.result.half (sums_meaning c.new-packed.result.sums)) c.as_slice-columns.result.now c.as_slice.result.now
-    (ap (λ (s : RankSums). s.later.columns.items) c.new-packed.ensures.sums ∙ ap (λ (m : Meaning). m.columns) c.in_ok-sums.ensures.meaning)
-    (ap (λ (s : RankSums). s.rows.items) c.new-packed.ensures.sums ∙ ap rows-of c.in_ok-sums.ensures.meaning)
-    (omega arith) (c.as_slice-columns.ensures ∙ made.column_sizes) (c.as_slice.ensures ∙ made.sizes)
+    let samples : ScoredGroups = c.args.problem.now in
+    let multiple : c.index.result.now * get_or c.as_slice-groups.result.now 0 0 ≡ common_multiple (group_sizes samples.groups) = multiple-is samples made.fitting c.index.result.now c.index.result.now c.as_slice-groups.result.now (c.index.ensures ∙ ap (λ fs. get_or fs 0 c.index.result.now) made.factors) (c.as_slice-groups.ensures ∙ made.sizes) in
+    rw (multiple, made.sum, c.in_ok-sums.ensures.bound) (square-within samples made.fitting)
+
+pub new-ordered-requires-clause-ordered : goal.new-ordered-requires-clause-ordered
+new-ordered-requires-clause-ordered c =
+    let made = c.made-made.ensures in
+    let sums : AreSums c.args.problem.now c.in_ok-stages.stages.1.sums = rw (c.in_ok-stages.ensures.measure, c.new-seen.ensures) c.in_ok-sums.ensures in
+    seen-ordered c.args.problem.now made.fitting c.in_ok-stages.stages.1 sums c.in_ok-sizes.sizes.items (c.in_ok-sizes.ensures.items ∙ c.as_slice-groups.ensures ∙ made.sizes)
+
+pub new-packed-requires-clause-packed : goal.new-packed-requires-clause-packed
+new-packed-requires-clause-packed c =
+    let made = c.made-made.ensures in
+    let sums : AreSums c.args.problem.now c.in_ok-stages.stages.1.sums = rw (c.in_ok-stages.ensures.measure, c.new-seen.ensures) c.in_ok-sums.ensures in
+    let sizes = c.in_ok-sizes.ensures.items ∙ c.as_slice-groups.ensures ∙ made.sizes in
+    rw c.new-ordered.ensures (seen-packed c.args.problem.now made.fitting c.in_ok-stages.stages.1 sums c.in_ok-sizes.sizes.items sizes c.bits_for.result (c.bits_for.ensures ∙ ap (λ ns. 127 / length ns) (sym c.in_ok-sizes.ensures.items)) c.requires.small)
+
+pub new-packed-requires-clause-adds : goal.new-packed-requires-clause-adds
+new-packed-requires-clause-adds c =
+    let made = c.made-made.ensures in
+    let sums : AreSums c.args.problem.now c.in_ok-stages.stages.1.sums = rw (c.in_ok-stages.ensures.measure, c.new-seen.ensures) c.in_ok-sums.ensures in
+    rw c.new-ordered.ensures (seen-adds c.args.problem.now made.fitting c.in_ok-stages.stages.1 sums)
 
 pub returns : goal.returns
 returns c t =
-    let samples : ScoredGroups = c.args.problem.now in
-    let half : ℕ = half_for (length (group_sizes samples.groups)) in
-    let same : packed_meaning c.in_ok-stages.stages.1.half (sums_meaning c.in_ok-stages.stages.1.sums) ≡ packed_meaning half (unpacked_meaning samples) =
-    ap (λ (p : PackedSums). packed_meaning p.half (sums_meaning p.sums)) c.in_ok-stages.ensures.measure
-    ∙ ap (λ h. packed_meaning h (sums_meaning c.new-packed.result.sums)) (c.new-packed.ensures.half ∙ ap (λ (m : Meaning). half_for (length m.rows)) c.in_ok-sums.ensures.meaning)
-    ∙ ap (λ (s : RankSums). packed_meaning half (sums_meaning s)) c.new-packed.ensures.sums
-    ∙ ap (packed_meaning half) c.in_ok-sums.ensures.meaning in
-    subst (λ m. Follows (kruskal_wallis_test samples) t (label_network m)) (sym same) (follows-packed samples c.made-made.ensures.fitting t half c.requires.small)
+    let made = c.made-made.ensures in
+    let sums : AreSums c.args.problem.now c.in_ok-stages.stages.1.sums = rw (c.in_ok-stages.ensures.measure, c.new-seen.ensures) c.in_ok-sums.ensures in
+    let sizes = c.in_ok-sizes.ensures.items ∙ c.as_slice-groups.ensures ∙ made.sizes in
+    let may = seen-packed c.args.problem.now made.fitting c.in_ok-stages.stages.1 sums c.in_ok-sizes.sizes.items sizes c.bits_for.result (c.bits_for.ensures ∙ ap (λ ns. 127 / length ns) (sym c.in_ok-sizes.ensures.items)) c.requires.small in
+    rw (c.new-packed.ensures, c.new-ordered.ensures) (packed-seen c.args.problem.now made.fitting c.in_ok-stages.stages.1 sums c.in_ok-sizes.sizes.items sizes c.bits_for.result may t)

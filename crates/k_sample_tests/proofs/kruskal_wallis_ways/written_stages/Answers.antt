@@ -1,6 +1,6 @@
 use Rattle.std.proofs.Common.{◌∙◌, ap, subst, sym, arith}
 use Rattle.label_network.specs.Meanings.{Meaning}
-use Rattle.k_sample_tests.specs.PackedSumSteps.{AreSums, sums_meaning}
+use Rattle.k_sample_tests.specs.SumMeanings.{AreSums, sums_meaning}
 use Rattle.k_sample_tests.proofs.FittingKruskalWallis.{margin, squares-sound}
 use Rattle.k_sample_tests.proofs.kruskal_wallis_ways.written_stages.Goals as goal
 

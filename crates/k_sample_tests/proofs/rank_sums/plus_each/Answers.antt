@@ -3,7 +3,7 @@ use Rattle.std.specs.Prelude.{pos}
 use mir.Syntax.{w128}
 use mir.Val.{to_z, of_z}
 use Rattle.std.proofs.lemmas.Int.{to_z-of_z}
-use Rattle.k_sample_tests.specs.RankSums.{plus_each}
+use Rattle.packed_keys.specs.PackedGroups.{plus_each}
 use Rattle.label_network.proofs.Rows.{grown, written}
 use Rattle.k_sample_tests.proofs.RankNarrows.{length-plus}
 use Rattle.k_sample_tests.proofs.RankWriting.{plus-at}

@@ -1,12 +1,12 @@
 use Rattle.std.proofs.Common.{◌∙◌, ap, sym}
 use Rattle.weights.specs.declared.tails.Tail.TheVariants.{Less, Greater, Two}
 use Rattle.stage_network.specs.Judged.{judge_of}
-use Rattle.sequence_tests.specs.Kendall.{twin_test}
+use Rattle.sequence_tests.specs.Kendall.{kendall_test}
 use Rattle.sequence_tests.proofs.TurnedRatios.{gives, judge-turned}
 use Rattle.sequence_tests.proofs.by_turning.sums_by_turning.Goals as goal
 
 pub sums_as_they_stand-requires : goal.sums_as_they_stand-requires
-sums_as_they_stand-requires c = c.requires.judge ∙ judge-turned c.args.order.now ∙ ap (λ t. judge_of (twin_test t)) (sym c.requires.turned)
+sums_as_they_stand-requires c = c.requires.judge ∙ judge-turned c.args.order.now ∙ ap (λ t. judge_of (kendall_test t)) (sym c.requires.turned)
 
 pub in_ratio_where-requires : goal.in_ratio_where-requires
 in_ratio_where-requires c a = (gives c.args.order.now c.args.turned.now c.made-here.result.now c.made-there.result.now Less _ c.requires.turned c.made-here.ensures c.made-there.ensures (c.in_ok-found.ensures Less a)).is_part

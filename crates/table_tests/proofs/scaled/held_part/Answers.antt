@@ -1,7 +1,6 @@
 use Rattle.std.proofs.Common.{◌∙◌, ◌*◌, ap, sym, arith, pos, rules, FitsSigned, to_z-of_z}
 use mir.Syntax.{w128}
-use Rattle.turned_tables.proofs.Reduced.{ratio-within}
-use Rattle.table_tests.proofs.TurnedSpreads.{quotient}
+use Rattle.turned_tables.proofs.Reduced.{quotient, ratio-within}
 use Rattle.table_tests.proofs.scaled.held_part.Goals as goal
 
 pub held-requires : goal.held-requires

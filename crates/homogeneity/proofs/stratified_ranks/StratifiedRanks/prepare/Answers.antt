@@ -8,15 +8,15 @@ use Rattle.homogeneity.proofs.stratified_ranks.StratifiedRanks.prepare.Goals as 
 
 pub returns-in_default : goal.returns-in_default
 returns-in_default c =
-    let samples : StrataGroupData = strata_data_of c.args.samples.now in
+    let samples : StrataGroupData = strata_data_of c.args.samples in
     let wide = rw c.in_default.is at c.in_ok-made.ensures in
     total-wide (stratified_rank_test samples) refl (λ fits. omega (arith, wide, fits))
 
 pub invariant_of-result : goal.invariant_of-result
-invariant_of-result c = rw (c.in_ok-copy.ensures, c.in_ok-copy-2.ensures, c.in_ok-copy-3.ensures, c.in_ok-copy-4.ensures, c.in_ok-copy-5.ensures) (rw c.in-Some.is at c.in_ok-made.ensures)
+invariant_of-result c = rw c.in-Some.is at c.in_ok-made.ensures
 
 pub returns : goal.returns
 returns c =
-    let samples : StrataGroupData = strata_data_of c.args.samples.now in
+    let samples : StrataGroupData = strata_data_of c.args.samples in
     let made = rw c.in-Some.is at c.in_ok-made.ensures in
-    (rw (c.in_ok-copy.ensures, c.in_ok-copy-2.ensures, c.in_ok-copy-3.ensures, c.in_ok-copy-4.ensures, c.in_ok-copy-5.ensures) refl, not-wide (stratified_rank_test samples) refl made.total_fits (bound-fits samples made.usable))
+    (refl, not-wide (stratified_rank_test samples) refl made.total_fits (bound-fits samples made.usable))

@@ -1,5 +1,5 @@
 use Rattle.label_network.proofs.OverRooms.{over_measure}
-use Rattle.k_sample_tests.specs.PackedSumSteps.{sums_meaning}
+use Rattle.k_sample_tests.specs.SumMeanings.{sums_meaning}
 use Rattle.k_sample_tests.proofs.RankNarrows.{squares_measure}
 use Rattle.k_sample_tests.proofs.rank_sums.RankSumsMeasure.slots.Goals as goal
 

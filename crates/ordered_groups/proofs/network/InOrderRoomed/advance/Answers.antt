@@ -13,7 +13,7 @@ behind-inner-requires g c =
     let m : Meaning = g.M.Measure.meaning s.stages.1 in
     let step : c.args.step.now ≡ m.floor.next c.args.stage c.args.room.now c.args.choice.now ++ m.step c.args.stage c.args.room.now c.args.choice.now = rw (← c.self.view_is) at c.requires.step in
     let long : length c.args.room.now ≡ m.floor.width = rw (← c.self.view_is) at c.requires.room in
-    omega (arith, ap length step, length-append (m.floor.next c.args.stage c.args.room.now c.args.choice.now) (m.step c.args.stage c.args.room.now c.args.choice.now), left-long (g.R.Rooms.plan s.rooms) (g.R.Rooms.plan s.stages.0) m s.sizes.items c.self.invariant c.args.stage c.args.room.now c.args.choice.now long, long)
+    omega (arith, ap length step, length-append (m.floor.next c.args.stage c.args.room.now c.args.choice.now) (m.step c.args.stage c.args.room.now c.args.choice.now), left-long (g.R.Rooms.plan s.rooms) (g.R.Rooms.plan s.stages.0) m s.sizes.items s.by_sums c.self.invariant c.args.stage c.args.room.now c.args.choice.now long, long)
 
 pub front-requires : goal.front-requires
 front-requires g c =
@@ -21,7 +21,7 @@ front-requires g c =
     let m : Meaning = g.M.Measure.meaning s.stages.1 in
     let step : c.args.step.now ≡ m.floor.next c.args.stage c.args.room.now c.args.choice.now ++ m.step c.args.stage c.args.room.now c.args.choice.now = rw (← c.self.view_is) at c.requires.step in
     let long : length c.args.room.now ≡ m.floor.width = rw (← c.self.view_is) at c.requires.room in
-    omega (arith, ap length step, length-append (m.floor.next c.args.stage c.args.room.now c.args.choice.now) (m.step c.args.stage c.args.room.now c.args.choice.now), left-long (g.R.Rooms.plan s.rooms) (g.R.Rooms.plan s.stages.0) m s.sizes.items c.self.invariant c.args.stage c.args.room.now c.args.choice.now long, long)
+    omega (arith, ap length step, length-append (m.floor.next c.args.stage c.args.room.now c.args.choice.now) (m.step c.args.stage c.args.room.now c.args.choice.now), left-long (g.R.Rooms.plan s.rooms) (g.R.Rooms.plan s.stages.0) m s.sizes.items s.by_sums c.self.invariant c.args.stage c.args.room.now c.args.choice.now long, long)
 
 pub advance-requires-clause-reached : goal.advance-requires-clause-reached
 advance-requires-clause-reached g c = c.self.invariant.ordered.reached c.args.stage (c.args.room.now ++ c.args.partial.now) (rw (← c.self.view_is) at c.requires.reached)
@@ -33,7 +33,7 @@ advance-requires-clause-step g c =
     let step : c.args.step.now ≡ m.floor.next c.args.stage c.args.room.now c.args.choice.now ++ m.step c.args.stage c.args.room.now c.args.choice.now = rw (← c.self.view_is) at c.requires.step in
     let long : length c.args.room.now ≡ m.floor.width = rw (← c.self.view_is) at c.requires.room in
     c.behind-inner.ensures ∙ ap (drop (length c.args.room.now)) step
-    ∙ step-back (g.R.Rooms.plan s.rooms) (g.R.Rooms.plan s.stages.0) m s.sizes.items c.self.invariant c.args.stage c.args.room.now c.args.choice.now long
+    ∙ step-back (g.R.Rooms.plan s.rooms) (g.R.Rooms.plan s.stages.0) m s.sizes.items s.by_sums c.self.invariant c.args.stage c.args.room.now c.args.choice.now long
 
 pub put_sums_in_order-requires-clause-few : goal.put_sums_in_order-requires-clause-few
 put_sums_in_order-requires-clause-few g c = rw c.as_slice-sizes.ensures.value c.self.invariant.ordered.few
@@ -58,11 +58,11 @@ returns g c =
     let step : c.args.step.now ≡ m.floor.next c.args.stage c.args.room.now c.args.choice.now ++ m.step c.args.stage c.args.room.now c.args.choice.now = rw (← c.self.view_is) at c.requires.step in
     let long : length c.args.room.now ≡ m.floor.width = rw (← c.self.view_is) at c.requires.room in
     let left : List ℤ = m.floor.next c.args.stage c.args.room.now c.args.choice.now in
-    let front_is : c.front.result.now ≡ left = c.front.ensures.room ∙ ap (take (length c.args.room.now)) step ∙ step-front (g.R.Rooms.plan s.rooms) (g.R.Rooms.plan s.stages.0) m sizes c.self.invariant c.args.stage c.args.room.now c.args.choice.now long in
+    let front_is : c.front.result.now ≡ left = c.front.ensures.room ∙ ap (take (length c.args.room.now)) step ∙ step-front (g.R.Rooms.plan s.rooms) (g.R.Rooms.plan s.stages.0) m sizes s.by_sums c.self.invariant c.args.stage c.args.room.now c.args.choice.now long in
     rw (← c.self.view_is)
     (c.put_sums_in_order.ensures
-    ∙ ap (λ z. drop (length z) (groups_in_order z (c.front.result.now ++ c.advance.new.next))) c.as_slice-sizes.ensures.value
-    ∙ ap (λ q. drop (length sizes) (groups_in_order sizes (q ++ c.advance.new.next))) front_is
-    ∙ ap (λ q. drop (length sizes) (groups_in_order sizes (left ++ q))) c.advance.ensures
-    ∙ ap (λ q. drop (length sizes) (groups_in_order sizes q)) (in-next (g.R.Rooms.plan s.rooms) (g.R.Rooms.plan s.stages.0) m sizes c.self.invariant c.args.stage c.args.room.now c.args.partial.now c.args.choice.now long)
-    ∙ ap (λ w. drop w (groups_in_order sizes (n.next c.args.stage (c.args.room.now ++ c.args.partial.now) c.args.choice.now))) (sym c.self.invariant.its_rooms.width))
+    ∙ ap (λ z. drop (length z) (groups_in_order s.by_sums z (c.front.result.now ++ c.advance.new.next))) c.as_slice-sizes.ensures.value
+    ∙ ap (λ q. drop (length sizes) (groups_in_order s.by_sums sizes (q ++ c.advance.new.next))) front_is
+    ∙ ap (λ q. drop (length sizes) (groups_in_order s.by_sums sizes (left ++ q))) c.advance.ensures
+    ∙ ap (λ q. drop (length sizes) (groups_in_order s.by_sums sizes q)) (in-next (g.R.Rooms.plan s.rooms) (g.R.Rooms.plan s.stages.0) m sizes s.by_sums c.self.invariant c.args.stage c.args.room.now c.args.partial.now c.args.choice.now long)
+    ∙ ap (λ w. drop w (groups_in_order s.by_sums sizes (n.next c.args.stage (c.args.room.now ++ c.args.partial.now) c.args.choice.now))) (sym c.self.invariant.its_rooms.width))

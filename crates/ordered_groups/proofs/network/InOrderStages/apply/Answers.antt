@@ -24,5 +24,5 @@ pub returns-clause-next : goal.returns-clause-next
 returns-clause-next g c =
     rw (← c.self.view_is)
     (c.put_groups_in_order.ensures
-    ∙ ap (λ s. groups_in_order s c.apply-weight.new.next) c.as_slice.ensures.value
-    ∙ ap (groups_in_order c.self.inside.sizes.items) c.apply-weight.ensures.next)
+    ∙ ap (λ ns. groups_in_order c.self.inside.by_sums ns c.apply-weight.new.next) c.as_slice.ensures.value
+    ∙ ap (groups_in_order c.self.inside.by_sums c.self.inside.sizes.items) c.apply-weight.ensures.next)

@@ -15,5 +15,5 @@ pub returns : goal.returns
 returns g c =
     rw (← c.self.view_is)
     (c.put_groups_in_order.ensures
-    ∙ ap (λ s. groups_in_order s c.first_key.new.key) c.as_slice.ensures.value
-    ∙ ap (groups_in_order c.self.inside.sizes.items) c.first_key.ensures)
+    ∙ ap (λ ns. groups_in_order c.self.inside.by_sums ns c.first_key.new.key) c.as_slice.ensures.value
+    ∙ ap (groups_in_order c.self.inside.by_sums c.self.inside.sizes.items) c.first_key.ensures)

@@ -1,0 +1,107 @@
+-- The network of the sums seen from their middle: it follows the test, its choices add to the sums, and one number holds these.
+use Rattle.std.proofs.Common.{◌≡◌, ℕ, suc, ◌+◌, ◌-◌, ◌/◌, ◌^◌, ◌<◌, ◌≤◌, List, [], ◌∷◌, drop, length, take, true, false, refl, ◌∙◌, ap, subst, arith}
+use Rattle.std.specs.Prelude.{ℤ, pos, nat_abs, ◌*ℤ◌, slice_index}
+use Rattle.std.specs.List.{AllByRecursion}
+use Rattle.std.proofs.lemmas.Int.{ints}
+use Rattle.weights.specs.declared.TheConstants.{MAX}
+use Rattle.weights.specs.declared.tails.Tail.{Tail}
+use Rattle.weights.specs.Conditional.{ConditionalTest}
+use Rattle.weights.specs.Grouped.{columns_of, minus}
+use Rattle.weights.specs.Numbers.{absolute_sum}
+use Rattle.stage_network.specs.Follows.{Follows}
+use Rattle.stage_network.specs.Judged.{judge_of}
+use Rattle.stage_network.specs.Network.{Network, IsReached}
+use Rattle.stage_network.specs.declared.verdicts.Judge.{Judge}
+use Rattle.room_network.proofs.RoomKeys.{is_key}
+use Rattle.room_network.specs.Meanings.{IsMove}
+use Rattle.label_network.specs.LabelNetwork.{label_network, over_rooms}
+use Rattle.label_network.specs.LabelRooms.{label_weight}
+use Rattle.label_network.specs.LaterSums.{subjects}
+use Rattle.label_network.specs.Linear.{score_of}
+use Rattle.label_network.specs.Meanings.{Meaning, sizes_in}
+use Rattle.label_network.proofs.Endings.{labelling_value, partial_after}
+use Rattle.label_network.proofs.LabelPlans.{label_width}
+use Rattle.label_network.proofs.Later.{fits-length}
+use Rattle.label_network.proofs.Narrowing.{chosen, reached-left}
+use Rattle.label_network.proofs.OverRooms.{over_place}
+use Rattle.ordered_groups.specs.OrderedNetworks.{MayBeOrdered, ordered_network}
+use Rattle.ordered_groups.proofs.OrderedKeys.{AreTurned, may-be-ordered}
+use Rattle.ordered_groups.proofs.PlaceOrder.{same_at}
+use Rattle.stage_network.proofs.Swaps.{swap_at}
+use Rattle.packed_keys.specs.PackedGroups.{AddsSteps, plus_each}
+use Rattle.packed_keys.specs.PackedKeys.{IsDigit, MayBePacked}
+use Rattle.packed_keys.proofs.Widths.{bits-few, bits-fit}
+use Rattle.k_sample_tests.specs.CentredSums.{AreHeld, IsCentred, centred_meaning}
+use Rattle.k_sample_tests.specs.RankSums.{score_parts, squares_meaning}
+use Rattle.k_sample_tests.specs.RankSumSteps.{IsSquaring}
+use Rattle.k_sample_tests.proofs.CentredNarrows.{IsHeldPartial, reached_held}
+use Rattle.k_sample_tests.proofs.EqualKeys.{centred-turned}
+use Rattle.k_sample_tests.proofs.RankNarrows.{length-parts}
+
+are-digits : (base : ℕ) (zs : List ℤ) → absolute_sum zs < base → AreHeld zs → AllByRecursion (IsDigit base) zs
+are-digits base [] h a = tt
+are-digits base (z ∷ zs) h a = (
+  record { held = a 0; small = omega (arith, ints, h, a 0) },
+  are-digits base zs (omega (arith, h)) (λ i. a (suc i)),
+)
+
+parts-held : (s : ℤ) (x : List ℕ) → s ≡ pos (nat_abs s) → AllByRecursion (λ z. z ≡ pos (nat_abs z)) (score_parts s x)
+parts-held s [] h = tt
+parts-held s (n ∷ x) h = (one n s h, parts-held s x h)
+  where
+    one : (n : ℕ) (s : ℤ) → s ≡ pos (nat_abs s) → pos n *ℤ s ≡ pos (nat_abs (pos n *ℤ s))
+    one n s h = rw h refl
+
+module _ (factors : List ℕ) (bound base middle : ℕ) (scores : List ℤ) (columns rows : List ℕ) (judge : Judge) (h : IsSquaring factors bound scores columns rows judge) (c : IsCentred factors bound base middle scores columns rows) where
+  abbrev m : Meaning
+  m = centred_meaning factors bound base middle scores columns rows judge
+
+  abbrev n : Network
+  n = label_network m
+
+  -- the partials are those of the plain sums, and so is the value
+  after-same : (cs : List (List ℕ)) (g : ℕ) (r : List ℕ) (p : List ℤ) → partial_after m g r p cs ≡ partial_after (squares_meaning factors bound scores columns rows judge) g r p cs
+  after-same [] g r p = refl
+  after-same (x ∷ cs) g r p = after-same cs (g + 1) (minus r x) (plus_each p (score_parts (score_of scores g) x))
+
+  pub same-value : (xs : List ℕ) → labelling_value m xs ≡ labelling_value (squares_meaning factors bound scores columns rows judge) xs
+  same-value xs = ap m.value (after-same (columns_of (length rows) columns xs) 0 rows m.first)
+
+  reached-at : (g : ℕ) (k : List ℤ) → IsReached n g k → IsHeldPartial scores columns rows g (sizes_in (take (length rows) k)) (drop (length rows) k)
+  reached-at g k r =
+      reached_held factors bound base middle scores columns rows judge h c g (sizes_in (take (length rows) k)) (drop (length rows) k)
+      (over_place m g (take (length rows) k) (drop (length rows) k) (is_key (over_rooms m) label_weight (label_width columns rows) g k r).reached).reached
+
+  pub adds-steps : AddsSteps (over_rooms m)
+  adds-steps = record {
+    steps = refl;
+    wide = λ g room x p v. length-parts (score_of scores g) x ∙ choice-long g room x p v;
+    held = λ g room x p v. parts-held (score_of scores g) x (c.held g);
+    moves = λ g room x p v. refl;
+  }
+    where
+      choice-long : (g : ℕ) (room : List ℤ) (x : List ℕ) (p : List ℤ) → IsMove (over_rooms m) g room x p → length x ≡ length rows
+      choice-long g room x p v = (chosen (slice_index columns g) (sizes_in room) x v.allowed).long ∙ fits-length (sizes_in room) rows (reached-left m h.level g (sizes_in room) p (over_place m g room p v.reached).reached).within
+
+  module _ (even : (i : ℕ) → same_at i rows ≡ true → swap_at i factors ≡ factors) where
+    turned : AreTurned rows n judge
+    turned = centred-turned factors bound scores columns rows judge h even base middle c
+
+    pub ordered : MayBeOrdered false rows n
+    ordered = may-be-ordered false rows n judge turned
+
+    pub packed-sums : 2 ≤ length rows → absolute_sum (subjects scores columns) < 2 ^ (127 / length rows) → (test : ConditionalTest) (tail : Tail) → Follows test tail (ordered_network false rows n) → MayBePacked (length rows) (127 / length rows) (ordered_network false rows n)
+    packed-sums some small test tail f = record {
+      room = omega (arith, h.few_rows);
+      within = omega arith;
+      few = omega (arith, h.few_rows);
+      narrow = bits-few (length rows) some;
+      fits = subst (λ i. (2 ^ (127 / length rows)) ^ i ≤ MAX + 1) (twice (length rows)) (bits-fit (length rows));
+      judged = record { judge = judge_of test; intervals = f.intervals };
+      long = λ g key r. turned.long g key (ordered.reached g key r);
+      each = λ g key r. (let k = reached-at g key (ordered.reached g key r) in
+          are-digits (2 ^ (127 / length rows)) (drop (length rows) key) (omega (arith, k.whole, small)) k.held);
+    }
+      where
+        twice : (k : ℕ) → k ≡ k + k - k
+        twice k = omega arith

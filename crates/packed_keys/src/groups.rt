@@ -1,0 +1,222 @@
+// Networks of groups in order whose sums stand in one number, which most choices only add to.
+ghost use Rattle.std.specs.Prelude.{◌≡◌, ◌+◌, ◌^◌, ◌≤◌, ◌+ℤ◌, false, true, get_or, length, pos};
+ghost use Rattle.std.specs.Prelude.{unsigned_abs};
+ghost use Rattle.weights.specs.declared.TheConstants.{MAX};
+ghost use Rattle.room_network.specs.RoomNetworks.{room_network};
+ghost use Rattle.ordered_groups.specs.OrderedGroups.{are_in_order};
+ghost use Rattle.ordered_groups.specs.OrderedNetworks.{ordered_network};
+ghost use Rattle.packed_keys.specs.PackedGroups.{AddsSteps, shift};
+ghost use Rattle.packed_keys.specs.PackedKeys.{MayBePacked};
+ghost use Rattle.packed_keys.specs.PackedSteps.{AreDigits};
+
+use crate::digits::packed_number;
+use crate::network::Packed;
+use ordered_groups::{InOrder, are_in_order};
+use room_network::{Measure, Rooms};
+use stage_network::{Roomed, Stages, Verdict, behind, front};
+use std::marker::Model;
+use weights::{Tail, plus};
+
+/// A network of rooms with its groups in order by what remains of them alone, and their sums in one
+/// number. A choice that leaves the groups in order adds a number to that one, and leads keys that
+/// ascend to keys that ascend. It is seen as its rooms, its measure, the groups' sizes and the bits
+/// of a sum.
+#[derive(Drop)]
+pub struct PackedGroups<R: Rooms, M: Measure> {
+    stages: Packed<InOrder<R, M>>,
+    // The groups' sizes and the bits once more: a step needs them.
+    sizes: Vec<u64>,
+    bits: u32,
+}
+
+impl<R: Rooms, M: Measure> Model for PackedGroups<R, M> {
+    ghost use Rattle.std.specs.Prelude.{ℕ, List};
+    ghost use Rattle.packed_keys.specs.PackedSteps.{IsPackedGroups};
+
+    ghost Value = { R × M × List ℕ × ℕ };
+
+    ghost view = { λ p. (p.stages.0.0, p.stages.0.1, p.stages.0.2, p.stages.1) };
+
+    ghost invariant = { λ p.
+        IsPackedGroups (R.plan p.stages.0.0) (M.meaning p.stages.0.1) p.stages.0.2 p.stages.0.3
+        p.stages.1 p.sizes.items p.bits };
+}
+
+// Writes whether a choice leaves groups in order, and what it then adds to the one number.
+#[inline(always)]
+fn write_shift(bits: u32, sizes: &[u64], left: &[i128], added: &[i128], numbers: &mut [i128])
+    requires left { length left.now ≡ length sizes.now }
+    requires digits { are_in_order sizes.now left.now ≡ true → AreDigits bits added.now }
+    requires room { length numbers.old ≡ 2 }
+    ensures { numbers.new ≡ shift (2 ^ bits) (are_in_order sizes.now left.now) added.now }
+{
+    if are_in_order(sizes, left) {
+        numbers[0] = 1;
+        numbers[1] = packed_number(bits, added);
+    } else {
+        numbers[0] = 0;
+        numbers[1] = 0;
+    }
+}
+
+// Whether a step's choice leaves groups in order, and only adds to the one number.
+#[inline(always)]
+fn only_adds(step: &[i128]) -> bool
+    requires { 2 ≤ length step.now }
+    ensures { result ≡ true → get_or step.now 0 (pos 0) ≡ pos 1 }
+{
+    step[0] == 1
+}
+
+// The one number of a partial with what a step then adds to it.
+#[inline(always)]
+fn shifted(partial: &[i128], step: &[i128]) -> i128
+    requires one { length partial.now ≡ 1 }
+    requires long { 2 ≤ length step.now }
+    requires fits { unsigned_abs (get_or partial.now 0 (pos 0))
+        + unsigned_abs (get_or step.now 1 (pos 0)) ≤ MAX }
+    ensures { result ≡ get_or partial.now 0 (pos 0) +ℤ get_or step.now 1 (pos 0) }
+{
+    plus(partial[0], step[1])
+}
+
+impl<R: Rooms, M: Measure> PackedGroups<R, M> {
+    /// A network with its groups in order, by what remains of them alone, and their sums packed.
+    pub fn new(ordered: InOrder<R, M>, sizes: Vec<u64>, bits: u32) -> PackedGroups<R, M>
+        requires left { ordered.3 ≡ false }
+        requires sizes { sizes.items ≡ ordered.2 }
+        requires packed { let m = M.meaning ordered.1 in
+            let n = ordered_network false ordered.2 (room_network m (R.plan ordered.0).weight) in
+            MayBePacked m.floor.width bits n }
+        requires adds { AddsSteps (M.meaning ordered.1) }
+        ensures { result ≡ (ordered.0, ordered.1, ordered.2, bits) }
+    {
+        ordered.sound();
+        PackedGroups {
+            stages: Packed::new(ordered, bits),
+            sizes,
+            bits,
+        }
+    }
+}
+
+impl<R: Rooms, M: Measure> Stages for PackedGroups<R, M> {
+    ghost use Rattle.packed_keys.specs.PackedKeys.{packed_network};
+
+    ghost network = { λ p. packed_network (M.meaning p.1).floor.width p.3
+        (ordered_network false p.2 (room_network (M.meaning p.1) (R.plan p.0).weight)) };
+
+    fn stages(&self) -> usize {
+        self.stages.stages()
+    }
+
+    fn width(&self) -> usize {
+        self.stages.width()
+    }
+
+    fn choice_width(&self) -> usize {
+        self.stages.choice_width()
+    }
+
+    fn first_key(&self, key: &mut [i128]) {
+        self.stages.first_key(key);
+    }
+
+    fn first_choice(&self, stage: usize, key: &[i128], choice: &mut [u64]) -> bool {
+        self.stages.first_choice(stage, key, choice)
+    }
+
+    fn next_choice(&self, stage: usize, key: &[i128], choice: &mut [u64]) -> bool {
+        self.stages.next_choice(stage, key, choice)
+    }
+
+    fn apply(&self, stage: usize, key: &[i128], choice: &[u64], next: &mut [i128]) -> u128 {
+        self.stages.apply(stage, key, choice, next)
+    }
+
+    fn rest(&self, stage: usize, key: &[i128]) -> u128 {
+        self.stages.rest(stage, key)
+    }
+
+    fn verdict(&self, stage: usize, key: &[i128], tail: Tail) -> Verdict {
+        self.stages.verdict(stage, key, tail)
+    }
+
+    fn value(&self, key: &[i128]) -> i128 {
+        self.stages.value(key)
+    }
+}
+
+impl<R: Rooms, M: Measure> Roomed for PackedGroups<R, M> {
+    ghost use Rattle.std.specs.Prelude.{◌+◌};
+    ghost use Rattle.packed_keys.specs.PackedGroups.{shifting_step};
+
+    ghost room_width = { λ p. (M.meaning p.1).floor.width };
+
+    ghost step_width = { λ p.
+        2 + ((M.meaning p.1).floor.width + (M.meaning p.1).step_width) };
+
+    ghost step_of = { λ p g room c.
+        shifting_step p.2 p.3 ((M.meaning p.1).floor.next g room c)
+        ((M.meaning p.1).step g room c) };
+
+    ghost outlook_width = { λ p. (M.meaning p.1).outlook_width };
+
+    ghost outlook_of = { λ p. (M.meaning p.1).outlook };
+
+    fn room_width(&self) -> usize {
+        self.stages.room_width()
+    }
+
+    fn step_width(&self) -> usize {
+        2 + self.stages.step_width()
+    }
+
+    // A step has two numbers in front of the network's own.
+    fn step(&self, stage: usize, room: &[i128], choice: &[u64], step: &mut [i128]) {
+        let (numbers, inner) = step.split_at_mut(2);
+        self.stages.step(stage, room, choice, inner);
+        let sizes = self.sizes.as_slice();
+        let left = front(inner, room.len());
+        let added = behind(inner, room.len());
+        write_shift(self.bits, sizes, left, added, numbers);
+    }
+
+    #[inline(always)]
+    fn advance(
+        &self,
+        stage: usize,
+        room: &[i128],
+        choice: &[u64],
+        step: &[i128],
+        partial: &[i128],
+        next: &mut [i128],
+    ) {
+        if only_adds(step) {
+            next[0] = shifted(partial, step);
+        } else {
+            self.stages
+                .advance(stage, room, choice, behind(step, 2), partial, next);
+        }
+    }
+
+    fn outlook_width(&self) -> usize {
+        self.stages.outlook_width()
+    }
+
+    fn outlook(&self, stage: usize, room: &[i128], outlook: &mut [i128]) {
+        self.stages.outlook(stage, room, outlook);
+    }
+
+    #[inline(always)]
+    fn verdict_by(
+        &self,
+        stage: usize,
+        room: &[i128],
+        outlook: &[i128],
+        partial: &[i128],
+        tail: Tail,
+    ) -> Verdict {
+        self.stages.verdict_by(stage, room, outlook, partial, tail)
+    }
+}
