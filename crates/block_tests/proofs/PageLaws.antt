@@ -27,7 +27,7 @@ use Rattle.block_tests.specs.BlockNetworks.{arrangement_test, block_at, first_ar
 use Rattle.block_tests.specs.BlockSteps.{AreStages, IsSmall, IsWhole}
 use Rattle.block_tests.specs.BlockTests.{cut, page_sum, treatment_sums}
 use Rattle.block_tests.proofs.Arranged.{first-labelling, length-first}
-use Rattle.stage_network.proofs.Ranges.{range-different}
+use Rattle.weights.proofs.Ranges.{range-different}
 use Rattle.block_tests.proofs.Lines.{over-lines}
 use Rattle.block_tests.proofs.PageOrder.{page-least, page-most}
 use Rattle.block_tests.proofs.SquareLaws.{first-small, over-pos, over-stages-within}

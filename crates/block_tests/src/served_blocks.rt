@@ -83,6 +83,7 @@ pub(crate) fn served_blocks(
     let rooms = ServingRooms { servings: given };
     let sums = ServedSums { servings: summed };
     let stages = RoomNetwork::new(rooms, sums);
-    let ordered = InOrder::new(stages, ServingRooms { servings: beside }, sizes, true);
+    let by_sums = true;
+    let ordered = InOrder::new(stages, ServingRooms { servings: beside }, sizes, by_sums);
     Ok(ordered)
 }

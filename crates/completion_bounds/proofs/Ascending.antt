@@ -1,5 +1,5 @@
 -- Runs that ascend by score, as lists with repeats.
-use Rattle.std.proofs.Common.{◌≡◌, ℕ, zero, suc, ◌+◌, List, [], ◌∷◌, ◌++◌, get_or, Bool, true, false, cond, refl, subst, arith, add-one}
+use Rattle.std.proofs.Common.{◌≡◌, ℕ, suc, ◌+◌, List, [], ◌∷◌, ◌++◌, get_or, Bool, true, false, cond, refl, subst, arith, add-one}
 use Rattle.std.specs.Prelude.{ℤ, ◌≤ℤ◌, replicate, nat_le}
 use Rattle.std.specs.List.{flat_map, AllByRecursion}
 use Rattle.std.specs.List.Sorted.{IsSortedByKey}
@@ -9,6 +9,7 @@ use Rattle.completion_bounds.specs.Pairings.{units_of, row_units, units_from, la
 use Rattle.completion_bounds.specs.declared.pairings.Part.{Part}
 use Rattle.completion_bounds.specs.declared.pairings.Later.{Later}
 use Rattle.completion_bounds.proofs.Rearranged.{Ascends, all_imp}
+use Rattle.weights.proofs.Filters.{all_replicate}
 
 not_below : (x y : ℤ) → is_lt (int_cmp y x) ≡ false → x ≤ℤ y
 not_below x y e = grind (arith, ints, e)
@@ -54,12 +55,8 @@ module _ {X : Type 0} (score : X → ℤ) where
     runs_ascend [] c = tt
     runs_ascend (x ∷ xs) c = before (score x) (f x) (flat_map f xs) (each x) (from_runs (score x) xs c.0) (runs_ascend xs c.1)
 
-all_replicate : (n : ℕ) (s : ℤ) → AllByRecursion (λ u. u ≡ s) (replicate n s)
-all_replicate zero s = tt
-all_replicate (suc n) s = (refl, all_replicate n s)
-
 pub units_ascend : (rows : List Part) → RowsAscend rows → Ascends (row_units rows)
-units_ascend rows h = runs_ascend (λ (p : Part). p.score) units_of (λ p. all_replicate p.count p.score) rows (climbs (λ (p : Part). p.score) rows h)
+units_ascend rows h = runs_ascend (λ (p : Part). p.score) units_of (λ p. all_replicate (λ u. u ≡ p.score) p.count p.score refl) rows (climbs (λ (p : Part). p.score) rows h)
 
 pub later_units_ascend : (from : ℕ) (columns : List Later) → ColumnsAscend columns → Ascends (later_units from columns)
 later_units_ascend from columns h = runs_ascend (λ (c : Later). c.score) (units_from from) each columns (climbs (λ (c : Later). c.score) columns h)
@@ -68,5 +65,5 @@ later_units_ascend from columns h = runs_ascend (λ (c : Later). c.score) (units
     each c = by (nat_le from c.stage)
       where
         by : (t : Bool) → AllByRecursion (λ u. u ≡ c.score) (cond t (replicate c.count c.score) [])
-        by true = all_replicate c.count c.score
+        by true = all_replicate (λ u. u ≡ c.score) c.count c.score refl
         by false = tt

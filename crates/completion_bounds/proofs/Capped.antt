@@ -1,7 +1,7 @@
 -- Products that stop at a cap.
 use Rattle.std.proofs.Common.{◌≡◌, ℕ, zero, suc, ◌+◌, ◌-◌, ◌*◌, ◌/◌, ◌%◌, ◌<◌, ◌≤◌, min, drop, get_or, add-one, drop-cons, drop_of_length-le, List, [], ◌∷◌, length, Bool, true, false, refl, ◌∙◌, ap, sym, subst, arith}
 use Rattle.std.specs.Prelude.{nat_le, replicate}
-use Rattle.std.proofs.Math.Nat.{mul-le-mul_left, mul-le-mul}
+use Rattle.std.proofs.Math.Nat.{mul-le-mul_left}
 use Rattle.std.proofs.Math.ListN.{get_or-append}
 use Rattle.std.proofs.lemmas.List.{get_or-append_right, get_or-replicate, length-replicate}
 use Rattle.weights.specs.Labellings.{number_of_labellings}
@@ -10,6 +10,7 @@ use Rattle.weights.proofs.Binomials.{binomial-positive}
 use Rattle.weights.proofs.FirstLabel.{number_of_labellings-positive}
 use Rattle.completion_bounds.specs.Fillings.{filled_in_turn, evenly_divided, product_by}
 use Rattle.completion_bounds.proofs.Factorials.{total, labellings-first, no_labellings, total-filled_in_turn, total-even, length-even}
+use Rattle.weights.proofs.Products.{product-some}
 
 -- a capped product times what is left, capped again
 pub cap-later : (a b c : ℕ) → 1 ≤ b → min (min a c * b) c ≡ min (a * b) c
@@ -36,9 +37,6 @@ cap-later a b c h = by (nat_le c a) refl
 grouped : (a b c : ℕ) → (a * b) * c ≡ a * (b * c)
 grouped a b c = grind arith
 
-one_more : (p q : ℕ) → 1 ≤ p → 1 ≤ q → 1 ≤ p * q
-one_more p q h j = let one = mul-le-mul {n₁ = 1} {m₁ = 1} h j in omega (arith, one)
-
 -- the cells that are still to come, of the units that are left
 pub record IsTaken (all cap weight left : ℕ) (cells : List ℕ) : Type 0 where
   pub value : min (weight * number_of_labellings cells) cap ≡ min all cap
@@ -58,7 +56,7 @@ taken-next all cap w left x cells t =
           ∙ ap (λ n. min n cap) (grouped w (binomial left x) (number_of_labellings cells) ∙ ap (λ n. w * n) (sym first))
           ∙ t.value;
       units = omega (arith, t.units);
-      some = omega (arith, one_more w (binomial left x) t.some ways, t.some, t.most);
+      some = omega (arith, product-some w (binomial left x) t.some ways, t.some, t.most);
       most = omega arith;
     }
 
@@ -117,7 +115,7 @@ pub record IsMultiplied (weight : ℕ → ℕ) (columns : List ℕ) (cap j produ
 module _ (weight : ℕ → ℕ) (each : (c : ℕ) → 1 ≤ weight c) (columns : List ℕ) (cap : ℕ) where
   product-positive : (cs : List ℕ) → 1 ≤ product_by weight cs
   product-positive [] = omega arith
-  product-positive (c ∷ cs) = one_more (weight c) (product_by weight cs) (each c) (product-positive cs)
+  product-positive (c ∷ cs) = product-some (weight c) (product_by weight cs) (each c) (product-positive cs)
 
   pub multiplied-first : 1 ≤ cap → IsMultiplied weight columns cap 0 1
   multiplied-first h = record { value = ap (λ n. min n cap) (whole (product_by weight columns)); some = omega arith; most = h }
@@ -134,7 +132,7 @@ module _ (weight : ℕ → ℕ) (each : (c : ℕ) → 1 ≤ weight c) (columns :
         value = cap-later (product * weight c) (product_by weight rest) cap (product-positive rest)
             ∙ ap (λ n. min n cap) (grouped product (weight c) (product_by weight rest) ∙ sym (ap (λ cs. product * product_by weight cs) parts))
             ∙ f.value;
-        some = omega (arith, one_more product (weight c) f.some (each c), f.some, f.most);
+        some = omega (arith, product-some product (weight c) f.some (each c), f.some, f.most);
         most = omega arith;
       }
 

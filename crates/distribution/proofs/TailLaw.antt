@@ -5,12 +5,18 @@ use Rattle.std.specs.Prelude.{ℤ, int_le, nat_le}
 use Rattle.std.specs.List.{sum_by, AllByRecursion}
 use Rattle.std.specs.Ordering.{int_eq}
 use Rattle.weights.specs.declared.lines.Line.{Line}
+use Rattle.weights.specs.declared.rules.Rule.{Rule}
+use Rattle.weights.specs.declared.tails.Tail.{Tail}
 use Rattle.weights.specs.declared.tails.Tail.TheVariants.{Less, Greater, Two}
-use Rattle.weights.specs.Conditional.{ConditionalTest, TwoSided, by_distance, ascending_values, distance, distribution, is_extreme_on_both, numerator, observed_statistic, value_weight}
+use Rattle.weights.specs.Conditional.{ConditionalTest, TwoSided, by_distance, ascending_values, distance, distribution, is_extreme, is_extreme_on_both, numerator, observed_statistic, value_weight}
+use Rattle.weights.specs.Rules.{passes, rule_of}
+use Rattle.weights.proofs.ByRule.{is_extreme-by_rule}
+use Rattle.weights.proofs.Filters.{filter-same}
 use Rattle.weights.proofs.Sums.{sum_by-same, sum_by-map, sum_by-plus}
 use Rattle.stage_network.specs.Lines.{line_sum}
 use Rattle.stage_network.specs.Follows.{statistic_sums}
 use Rattle.stage_network.proofs.DistributionLines.{distribution-is}
+use Rattle.distribution.specs.ByStatistic.{GoesByStatistic}
 
 -- the same test with other weights
 weighted_by : ConditionalTest → (List ℕ → ℕ) → ConditionalTest
@@ -87,3 +93,9 @@ pub two-law : (test : ConditionalTest) (lines : List Line) (q : ℕ) (c : ℤ) (
 two-law test lines q c d e two o =
     let by : TwoSided → ℕ = λ sides. sum_by test.weight (filter (is_extreme_on_both sides test) test.reference) in
     rw (e, o) (distribution-sum test (λ v. nat_le (distance q c (observed_statistic test)) (distance q c v)) ∙ ap by (sym two))
+
+-- a tail that goes by the statistic, by its rule
+pub tail-law : (test : ConditionalTest) (tail : Tail) (rule : Rule) (lines : List Line) → GoesByStatistic test tail → rule ≡ rule_of test tail → lines ≡ distribution test → line_sum (passes rule) lines ≡ numerator test tail
+tail-law test tail rule lines goes is e =
+    let by_rule : (r : List ℕ) → passes (rule_of test tail) (test.statistic r) ≡ is_extreme test tail r = λ r. ap (passes (rule_of test tail)) (sym (goes r)) ∙ sym (is_extreme-by_rule test tail r) in
+    rw (is, e) (distribution-sum test (passes (rule_of test tail)) ∙ ap (sum_by test.weight) (filter-same (λ r. passes (rule_of test tail) (test.statistic r)) (is_extreme test tail) by_rule test.reference))

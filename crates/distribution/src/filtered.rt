@@ -11,7 +11,7 @@ use stage_network::Spread;
 use weights::{Line, Rule};
 
 // The weight of the lines whose values pass a rule.
-fn weight_of(lines: &[Line], rule: Rule) -> u128
+pub(crate) fn weight_of(lines: &[Line], rule: Rule) -> u128
     requires total { WeightsFit lines.now }
     requires fits { RuleFitsLines rule lines.now }
     ensures { result ≡ line_sum (passes rule) lines.now }

@@ -1,8 +1,11 @@
 // The report of a prepared problem: the same for all tests.
 ghost use Rattle.std.specs.Prelude.{◌≡◌, ◌≤◌, None, IfOk, IfSome, OnOk};
+ghost use Rattle.std.specs.Option.{option_copied};
+ghost use Rattle.weights.specs.Conditional.{distribution};
 ghost use Rattle.weights.specs.Wide.{too_wide};
 ghost use Rattle.settings.specs.Usable.{IsPieceOf};
-ghost use Rattle.stage_network.specs.Follows.{HasTails, answer_of, open_keys};
+ghost use Rattle.stage_network.specs.Follows.{HasTails, answer_of, open_keys, uncounted};
+ghost use Rattle.stage_network.specs.Lines.{WeightsFit};
 ghost use Rattle.exact_run.specs.CauseSteps.{IsDivided, MeetsAnd, prepared_outcome};
 ghost use Rattle.exact_run.specs.Divided.{IsDivisible};
 ghost use Rattle.exact_run.specs.Outcome.{HasParts, asked, asking_of, asking_of_made, only, report_for, spread_of, tails_in, text_for, way_of};
@@ -10,6 +13,7 @@ ghost use Rattle.exact_run.specs.Question.{question_about};
 
 use crate::parts::{PartOf, piece_for};
 use crate::refusing::prepare_refusal;
+use distribution::answer_from;
 use report::{Extra, Refusal, Sizes, Title, compose};
 use settings::{OptionName, Settings, TailChoice};
 use stage_network::{Answer, Prepared, Spread, Way, answer, distribution, quick_answer};
@@ -73,7 +77,8 @@ fn spread_of<P: Prepared>(
     way: Way,
     problem: &P,
 ) -> Result<Option<Spread>, NoMemory>
-    ensures { IfOk result (λ spread. spread ≡ spread_of shown (P.test problem.now)) }
+    ensures lines { IfOk result (λ spread. spread ≡ spread_of shown (P.test problem.now)) }
+    ensures weights { IfOk result (λ spread. IfSome spread WeightsFit) }
 {
     if !shown {
         return Ok(None);
@@ -134,14 +139,40 @@ pub(crate) struct Heading {
     pub extra: Extra,
 }
 
-// The answer of a problem, whose open keys are counted where they are shown.
+// The answer of a problem, of which no key is counted: from its distribution, where this is known.
+fn uncounted_answer<P: Prepared>(
+    alloc: Global,
+    tails: Tails,
+    problem: &P,
+    spread: Option<&Spread>,
+) -> Result<Answer, NoMemory>
+    requires has { HasTails (P.test problem.now) tails }
+    requires lines { let whole = distribution (P.test problem.now) in
+        IfSome (option_copied spread) (λ lines. lines ≡ whole) }
+    requires weights { IfSome (option_copied spread) WeightsFit }
+    ensures answer { IfOk result (λ answer. answer
+        ≡ answer_of (P.test problem.now) uncounted tails Way.Plain) }
+    ensures some { IfOk result (λ answer. 1 ≤ answer.total) }
+{
+    match spread {
+        Some(spread) => answer_from(alloc, problem, tails, spread),
+        None => quick_answer(alloc, problem, tails),
+    }
+}
+
+// The answer of a problem, whose open keys are counted where they are shown. Where they are not,
+// and the walk is not asked, its distribution tells the tails, if it is known.
 fn answer_for<P: Prepared>(
     alloc: Global,
     asking: Asking,
     tails: Tails,
     problem: &P,
+    spread: Option<&Spread>,
 ) -> Result<Answer, NoMemory>
-    requires { HasTails (P.test problem.now) tails }
+    requires has { HasTails (P.test problem.now) tails }
+    requires lines { let whole = distribution (P.test problem.now) in
+        IfSome (option_copied spread) (λ lines. lines ≡ whole) }
+    requires weights { IfSome (option_copied spread) WeightsFit }
     ensures answer { let opened = open_keys (P.network problem.now) in
         IfOk result (λ answer.
         answer ≡ answer_of (P.test problem.now) opened tails (way_of asking.nodes)) }
@@ -152,7 +183,7 @@ fn answer_for<P: Prepared>(
     } else if asking.plain {
         answer(alloc, problem, tails, Way::Plain)
     } else {
-        quick_answer(alloc, problem, tails)
+        uncounted_answer(alloc, tails, problem, spread)
     }
 }
 
@@ -170,8 +201,9 @@ fn report_for<P: Prepared>(
         let question = about heading.now.sizes heading.now.dropped heading.now.extra in
         IfOk result (λ text. text ≡ report_for asking tails question) }
 {
-    let answer = answer_for(alloc, asking, tails, problem)?;
     let spread = spread_of(alloc, asking.distribution, way_of(!asking.plain), problem)?;
+    let lines = spread.as_ref();
+    let answer = answer_for(alloc, asking, tails, problem, lines)?;
     let text = compose(
         alloc,
         asking.title,
@@ -180,7 +212,7 @@ fn report_for<P: Prepared>(
         heading.dropped,
         &answer,
         asking.nodes,
-        spread.as_ref(),
+        lines,
     )?;
     Ok(text)
 }

@@ -18,7 +18,7 @@ use sample_reader::{BivariateSample, Layout, Sequence, bivariate_sample, sequenc
 use sequence_tests::{prepare_kendall, prepare_runs};
 use settings::Settings;
 use std::alloc::Global;
-use weights::Bytes;
+use weights::{Bytes, NoMemory};
 
 // The bivariate sample of the rows, or the refusal of their fault.
 fn bivariate_read(
@@ -50,8 +50,8 @@ pub(crate) fn kendall_report(alloc: Global, request: &Request) -> Result<Bytes, 
     ensures { Fulfils request.now kendall_of result }
 {
     let sample = bivariate_read(alloc, request.settings, request.rows)?;
-    let problem = prepare_kendall(alloc, &sample);
     let heading = request.heading(bivariate_sizes(&sample), Layout::Bivariate, Extra::None);
+    let problem = prepare_kendall(alloc, sample);
     report_on(alloc, request.asking, &heading, ALL, problem)
 }
 
@@ -66,13 +66,13 @@ fn sequence_read(alloc: Global, settings: &Settings, rows: &Rows) -> Result<Sequ
     sequence(alloc, rows, &settings.picks, settings.missing).map_err(layout_refusal)
 }
 
-fn sequence_sizes(sequence: Sequence) -> Sizes
-    ensures { result ≡ sequence_sizes (sequence_data_of sequence) }
+fn sequence_sizes(sequence: &Sequence) -> Result<Sizes, NoMemory>
+    ensures { IfOk result (λ sizes. sizes ≡ sequence_sizes (sequence_data_of sequence.now)) }
 {
-    Sizes::Groups {
-        labels: sequence.labels,
-        sizes: sequence.sizes,
-    }
+    Ok(Sizes::Groups {
+        labels: sequence.labels.copy()?,
+        sizes: sequence.sizes.copy()?,
+    })
 }
 
 /// The report of the runs test, or the refusal.
@@ -81,7 +81,7 @@ pub(crate) fn runs_report(alloc: Global, request: &Request) -> Result<Bytes, Ref
     ensures { Fulfils request.now runs_of result }
 {
     let sequence = sequence_read(alloc, request.settings, request.rows)?;
-    let problem = prepare_runs(alloc, &sequence);
-    let heading = request.heading(sequence_sizes(sequence), Layout::Sequence, Extra::None);
+    let heading = request.heading(sequence_sizes(&sequence)?, Layout::Sequence, Extra::None);
+    let problem = prepare_runs(alloc, sequence);
     report_on(alloc, request.asking, &heading, ALL, problem)
 }

@@ -85,6 +85,7 @@ pub(crate) fn zelen_report(alloc: Global, request: &Request) -> Result<Bytes, Re
     ensures { Fulfils request.now zelen_of result }
 {
     let strata = strata_read(alloc, request.settings, request.rows)?;
-    let problem = prepare_zelen(alloc, &strata);
-    report_on(alloc, request.asking, &heading_of(&strata), TWO, problem)
+    let heading = heading_of(&strata);
+    let problem = prepare_zelen(alloc, strata);
+    report_on(alloc, request.asking, &heading, TWO, problem)
 }

@@ -1,21 +1,24 @@
-mod Naturals
+mod NaturalMeasures
 mod TwoParts
 pub mod WaySums
 mod OneCounts
-mod RankLaw
+mod RankLabellings
 mod RankSums
 mod RankPlans
-mod RankData
-mod RankValues
+mod RankColumns
+mod RankStatistic
 mod StrataSubjects
-mod RankFitting
+mod RankLimits
 mod RankVectors
-mod StrataLoops
+mod PartTotals
+mod OneMoreStratum
 pub mod Vectors
 pub mod Unimodal
-pub mod Given
+pub mod LabellingsWithSum
 pub mod ZelenPlans
-pub mod Windows
+pub mod RemainingSums
+pub mod LesserWeights
+pub mod LaterSums
 pub mod Rarities
 pub mod SumWalk
 pub mod ZelenTests

@@ -24,9 +24,9 @@ use Rattle.homogeneity.specs.OneCount.{chosen, remaining}
 use Rattle.homogeneity.specs.RankRooms.{column_at, column_ranks, greatest_added, least_added, left, rank_floor, rank_meaning, rank_numbers, rank_plan, second_of, ways_of}
 use Rattle.homogeneity.specs.RankSteps.{AreColumns, AreFitColumns, AreLaterWays, RankChoice, RankSeat, later_ways}
 use Rattle.homogeneity.specs.declared.rank_columns.Column.{Column}
-use Rattle.homogeneity.proofs.Naturals.{AreBounds, natural_measure, natural_number}
+use Rattle.homogeneity.proofs.NaturalMeasures.{AreBounds, natural_measure, natural_number}
 use Rattle.homogeneity.proofs.OneCounts.{between, different, some-choice}
-use Rattle.homogeneity.proofs.RankLaw.{later-ways, later_sizes, number-more, ways_give}
+use Rattle.homogeneity.proofs.RankLabellings.{later-ways, later_sizes, number-more, ways_give}
 use Rattle.homogeneity.proofs.RankSums.{added-meet, column-within, columns-sound_at, greatest-within, high-falls, low-rises, ranks-from, remaining-within}
 use Rattle.homogeneity.proofs.TwoParts.{halves}
 
@@ -146,7 +146,7 @@ module _ (columns : List Column) (f : AreFitColumns columns) where
   total-fits (suc g) room (j, x, r, before, o, e) =
       rw (e, ← add-one g) (right-factor (net.weight g j x) _ MAX (ways-some (column_at columns g).size (chosen x)) (omega (arith, arc-within g j x before o, total-fits g j r)))
 
-  -- ---- what the bodies know
+  -- ---- what is known of a reached room, and of a choice there
 
   -- the ranks from a stage on
   ranks-fit : (g : ℕ) → sum (column_ranks (drop g columns)) ≤ MAX

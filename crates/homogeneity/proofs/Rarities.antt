@@ -15,7 +15,7 @@ use Rattle.strata_cells.proofs.CellLaws.{by-cells, cell_lists}
 use Rattle.strata_cells.proofs.FirstCells.{cells-meet, cells-same, cells-sum, rows-sum, row_labellings, left-within, right-within, weight-some}
 use Rattle.stage_network.proofs.Bounds.{term-le-sum_by}
 use Rattle.homogeneity.specs.Zelen.{has_sum, observed_labels, rarity}
-use Rattle.homogeneity.proofs.Given.{over-none, over-step, over_cells}
+use Rattle.homogeneity.proofs.LabellingsWithSum.{over-none, over-step, over_cells}
 use Rattle.std.proofs.Math.Nat.{mul-le-mul}
 use Rattle.std.proofs.lemmas.List.{drop_min}
 use Rattle.strata_cells.proofs.StrataSums.{next-drop}

@@ -21,7 +21,7 @@ use Rattle.pooled_columns.proofs.PooledLabels.{pooled-labels}
 use Rattle.pooled_columns.proofs.PooledValues.{Rises, length-pooled, pooled-rises}
 use Rattle.homogeneity.specs.RankNetworks.{AreUsable}
 use Rattle.homogeneity.specs.StratifiedRanks.{at_place, ranked_strata_test, strata_subjects, stratum_subjects}
-use Rattle.homogeneity.proofs.RankData.{IsStratum}
+use Rattle.homogeneity.proofs.RankColumns.{IsStratum}
 
 -- ---- items at a place
 

@@ -25,10 +25,12 @@ use Rattle.homogeneity.specs.OneCount.{choices_between, chosen, remaining}
 use Rattle.homogeneity.specs.Zelen.{has_sum, observed_labels, observed_sum_labellings}
 use Rattle.homogeneity.specs.ZelenNetwork.{greatest_choice, least_choice, lesser_weights, number_with, own_sum, zelen_floor, zelen_meaning, zelen_numbers, zelen_plan, zelen_weights}
 use Rattle.homogeneity.specs.ZelenSteps.{AreSummed, CanHave, IsLeft, ZelenChoice, ZelenSeat}
-use Rattle.homogeneity.proofs.Given.{can-next, choice-range, number-is, number_by, over-none, with-choices, with_cell, with_sum}
-use Rattle.homogeneity.proofs.Naturals.{AreBounds, EachChoice, natural_measure, natural_number}
+use Rattle.homogeneity.proofs.LabellingsWithSum.{can-next, choice-range, number-is, number_by, over-none, with-choices, with_cell, with_sum, number-term}
+use Rattle.homogeneity.proofs.NaturalMeasures.{AreBounds, EachChoice, natural_measure, natural_number}
 use Rattle.homogeneity.proofs.OneCounts.{IsBetween, between, different, some-choice}
-use Rattle.homogeneity.proofs.Windows.{can-here, left-can, left-first, left-next, lesser-number, number-some, number-term, number-within, lesser-within, most-few}
+use Rattle.homogeneity.proofs.RemainingSums.{can-here, left-can, left-first, left-next, number-within}
+use Rattle.homogeneity.proofs.LesserWeights.{lesser-number, number-some, lesser-within}
+use Rattle.homogeneity.proofs.LaterSums.{most-few}
 use Rattle.homogeneity.proofs.Unimodal.{lesser-least}
 use Rattle.homogeneity.proofs.WaySums.{gather, gather-none, gather-step}
 
@@ -185,7 +187,7 @@ module _ (strata : List Stratum) (total : ℕ) where
   pub value-of : (judge : Judge) (cells : List ℕ) → length cells ≡ length strata → way_value (zelen_meaning strata total judge) (cut cells) ≡ pos (cells_weight strata cells)
   value-of judge cells e = ap so_far (way-from judge strata 0 cells plan.floor.first 1 refl e) ∙ ap pos (one-mul (cells_weight strata cells))
 
--- ---- what the bodies know
+-- ---- what is known of a reached room, and of a choice there
 
 module _ (strata : List Stratum) (sum : ℕ) (d : AreSummed strata sum) (fits : number_with strata sum ≤ MAX) where
   pub seat : (g : ℕ) (room : List ℤ) → IsReached (alone (zelen_plan strata sum)) g room → ZelenSeat strata sum g room

@@ -35,7 +35,7 @@ use Rattle.homogeneity.specs.declared.zelen.ObservedStrata.{ObservedStrata}
 use Rattle.stage_network.proofs.Images.{filtered_from}
 use Rattle.homogeneity.proofs.ZelenPlans.{cut, value-of, zelen_gives, zelen_measure, zelen_width}
 use Rattle.homogeneity.proofs.Rarities.{AreCells, cells-long, member-cells, rarity-by, rarity-is}
-use Rattle.homogeneity.proofs.Windows.{number-some}
+use Rattle.homogeneity.proofs.LesserWeights.{number-some}
 
 -- ---- the labels as they are
 

@@ -1,4 +1,4 @@
--- Words for the bodies: what columns owe each other, and what is kept of each stage.
+-- What columns owe each other, and what is kept of each stage.
 use Rattle.std.specs.Prelude.{◌≡◌, ⊤, ℕ, ℤ, ◌+◌, ◌-◌, ◌*◌, ◌<◌, ◌≤◌, List, [], ◌∷◌, drop, get_or, length, nat_eq, unsigned_abs, if◌then◌else◌}
 use Rattle.std.specs.List.{sum}
 use Rattle.weights.specs.declared.TheConstants.{MAX}

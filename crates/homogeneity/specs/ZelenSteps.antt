@@ -14,8 +14,8 @@ use Rattle.strata_cells.specs.StrataLimits.{AreSmall, IsSmall}
 use Rattle.homogeneity.specs.OneCount.{IsOneCount, chosen, remaining}
 use Rattle.homogeneity.specs.ZelenNetwork.{greatest_choice, greatest_sum, least_choice}
 use Rattle.homogeneity.specs.ZelenNetwork.{least_sum, lesser_weight, lesser_weights, number_with, zelen_plan}
-use Rattle.homogeneity.specs.declared.laters.Later.{Later}
-use Rattle.homogeneity.specs.declared.laters.Reach.{Reach}
+use Rattle.homogeneity.specs.declared.later_sums.LaterSums.{LaterSums}
+use Rattle.homogeneity.specs.declared.later_sums.SumRanges.{SumRanges}
 
 -- a sum that first cells of strata can have
 pub record CanHave (strata : List Stratum) (sum : ℕ) : Type 0 where
@@ -39,7 +39,7 @@ pub record IsLeft (strata : List Stratum) (sum g left : ℕ) : Type 0 where
   pub most : left ≤ most_left strata sum g
 
 -- what is kept of the strata from g on
-pub record IsLater (strata : List Stratum) (sum g : ℕ) (later : Later) : Type 0 where
+pub record AreLaterSums (strata : List Stratum) (sum g : ℕ) (later : LaterSums) : Type 0 where
   pub least : later.least ≡ least_sum (drop g strata)
   pub most : later.most ≡ greatest_sum (drop g strata)
   pub first : later.first ≡ least_left strata sum g
@@ -55,15 +55,17 @@ pub record AreSummed (strata : List Stratum) (sum : ℕ) : Type 0 where
   pub can : CanHave strata sum
 
 -- what is kept of all strata from g on, the last first
-pub record AreLaters (strata : List Stratum) (sum g : ℕ) (laters : List Later) : Type 0 where
-  pub long : length laters ≡ suc (length strata - g)
-  pub each : (i : ℕ) (d : Later) → i < length laters
-      → IsLater strata sum (length strata - i) (slice_index_or laters i d)
+pub record AreAllLaterSums (strata : List Stratum) (sum g : ℕ) (later_sums : List LaterSums)
+    : Type 0 where
+  pub long : length later_sums ≡ suc (length strata - g)
+  pub each : (i : ℕ) (d : LaterSums) → i < length later_sums
+      → AreLaterSums strata sum (length strata - i) (slice_index_or later_sums i d)
 
 -- and where their labellings with the sum are few enough
-pub record AreRests (strata : List Stratum) (sum : ℕ) (laters : List Later) : Type 0 where
+pub record AreSumCounts (strata : List Stratum) (sum : ℕ) (later_sums : List LaterSums)
+    : Type 0 where
   pub summed : AreSummed strata sum
-  pub laters_are : AreLaters strata sum 0 laters
+  pub later_sums_are : AreAllLaterSums strata sum 0 later_sums
   pub fits : number_with strata sum ≤ MAX
 
 -- the products of the lesser weights, from the last stratum back to stratum g
@@ -81,7 +83,7 @@ pub record IsZelenMeasure (strata : List Stratum) (lesser : List ℕ) (judge : J
 
 -- of a stratum, by what is kept of those after it: their sums and its own are those from it on, and
 -- no sum passes a limit
-pub record StratumSeat (strata : List Stratum) (sum g : ℕ) (later : Later) : Type 0 where
+pub record StratumSeat (strata : List Stratum) (sum g : ℕ) (later : LaterSums) : Type 0 where
   pub least : later.least + least_cell (stratum_at strata g) ≡ least_sum (drop g strata)
   pub most : later.most + greatest_cell (stratum_at strata g) ≡ greatest_sum (drop g strata)
   pub least_small : later.least + least_cell (stratum_at strata g) < 2 ^ 62
@@ -120,62 +122,62 @@ pub record ZelenChoice (strata : List Stratum) (g : ℕ) (room : List ℤ) (c : 
   pub left : chosen c ≤ remaining room
   pub fits : cell_weight (stratum_at strata g) (chosen c) ≤ MAX
 
--- ---- what the bodies compute
+-- ---- the number of labellings before a stratum, by what is kept of those after it
 
 -- the first cells that can be chosen where so much is left, and how many labellings follow one
-abbrev pub choice_from : Stratum → Later → ℕ → ℕ
+abbrev pub choice_from : Stratum → LaterSums → ℕ → ℕ
 choice_from s later left = max (least_cell s) (left - later.most)
 
-abbrev pub choice_to : Stratum → Later → ℕ → ℕ
+abbrev pub choice_to : Stratum → LaterSums → ℕ → ℕ
 choice_to s later left = min (greatest_cell s) (left - later.least)
 
-abbrev pub kept_number : Later → ℕ → ℕ
+abbrev pub kept_number : LaterSums → ℕ → ℕ
 kept_number later left = slice_index later.numbers (left - later.first)
 
-abbrev pub counted_cell : Stratum → Later → ℕ → ℕ → ℕ
+abbrev pub counted_cell : Stratum → LaterSums → ℕ → ℕ → ℕ
 counted_cell s later left x = cell_weight s x * kept_number later (left - x)
 
-abbrev pub counted : Stratum → Later → ℕ → ℕ
+abbrev pub counted : Stratum → LaterSums → ℕ → ℕ
 counted s later left =
     let from = choice_from s later left in
     sum_by (counted_cell s later left) (range_with_len from (choice_to s later left + 1 - from))
 
 -- a first cell after which a number is kept for what is left
-pub record IsKept (s : Stratum) (later : Later) (left x : ℕ) : Type 0 where
+pub record IsKept (s : Stratum) (later : LaterSums) (left x : ℕ) : Type 0 where
   pub least : least_cell s ≤ x
   pub most : x ≤ greatest_cell s
   pub left_some : x + later.first ≤ left
   pub within : left - x - later.first < length later.numbers
   pub some : 1 ≤ kept_number later (left - x)
 
-pub record IsCountable (s : Stratum) (later : Later) (left : ℕ) : Type 0 where
+pub record IsCountable (s : Stratum) (later : LaterSums) (left : ℕ) : Type 0 where
   pub small : IsSmall s
   pub choices : choice_from s later left ≤ choice_to s later left
   pub kept : (x : ℕ) → choice_from s later left ≤ x → x ≤ choice_to s later left
       → IsKept s later left x
 
 -- numbers for all that can be left, and one that passes MAX
-pub record AreNumbers (s : Stratum) (later : Later) (first end : ℕ) (numbers : List ℕ)
+pub record AreNumbers (s : Stratum) (later : LaterSums) (first end : ℕ) (numbers : List ℕ)
     : Type 0 where
   pub long : length numbers ≡ end - first
   pub each : (left : ℕ) → first ≤ left → left < end
       → slice_index numbers (left - first) ≡ counted s later left
   pub fits : (left : ℕ) → first ≤ left → left < end → counted s later left ≤ MAX
 
-pub record IsPast (s : Stratum) (later : Later) (first last : ℕ) : Type 0 where
+pub record IsPast (s : Stratum) (later : LaterSums) (first last : ℕ) : Type 0 where
   pub left : ℕ
   pub least : first ≤ left
   pub most : left ≤ last
   pub past : MAX < counted s later left
 
 -- what the strata from g on can have, and what can be left for them, each of which is countable
-pub record IsReach (strata : List Stratum) (sum g : ℕ) (later : Later) (reach : Reach)
+pub record AreSumRanges (strata : List Stratum) (sum g : ℕ) (later : LaterSums) (ranges : SumRanges)
     : Type 0 where
-  pub least : reach.least ≡ least_sum (drop g strata)
-  pub most : reach.most ≡ greatest_sum (drop g strata)
-  pub first : reach.first ≡ least_left strata sum g
-  pub last : reach.last ≡ most_left strata sum g
-  pub meet : reach.first ≤ reach.last
-  pub small : reach.last < 2 ^ 63
-  pub each : (left : ℕ) → reach.first ≤ left → left ≤ reach.last
+  pub least : ranges.least ≡ least_sum (drop g strata)
+  pub most : ranges.most ≡ greatest_sum (drop g strata)
+  pub first : ranges.first ≡ least_left strata sum g
+  pub last : ranges.last ≡ most_left strata sum g
+  pub meet : ranges.first ≤ ranges.last
+  pub small : ranges.last < 2 ^ 63
+  pub each : (left : ℕ) → ranges.first ≤ left → left ≤ ranges.last
       → IsCountable (stratum_at strata g) later left

@@ -5,7 +5,7 @@ ghost use Rattle.strata_cells.specs.Strata.{cells_of, cells_weight, strata_label
 ghost use Rattle.strata_cells.specs.StrataLimits.{AreSmall};
 ghost use Rattle.homogeneity.specs.ZelenMade.{own_cells};
 
-use crate::rests::weight_of;
+use crate::sum_counts::weight_of;
 use strata_cells::{Stratum, stratum_cell};
 
 /// How many labellings give the first cells of the strata as they are.

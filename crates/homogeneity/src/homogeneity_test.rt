@@ -23,8 +23,8 @@ pub type Homogeneity = OneOf<Zelen, StratifiedRanks>;
 /// # Errors
 /// `TooWide(Total)` where there are more of these labellings than `weights::MAX`, or else
 /// `NoMemory` where memory runs out. The statistic is never too wide.
-pub fn prepare_zelen(alloc: Global, strata: &Strata) -> Result<Homogeneity, PrepareFault>
-    ensures { Prepares homogeneity_test (OneOf.First strata.now.cells) result }
+pub fn prepare_zelen(alloc: Global, strata: Strata) -> Result<Homogeneity, PrepareFault>
+    ensures { Prepares homogeneity_test (OneOf.First strata.cells) result }
 {
     Ok(OneOf::First(Zelen::prepare(alloc, strata)?))
 }

@@ -10,8 +10,9 @@ ghost use Rattle.homogeneity.specs.Homogeneities.{homogeneity_network, homogenei
 
 mod cell_weights;
 mod homogeneity_test;
-mod laters;
+mod later_sums;
 mod one_count;
+mod part_numbers;
 mod rank_columns;
 mod rank_made;
 mod rank_measure;
@@ -19,9 +20,8 @@ mod rank_rooms;
 mod rank_strata;
 mod rank_sums;
 mod rank_ways;
-mod ranked;
-mod rests;
 mod stratified_ranks;
+mod sum_counts;
 mod sum_walk;
 mod zelen;
 mod zelen_measure;

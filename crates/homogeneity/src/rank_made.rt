@@ -9,8 +9,8 @@ ghost use Rattle.homogeneity.specs.RankMade.{AreRanked, RanksFit, StrataFacts};
 ghost use Rattle.homogeneity.specs.StrataSteps.{part_of, parts_total};
 ghost use Rattle.homogeneity.specs.StratifiedRanks.{strata_subjects, stratified_rank_test};
 
+use crate::part_numbers::{centre_of, parts_total, sizes_of};
 use crate::rank_strata::{Part, RankStrata};
-use crate::ranked::{centre_of, parts_total, sizes_of};
 use sample_reader::StrataGroups;
 use scores::labelled_sum;
 use std::alloc::Global;

@@ -1,7 +1,7 @@
 // Both ways to the answer of the stratified rank sum test.
+use crate::part_numbers::first_labels;
 use crate::rank_measure::RankMeasure;
 use crate::rank_rooms::RankRooms;
-use crate::ranked::first_labels;
 use crate::stratified_ranks::StratifiedRanks;
 use enumerate::{Plain, next_joined};
 use room_network::{Numbered, RoomNetwork};

@@ -12,7 +12,7 @@ ghost use Rattle.homogeneity.specs.ZelenNetwork.{number_with, own_sum};
 ghost use Rattle.homogeneity.specs.ZelenSteps.{AreSummed};
 
 use crate::cell_weights::own_weight;
-use crate::rests::Rests;
+use crate::sum_counts::SumCounts;
 use crate::zelen_measure::held;
 use std::alloc::Global;
 use std::marker::Model;
@@ -36,7 +36,7 @@ pub(crate) struct ObservedStrata {
 #[derive(Drop)]
 pub struct Zelen {
     // What it was prepared of, by which contracts name it.
-    cells: Nums,
+    strata: Strata,
     made: ObservedStrata,
 }
 
@@ -47,9 +47,9 @@ impl Model for Zelen {
 
     ghost Value = { List ℕ };
 
-    ghost view = { λ t. t.cells };
+    ghost view = { λ t. t.strata.cells };
 
-    ghost invariant = { λ t. AreObserved (strata_of t.cells) t.made };
+    ghost invariant = { λ t. AreObserved (strata_of t.strata.cells) t.made };
 }
 
 // How many labellings of strata have the sum, or None exactly where they pass the greatest weight.
@@ -58,10 +58,10 @@ fn total_of(alloc: Global, strata: &List<Stratum>, sum: u64) -> Result<Option<u1
     ensures { let number = number_with strata.now sum in
         IfOk result (λ found. SomeIff found (number ≤ MAX) number) }
 {
-    let Some(rests) = Rests::of(alloc, strata.copy()?, sum)? else {
+    let Some(counts) = SumCounts::of(alloc, strata.copy()?, sum)? else {
         return Ok(None);
     };
-    Ok(Some(rests.number(0, sum)))
+    Ok(Some(counts.number(0, sum)))
 }
 
 // What is said of the test of strata of which so many labellings have the sum.
@@ -118,14 +118,13 @@ impl Zelen {
     /// # Errors
     /// `TooWide(Total)` where there are more of these labellings than `weights::MAX`, or else
     /// `NoMemory` where memory runs out. The statistic is never too wide.
-    pub(crate) fn prepare(alloc: Global, strata: &Strata) -> Result<Zelen, PrepareFault>
-        ensures { Prepares zelen_test strata.now.cells result }
+    pub(crate) fn prepare(alloc: Global, strata: Strata) -> Result<Zelen, PrepareFault>
+        ensures { Prepares zelen_test strata.cells result }
     {
-        let Some(made) = made_of(alloc, strata)? else {
+        let Some(made) = made_of(alloc, &strata)? else {
             return Err(PrepareFault::TooWide(WideOf::Total));
         };
-        let cells = strata.cells.copy()?;
-        Ok(Zelen { cells, made })
+        Ok(Zelen { strata, made })
     }
 
     /// What was made of the strata.

@@ -5,10 +5,10 @@ ghost use Rattle.stage_network.specs.Judged.{JudgeFits};
 ghost use Rattle.strata_cells.specs.Strata.{cell_weight, greatest_cell, least_cell};
 ghost use Rattle.strata_cells.specs.StrataLimits.{IsSmall};
 ghost use Rattle.homogeneity.specs.ZelenNetwork.{lesser_weight, lesser_weights};
-ghost use Rattle.homogeneity.specs.ZelenSteps.{AreLesser, AreRests, IsZelenMeasure, LesserSeat};
+ghost use Rattle.homogeneity.specs.ZelenSteps.{AreLesser, AreSumCounts, IsZelenMeasure, LesserSeat};
 
 use crate::one_count::count_in;
-use crate::rests::Rests;
+use crate::sum_counts::SumCounts;
 use room_network::{NumberMeasure, Operation};
 use stage_network::{Interval, Judge};
 use std::alloc::Global;
@@ -23,11 +23,11 @@ use weights::{List, NoMemory};
 /// sum.
 #[derive(Drop)]
 pub struct ZelenMeasure {
-    rests: Rests,
+    counts: SumCounts,
     // The products of the lesser weights of the later strata, the last stage first.
     lesser: List<u128>,
     judge: Judge,
-    ghost right: { IsZelenMeasure rests.strata lesser judge },
+    ghost right: { IsZelenMeasure counts.strata lesser judge },
 }
 
 // The lesser of what the least and the greatest first cell weigh. One of them may pass the greatest
@@ -49,22 +49,22 @@ fn lesser_weight(stratum: Stratum) -> u128
 
 // What is known of the stratum before those that are done. It does nothing.
 #[inline(always)]
-fn lesser_seat(_rests: &Rests, _strata: &[Stratum], _done: usize)
-    requires same { _strata.now ≡ _rests.now.strata }
+fn lesser_seat(_counts: &SumCounts, _strata: &[Stratum], _done: usize)
+    requires same { _strata.now ≡ _counts.now.strata }
     requires before { _done < length _strata.now }
     ensures { LesserSeat _strata.now _done }
 {}
 
 // The products of the lesser weights, from the last stratum back.
-fn lesser_weights(alloc: Global, rests: &Rests) -> Result<List<u128>, NoMemory>
-    ensures { IfOk result (AreLesser rests.now.strata 0) }
+fn lesser_weights(alloc: Global, counts: &SumCounts) -> Result<List<u128>, NoMemory>
+    ensures { IfOk result (AreLesser counts.now.strata 0) }
 {
-    let strata = rests.strata.as_slice();
+    let strata = counts.strata.as_slice();
     let mut product = 1;
     let mut products = List::empty(alloc);
     products.push(product)?;
     for done in 0..strata.len() {
-        lesser_seat(rests, strata, done);
+        lesser_seat(counts, strata, done);
         product *= lesser_weight(strata[strata.len() - done - 1]);
         products.push(product)?;
     }
@@ -82,14 +82,18 @@ pub(crate) fn held(weight: u128) -> i128
 
 impl ZelenMeasure {
     /// The measure of the strata, with verdicts by the judge's rules.
-    pub(crate) fn new(alloc: Global, rests: Rests, judge: Judge) -> Result<ZelenMeasure, NoMemory>
+    pub(crate) fn new(
+        alloc: Global,
+        counts: SumCounts,
+        judge: Judge,
+    ) -> Result<ZelenMeasure, NoMemory>
         requires { (v : ℤ) → JudgeFits judge v }
-        ensures rests { IfOk result (λ made. made.rests ≡ rests) }
+        ensures counts { IfOk result (λ made. made.counts ≡ counts) }
         ensures judge { IfOk result (λ made. made.judge ≡ judge) }
     {
-        let lesser = lesser_weights(alloc, &rests)?;
+        let lesser = lesser_weights(alloc, &counts)?;
         Ok(ZelenMeasure {
-            rests,
+            counts,
             lesser,
             judge,
         })
@@ -97,19 +101,19 @@ impl ZelenMeasure {
 
     // By what the strata from a stage on multiply a product at least.
     fn least_factor(&self, stage: usize) -> u128
-        requires { stage ≤ length self.now.rests.strata }
-        ensures { result ≡ lesser_weights (drop stage self.now.rests.strata) }
+        requires { stage ≤ length self.now.counts.strata }
+        ensures { result ≡ lesser_weights (drop stage self.now.counts.strata) }
     {
-        self.lesser.as_slice()[self.rests.strata.len() - stage]
+        self.lesser.as_slice()[self.counts.strata.len() - stage]
     }
 }
 
 impl NumberMeasure for ZelenMeasure {
     ghost use Rattle.homogeneity.specs.ZelenNetwork.{zelen_floor, zelen_numbers};
 
-    ghost floor = { λ m. zelen_floor m.rests.strata m.rests.sum };
+    ghost floor = { λ m. zelen_floor m.counts.strata m.counts.sum };
 
-    ghost numbers = { λ m. zelen_numbers m.rests.strata m.judge };
+    ghost numbers = { λ m. zelen_numbers m.counts.strata m.judge };
 
     #[inline(always)]
     fn judge(&self) -> &Judge {
@@ -123,16 +127,16 @@ impl NumberMeasure for ZelenMeasure {
 
     #[inline(always)]
     fn number(&self, stage: usize, room: &[i128], choice: &[u64]) -> i128 {
-        self.rests.choice_seat(stage, room, choice);
-        held(self.rests.weight(stage, choice[0]))
+        self.counts.choice_seat(stage, room, choice);
+        held(self.counts.weight(stage, choice[0]))
     }
 
     #[inline(always)]
     fn later(&self, stage: usize, room: &[i128]) -> Interval {
-        self.rests.seat(stage, room);
+        self.counts.seat(stage, room);
         Interval {
             low: held(self.least_factor(stage)),
-            high: held(self.rests.number(stage, count_in(room))),
+            high: held(self.counts.number(stage, count_in(room))),
         }
     }
 }

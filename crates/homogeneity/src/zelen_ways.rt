@@ -5,7 +5,7 @@ ghost use Rattle.homogeneity.specs.ZelenNetwork.{number_with};
 ghost use Rattle.homogeneity.specs.ZelenSteps.{AreSummed};
 
 use crate::cell_weights::labels_weight;
-use crate::rests::Rests;
+use crate::sum_counts::SumCounts;
 use crate::sum_walk::{first_with_sum, next_with_sum};
 use crate::zelen::Zelen;
 use crate::zelen_measure::{ZelenMeasure, held};
@@ -18,14 +18,14 @@ use strata_cells::Stratum;
 use weights::{Bytes, Frame, List, NoMemory, Tail};
 
 // What is known of strata whose labellings with the sum are few enough.
-fn rests_of(alloc: Global, strata: &List<Stratum>, sum: u64) -> Result<Rests, NoMemory>
+fn counts_of(alloc: Global, strata: &List<Stratum>, sum: u64) -> Result<SumCounts, NoMemory>
     requires summed { AreSummed strata.now sum }
     requires fits { number_with strata.now sum ≤ MAX }
-    ensures strata { IfOk result (λ rests. rests.strata ≡ strata.now) }
-    ensures sum { IfOk result (λ rests. rests.sum ≡ sum) }
+    ensures strata { IfOk result (λ counts. counts.strata ≡ strata.now) }
+    ensures sum { IfOk result (λ counts. counts.sum ≡ sum) }
 {
-    match Rests::of(alloc, strata.copy()?, sum)? {
-        Some(rests) => Ok(rests),
+    match SumCounts::of(alloc, strata.copy()?, sum)? {
+        Some(counts) => Ok(counts),
         None => unreachable!(),
     }
 }
@@ -98,9 +98,9 @@ impl Prepared for Zelen {
 
     fn stages_of(&self, alloc: Global, _tail: Tail) -> Result<Self::Built, NoMemory> {
         let made = self.made();
-        let rooms = ZelenRooms::new(rests_of(alloc, &made.strata, made.sum)?);
-        let rests = rests_of(alloc, &made.strata, made.sum)?;
-        let measure = ZelenMeasure::new(alloc, rests, Judge::of(&made.frame))?;
+        let rooms = ZelenRooms::new(counts_of(alloc, &made.strata, made.sum)?);
+        let counts = counts_of(alloc, &made.strata, made.sum)?;
+        let measure = ZelenMeasure::new(alloc, counts, Judge::of(&made.frame))?;
         Ok(RoomNetwork::new(rooms, Numbered::new(measure)))
     }
 }

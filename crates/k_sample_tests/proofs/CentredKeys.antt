@@ -4,10 +4,12 @@ use Rattle.std.specs.Prelude.{ℤ, pos, nat_abs, nat_lt, ◌+ℤ◌, ◌-ℤ◌,
 use Rattle.std.specs.List.{sum}
 use Rattle.std.proofs.lemmas.Bool.{cases_lt}
 use Rattle.std.proofs.lemmas.Int.{clamps, ints}
+use Rattle.std.proofs.lemmas.List.Elements.{recursion_from_All}
 use Rattle.std.proofs.lemmas.List.Sums.{sum_by-cons}
 use Rattle.std.proofs.Math.Nat.{mul-le-mul, mul-le-mul_left}
 use Rattle.std.proofs.Math.Seq.{drop-append_seam, take-append_seam}
 use Rattle.weights.specs.Numbers.{absolute_sum}
+use Rattle.weights.proofs.Filters.{all_replicate}
 use Rattle.completion_bounds.specs.Boxes.{greatest_size, greatest_squares, least_size, least_squares}
 use Rattle.room_network.specs.Meanings.{AreReached, IsEnd, IsMove, IsRoom, IsStep}
 use Rattle.label_network.specs.declared.ends.End.{End}
@@ -17,18 +19,18 @@ use Rattle.label_network.specs.LaterSteps.{better_of}
 use Rattle.label_network.specs.LaterSums.{later_scores, part_sum, subjects}
 use Rattle.label_network.specs.Meanings.{sizes_in}
 use Rattle.label_network.specs.Meanings.{AreReached as LabelReached}
-use Rattle.label_network.proofs.Absolute.{part-size}
 use Rattle.label_network.proofs.OverRooms.{over_place, under_place}
-use Rattle.packed_keys.specs.PackedGroups.{plus_each}
-use Rattle.k_sample_tests.specs.CentredSums.{AreHeld, HasNarrowBoxes, from_middle}
+use Rattle.packed_keys.specs.PackedGroups.{AreHeld, plus_each}
+use Rattle.k_sample_tests.specs.CentredSums.{HasNarrowBoxes, from_middle}
 use Rattle.k_sample_tests.specs.RankSumSteps.{AreAddable, AreNarrow, IsSquaring, parts_of}
 use Rattle.k_sample_tests.specs.SumMeanings.{seen_meaning, sums_meaning}
 use Rattle.k_sample_tests.specs.declared.centred_sums.CentredSums.{CentredSums}
-use Rattle.k_sample_tests.proofs.CentredNarrows.{IsHeldPartial, reached_held}
+use Rattle.k_sample_tests.proofs.CentredNarrows.{IsHeldPartial, held-at, reached_held}
 use Rattle.k_sample_tests.proofs.CentredSquares.{taken-is}
 use Rattle.k_sample_tests.proofs.Corners.{corners}
-use Rattle.k_sample_tests.proofs.RankKeys.{end-long, long, partial_is, size-within}
-use Rattle.k_sample_tests.proofs.RankNarrows.{length-parts, length-plus}
+use Rattle.k_sample_tests.proofs.RankKeys.{end-long, long, partial_is, parts-small, size-within}
+use Rattle.packed_keys.proofs.AddedDigits.{length-plus}
+use Rattle.k_sample_tests.proofs.RankNarrows.{length-parts}
 use Rattle.k_sample_tests.proofs.RankWriting.{plus-at}
 
 -- ---- sums of squares
@@ -50,24 +52,18 @@ capped-twice b x n = omega arith
 -- ---- scores of which none is negative
 
 held-append : (xs ys : List ℤ) → AreHeld xs → AreHeld ys → AreHeld (xs ++ ys)
-held-append [] ys h k i = k i
-held-append (x ∷ xs) ys h k zero = h 0
-held-append (x ∷ xs) ys h k (suc i) = held-append xs ys (λ j. h (suc j)) k i
-
-held-copies : (n : ℕ) (s : ℤ) → s ≡ pos (nat_abs s) → AreHeld (replicate n s)
-held-copies zero s h i = refl
-held-copies (suc n) s h zero = h
-held-copies (suc n) s h (suc i) = held-copies n s h i
+held-append [] ys h k = k
+held-append (x ∷ xs) ys h k = (h.0, held-append xs ys h.1 k)
 
 held-drop : (g : ℕ) (zs : List ℤ) → AreHeld zs → AreHeld (drop g zs)
 held-drop zero zs h = h
-held-drop (suc g) [] h = h
-held-drop (suc g) (z ∷ zs) h = held-drop g zs (λ i. h (suc i))
+held-drop (suc g) [] h = tt
+held-drop (suc g) (z ∷ zs) h = held-drop g zs h.1
 
 held-subjects : (scores : List ℤ) (counts : List ℕ) → AreHeld scores → AreHeld (subjects scores counts)
-held-subjects [] counts h i = refl
-held-subjects (s ∷ scores) [] h i = refl
-held-subjects (s ∷ scores) (c ∷ counts) h i = held-append (replicate c s) (subjects scores counts) (held-copies c s (h 0)) (held-subjects scores counts (λ j. h (suc j))) i
+held-subjects [] counts h = tt
+held-subjects (s ∷ scores) [] h = tt
+held-subjects (s ∷ scores) (c ∷ counts) h = held-append (replicate c s) (subjects scores counts) (all_replicate (λ z. z ≡ pos (nat_abs z)) c s h.0) (held-subjects scores counts h.1)
 
 better-held : (e : End) (a b : ℤ) → a ≡ pos (nat_abs a) → b ≡ pos (nat_abs b) → better_of e a b ≡ pos (nat_abs (better_of e a b))
 better-held Least a b h k = omega (arith, ints, clamps, h, k)
@@ -76,7 +72,7 @@ better-held Greatest a b h k = omega (arith, ints, clamps, h, k)
 part-held : (e : End) (j : ℕ) (xs : List ℤ) → AreHeld xs → part_sum (better_of e) j xs ≡ pos (nat_abs (part_sum (better_of e) j xs))
 part-held e zero xs h = refl
 part-held e (suc j) [] h = refl
-part-held e (suc j) (x ∷ xs) h = by (nat_lt j (length xs)) (taken x (part_sum (better_of e) j xs) (h 0) (part-held e j xs (λ i. h (suc i)))) (part-held e (suc j) xs (λ i. h (suc i)))
+part-held e (suc j) (x ∷ xs) h = by (nat_lt j (length xs)) (taken x (part_sum (better_of e) j xs) h.0 (part-held e j xs h.1)) (part-held e (suc j) xs h.1)
   where
     taken : (a b : ℤ) → a ≡ pos (nat_abs a) → b ≡ pos (nat_abs b) → a +ℤ b ≡ pos (nat_abs (a +ℤ b))
     taken a b h k = omega (arith, ints, h, k)
@@ -117,14 +113,8 @@ taken-at m (n ∷ rows) (suc i) =
     less n s = omega arith
 
 parts-held : (e : End) (later : List ℤ) (r : List ℕ) → AreHeld later → AreHeld (parts_of e later r)
-parts-held e later [] h i = refl
-parts-held e later (n ∷ r) h zero = part-held e n later h
-parts-held e later (n ∷ r) h (suc i) = parts-held e later r h i
-
-parts-small : (e : End) (later : List ℤ) (r : List ℕ) (i : ℕ) → unsigned_abs (get_or (parts_of e later r) i (pos 0)) ≤ absolute_sum later
-parts-small e later [] i = omega arith
-parts-small e later (n ∷ r) zero = part-size e n later
-parts-small e later (n ∷ r) (suc i) = parts-small e later r i
+parts-held e later [] h = tt
+parts-held e later (n ∷ r) h = (part-held e n later h, parts-held e later r h)
 
 module _ (s : CentredSums) where
   squaring : IsSquaring s.sums.factors.items s.sums.bound s.sums.later.scores.items s.sums.later.columns.items s.sums.rows.items s.sums.judge
@@ -182,7 +172,7 @@ module _ (s : CentredSums) where
   parts-beside g f p r e = shifts-long ∙ sym (parts-wide g f p r e)
 
   later-held : (g : ℕ) → AreHeld (later g)
-  later-held g = held-subjects (drop g s.sums.later.scores.items) (drop g s.sums.later.columns.items) (held-drop g s.sums.later.scores.items s.right.held)
+  later-held g = held-subjects (drop g s.sums.later.scores.items) (drop g s.sums.later.columns.items) (held-drop g s.sums.later.scores.items (recursion_from_All _ s.sums.later.scores.items s.right.held))
 
   module _ (g : ℕ) (f p : List ℤ) (r : AreReached (over_rooms (seen_meaning s)) g f p) where
     pub kept : IsHeldPartial s.sums.later.scores.items s.sums.later.columns.items s.sums.rows.items g (sizes_in f) p
@@ -212,8 +202,8 @@ module _ (s : CentredSums) where
     seen-at e i =
         let part = parts_of e (later g) (sizes_in f) in
         let away = taken-at s.middle s.sums.rows.items i in
-        let one = kept.held i in
-        let other = parts-held e (later g) (sizes_in f) (later-held g) i in (
+        let one = held-at p i kept.held in
+        let other = held-at part i (parts-held e (later g) (sizes_in f) (later-held g)) in (
           nat_abs (get_or p i (pos 0)),
           nat_abs (get_or part i (pos 0)),
           away.0,

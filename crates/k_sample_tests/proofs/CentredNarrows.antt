@@ -1,14 +1,16 @@
 -- The box of the sums seen from their middle narrows along every choice, to the value at the end.
-use Rattle.std.proofs.Common.{◌≡◌, ℕ, zero, suc, ◌+◌, ◌*◌, ◌<◌, ◌≤◌, List, [], ◌∷◌, ◌++◌, length, min, refl, sym, ◌∙◌, ap, arith}
+use Rattle.std.proofs.Common.{◌≡◌, ℕ, zero, suc, ◌+◌, ◌*◌, ◌<◌, ◌≤◌, List, [], ◌∷◌, ◌++◌, get_or, length, min, refl, sym, ◌∙◌, ap, arith}
 use Rattle.std.specs.Prelude.{ℤ, pos, nat_abs, ◌+ℤ◌, ◌*ℤ◌, ◌≤ℤ◌, replicate, slice_index, unsigned_abs}
 use Rattle.std.specs.List.{sum}
 use Rattle.std.proofs.Math.Nat.{add-mul}
 use Rattle.std.proofs.lemmas.Int.{ints}
 use Rattle.std.proofs.lemmas.List.{length-replicate}
+use Rattle.std.proofs.lemmas.List.Elements.{recursion_from_All}
 use Rattle.std.proofs.lemmas.List.Sums.{sum_by-cons}
 use Rattle.stage_network.specs.declared.verdicts.Judge.{Judge}
 use Rattle.weights.specs.Grouped.{minus}
 use Rattle.weights.proofs.ChoiceLists.{IsChoice}
+use Rattle.weights.proofs.Filters.{all_replicate}
 use Rattle.completion_bounds.specs.Boxes.{factored_squares}
 use Rattle.completion_bounds.proofs.Narrowing.{IsNarrower, greatest_squares-falls, greatest_squares-point, least_squares-point, least_squares-rises}
 use Rattle.label_network.specs.LaterSums.{later_scores, subjects}
@@ -17,11 +19,12 @@ use Rattle.label_network.specs.Linear.{score_of}
 use Rattle.label_network.specs.Meanings.{AreReached, IsMeasure, Meaning}
 use Rattle.label_network.proofs.Later.{fits-length, later-end, later-next}
 use Rattle.label_network.proofs.Narrowing.{IsLeft, IsNarrowing, measured, reached-kept}
-use Rattle.k_sample_tests.specs.CentredSums.{AreHeld, IsCentred, centred_meaning, from_middle, seen_highs, seen_lows}
-use Rattle.packed_keys.specs.PackedGroups.{plus_each}
+use Rattle.k_sample_tests.specs.CentredSums.{IsCentred, centred_meaning, from_middle, seen_highs, seen_lows}
+use Rattle.packed_keys.specs.PackedGroups.{AreHeld, plus_each}
 use Rattle.k_sample_tests.specs.RankSums.{score_parts}
 use Rattle.k_sample_tests.specs.RankSumSteps.{IsSquaring}
-use Rattle.k_sample_tests.proofs.RankNarrows.{IsPartial, column-size, highs-end, in-box, length-parts, length-plus, lows-end, sizes-zeros}
+use Rattle.packed_keys.proofs.AddedDigits.{length-plus}
+use Rattle.k_sample_tests.proofs.RankNarrows.{IsPartial, column-size, highs-end, in-box, length-parts, lows-end, sizes-zeros}
 
 -- a box is as much narrower where all ends are moved alike
 narrower-seen : (ls hs ps qs shifts : List ℤ) → IsNarrower ls hs ps qs → IsNarrower (plus_each ls shifts) (plus_each hs shifts) (plus_each ps shifts) (plus_each qs shifts)
@@ -40,19 +43,18 @@ narrower-seen (l ∷ ls) (h ∷ hs) (p ∷ ps) (q ∷ qs) (s ∷ shifts) n = (mo
 
 -- ---- sums of which none is negative
 
-held-zeros : (n : ℕ) → AreHeld (replicate n (pos 0))
-held-zeros zero i = refl
-held-zeros (suc n) zero = refl
-held-zeros (suc n) (suc i) = held-zeros n i
+pub held-at : (zs : List ℤ) (i : ℕ) → AreHeld zs → get_or zs i (pos 0) ≡ pos (nat_abs (get_or zs i (pos 0)))
+held-at [] i h = refl
+held-at (z ∷ zs) zero h = h.0
+held-at (z ∷ zs) (suc i) h = held-at zs i h.1
 
 more-held : (z s : ℤ) (n : ℕ) → z ≡ pos (nat_abs z) → s ≡ pos (nat_abs s) → z +ℤ (pos n *ℤ s) ≡ pos (nat_abs (z +ℤ (pos n *ℤ s)))
 more-held z s n h k = rw (h, k) refl
 
 held-plus : (s : ℤ) (p : List ℤ) (x : List ℕ) → s ≡ pos (nat_abs s) → AreHeld p → AreHeld (plus_each p (score_parts s x))
-held-plus s [] x k h i = refl
-held-plus s (z ∷ p) [] k h i = refl
-held-plus s (z ∷ p) (n ∷ x) k h zero = more-held z s n (h 0) k
-held-plus s (z ∷ p) (n ∷ x) k h (suc i) = held-plus s p x k (λ j. h (suc j)) i
+held-plus s [] x k h = tt
+held-plus s (z ∷ p) [] k h = tt
+held-plus s (z ∷ p) (n ∷ x) k h = (more-held z s n h.0 k, held-plus s p x k h.1)
 
 size-more : (z s : ℤ) (n : ℕ) → z ≡ pos (nat_abs z) → s ≡ pos (nat_abs s) → unsigned_abs (z +ℤ (pos n *ℤ s)) ≡ unsigned_abs z + n * unsigned_abs s
 size-more z s n h k = rw (h, k) refl
@@ -62,7 +64,7 @@ sizes-more s [] [] k h l = omega arith
 sizes-more s [] (n ∷ x) k h l = absurd (omega (arith, l))
 sizes-more s (z ∷ p) [] k h l = absurd (omega (arith, l))
 sizes-more s (z ∷ p) (n ∷ x) k h l =
-    omega (arith, size-more z s n (h 0) k, ap (λ v. v * unsigned_abs s) (sum_by-cons (λ v. v) n x) ∙ add-mul n (sum x) (unsigned_abs s), sizes-more s p x k (λ j. h (suc j)) (omega (arith, l)))
+    omega (arith, size-more z s n h.0 k, ap (λ v. v * unsigned_abs s) (sum_by-cons (λ v. v) n x) ∙ add-mul n (sum x) (unsigned_abs s), sizes-more s p x k h.1 (omega (arith, l)))
 
 -- a sum for each group, none negative, that come to the scores before
 pub record IsHeldPartial (scores : List ℤ) (columns rows : List ℕ) (g : ℕ) (r : List ℕ) (p : List ℤ) : Type 0 where
@@ -86,7 +88,7 @@ module _ (factors : List ℕ) (bound base middle : ℕ) (scores : List ℤ) (col
   keeping : (g : ℕ) (r x : List ℕ) (p : List ℤ) → g < length columns → IsLeft m g r → IsChoice (slice_index columns g) r x → Kept g r p → Kept (g + 1) (minus r x) (plus_each p (score_parts (score_of scores g) x))
   keeping g r x p before l o k =
       let s : ℤ = score_of scores g in
-      let held = c.held g in
+      let held = held-at scores g (recursion_from_All _ scores c.held) in
       let long : length x ≡ length p = o.long ∙ fits-length r rows l.within ∙ sym k.wide in
       record {
         wide = length-plus p (score_parts s x) (length-parts s x ∙ long) ∙ k.wide;
@@ -127,7 +129,7 @@ module _ (factors : List ℕ) (bound base middle : ℕ) (scores : List ℤ) (col
   first-kept : Kept 0 rows (replicate (length rows) (pos 0))
   first-kept = record {
     wide = length-replicate (length rows) (pos 0);
-    held = held-zeros (length rows);
+    held = all_replicate (λ z. z ≡ pos (nat_abs z)) (length rows) (pos 0) refl;
     whole = omega (arith, sizes-zeros (length rows));
   }
 

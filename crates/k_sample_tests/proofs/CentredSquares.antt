@@ -5,13 +5,14 @@ use Rattle.std.specs.List.{sum}
 use Rattle.std.proofs.Math.Nat.{div-le_self, mul-le-mul_left, mul-le-mul_right}
 use Rattle.std.proofs.lemmas.Bool.{cases_lt}
 use Rattle.std.proofs.lemmas.Int.{ints}
+use Rattle.std.proofs.lemmas.List.Elements.{All-from_recursion}
 use Rattle.std.proofs.lemmas.List.Sums.{sum_by-cons}
 use Rattle.completion_bounds.specs.Boxes.{factored_squares}
 use Rattle.label_network.specs.LaterSums.{subjects}
 use Rattle.weights.specs.Numbers.{absolute_sum}
 use Rattle.weights.specs.declared.TheConstants.{MAX}
-use Rattle.k_sample_tests.specs.CentredSums.{AreHeld, AreParts, IsCentred, from_middle, middle_squares}
-use Rattle.packed_keys.specs.PackedGroups.{plus_each}
+use Rattle.k_sample_tests.specs.CentredSums.{AreParts, IsCentred, from_middle, middle_squares}
+use Rattle.packed_keys.specs.PackedGroups.{AreHeld, plus_each}
 
 pub taken-is : (n m : ℕ) → pos n *ℤ (pos 0 -ℤ pos m) ≡ pos 0 -ℤ pos (n * m)
 taken-is n m = grind (arith, ints)
@@ -62,8 +63,8 @@ squares-seen l m (z ∷ p) [] [] parts held e = absurd (omega (arith, e))
 squares-seen l m (z ∷ p) [] (n ∷ rows) parts held e = absurd parts
 squares-seen l m (z ∷ p) (f ∷ factors) [] parts held e = absurd parts
 squares-seen l m (z ∷ p) (f ∷ factors) (n ∷ rows) parts held e =
-    let here = one-place f n m z (held 0) in
-    let rest = squares-seen l m p factors rows parts.1 (λ i. held (suc i)) (omega (arith, e)) in
+    let here = one-place f n m z held.0 in
+    let rest = squares-seen l m p factors rows parts.1 held.1 (omega (arith, e)) in
     let all : sum (n ∷ rows) ≡ n + sum rows = sum_by-cons (λ v. v) n rows in
     let one = rw parts.0 at here in
     omega (arith, one, rest, ap (λ v. l * (m * (m * v))) all ∙ more l m n (sum rows), twice l m (unsigned_abs z) (absolute_sum p))
@@ -125,7 +126,7 @@ centred l all n bound factors scores columns rows some any count whole parts hel
     let below : middle * n ≤ all = div-mul-le_self all n in
     let square : 1 * (all * all) ≤ l * (all * all) = mul-le-mul_right (all * all) some in
     record {
-      held = held;
+      held = All-from_recursion _ scores held;
       below = subst (λ k. middle * k ≤ absolute_sum (subjects scores columns)) count (subst (λ a. middle * n ≤ a) whole below);
       value = λ p h e w.
           subst (λ k. middle_squares l middle all k + factored_squares (plus_each p (from_middle middle rows)) factors ≡ factored_squares p factors) (sym count)

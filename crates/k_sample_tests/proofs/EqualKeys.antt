@@ -37,7 +37,8 @@ use Rattle.label_network.proofs.ChoiceSwaps.{labellings-swap, minus-swap, swappe
 use Rattle.ordered_groups.proofs.OrderedKeys.{AreTurned}
 use Rattle.ordered_groups.proofs.PlaceOrder.{IsTurn, back-key, front-key, same_at, swap-same, turn}
 use Rattle.k_sample_tests.proofs.CentredNarrows.{centred_measure}
-use Rattle.k_sample_tests.proofs.RankNarrows.{length-parts, length-plus, squares_measure}
+use Rattle.packed_keys.proofs.AddedDigits.{length-plus}
+use Rattle.k_sample_tests.proofs.RankNarrows.{length-parts, squares_measure}
 
 plus_each-swap : (i : ℕ) (p a : List ℤ) → length a ≡ length p → plus_each (swap_at i p) (swap_at i a) ≡ swap_at i (plus_each p a)
 plus_each-swap i [] a e = refl

@@ -11,7 +11,6 @@ use Rattle.weights.specs.declared.tails.Tail.TheVariants.{Greater}
 use Rattle.scores.specs.PlaceScores.{common_multiple}
 use Rattle.scores.specs.Scores.{scale_of}
 use Rattle.scores.proofs.MultipleLemmas.{common_multiple-all}
-use Rattle.scores.proofs.Positive.{scale-some}
 use Rattle.sample_reader.specs.Groups.{group_sizes}
 use Rattle.stage_network.specs.Follows.{Follows}
 use Rattle.stage_network.proofs.Swaps.{swap_at}
@@ -67,14 +66,6 @@ module _ (samples : ScoredGroups) (f : AreFitting samples) where
   pub multiple-some : 1 ≤ common_multiple (group_sizes samples.groups)
   multiple-some = some-multiple (group_sizes samples.groups) f.none_empty
 
-  pub multiple-within : common_multiple (group_sizes samples.groups) ≤ (kruskal_wallis_test samples).bound
-  multiple-within =
-      let most : ℕ = max (absolute_sum (pooled_scores samples)) (scale_of samples.kind (pooled_values samples.groups)) in
-      let some : 1 ≤ most = omega (arith, scale-some samples.kind (pooled_values samples.groups)) in
-      let square : 1 ≤ most * most = (let one : 1 * 1 ≤ most * most = mul-le-mul some some in omega (arith, one)) in
-      let whole : common_multiple (group_sizes samples.groups) * 1 ≤ common_multiple (group_sizes samples.groups) * (most * most) = mul-le-mul_left (common_multiple (group_sizes samples.groups)) square in
-      omega (arith, whole)
-
   pub some-scores : 1 ≤ length (pooled_scores samples)
   some-scores = omega (arith, sum-some (group_sizes samples.groups) (omega (arith, f.some)) (recursion_from_All (λ n. 0 < n) (group_sizes samples.groups) f.none_empty), f.whole, scores-long samples)
 
@@ -124,7 +115,7 @@ module _ (samples : ScoredGroups) (f : AreFitting samples) where
           (ordered-follows false r.rows.items (label_network (seen_meaning s)) r.judge turned (kruskal_wallis_test samples) Greater (ap (λ (m : Meaning). m.judge) a.meaning) (seen-follows Greater))))
 
       pub packed-seen : (bits : ℕ) → MayBePacked (length s.sums.rows.items) bits (ordered_network false sizes (label_network (seen_meaning s))) → (tail : Tail) → Follows (kruskal_wallis_test samples) tail (packed_network (length s.sums.rows.items) bits (ordered_network false sizes (label_network (seen_meaning s))))
-      packed-seen bits may tail = packed-follows (length s.sums.rows.items) bits (ordered_network false sizes (label_network (seen_meaning s))) may (kruskal_wallis_test samples) tail (ordered-seen tail)
+      packed-seen bits may tail = packed-follows may (kruskal_wallis_test samples) tail (ordered-seen tail)
 
     pub seen-adds : AddsSteps (over_rooms (seen_meaning s))
     seen-adds = adds-steps s.sums.factors.items s.sums.bound s.base s.middle s.sums.later.scores.items s.sums.later.columns.items s.sums.rows.items s.sums.judge s.sums.right.squaring s.right

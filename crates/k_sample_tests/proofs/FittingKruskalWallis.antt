@@ -80,6 +80,15 @@ square-most l s t some =
     own zero = omega arith
     own (suc n) = grind arith
 
+-- and so is the common multiple of the sizes
+pub multiple-within : (samples : ScoredGroups) → common_multiple (group_sizes samples.groups) ≤ (kruskal_wallis_test samples).bound
+multiple-within samples =
+    let most : ℕ = max (absolute_sum (pooled_scores samples)) (scale_of samples.kind (pooled_values samples.groups)) in
+    let some : 1 ≤ most = omega (arith, scale-some samples.kind (pooled_values samples.groups)) in
+    let square : 1 ≤ most * most = (let one : 1 * 1 ≤ most * most = mul-le-mul some some in omega (arith, one)) in
+    let whole : common_multiple (group_sizes samples.groups) * 1 ≤ common_multiple (group_sizes samples.groups) * (most * most) = mul-le-mul_left (common_multiple (group_sizes samples.groups)) square in
+    omega (arith, whole)
+
 module _ (samples : ScoredGroups) (f : AreFitting samples) where
   multiple_some : 1 ≤ common_multiple (group_sizes samples.groups)
   multiple_some = multiple-some (group_sizes samples.groups) f.none_empty
@@ -192,12 +201,7 @@ scores-wide kind groups wide = omega (arith, wide, square-most (common_multiple 
 
 -- or a common multiple
 pub multiple-wide : (kind : ScoreKind) (groups : Groups) → MAX < common_multiple (group_sizes (data_of groups)) → MAX < (kruskal_wallis_test (record { kind = kind; groups = data_of groups })).bound
-multiple-wide kind groups wide =
-    let most : ℕ = max (score_sum kind (pooled_values (data_of groups))) (scale_of kind (pooled_values (data_of groups))) in
-    let some : 1 ≤ most = omega (arith, scale-some kind (pooled_values (data_of groups))) in
-    let square : 1 ≤ most * most = (let one : 1 * 1 ≤ most * most = mul-le-mul some some in omega (arith, one)) in
-    let whole : common_multiple (group_sizes (data_of groups)) * 1 ≤ common_multiple (group_sizes (data_of groups)) * (most * most) = mul-le-mul_left (common_multiple (group_sizes (data_of groups))) square in
-    omega (arith, wide, whole)
+multiple-wide kind groups wide = omega (arith, wide, multiple-within (record { kind = kind; groups = data_of groups }))
 
 pub scores-refused : (kind : ScoreKind) (groups : Groups) (e : PrepareFault) → AreSubjectsOf kind (data_of groups) (Err e) → IsMadeOf (record { kind = kind; groups = data_of groups }) (Err e)
 scores-refused kind groups (TooWide Total) is = is

@@ -1,8 +1,9 @@
 -- The network of the sums seen from their middle: it follows the test, its choices add to the sums, and one number holds these.
-use Rattle.std.proofs.Common.{◌≡◌, ℕ, suc, ◌+◌, ◌-◌, ◌/◌, ◌^◌, ◌<◌, ◌≤◌, List, [], ◌∷◌, drop, length, take, true, false, refl, ◌∙◌, ap, subst, arith}
+use Rattle.std.proofs.Common.{◌≡◌, ℕ, ◌+◌, ◌-◌, ◌/◌, ◌^◌, ◌<◌, ◌≤◌, List, [], ◌∷◌, drop, length, take, true, false, refl, ◌∙◌, ap, subst, arith}
 use Rattle.std.specs.Prelude.{ℤ, pos, nat_abs, ◌*ℤ◌, slice_index}
 use Rattle.std.specs.List.{AllByRecursion}
 use Rattle.std.proofs.lemmas.Int.{ints}
+use Rattle.std.proofs.lemmas.List.Elements.{recursion_from_All}
 use Rattle.weights.specs.declared.TheConstants.{MAX}
 use Rattle.weights.specs.declared.tails.Tail.{Tail}
 use Rattle.weights.specs.Conditional.{ConditionalTest}
@@ -28,24 +29,24 @@ use Rattle.ordered_groups.specs.OrderedNetworks.{MayBeOrdered, ordered_network}
 use Rattle.ordered_groups.proofs.OrderedKeys.{AreTurned, may-be-ordered}
 use Rattle.ordered_groups.proofs.PlaceOrder.{same_at}
 use Rattle.stage_network.proofs.Swaps.{swap_at}
-use Rattle.packed_keys.specs.PackedGroups.{AddsSteps, plus_each}
+use Rattle.packed_keys.specs.PackedGroups.{AddsSteps, AreHeld, plus_each}
 use Rattle.packed_keys.specs.PackedKeys.{IsDigit, MayBePacked}
 use Rattle.packed_keys.proofs.Widths.{bits-few, bits-fit}
-use Rattle.k_sample_tests.specs.CentredSums.{AreHeld, IsCentred, centred_meaning}
+use Rattle.k_sample_tests.specs.CentredSums.{IsCentred, centred_meaning}
 use Rattle.k_sample_tests.specs.RankSums.{score_parts, squares_meaning}
 use Rattle.k_sample_tests.specs.RankSumSteps.{IsSquaring}
-use Rattle.k_sample_tests.proofs.CentredNarrows.{IsHeldPartial, reached_held}
+use Rattle.k_sample_tests.proofs.CentredNarrows.{IsHeldPartial, held-at, reached_held}
 use Rattle.k_sample_tests.proofs.EqualKeys.{centred-turned}
 use Rattle.k_sample_tests.proofs.RankNarrows.{length-parts}
 
 are-digits : (base : ℕ) (zs : List ℤ) → absolute_sum zs < base → AreHeld zs → AllByRecursion (IsDigit base) zs
 are-digits base [] h a = tt
 are-digits base (z ∷ zs) h a = (
-  record { held = a 0; small = omega (arith, ints, h, a 0) },
-  are-digits base zs (omega (arith, h)) (λ i. a (suc i)),
+  record { held = a.0; small = omega (arith, ints, h, a.0) },
+  are-digits base zs (omega (arith, h)) a.1,
 )
 
-parts-held : (s : ℤ) (x : List ℕ) → s ≡ pos (nat_abs s) → AllByRecursion (λ z. z ≡ pos (nat_abs z)) (score_parts s x)
+parts-held : (s : ℤ) (x : List ℕ) → s ≡ pos (nat_abs s) → AreHeld (score_parts s x)
 parts-held s [] h = tt
 parts-held s (n ∷ x) h = (one n s h, parts-held s x h)
   where
@@ -76,7 +77,7 @@ module _ (factors : List ℕ) (bound base middle : ℕ) (scores : List ℤ) (col
   adds-steps = record {
     steps = refl;
     wide = λ g room x p v. length-parts (score_of scores g) x ∙ choice-long g room x p v;
-    held = λ g room x p v. parts-held (score_of scores g) x (c.held g);
+    held = λ g room x p v. parts-held (score_of scores g) x (held-at scores g (recursion_from_All _ scores c.held));
     moves = λ g room x p v. refl;
   }
     where

@@ -1,5 +1,5 @@
 -- What the measure of squared sums knows at each of its keys.
-use Rattle.std.proofs.Common.{◌≡◌, ℕ, zero, suc, ◌+◌, ◌-◌, ◌*◌, ◌<◌, ◌≤◌, ◌⊎◌, List, [], ◌∷◌, ◌++◌, length, take, drop, get_or, map, refl, sym, ◌∙◌, ap, subst, arith, inl, inr, length-append}
+use Rattle.std.proofs.Common.{◌≡◌, ℕ, zero, suc, ◌+◌, ◌-◌, ◌*◌, ◌<◌, ◌≤◌, ◌⊎◌, List, [], ◌∷◌, ◌++◌, length, take, drop, get_or, refl, sym, ◌∙◌, ap, subst, arith, inl, inr, length-append}
 use Rattle.std.specs.Prelude.{ℤ, pos, unsigned_abs, slice_index}
 use Rattle.std.specs.List.{sum, Contains}
 use Rattle.std.proofs.Math.Nat.{mul-le-mul_right}
@@ -41,10 +41,10 @@ size-within [] i = omega arith
 size-within (a ∷ p) zero = omega arith
 size-within (a ∷ p) (suc i) = omega (arith, size-within p i)
 
-parts-within : (f : ℕ → ℤ) (n : ℕ) → ((m : ℕ) → unsigned_abs (f m) ≤ n) → (r : List ℕ) (i : ℕ) → unsigned_abs (get_or (map f r) i (pos 0)) ≤ n
-parts-within f n each [] i = omega arith
-parts-within f n each (m ∷ r) zero = each m
-parts-within f n each (m ∷ r) (suc i) = parts-within f n each r i
+pub parts-small : (end : End) (later : List ℤ) (r : List ℕ) (i : ℕ) → unsigned_abs (get_or (parts_of end later r) i (pos 0)) ≤ absolute_sum later
+parts-small end later [] i = omega arith
+parts-small end later (n ∷ r) zero = part-size end n later
+parts-small end later (n ∷ r) (suc i) = parts-small end later r i
 
 pub counts-within : (v : ℤ) (x : List ℕ) (i : ℕ) → unsigned_abs (get_or (score_parts v x) i (pos 0)) ≤ sum x * unsigned_abs v
 counts-within v x i = by x i (sum x) (at-within x)
@@ -99,7 +99,7 @@ module _ (m : RankSums) where
         }
 
     pub end-within : (end : End) (i : ℕ) → unsigned_abs (get_or p i (pos 0)) + unsigned_abs (get_or (parts_of end (later g) (sizes_in f)) i (pos 0)) ≤ absolute_sum (subjects m.later.scores.items m.later.columns.items)
-    end-within end i = omega (arith, size-within p i, parts-within (λ n. part_sum (better_of end) n (later g)) (absolute_sum (later g)) (λ n. part-size end n (later g)) (sizes_in f) i, partial_is.small)
+    end-within end i = omega (arith, size-within p i, parts-small end (later g) (sizes_in f) i, partial_is.small)
 
     pub end-addable : (end : End) → AreAddable p (parts_of end (later g) (sizes_in f))
     end-addable end = record { each = λ i l. omega (arith, end-within end i, m.right.squaring.sums_fit) }

@@ -26,6 +26,7 @@ use Rattle.label_network.proofs.LaterArcs.{part-arc}
 use Rattle.label_network.proofs.Narrowing.{IsLeft, IsNarrowing, measured, reached-kept, reached-left}
 use Rattle.label_network.proofs.LinearArcs.{part-none}
 use Rattle.packed_keys.specs.PackedGroups.{plus_each}
+use Rattle.packed_keys.proofs.AddedDigits.{length-plus}
 use Rattle.k_sample_tests.specs.RankSums.{greatest_parts, least_parts, score_parts, squares_meaning}
 use Rattle.k_sample_tests.specs.RankSumSteps.{IsSquaring}
 
@@ -83,11 +84,6 @@ highs-end (p ∷ ps) [] l = absurd (omega (arith, l))
 highs-end (p ∷ ps) (m ∷ ms) l = rw (part-none int_max m, +ℤ_idr p, highs-end ps ms (omega (arith, l))) refl
 
 -- ---- how great the sums are
-
-pub length-plus : (p a : List ℤ) → length a ≡ length p → length (plus_each p a) ≡ length p
-length-plus [] a l = refl
-length-plus (p ∷ ps) [] l = absurd (omega (arith, l))
-length-plus (p ∷ ps) (a ∷ rest) l = ap suc (length-plus ps rest (omega (arith, l)))
 
 pub length-parts : (v : ℤ) (x : List ℕ) → length (score_parts v x) ≡ length x
 length-parts v x = length-map x (λ n. pos n *ℤ v)

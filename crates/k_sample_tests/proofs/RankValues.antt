@@ -21,7 +21,8 @@ use Rattle.scores.proofs.LabelledSums.{labelled-none}
 use Rattle.k_sample_tests.specs.KruskalWallis.{group_sums}
 use Rattle.packed_keys.specs.PackedGroups.{plus_each}
 use Rattle.k_sample_tests.specs.RankSums.{score_parts, squares_meaning}
-use Rattle.k_sample_tests.proofs.RankNarrows.{length-parts, length-plus}
+use Rattle.packed_keys.proofs.AddedDigits.{length-plus}
+use Rattle.k_sample_tests.proofs.RankNarrows.{length-parts}
 
 -- ---- one group
 

@@ -1,8 +1,8 @@
 -- Sums that are written place by place.
-use Rattle.std.proofs.Common.{◌≡◌, ℕ, zero, suc, ◌<◌, ◌≤◌, List, [], ◌∷◌, length, map, min, take, get_or, refl, ◌∙◌, ap, arith}
+use Rattle.std.proofs.Common.{◌≡◌, ℕ, zero, suc, ◌<◌, List, [], ◌∷◌, length, map, get_or, refl, ◌∙◌, ap, arith}
 use Rattle.std.proofs.Math.Nat.{zero-add}
 use Rattle.std.specs.Prelude.{ℤ, pos, ◌+ℤ◌}
-use Rattle.std.proofs.lemmas.List.{get_or-map, length-take}
+use Rattle.std.proofs.lemmas.List.{get_or-map}
 use Rattle.std.proofs.lemmas.List.FromFn.{get_or-range_with_len}
 use Rattle.weights.specs.Labellings.{labels}
 use Rattle.scores.specs.Scores.{labelled_sum}
@@ -21,10 +21,3 @@ part-at f xs i h = get_or-map f xs i 0 (pos 0) h
 
 pub sum-at : (k i : ℕ) (scores : List ℤ) (xs : List ℕ) → i < k → get_or (group_sums k scores xs) i (pos 0) ≡ labelled_sum i scores xs
 sum-at k i scores xs h = part-at (λ i. labelled_sum i scores xs) (labels k) i (omega (arith, h, length-labels k)) ∙ ap (λ j. labelled_sum j scores xs) (get_or-range_with_len 0 k i 0 h ∙ zero-add i)
-
--- the front of eight sums
-pub sums-room : (n : ℕ) → n ≤ 8 → length {A = ℤ} (take n (pos 0 ∷ pos 0 ∷ pos 0 ∷ pos 0 ∷ pos 0 ∷ pos 0 ∷ pos 0 ∷ pos 0 ∷ [])) ≡ n
-sums-room n h = length-take n (pos 0 ∷ pos 0 ∷ pos 0 ∷ pos 0 ∷ pos 0 ∷ pos 0 ∷ pos 0 ∷ pos 0 ∷ []) ∙ within n h
-  where
-    within : (n : ℕ) → n ≤ 8 → min n 8 ≡ n
-    within n h = omega (arith, h)

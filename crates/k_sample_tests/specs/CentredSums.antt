@@ -2,15 +2,15 @@
 -- many times one score as the group has subjects. The sums of all groups come to the sum of all
 -- scores, so the factored squares of the sums are those of what is seen, and a number that all
 -- labellings share.
-use Rattle.std.specs.Prelude.{◌≡◌, ℕ, ◌+◌, ◌-◌, ◌*◌, ◌^◌, ◌<◌, ◌≤◌, ℤ, pos, nat_abs, ◌-ℤ◌, List, [], ◌∷◌, ◌++◌, get_or, length, min}
-use Rattle.std.specs.List.{sum}
+use Rattle.std.specs.Prelude.{◌≡◌, ℕ, ◌+◌, ◌-◌, ◌*◌, ◌^◌, ◌<◌, ◌≤◌, ℤ, pos, nat_abs, ◌-ℤ◌, List, [], ◌∷◌, ◌++◌, length, min}
+use Rattle.std.specs.List.{All, sum}
 use Rattle.completion_bounds.specs.Boxes.{factored_squares, greatest_squares, least_squares}
 use Rattle.stage_network.specs.declared.verdicts.Judge.{Judge}
 use Rattle.label_network.specs.LaterSums.{later_scores, subjects}
 use Rattle.label_network.specs.Meanings.{Meaning}
 use Rattle.weights.specs.Numbers.{absolute_sum}
 use Rattle.weights.specs.declared.TheConstants.{MAX}
-use Rattle.packed_keys.specs.PackedGroups.{plus_each}
+use Rattle.packed_keys.specs.PackedGroups.{AreHeld, plus_each}
 use Rattle.k_sample_tests.specs.RankSums.{greatest_parts, least_parts, score_parts, squares_meaning}
 
 -- what the middle takes from the sum of each group: as if each subject had so much less
@@ -61,15 +61,11 @@ AreParts multiple [] [] = Unit {0}
 AreParts multiple (f ∷ factors) (n ∷ rows) = (f * n ≡ multiple) × AreParts multiple factors rows
 AreParts multiple factors rows = ⊥
 
--- no number is negative
-abbrev pub AreHeld : List ℤ → Type 0
-AreHeld zs = (i : ℕ) → get_or zs i (pos 0) ≡ pos (nat_abs (get_or zs i (pos 0)))
-
 -- No score is negative, and the sums are seen from no more than the mean; sums that come to all
 -- scores have so much more than what is seen of them.
 pub record IsCentred (factors : List ℕ) (bound base middle : ℕ) (scores : List ℤ)
     (columns rows : List ℕ) : Type 0 where
-  pub held : AreHeld scores
+  pub held : All (λ z. z ≡ pos (nat_abs z)) scores
   pub below : middle * sum rows ≤ absolute_sum (subjects scores columns)
   pub value : (p : List ℤ) → AreHeld p → length p ≡ length rows
       → absolute_sum p ≡ absolute_sum (subjects scores columns)

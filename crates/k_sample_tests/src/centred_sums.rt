@@ -6,9 +6,9 @@ ghost use Rattle.weights.specs.Numbers.{absolute_sum};
 ghost use Rattle.completion_bounds.specs.Boxes.{greatest_squares, least_squares};
 ghost use Rattle.label_network.specs.LaterSums.{subjects};
 ghost use Rattle.label_network.specs.LabelNetwork.{over_rooms};
-ghost use Rattle.k_sample_tests.specs.CentredSums.{AreHeld, AreParts, HasNarrowBoxes, IsCentred, centred_meaning, middle_squares};
+ghost use Rattle.k_sample_tests.specs.CentredSums.{AreParts, HasNarrowBoxes, IsCentred, centred_meaning, middle_squares};
 ghost use Rattle.k_sample_tests.specs.RankSumSteps.{AreAddable, AreNarrow};
-ghost use Rattle.packed_keys.specs.PackedGroups.{plus_each};
+ghost use Rattle.packed_keys.specs.PackedGroups.{AreHeld, plus_each};
 ghost use Rattle.stage_network.specs.Judged.{rule_in, verdict_of};
 
 use crate::rank_sums::{RankSums, plus_each, score_parts};
@@ -50,17 +50,19 @@ fn narrow_plus(sum: i128, added: i128) -> i32
     (sum + added) as i32
 }
 
-// Writes between which sums groups end.
+// Between which sums groups end, written into these numbers.
 #[inline(always)]
-fn write_ends(partial: &[i128], added: &[i128], ends: &mut [i32])
+fn ends<'a>(partial: &[i128], added: &[i128], numbers: &'a mut [i32; 8]) -> &'a [i32]
+    requires few { length partial.now ≤ 8 }
     requires narrow { AreNarrow partial.now added.now }
     requires one_each { length added.now ≡ length partial.now }
-    requires room { length ends.old ≡ length partial.now }
-    ensures { ends.new ≡ plus_each partial.now added.now }
+    ensures { result.now ≡ plus_each partial.now added.now }
 {
+    let ends = &mut numbers[..partial.len()];
     for i in 0..partial.len() {
         ends[i] = narrow_plus(partial[i], added[i]);
     }
+    ends
 }
 
 // How much more the factored squares of the sums are than those of what is seen.
@@ -108,29 +110,25 @@ impl CentredSums {
         (self.base + squares).min(self.sums.bound()) as i128
     }
 
-    // What is known of a key whose groups end between these sums, seen from the middle.
+    // What is known of a key that ends between these sums of squares, seen from the middle.
     #[inline(always)]
-    fn judge_box(&self, lows: &[i32], highs: &[i32], tail: Tail) -> Verdict
-        requires one_each { length lows.now ≡ length self.now.sums.rows.items }
-        requires as_many { length highs.now ≡ length self.now.sums.rows.items }
-        requires fits { greatest_squares lows.now highs.now self.now.sums.factors.items < 2 ^ 127 }
-        ensures { let factors = self.now.sums.factors.items in
-            let bound = self.now.sums.bound in
-            let low = pos (min (self.now.base + least_squares lows.now highs.now factors) bound) in
-            let high =
-            pos (min (self.now.base + greatest_squares lows.now highs.now factors) bound) in
+    fn judged(&self, least: u128, greatest: u128, tail: Tail) -> Verdict
+        requires least { least < 2 ^ 127 }
+        requires greatest { greatest < 2 ^ 127 }
+        ensures { let bound = self.now.sums.bound in
+            let low = pos (min (self.now.base + least) bound) in
+            let high = pos (min (self.now.base + greatest) bound) in
             result ≡ verdict_of (rule_in self.now.sums.judge tail) low high }
     {
-        let (low, high) = narrow_squares(lows, highs, self.sums.factors());
         let interval = Interval {
-            low: self.raised(low),
-            high: self.raised(high),
+            low: self.raised(least),
+            high: self.raised(greatest),
         };
         self.sums.judged(interval, tail)
     }
 
-    // The same, whatever the numbers. Apart, so that the steps for a narrow box stay few where they
-    // are inlined.
+    // The same of a key whose groups end between these sums, whatever the numbers. Apart, so that
+    // the steps for a narrow box stay few where they are inlined.
     #[inline(never)]
     fn wide_verdict(
         &self,
@@ -153,11 +151,7 @@ impl CentredSums {
             result ≡ verdict_of (rule_in self.now.sums.judge tail) low high }
     {
         let seen = self.sums.interval(least, greatest, partial);
-        let interval = Interval {
-            low: self.raised(seen.low as u128),
-            high: self.raised(seen.high as u128),
-        };
-        self.sums.judged(interval, tail)
+        self.judged(seen.low as u128, seen.high as u128, tail)
     }
 }
 
@@ -227,13 +221,12 @@ impl Measure for CentredSums {
         if !self.narrow {
             return self.wide_verdict(least, greatest, partial, tail);
         }
-        let mut low_numbers = [0i32; 8];
-        let mut high_numbers = [0i32; 8];
-        let lows = &mut low_numbers[..partial.len()];
-        let highs = &mut high_numbers[..partial.len()];
-        write_ends(partial, least, lows);
-        write_ends(partial, greatest, highs);
-        self.judge_box(lows, highs, tail)
+        let mut numbers = [0i32; 8];
+        let lows = ends(partial, least, &mut numbers);
+        let mut others = [0i32; 8];
+        let highs = ends(partial, greatest, &mut others);
+        let (low, high) = narrow_squares(lows, highs, self.sums.factors());
+        self.judged(low, high, tail)
     }
 
     fn value(&self, partial: &[i128]) -> i128 {

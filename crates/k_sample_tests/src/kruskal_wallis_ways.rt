@@ -7,9 +7,9 @@ ghost use Rattle.stage_network.specs.Follows.{Follows};
 ghost use Rattle.stage_network.specs.Judged.{judge_of};
 ghost use Rattle.label_network.specs.LabelNetwork.{label_network};
 ghost use Rattle.ordered_groups.specs.OrderedNetworks.{ordered_network};
+ghost use Rattle.packed_keys.specs.PackedGroups.{AreHeld};
 ghost use Rattle.packed_keys.specs.PackedKeys.{packed_network};
 ghost use Rattle.pooled_columns.specs.PooledColumns.{column_scores, pooled_values};
-ghost use Rattle.k_sample_tests.specs.CentredSums.{AreHeld};
 ghost use Rattle.k_sample_tests.specs.KruskalWallis.{kruskal_wallis_test, pooled_scores};
 ghost use Rattle.k_sample_tests.specs.RankSums.{unpacked_meaning};
 ghost use Rattle.k_sample_tests.specs.SumMeanings.{AreSums, seen_meaning, sums_meaning};
@@ -73,12 +73,7 @@ fn written_stages(
 fn are_held(scores: &[i128]) -> bool
     ensures { result ≡ true → AreHeld scores.now }
 {
-    for i in 0..scores.len() {
-        if scores[i] < 0 {
-            return false;
-        }
-    }
-    true
+    scores.iter().all(|score| *score >= 0)
 }
 
 // Whether one number holds the sums of all groups: no score is negative, and all scores together
@@ -106,8 +101,8 @@ fn packed_stages(
     requires held { AreHeld
         (column_scores problem.now.kind (pooled_values problem.now.groups)) }
     ensures { IfOk result (λ s. (t : Tail) → Follows (kruskal_wallis_test problem.now) t
-        (packed_network (length s.1.sums.rows.items) s.3
-        (ordered_network false s.2 (label_network (seen_meaning s.1))))) }
+        (packed_network (length s.0.1.sums.rows.items) s.1
+        (ordered_network s.0.3 s.0.2 (label_network (seen_meaning s.0.1))))) }
 {
     let made = problem.made();
     let columns = made.columns.sizes.as_slice();
@@ -119,9 +114,9 @@ fn packed_stages(
     let stages = label_stages(alloc, columns, groups, seen)?;
     let rooms = LabelRooms::new(alloc, columns, groups)?;
     let sizes = Vec::from_slice(alloc, groups)?;
-    let ordered = InOrder::new(stages, rooms, sizes, false);
-    let sizes = Vec::from_slice(alloc, groups)?;
-    let packed = PackedGroups::new(ordered, sizes, bits_for(groups.len()));
+    let by_sums = false;
+    let ordered = InOrder::new(stages, rooms, sizes, by_sums);
+    let packed = PackedGroups::new(ordered, bits_for(groups.len()));
     Ok(packed)
 }
 
@@ -152,7 +147,8 @@ fn ordered_stages(
     let groups = made.sizes.as_slice();
     let rooms = LabelRooms::new(alloc, columns, groups)?;
     let sizes = Vec::from_slice(alloc, groups)?;
-    let ordered = InOrder::new(stages, rooms, sizes, true);
+    let by_sums = true;
+    let ordered = InOrder::new(stages, rooms, sizes, by_sums);
     Ok(ordered)
 }
 

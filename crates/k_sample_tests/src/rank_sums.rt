@@ -125,6 +125,7 @@ impl RankSums {
     }
 
     /// What no value passes.
+    #[inline(always)]
     pub(crate) fn bound(&self) -> u128
         ensures { result ≡ self.now.bound }
     {
@@ -203,6 +204,7 @@ impl RankSums {
     }
 
     /// The factors of the groups' squares.
+    #[inline(always)]
     pub(crate) fn factors(&self) -> &[u128]
         ensures { result.now ≡ self.now.factors.items }
     {

@@ -1,5 +1,5 @@
 -- The choices are the first one and those after it, and so for each choice.
-use Rattle.std.proofs.Common.{◌≡◌, ℕ, zero, suc, ◌+◌, ◌-◌, ◌<◌, ◌≤◌, List, [], ◌∷◌, ◌++◌, map, min, Option, Some, None, refl, sym, ◌∙◌, ap, arith, nat_le, lt-ltb, le-ltb, ne_eqb, add-zero, zero-add, suc-add, inl, inr}
+use Rattle.std.proofs.Common.{◌≡◌, ℕ, zero, suc, ◌+◌, ◌-◌, ◌<◌, ◌≤◌, List, [], ◌∷◌, ◌++◌, map, min, Option, Some, None, refl, sym, ◌∙◌, ap, arith, nat_le, lt-ltb, le-ltb, ne_eqb, zero-add, inl, inr}
 use Rattle.std.specs.List.{flat_map, sum, range_with_len}
 use Rattle.std.proofs.lemmas.List.Sums.{sum_by-cons}
 use Rattle.std.proofs.lemmas.Bool.Decides.{leb_tells}
@@ -10,6 +10,7 @@ use Rattle.label_network.specs.LabelSteps.{least}
 use Rattle.label_network.proofs.ChoiceSteps.{after_or, choice_after, choices_from}
 use Rattle.weights.proofs.ChoiceLists.{IsChoice}
 use Rattle.weights.proofs.Sized.{first_and, sum-minus}
+use Rattle.weights.proofs.Ranges.{range-split}
 
 -- the choices that begin with a count of a range
 abbrev ranged : ℕ → List ℕ → ℕ → ℕ → List (List ℕ)
@@ -24,10 +25,6 @@ choices-none c [] h = rw (ne_eqb c 0 (λ e. omega (arith, e))) refl
 choices-none c (r ∷ rs) h =
     let all : sum (r ∷ rs) ≡ r + sum rs = sum_by-cons (λ v. v) r rs in
     ranged-none c 0 (min c r + 1) rs (λ b l. choices-none (c - b) rs (omega arith))
-
-range-split : (s n k : ℕ) → range_with_len s (n + k) ≡ range_with_len s n ++ range_with_len (s + n) k
-range-split s zero k = rw (zero-add k, add-zero s) refl
-range-split s (suc n) k = rw (suc-add n k, range-split (s + 1) n k) (ap (λ i. s ∷ (range_with_len (s + 1) n ++ range_with_len i k)) (let same : (s + 1) + n ≡ s + suc n = omega arith in same))
 
 ranged-split : (c s n k : ℕ) (rs : List ℕ) → ranged c rs s (n + k) ≡ ranged c rs s n ++ ranged c rs (s + n) k
 ranged-split c s n k rs = ap (flat_map (λ b. map (λ y. b ∷ y) (choices (c - b) rs))) (range-split s n k) ∙ flat_map-append (λ b. map (λ y. b ∷ y) (choices (c - b) rs)) (range_with_len s n) (range_with_len (s + n) k)

@@ -5,7 +5,7 @@
 mod ranks;
 mod ties;
 
-pub use ranks::doubled;
+pub use ranks::{doubled, group_ranks};
 pub use ties::{Tie, Ties, group_of, tie_groups};
 
 /// The greatest number of values that are ranked together.

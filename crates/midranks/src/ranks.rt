@@ -1,9 +1,9 @@
 // Doubled midranks.
-ghost use Rattle.std.specs.Prelude.{◌≡◌, ◌*◌, ◌≤◌, length, IfOk};
+ghost use Rattle.std.specs.Prelude.{◌≡◌, ℤ, ◌*◌, ◌≤◌, List, length, map, IfOk};
 ghost use Rattle.std.specs.List.{All};
-ghost use Rattle.midranks.specs.Midranks.{doubled_midranks};
+ghost use Rattle.midranks.specs.Midranks.{doubled_midrank, doubled_midranks};
 ghost use Rattle.midranks.specs.MidrankSteps.{ranks_after};
-ghost use Rattle.midranks.specs.Ties.{values_in};
+ghost use Rattle.midranks.specs.Ties.{tie_groups, values_in};
 
 use crate::MOST_VALUES;
 use crate::ties::{Tie, group_of, tie_groups};
@@ -22,6 +22,15 @@ fn ranks(alloc: Global, ties: &[Tie]) -> Result<Nums, NoMemory>
         before += tie.count;
     }
     Ok(ranks)
+}
+
+/// The doubled midrank of each tie group of at most [`MOST_VALUES`] values, ascending.
+pub fn group_ranks(alloc: Global, ties: &[Tie]) -> Result<Nums, NoMemory>
+    requires { values_in ties.now ≤ MOST_VALUES }
+    ensures { IfOk result (λ ranks. (values : List ℤ) → ties.now ≡ tie_groups values
+        → ranks ≡ map (λ t. doubled_midrank values t.value) ties.now) }
+{
+    ranks(alloc, ties)
 }
 
 /// The doubled midrank of each of at most [`MOST_VALUES`] values, in the order of the values:

@@ -20,7 +20,8 @@ pub record IsPoured (old more new : List Node) : Type 0 where
 
 -- the nodes of keys that were put aside
 abbrev pub loose_nodes : {C : Type 0} → (C → ℕ) → List (Lead C) → List Node
-loose_nodes {C = C} number leads = map (λ (l : Lead C). node (l.number ∷ []) (number l.weight)) leads
+loose_nodes {C = C} number leads =
+    map (λ (l : Lead C). node (l.number ∷ []) (number l.weight)) leads
 
 -- nodes, and others that were put aside: each sum over both gains this weight at this key
 pub record IsAdded (old loose : List Node) (key : List ℤ) (weight : ℕ)

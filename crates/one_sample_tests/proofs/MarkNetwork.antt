@@ -26,7 +26,7 @@ use Rattle.stage_network.proofs.Bridge.{choices-before}
 use Rattle.stage_network.proofs.Steps.{passing, passing-step}
 use Rattle.one_sample_tests.specs.SignNetwork.{choices_from, group_at, mark_addends}
 use Rattle.one_sample_tests.specs.SampleSteps.{AreStages, sizes_in}
-use Rattle.stage_network.proofs.Ranges.{range-different}
+use Rattle.weights.proofs.Ranges.{range-different}
 use Rattle.one_sample_tests.proofs.MarkSums.{all_plus, binomial-small, by_plus, over-same, over_marks, subjects_of}
 
 drop-head : (g : ℕ) (groups : List Tie) (t : Tie) (ts : List Tie) → drop g groups ≡ t ∷ ts → (group_at groups g ≡ t) × (drop (g + 1) groups ≡ ts)

@@ -1,5 +1,5 @@
 -- What the bodies of a network in order read of its keys.
-use Rattle.std.proofs.Common.{◌≡◌, ℕ, ◌<◌, List, ◌++◌, length, take, drop, sym, ◌∙◌, ap, subst}
+use Rattle.std.proofs.Common.{◌≡◌, ℕ, ◌<◌, ◌≤◌, List, ◌++◌, length, take, drop, sym, ◌∙◌, ap, subst, arith, length-append}
 use Rattle.std.specs.Prelude.{ℤ, Bool}
 use Rattle.std.specs.List.{Contains}
 use Rattle.stage_network.specs.Network.{Network, IsReached}
@@ -12,18 +12,18 @@ use Rattle.room_network.proofs.RoomLaws.{widths_kept}
 use Rattle.ordered_groups.specs.OrderedNetworks.{ordered_network}
 use Rattle.ordered_groups.specs.OrderSteps.{IsInOrder}
 
-module _ (rooms plan : Plan) (m : Meaning) (sizes : List ℕ) (by_sums : Bool) (i : IsInOrder rooms plan m sizes by_sums) where
+module _ {rooms plan : Plan} {m : Meaning} {sizes : List ℕ} {by_sums : Bool} (i : IsInOrder rooms plan m sizes by_sums) where
   abbrev n : Network
   n = room_network m plan.weight
 
   kept : KeepsWidth m.floor
   kept = widths_kept rooms m i.sound i.its_rooms.housed
 
-  pub in-arc : (w g : ℕ) (room : List ℤ) (c : List ℕ) → IsArc (ordered_network by_sums sizes n) w g room c → IsArc n w g room c
-  in-arc w g room c v = record { partial = v.partial; wide = v.wide; reached = i.ordered.reached g (room ++ v.partial) v.reached; allowed = v.allowed }
+  pub in-arc : (g : ℕ) (room : List ℤ) (c : List ℕ) → IsArc (ordered_network by_sums sizes n) m.floor.width g room c → IsArc n m.floor.width g room c
+  in-arc g room c v = record { partial = v.partial; wide = v.wide; reached = i.ordered.reached g (room ++ v.partial) v.reached; allowed = v.allowed }
 
-  pub in-place : (w g : ℕ) (room : List ℤ) → IsPlace (ordered_network by_sums sizes n) w g room → IsPlace n w g room
-  in-place w g room v = record { partial = v.partial; wide = v.wide; reached = i.ordered.reached g (room ++ v.partial) v.reached }
+  pub in-place : (g : ℕ) (room : List ℤ) → IsPlace (ordered_network by_sums sizes n) m.floor.width g room → IsPlace n m.floor.width g room
+  in-place g room v = record { partial = v.partial; wide = v.wide; reached = i.ordered.reached g (room ++ v.partial) v.reached }
 
   -- a room is one of the rooms beside the network
   pub in-room : (g : ℕ) (room partial : List ℤ) → length room ≡ m.floor.width → IsReached n g (room ++ partial) → IsReached (alone rooms) g room
@@ -38,8 +38,9 @@ module _ (rooms plan : Plan) (m : Meaning) (sizes : List ℕ) (by_sums : Bool) (
       subst (λ (f : Floor). Contains (f.choices g room) c) (sym i.its_rooms.housed.floor_is)
       (subst (λ r. Contains (m.floor.choices g r) c) (front_is m.floor.width room partial l) (is_allowed (weighed m plan.weight) g (room_of m (room ++ partial)) c before o))
 
-  pub left-long : (g : ℕ) (room : List ℤ) (c : List ℕ) → length room ≡ m.floor.width → length (m.floor.next g room c) ≡ m.floor.width
-  left-long g room c l = kept.next_long g room c l
+  -- a step has a room in front
+  pub step-long : (g : ℕ) (room : List ℤ) (c : List ℕ) (step : List ℤ) → length room ≡ m.floor.width → step ≡ m.floor.next g room c ++ m.step g room c → length room ≤ length step
+  step-long g room c step l e = omega (arith, ap length e, length-append (m.floor.next g room c) (m.step g room c), kept.next_long g room c l, l)
 
   -- the two parts of a step
   pub step-front : (g : ℕ) (room : List ℤ) (c : List ℕ) → length room ≡ m.floor.width → take (length room) (m.floor.next g room c ++ m.step g room c) ≡ m.floor.next g room c

@@ -13,9 +13,9 @@ use weights::Tail;
 
 /// A network of rooms in which groups of equal size that stand side by side are in order. Where
 /// this is by what remains of them and then by their sums, k such groups have up to k! times fewer
-/// keys. Where it is by what remains of them alone, there are as few rooms, with more keys in each, but a
-/// choice that leaves the groups in order only adds to their sums. It is seen as its rooms, its
-/// measure, the groups' sizes, and whether they are in order by their sums too.
+/// keys. Where it is by what remains of them alone, there are as few rooms, with more keys in each,
+/// but a choice that leaves the groups in order only adds to their sums. It is seen as its rooms,
+/// its measure, the groups' sizes, and whether they are in order by their sums too.
 #[derive(Drop)]
 pub struct InOrder<R: Rooms, M: Measure> {
     stages: RoomNetwork<R, M>,
@@ -55,6 +55,13 @@ impl<R: Rooms, M: Measure> InOrder<R, M> {
             sizes,
             by_sums,
         }
+    }
+
+    /// The groups' sizes.
+    pub fn sizes(&self) -> &[u64]
+        ensures { result.now ≡ self.now.2 }
+    {
+        self.sizes.as_slice()
     }
 
     /// Nothing: what `new` asked of it, and that its rooms are sound, is ensured.

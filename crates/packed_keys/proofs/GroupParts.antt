@@ -13,11 +13,10 @@ use Rattle.room_network.proofs.RoomKeys.{KeepsWidth, back_is, front_is, is_allow
 use Rattle.room_network.proofs.RoomLaws.{widths_kept}
 use Rattle.ordered_groups.specs.OrderedGroups.{are_in_order, groups_in_order}
 use Rattle.ordered_groups.specs.OrderedNetworks.{ordered_network}
-use Rattle.ordered_groups.specs.OrderSteps.{IsInOrder}
 use Rattle.ordered_groups.proofs.PlaceOrder.{order-stays}
-use Rattle.packed_keys.specs.PackedGroups.{AddsSteps, plus_each, shift, shifting_step}
-use Rattle.packed_keys.specs.PackedKeys.{IsDigit, MayBePacked, numeral, packed_network, unpacked}
-use Rattle.packed_keys.specs.PackedSteps.{AreDigits}
+use Rattle.packed_keys.specs.PackedGroups.{plus_each, shift, shifting_step}
+use Rattle.packed_keys.specs.PackedKeys.{IsDigit, numeral, packed_network, unpacked}
+use Rattle.packed_keys.specs.PackedSteps.{AreDigits, IsPackedGroups}
 use Rattle.packed_keys.proofs.AddedDigits.{added-digits, length-plus, numeral-plus}
 use Rattle.packed_keys.proofs.DigitLists.{number-small}
 use Rattle.packed_keys.proofs.PackedParts.{in-arc, is-packed, next-digits, next-packed, parts-reached, read-parts}
@@ -35,7 +34,10 @@ shift-long base false added rest = omega arith
 pub step-long : (sizes : List ℕ) (bits : ℕ) (left added step : List ℤ) → step ≡ shifting_step sizes bits left added → 2 ≤ length step
 step-long sizes bits left added step e = subst (λ z. 2 ≤ length z) (sym e) (shift-long (2 ^ bits) (are_in_order sizes left) added (left ++ added))
 
-pub shift-stays : (base : ℕ) (stays : Bool) (added rest : List ℤ) → get_or (shift base stays added ++ rest) 0 (pos 0) ≡ pos 1
+pub step-behind : (sizes : List ℕ) (bits : ℕ) (left added step : List ℤ) → step ≡ shifting_step sizes bits left added → drop 2 step ≡ left ++ added
+step-behind sizes bits left added step e = ap (drop 2) e ∙ shift-back (2 ^ bits) (are_in_order sizes left) added (left ++ added)
+
+shift-stays : (base : ℕ) (stays : Bool) (added rest : List ℤ) → get_or (shift base stays added ++ rest) 0 (pos 0) ≡ pos 1
     → (stays ≡ true) × (get_or (shift base stays added ++ rest) 1 (pos 0) ≡ pos (numeral base (map nat_abs added)))
 shift-stays base true added rest e = (refl, refl)
 shift-stays base false added rest e = absurd (none (ap nat_abs e))
@@ -43,12 +45,9 @@ shift-stays base false added rest e = absurd (none (ap nat_abs e))
     none : ◌≡◌ {A = ℕ} 0 1 → ⊥
     none h = omega (arith, h)
 
-module _ (rooms plan : Plan) (m : Meaning) (sizes : List ℕ) (bits : ℕ) (i : IsInOrder rooms plan m sizes false) (may : MayBePacked m.floor.width bits (ordered_network false sizes (room_network m plan.weight))) (a : AddsSteps m) where
-  abbrev n : Network
-  n = room_network m plan.weight
-
+module _ {plan : Plan} {m : Meaning} {sizes : List ℕ} {by_sums : Bool} {bits : ℕ} (i : IsPackedGroups plan m sizes by_sums bits) where
   abbrev o : Network
-  o = ordered_network false sizes (room_network m plan.weight)
+  o = ordered_network by_sums sizes (room_network m plan.weight)
 
   abbrev w : ℕ
   w = m.floor.width
@@ -57,7 +56,7 @@ module _ (rooms plan : Plan) (m : Meaning) (sizes : List ℕ) (bits : ℕ) (i : 
   k = (m.floor.width + m.slots) - m.floor.width
 
   kept : KeepsWidth m.floor
-  kept = widths_kept rooms m i.sound i.its_rooms.housed
+  kept = widths_kept i.rooms m i.ordered.sound i.ordered.its_rooms.housed
 
   is-move : (g : ℕ) (room partial : List ℤ) (c : List ℕ) → length room ≡ w → IsReached o g (room ++ partial) → g < m.floor.count → Contains (o.choices g (room ++ partial)) c → IsMove m g room c partial
   is-move g room partial c l r before h =
@@ -69,14 +68,14 @@ module _ (rooms plan : Plan) (m : Meaning) (sizes : List ℕ) (bits : ℕ) (i : 
         reached =
             subst (λ p. AreReached m g room p) back
             (subst (λ q. AreReached m g q (drop w key)) front
-            (is_key m plan.weight kept g key (i.ordered.reached g key r)).reached);
+            (is_key m plan.weight kept g key (i.ordered.ordered.reached g key r)).reached);
         allowed =
             subst (λ q. Contains (m.floor.choices g q) c) front
             (is_allowed (weighed m plan.weight) g (take w key) c before h);
       }
 
   -- what a choice that leaves the groups in order adds
-  module _ (g : ℕ) (room partial : List ℤ) (c : List ℕ) (l : length room ≡ m.floor.width) (r : IsReached (ordered_network false sizes (room_network m plan.weight)) g (room ++ partial)) (before : g < m.floor.count) (h : Contains ((ordered_network false sizes (room_network m plan.weight)).choices g (room ++ partial)) c) (stays : are_in_order sizes (m.floor.next g room c) ≡ true) where
+  module _ (g : ℕ) (room partial : List ℤ) (c : List ℕ) (l : length room ≡ m.floor.width) (r : IsReached (ordered_network by_sums sizes (room_network m plan.weight)) g (room ++ partial)) (before : g < m.floor.count) (h : Contains ((ordered_network by_sums sizes (room_network m plan.weight)).choices g (room ++ partial)) c) (stays : are_in_order sizes (m.floor.next g room c) ≡ true) where
     abbrev key : List ℤ
     key = room ++ partial
 
@@ -87,48 +86,49 @@ module _ (rooms plan : Plan) (m : Meaning) (sizes : List ℕ) (bits : ℕ) (i : 
     move = is-move g room partial c l r before h
 
     partial-long : length partial ≡ m.slots
-    partial-long = omega (arith, may.long g key r, length-append room partial, l)
+    partial-long = omega (arith, i.may.long g key r, length-append room partial, l)
 
     added-long : length added ≡ length partial
-    added-long = a.wide g room c partial move ∙ a.steps ∙ sym partial-long
+    added-long = i.adds.wide g room c partial move ∙ i.adds.steps ∙ sym partial-long
 
     pub next-plus : drop w (o.next g key c) ≡ plus_each partial added
     next-plus =
         let left : List ℤ = m.floor.next g room c in
         let left_long : length left ≡ w = kept.next_long g room c l in
         let sum : List ℤ = plus_each partial added in
-        let sum_long : length sum ≡ length sizes = omega (arith, length-plus partial added added-long, partial-long, i.ordered.wide, i.its_rooms.width) in
-        ap (λ q. drop w (groups_in_order false sizes (m.floor.next g q c ++ m.advance g q c (drop w key)))) (front_is w room partial l)
-        ∙ ap (λ p. drop w (groups_in_order false sizes (left ++ m.advance g room c p))) (back_is w room partial l)
-        ∙ ap (λ p. drop w (groups_in_order false sizes (left ++ p))) (a.moves g room c partial move)
-        ∙ ap (drop w) (order-stays sizes left sum (left_long ∙ i.its_rooms.width) sum_long stays)
+        let sum_long : length sum ≡ length sizes = omega (arith, length-plus partial added added-long, partial-long, i.ordered.ordered.wide, i.ordered.its_rooms.width) in
+        ap (λ q. drop w (groups_in_order by_sums sizes (m.floor.next g q c ++ m.advance g q c (drop w key)))) (front_is w room partial l)
+        ∙ ap (λ p. drop w (groups_in_order by_sums sizes (left ++ m.advance g room c p))) (back_is w room partial l)
+        ∙ ap (λ p. drop w (groups_in_order by_sums sizes (left ++ p))) (i.adds.moves g room c partial move)
+        ∙ ap (λ b. drop w (groups_in_order b sizes (left ++ sum))) i.by_left
+        ∙ ap (drop w) (order-stays sizes left sum (left_long ∙ i.ordered.its_rooms.width) sum_long stays)
         ∙ back_is w left sum left_long
 
     each : AllByRecursion (IsDigit (2 ^ bits)) partial
-    each = subst (AllByRecursion (IsDigit (2 ^ bits))) (back_is w room partial l) (may.each g key r)
+    each = subst (AllByRecursion (IsDigit (2 ^ bits))) (back_is w room partial l) (i.may.each g key r)
 
     next-each : AllByRecursion (IsDigit (2 ^ bits)) (plus_each partial added)
-    next-each = subst (AllByRecursion (IsDigit (2 ^ bits))) next-plus (may.each (g + 1) (o.next g key c) (reached-next o g key c r before h))
+    next-each = subst (AllByRecursion (IsDigit (2 ^ bits))) next-plus (i.may.each (g + 1) (o.next g key c) (reached-next o g key c r before h))
 
     pub step-digits : AreDigits bits added
     step-digits = record {
-      each = added-digits (2 ^ bits) partial added added-long each (a.held g room c partial move) next-each;
-      fits = subst (λ j. (2 ^ bits) ^ j ≤ MAX + 1) (sym (omega (arith, added-long, partial-long))) may.fits;
-      narrow = may.narrow;
+      each = added-digits (2 ^ bits) partial added added-long each (i.adds.held g room c partial move) next-each;
+      fits = subst (λ j. (2 ^ bits) ^ j ≤ MAX + 1) (sym (omega (arith, added-long, partial-long))) i.may.fits;
+      narrow = i.may.narrow;
     }
 
     pub numbers-plus : numeral (2 ^ bits) (map nat_abs (drop w (o.next g key c))) ≡ numeral (2 ^ bits) (map nat_abs partial) + numeral (2 ^ bits) (map nat_abs added)
-    numbers-plus = ap (λ p. numeral (2 ^ bits) (map nat_abs p)) next-plus ∙ numeral-plus (2 ^ bits) partial added added-long each (a.held g room c partial move)
+    numbers-plus = ap (λ p. numeral (2 ^ bits) (map nat_abs p)) next-plus ∙ numeral-plus (2 ^ bits) partial added added-long each (i.adds.held g room c partial move)
 
     pub numbers-fit : numeral (2 ^ bits) (map nat_abs partial) + numeral (2 ^ bits) (map nat_abs added) ≤ MAX
-    numbers-fit = subst (λ s. s ≤ MAX) numbers-plus (number-small bits (drop w (o.next g key c)) (next-digits w bits o may g key c r before h))
+    numbers-fit = subst (λ s. s ≤ MAX) numbers-plus (number-small bits (drop w (o.next g key c)) (next-digits i.may g key c r before h))
 
   abbrev packed_groups : Network
-  packed_groups = packed_network m.floor.width bits (ordered_network false sizes (room_network m plan.weight))
+  packed_groups = packed_network m.floor.width bits (ordered_network by_sums sizes (room_network m plan.weight))
 
   pub in-digits : (g : ℕ) (room : List ℤ) (c : List ℕ) → IsArc packed_groups w g room c → g < m.floor.count → are_in_order sizes (m.floor.next g room c) ≡ true → AreDigits bits (m.step g room c)
   in-digits g room c v before stays =
-      let there : IsArc o w g room c = in-arc w bits o may g room c v in
+      let there : IsArc o w g room c = in-arc i.may g room c v in
       step-digits g room there.partial c there.wide there.reached before there.allowed stays
 
   -- a step whose first number is 1 has a second one, which leads a partial on
@@ -139,11 +139,11 @@ module _ (rooms plan : Plan) (m : Meaning) (sizes : List ℕ) (bits : ℕ) (i : 
       let numbers : List ℤ = unpacked (2 ^ bits) k partial in
       let left : List ℤ = m.floor.next g room c in
       let added : List ℤ = m.step g room c in
-      let here : IsReached o g (room ++ numbers) = parts-reached w bits o may g room partial l r in
-      let allowed : Contains (o.choices g (room ++ numbers)) c = subst (λ key. Contains (o.choices g key) c) (read-parts w bits o may room partial l) h in
+      let here : IsReached o g (room ++ numbers) = parts-reached i.may g room partial l r in
+      let allowed : Contains (o.choices g (room ++ numbers)) c = subst (λ key. Contains (o.choices g key) c) (read-parts i.may room partial l) h in
       let both = shift-stays (2 ^ bits) (are_in_order sizes left) added (left ++ added) (ap (λ s. get_or s 0 (pos 0)) (sym e) ∙ one) in
-      let first : get_or partial 0 (pos 0) ≡ pos (numeral (2 ^ bits) (map nat_abs numbers)) = ap (λ p. get_or p 0 (pos 0)) (sym (is-packed w bits o may g room partial l r)) in
+      let first : get_or partial 0 (pos 0) ≡ pos (numeral (2 ^ bits) (map nat_abs numbers)) = ap (λ p. get_or p 0 (pos 0)) (sym (is-packed i.may g room partial l r)) in
       let second : get_or step 1 (pos 0) ≡ pos (numeral (2 ^ bits) (map nat_abs added)) = ap (λ s. get_or s 1 (pos 0)) e ∙ both.1 in (
         rw (first, second) (numbers-fit g room numbers c l here before allowed both.0),
-        rw (first, second) (ap (λ n. pos n ∷ []) (sym (numbers-plus g room numbers c l here before allowed both.0)) ∙ sym (next-packed w bits o may g room partial c l r before allowed)),
+        rw (first, second) (ap (λ n. pos n ∷ []) (sym (numbers-plus g room numbers c l here before allowed both.0)) ∙ sym (next-packed i.may g room partial c l r before allowed)),
       )

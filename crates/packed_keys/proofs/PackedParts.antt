@@ -18,7 +18,7 @@ use Rattle.packed_keys.specs.PackedSteps.{AreDigits}
 use Rattle.packed_keys.proofs.DigitLists.{unpacked-packed}
 use Rattle.packed_keys.proofs.Rewriting.{reached, rewritten-follows, rewritten-lawful, rewritten-roomed, same-total}
 
-module _ (w bits : ℕ) (n : Network) (m : MayBePacked w bits n) where
+module _ {w bits : ℕ} {n : Network} (m : MayBePacked w bits n) where
   abbrev k : ℕ
   k = n.width - w
 

@@ -12,6 +12,10 @@ plus_each [] added = []
 plus_each (p ∷ partial) [] = []
 plus_each (p ∷ partial) (a ∷ added) = (p +ℤ a) ∷ plus_each partial added
 
+-- no number is negative
+abbrev pub AreHeld : List ℤ → Type 0
+AreHeld zs = AllByRecursion (λ z. z ≡ pos (nat_abs z)) zs
+
 -- A step has as many numbers as a partial, none of them negative, and a choice adds them to the
 -- partial's, place by place.
 pub record AddsSteps (m : Meaning) : Type 0 where
@@ -19,7 +23,7 @@ pub record AddsSteps (m : Meaning) : Type 0 where
   pub wide : (g : ℕ) (room : List ℤ) (c : List ℕ) (p : List ℤ) → IsMove m g room c p
       → length (m.step g room c) ≡ m.step_width
   pub held : (g : ℕ) (room : List ℤ) (c : List ℕ) (p : List ℤ) → IsMove m g room c p
-      → AllByRecursion (λ z. z ≡ pos (nat_abs z)) (m.step g room c)
+      → AreHeld (m.step g room c)
   pub moves : (g : ℕ) (room : List ℤ) (c : List ℕ) (p : List ℤ) → IsMove m g room c p
       → m.advance g room c p ≡ plus_each p (m.step g room c)
 

@@ -22,14 +22,12 @@ pub record IsPacked (w bits slots : ℕ) (n : Network) : Type 0 where
   pub may : MayBePacked w bits n
 
 -- groups of these sizes in order by what remains of them alone, with steps that add, and their sums
--- in one number of digits of so many bits, both known beside the network too
+-- in one number of digits of so many bits
 pub record IsPackedGroups (plan : Plan) (m : Meaning) (sizes : List ℕ) (by_sums : Bool)
-    (bits : ℕ) (own_sizes : List ℕ) (own_bits : ℕ) : Type 0 where
+    (bits : ℕ) : Type 0 where
   pub rooms : Plan
-  pub ordered : IsInOrder rooms plan m sizes false
+  pub ordered : IsInOrder rooms plan m sizes by_sums
   pub may : MayBePacked m.floor.width bits
-      (ordered_network false sizes (room_network m plan.weight))
+      (ordered_network by_sums sizes (room_network m plan.weight))
   pub adds : AddsSteps m
   pub by_left : by_sums ≡ false
-  pub sizes_are : own_sizes ≡ sizes
-  pub bits_are : own_bits ≡ bits

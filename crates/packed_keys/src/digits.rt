@@ -1,4 +1,5 @@
-// Small numbers as the digits of one.
+// Small numbers as the digits of one. Of a digit's bits, which are no more than 63, the rest of a
+// division by 64 is taken where numbers are shifted: so the compiler sees that they are few.
 ghost use Rattle.std.specs.Prelude.{◌≡◌, ◌+◌, ◌*◌, ◌/◌, ◌%◌, ◌^◌, ◌≤◌, length, map, nat_abs, pos};
 ghost use Rattle.weights.specs.declared.TheConstants.{MAX};
 ghost use Rattle.packed_keys.specs.PackedKeys.{digits, numeral};
@@ -19,7 +20,7 @@ fn digit_below(number: u128, bits: u32, digit: i128) -> u128
     requires fits { nat_abs digit + 2 ^ bits * number ≤ MAX }
     ensures { result ≡ nat_abs digit + 2 ^ bits * number }
 {
-    (number << bits) + digit.unsigned_abs()
+    (number << (bits % 64)) + digit.unsigned_abs()
 }
 
 // The number that has these digits, the least first.
@@ -53,8 +54,7 @@ fn least_digit(number: u128, bits: u32) -> i128
     requires { bits ≤ 63 }
     ensures { result ≡ pos (number % 2 ^ bits) }
 {
-    let above = number >> bits;
-    (number - (above << bits)) as i128
+    (number % (1 << (bits % 64))) as i128
 }
 
 // The digits above it.
@@ -63,7 +63,7 @@ fn other_digits(number: u128, bits: u32) -> u128
     requires { bits ≤ 63 }
     ensures { result ≡ number / 2 ^ bits }
 {
-    number >> bits
+    number >> (bits % 64)
 }
 
 /// Writes the digits of a number.

@@ -19,27 +19,23 @@ use weights::{Tail, plus};
 
 /// A network of rooms with its groups in order by what remains of them alone, and their sums in one
 /// number. A choice that leaves the groups in order adds a number to that one, and leads keys that
-/// ascend to keys that ascend. It is seen as its rooms, its measure, the groups' sizes and the bits
-/// of a sum.
+/// ascend to keys that ascend. It is seen as the network in order and the bits of a sum.
 #[derive(Drop)]
 pub struct PackedGroups<R: Rooms, M: Measure> {
     stages: Packed<InOrder<R, M>>,
-    // The groups' sizes and the bits once more: a step needs them.
-    sizes: Vec<u64>,
-    bits: u32,
 }
 
 impl<R: Rooms, M: Measure> Model for PackedGroups<R, M> {
-    ghost use Rattle.std.specs.Prelude.{ℕ, List};
+    ghost use Rattle.std.specs.Prelude.{ℕ, Bool, List};
     ghost use Rattle.packed_keys.specs.PackedSteps.{IsPackedGroups};
 
-    ghost Value = { R × M × List ℕ × ℕ };
+    ghost Value = { (R × M × List ℕ × Bool) × ℕ };
 
-    ghost view = { λ p. (p.stages.0.0, p.stages.0.1, p.stages.0.2, p.stages.1) };
+    ghost view = { λ p. p.stages };
 
     ghost invariant = { λ p.
         IsPackedGroups (R.plan p.stages.0.0) (M.meaning p.stages.0.1) p.stages.0.2 p.stages.0.3
-        p.stages.1 p.sizes.items p.bits };
+        p.stages.1 };
 }
 
 // Writes whether a choice leaves groups in order, and what it then adds to the one number.
@@ -82,20 +78,17 @@ fn shifted(partial: &[i128], step: &[i128]) -> i128
 
 impl<R: Rooms, M: Measure> PackedGroups<R, M> {
     /// A network with its groups in order, by what remains of them alone, and their sums packed.
-    pub fn new(ordered: InOrder<R, M>, sizes: Vec<u64>, bits: u32) -> PackedGroups<R, M>
+    pub fn new(ordered: InOrder<R, M>, bits: u32) -> PackedGroups<R, M>
         requires left { ordered.3 ≡ false }
-        requires sizes { sizes.items ≡ ordered.2 }
         requires packed { let m = M.meaning ordered.1 in
-            let n = ordered_network false ordered.2 (room_network m (R.plan ordered.0).weight) in
-            MayBePacked m.floor.width bits n }
+            let n = room_network m (R.plan ordered.0).weight in
+            MayBePacked m.floor.width bits (ordered_network ordered.3 ordered.2 n) }
         requires adds { AddsSteps (M.meaning ordered.1) }
-        ensures { result ≡ (ordered.0, ordered.1, ordered.2, bits) }
+        ensures { result ≡ (ordered, bits) }
     {
         ordered.sound();
         PackedGroups {
             stages: Packed::new(ordered, bits),
-            sizes,
-            bits,
         }
     }
 }
@@ -103,8 +96,8 @@ impl<R: Rooms, M: Measure> PackedGroups<R, M> {
 impl<R: Rooms, M: Measure> Stages for PackedGroups<R, M> {
     ghost use Rattle.packed_keys.specs.PackedKeys.{packed_network};
 
-    ghost network = { λ p. packed_network (M.meaning p.1).floor.width p.3
-        (ordered_network false p.2 (room_network (M.meaning p.1) (R.plan p.0).weight)) };
+    ghost network = { λ p. packed_network (M.meaning p.0.1).floor.width p.1
+        (ordered_network p.0.3 p.0.2 (room_network (M.meaning p.0.1) (R.plan p.0.0).weight)) };
 
     fn stages(&self) -> usize {
         self.stages.stages()
@@ -151,18 +144,18 @@ impl<R: Rooms, M: Measure> Roomed for PackedGroups<R, M> {
     ghost use Rattle.std.specs.Prelude.{◌+◌};
     ghost use Rattle.packed_keys.specs.PackedGroups.{shifting_step};
 
-    ghost room_width = { λ p. (M.meaning p.1).floor.width };
+    ghost room_width = { λ p. (M.meaning p.0.1).floor.width };
 
     ghost step_width = { λ p.
-        2 + ((M.meaning p.1).floor.width + (M.meaning p.1).step_width) };
+        2 + ((M.meaning p.0.1).floor.width + (M.meaning p.0.1).step_width) };
 
     ghost step_of = { λ p g room c.
-        shifting_step p.2 p.3 ((M.meaning p.1).floor.next g room c)
-        ((M.meaning p.1).step g room c) };
+        shifting_step p.0.2 p.1 ((M.meaning p.0.1).floor.next g room c)
+        ((M.meaning p.0.1).step g room c) };
 
-    ghost outlook_width = { λ p. (M.meaning p.1).outlook_width };
+    ghost outlook_width = { λ p. (M.meaning p.0.1).outlook_width };
 
-    ghost outlook_of = { λ p. (M.meaning p.1).outlook };
+    ghost outlook_of = { λ p. (M.meaning p.0.1).outlook };
 
     fn room_width(&self) -> usize {
         self.stages.room_width()
@@ -176,10 +169,10 @@ impl<R: Rooms, M: Measure> Roomed for PackedGroups<R, M> {
     fn step(&self, stage: usize, room: &[i128], choice: &[u64], step: &mut [i128]) {
         let (numbers, inner) = step.split_at_mut(2);
         self.stages.step(stage, room, choice, inner);
-        let sizes = self.sizes.as_slice();
+        let sizes = self.stages.inner().sizes();
         let left = front(inner, room.len());
         let added = behind(inner, room.len());
-        write_shift(self.bits, sizes, left, added, numbers);
+        write_shift(self.stages.bits(), sizes, left, added, numbers);
     }
 
     #[inline(always)]

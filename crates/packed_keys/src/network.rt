@@ -72,36 +72,57 @@ impl<S: Roomed> Packed<S> {
         }
     }
 
-    // Writes the key of the network that a reached key stands for.
-    fn read(&self, _stage: usize, packed: &[i128], key: &mut [i128])
-        requires reached { let n = S.Stages.network self.now.0 in
-            IsReached (packed_network (S.room_width self.now.0) self.now.1 n) _stage packed.now }
-        requires room { length key.old ≡ (S.Stages.network self.now.0).width }
-        ensures is { let n = S.Stages.network self.now.0 in
-            let w = S.room_width self.now.0 in
-            key.new ≡ unpacked_key w (2 ^ self.now.1) (n.width - w) packed.now }
-        ensures reached { IsReached (S.Stages.network self.now.0) _stage key.new }
+    /// The network whose partials are packed.
+    pub(crate) fn inner(&self) -> &S
+        ensures { result.now ≡ self.now.0 }
     {
-        let _lawful = self.stages.stages();
-        unpack_key(self.stages.room_width(), self.bits, packed, key);
+        &self.stages
     }
 
-    // Writes the partial of the network that a reached one stands for.
+    /// How many bits a digit has.
+    pub(crate) fn bits(&self) -> u32
+        ensures { result ≡ self.now.1 }
+    {
+        self.bits
+    }
+
+    // The key of the network that a reached one stands for, written into these numbers.
+    fn read<'a>(&self, _stage: usize, packed: &[i128], numbers: &'a mut [i128; 16]) -> &'a [i128]
+        requires { let n = S.Stages.network self.now.0 in
+            IsReached (packed_network (S.room_width self.now.0) self.now.1 n) _stage packed.now }
+        ensures is { let n = S.Stages.network self.now.0 in
+            let w = S.room_width self.now.0 in
+            result.now ≡ unpacked_key w (2 ^ self.now.1) (n.width - w) packed.now }
+        ensures reached { IsReached (S.Stages.network self.now.0) _stage result.now }
+    {
+        let _lawful = self.stages.stages();
+        let key = &mut numbers[..self.stages.width()];
+        unpack_key(self.stages.room_width(), self.bits, packed, key);
+        key
+    }
+
+    // The partial of the network that a reached one stands for, written into these numbers.
     #[inline(always)]
-    fn read_partial(&self, _stage: usize, _room: &[i128], packed: &[i128], partial: &mut [i128])
+    fn read_partial<'a>(
+        &self,
+        _stage: usize,
+        _room: &[i128],
+        packed: &[i128],
+        numbers: &'a mut [i128; 8],
+    ) -> &'a [i128]
         requires place { length _room.now ≡ S.room_width self.now.0 }
         requires reached { let n = S.Stages.network self.now.0 in
             IsReached (packed_network (S.room_width self.now.0) self.now.1 n) _stage
             (_room.now ++ packed.now) }
-        requires room { let n = S.Stages.network self.now.0 in
-            length partial.old ≡ n.width - S.room_width self.now.0 }
         ensures is { let n = S.Stages.network self.now.0 in
-            partial.new
+            result.now
             ≡ unpacked (2 ^ self.now.1) (n.width - S.room_width self.now.0) packed.now }
         ensures reached { IsReached (S.Stages.network self.now.0) _stage
-            (_room.now ++ partial.new) }
+            (_room.now ++ result.now) }
     {
+        let partial = &mut numbers[..self.slots];
         unpack(self.bits, only(packed), partial);
+        partial
     }
 }
 
@@ -131,26 +152,21 @@ impl<S: Roomed> Stages for Packed<S> {
     }
 
     fn first_choice(&self, stage: usize, key: &[i128], choice: &mut [u64]) -> bool {
-        let _lawful = self.stages.stages();
         let mut numbers = [0i128; 16];
-        let here = &mut numbers[..self.stages.width()];
-        self.read(stage, key, here);
+        let here = self.read(stage, key, &mut numbers);
         self.stages.first_choice(stage, here, choice)
     }
 
     fn next_choice(&self, stage: usize, key: &[i128], choice: &mut [u64]) -> bool {
-        let _lawful = self.stages.stages();
         let mut numbers = [0i128; 16];
-        let here = &mut numbers[..self.stages.width()];
-        self.read(stage, key, here);
+        let here = self.read(stage, key, &mut numbers);
         self.stages.next_choice(stage, here, choice)
     }
 
     fn apply(&self, stage: usize, key: &[i128], choice: &[u64], next: &mut [i128]) -> u128 {
         let _lawful = self.stages.stages();
         let mut numbers = [0i128; 16];
-        let here = &mut numbers[..self.stages.width()];
-        self.read(stage, key, here);
+        let here = self.read(stage, key, &mut numbers);
         let mut others = [0i128; 16];
         let there = &mut others[..self.stages.width()];
         let weight = self.stages.apply(stage, here, choice, there);
@@ -159,26 +175,21 @@ impl<S: Roomed> Stages for Packed<S> {
     }
 
     fn rest(&self, stage: usize, key: &[i128]) -> u128 {
-        let _lawful = self.stages.stages();
         let mut numbers = [0i128; 16];
-        let here = &mut numbers[..self.stages.width()];
-        self.read(stage, key, here);
+        let here = self.read(stage, key, &mut numbers);
         self.stages.rest(stage, here)
     }
 
     fn verdict(&self, stage: usize, key: &[i128], tail: Tail) -> Verdict {
-        let _lawful = self.stages.stages();
         let mut numbers = [0i128; 16];
-        let here = &mut numbers[..self.stages.width()];
-        self.read(stage, key, here);
+        let here = self.read(stage, key, &mut numbers);
         self.stages.verdict(stage, here, tail)
     }
 
     fn value(&self, key: &[i128]) -> i128 {
         let count = self.stages.stages();
         let mut numbers = [0i128; 16];
-        let here = &mut numbers[..self.stages.width()];
-        self.read(count, key, here);
+        let here = self.read(count, key, &mut numbers);
         self.stages.value(here)
     }
 }
@@ -218,8 +229,7 @@ impl<S: Roomed> Roomed for Packed<S> {
         next: &mut [i128],
     ) {
         let mut numbers = [0i128; 8];
-        let here = &mut numbers[..self.slots];
-        self.read_partial(stage, room, partial, here);
+        let here = self.read_partial(stage, room, partial, &mut numbers);
         let mut others = [0i128; 8];
         let there = &mut others[..self.slots];
         self.stages.advance(stage, room, choice, step, here, there);
@@ -244,8 +254,7 @@ impl<S: Roomed> Roomed for Packed<S> {
         tail: Tail,
     ) -> Verdict {
         let mut numbers = [0i128; 8];
-        let here = &mut numbers[..self.slots];
-        self.read_partial(stage, room, partial, here);
+        let here = self.read_partial(stage, room, partial, &mut numbers);
         self.stages.verdict_by(stage, room, outlook, here, tail)
     }
 }

@@ -13,7 +13,8 @@ use Rattle.stage_network.specs.Laws.{IsLawful}
 use Rattle.stage_network.specs.Opened.{is_open}
 use Rattle.stage_network.proofs.Steps.{sum_by-same, sum_by-scaled, sum_by-map, sum_by-flat_map, filter-map, filter-flat_map, reached-next}
 use Rattle.pieces.specs.Cuts.{stays_open, meets_inside, met, closed_sum, open_sum, met_sum}
-use Rattle.pieces.proofs.Conserving.{openly, closing, over-choices, inside-sum, outside-sum, conserved}
+use Rattle.pieces.proofs.Conserving.{openly, closing, over-choices, conserved}
+use Rattle.stage_network.proofs.Conserved.{inside-sum, outside-sum}
 
 -- filters
 filter-same : {X : Type 0} (p q : X → Bool) → ((x : X) → p x ≡ q x) → (xs : List X) → filter p xs ≡ filter q xs

@@ -8,10 +8,11 @@ use Rattle.weights.proofs.Sums.{sum_by-plus, sum_by-same_where}
 use Rattle.stage_network.specs.declared.stages.Verdict.{Verdict}
 use Rattle.stage_network.specs.declared.stages.Verdict.TheVariants.{Inside, Outside, Undecided}
 use Rattle.stage_network.specs.Network.{Network, IsReached}
-use Rattle.stage_network.specs.Completions.{completions, path_weight, is_extreme, is_inside, total_weight, extreme_weight}
+use Rattle.stage_network.specs.Completions.{is_inside, total_weight, extreme_weight}
 use Rattle.stage_network.specs.Laws.{IsLawful}
 use Rattle.stage_network.specs.Opened.{is_open, is_undecided}
-use Rattle.stage_network.proofs.Steps.{filter_all, filter_none, reached-next, extreme_weight-step}
+use Rattle.stage_network.proofs.Steps.{reached-next, extreme_weight-step}
+use Rattle.stage_network.proofs.Conserved.{inside-sum, outside-sum}
 
 -- what f says of the keys that are reached m stages on through open keys alone
 abbrev pub openly : Network → Tail → ℕ → ℕ → (List ℤ → ℕ) → List ℤ → ℕ
@@ -35,14 +36,6 @@ spread-out : (a b c : ℕ) → a * (b + c) ≡ a * b + a * c
 spread-out a b c = grind arith
 
 -- soundness, as sums
-pub inside-sum : (n : Network) → IsLawful n → (t : Tail) (g : ℕ) (k : List ℤ) → IsReached n g k → g ≤ n.count → n.verdict t g k ≡ Inside → extreme_weight n t g k ≡ total_weight n g k
-unfolding total_weight extreme_weight
-inside-sum n l t g k r h v = ap (sum_by (path_weight n g k)) (filter_all (is_extreme n t g k) (completions n g k) (l.inside t g k r h v))
-
-pub outside-sum : (n : Network) → IsLawful n → (t : Tail) (g : ℕ) (k : List ℤ) → IsReached n g k → g ≤ n.count → n.verdict t g k ≡ Outside → extreme_weight n t g k ≡ 0
-unfolding extreme_weight
-outside-sum n l t g k r h v = ap (sum_by (path_weight n g k)) (filter_none (is_extreme n t g k) (completions n g k) (l.outside t g k r h v))
-
 by_verdict : (v : Verdict) (b o e total : ℕ) → (v ≡ Inside → e ≡ total) → (v ≡ Outside → e ≡ 0) → (v ≡ Undecided → b + o ≡ e) → cond (is_inside v) total 0 + cond (is_undecided v) b 0 + cond (is_undecided v) o 0 ≡ e
 by_verdict Inside b o e total i out u = omega (arith, i refl)
 by_verdict Outside b o e total i out u = omega (arith, out refl)

@@ -73,7 +73,7 @@ ascending-rises (x ∷ xs) = insert-rises x (in_order may_precede xs) (ascending
 pub pooled-rises : (groups : GroupData) → Rises (pooled_values groups)
 pooled-rises groups = ascending-rises (paired_subjects groups.values groups.members)
 
-length-paired : (values : List ℤ) (labels : List ℕ) → length labels ≡ length values → length (paired_subjects values labels) ≡ length values
+pub length-paired : (values : List ℤ) (labels : List ℕ) → length labels ≡ length values → length (paired_subjects values labels) ≡ length values
 unfolding paired_subjects
 length-paired [] labels same = refl
 length-paired (v ∷ values) [] same = absurd (omega arith)

@@ -1,14 +1,13 @@
 -- Tie groups of values that rise: their scores, each as often as the group has values, are those of the values.
-use Rattle.std.proofs.Common.{◌≡◌, ℕ, zero, suc, ◌+◌, ◌<◌, Bool, true, false, cond, List, [], ◌∷◌, ◌++◌, map, drop, refl, sym, ◌∙◌, ap, arith, add-one}
-use Rattle.std.specs.Prelude.{ℤ, pos, ◌≤ℤ◌, int_lt, replicate, slice_index_or}
+use Rattle.std.proofs.Common.{◌≡◌, ℕ, ◌+◌, Bool, true, false, cond, List, [], ◌∷◌, ◌++◌, map, refl, ◌∙◌, ap, arith, add-one}
+use Rattle.std.specs.Prelude.{ℤ, ◌≤ℤ◌, int_lt, replicate}
 use Rattle.std.specs.List.{AllByRecursion}
 use Rattle.std.specs.Ordering.{int_eq}
 use Rattle.std.proofs.lemmas.Int.{ints}
 use Rattle.midranks.specs.Ties.{tie_groups, with_one_more}
 use Rattle.midranks.specs.declared.ties.Tie.{Tie}
-use Rattle.midranks.proofs.TieLemmas.{groups-counts, past, same-from_test}
+use Rattle.midranks.proofs.TieLemmas.{past, same-from_test}
 use Rattle.label_network.specs.LaterSums.{subjects}
-use Rattle.pooled_columns.specs.ColumnSteps.{first_scores}
 use Rattle.pooled_columns.proofs.PooledValues.{Rises}
 
 -- a value is not above the first group's
@@ -60,19 +59,3 @@ pub grouped : (f : ℤ → ℤ) (values : List ℤ) → Rises values → subject
 unfolding tie_groups
 grouped f [] up = refl
 grouped f (v ∷ vs) up = grown f v (tie_groups vs) (leads v vs up.0 up.1) ∙ ap (λ rest. f v ∷ rest) (grouped f vs up.1)
-
--- the first score of each group
-first-one : (n : ℕ) (x : ℤ) (rest : List ℤ) → 0 < n → slice_index_or (replicate n x ++ rest) 0 (pos 0) ≡ x
-first-one zero x rest h = absurd (omega (arith, h))
-first-one (suc n) x rest h = refl
-
-dropped : (n : ℕ) (x : ℤ) (rest : List ℤ) → drop n (replicate n x ++ rest) ≡ rest
-dropped zero x rest = refl
-dropped (suc n) x rest = dropped n x rest
-
-firsts : (f : ℤ → ℤ) (ts : List Tie) → AllByRecursion (λ t. 0 < t.count) ts → first_scores ts (subjects (scores_by f ts) (sizes_by ts)) ≡ scores_by f ts
-firsts f [] some = refl
-firsts f (t ∷ ts) some = rw (first-one t.count (f t.value) (subjects (scores_by f ts) (sizes_by ts)) some.0, dropped t.count (f t.value) (subjects (scores_by f ts) (sizes_by ts)), firsts f ts some.1) refl
-
-pub first_scores-are : (f : ℤ → ℤ) (values : List ℤ) → Rises values → first_scores (tie_groups values) (map f values) ≡ map (λ t. f t.value) (tie_groups values)
-first_scores-are f values up = ap (first_scores (tie_groups values)) (sym (grouped f values up)) ∙ firsts f (tie_groups values) (groups-counts values)

@@ -1,32 +1,18 @@
 -- Columns worked by hand.
-use Rattle.std.specs.Prelude.{◌≡◌, pos, negsuc, [], ◌∷◌}
+use Rattle.std.specs.Prelude.{◌≡◌, pos, [], ◌∷◌}
 use Rattle.std.proofs.Common.{refl}
 use Rattle.midranks.specs.Ties.{tie_groups}
-use Rattle.pooled_columns.specs.ColumnSteps.{first_scores}
 use Rattle.pooled_columns.specs.PooledColumns.{column_sizes}
 
--- the doubled midranks of values with one tie
+-- values with one tie
 one_tie : column_sizes (pos 3 ∷ pos 5 ∷ pos 5 ∷ pos 8 ∷ []) ≡ 1 ∷ 2 ∷ 1 ∷ []
 unfolding tie_groups
 one_tie = refl
-
-midranks : first_scores (tie_groups (pos 3 ∷ pos 5 ∷ pos 5 ∷ pos 8 ∷ [])) (pos 2 ∷ pos 5 ∷ pos 5 ∷ pos 8 ∷ []) ≡ pos 2 ∷ pos 5 ∷ pos 8 ∷ []
-unfolding tie_groups
-midranks = refl
-
--- values as scores, no two of them tied
-none_tied : first_scores (tie_groups (negsuc 6 ∷ pos 0 ∷ pos 9 ∷ [])) (negsuc 6 ∷ pos 0 ∷ pos 9 ∷ []) ≡ negsuc 6 ∷ pos 0 ∷ pos 9 ∷ []
-unfolding tie_groups
-none_tied = refl
 
 -- scores that are equal join no columns
 two_columns : column_sizes (pos 1 ∷ pos 1 ∷ pos 2 ∷ pos 2 ∷ []) ≡ 2 ∷ 2 ∷ []
 unfolding tie_groups
 two_columns = refl
-
-equal_scores : first_scores (tie_groups (pos 1 ∷ pos 1 ∷ pos 2 ∷ pos 2 ∷ [])) (pos 6 ∷ pos 6 ∷ pos 6 ∷ pos 6 ∷ []) ≡ pos 6 ∷ pos 6 ∷ []
-unfolding tie_groups
-equal_scores = refl
 
 all_tied : column_sizes (pos 4 ∷ pos 4 ∷ pos 4 ∷ []) ≡ 3 ∷ []
 unfolding tie_groups

@@ -1,3 +1,2 @@
 pub mod PooledColumns
-pub mod ColumnSteps
 pub mod ScoredGroups

@@ -1,9 +1,9 @@
 -- Groups by scores of a kind: as labels and subjects with scores.
 use Rattle.std.specs.Prelude.{◌≡◌, ℤ, List, Result, Ok, Err}
 use Rattle.weights.specs.declared.wide.PrepareFault.{PrepareFault}
-use Rattle.scores.specs.Scores.{AreScores, scale_of, score_list, score_sum}
+use Rattle.scores.specs.Scores.{AreScores, AreTieScores, scale_of, score_list, score_sum}
 use Rattle.scores.specs.declared.kinds.ScoreKind.{ScoreKind}
-use Rattle.scores.specs.declared.kinds.Scored.{Scored}
+use Rattle.scores.specs.declared.kinds.TieScores.{TieScores}
 use Rattle.sample_reader.specs.Groups.{GroupData, group_sizes}
 use Rattle.sample_reader.specs.PooledSample.{labels_of, pooled}
 use Rattle.labelled.specs.LabelTests.{IsRefusedBy}
@@ -33,8 +33,8 @@ pub record AreScoredSubjects (kind : ScoreKind) (groups : GroupData) (made : Sco
   pub column_scores : made.columns.scores ≡ column_scores kind (pooled_values groups)
 
 -- the scores of values, or their sum is too wide
-abbrev pub IsScoredBy : ScoreKind → List ℤ → Result Scored PrepareFault → Type 0
-IsScoredBy kind values (Ok scored) = AreScores kind values scored
+abbrev pub IsScoredBy : ScoreKind → List ℤ → Result TieScores PrepareFault → Type 0
+IsScoredBy kind values (Ok scored) = AreTieScores kind values scored
 IsScoredBy kind values (Err fault) = IsRefusedBy (score_sum kind values) fault
 
 -- the subjects, or the sum of their scores is too wide

@@ -1,9 +1,6 @@
 // The columns of values in ascending order.
-ghost use Rattle.std.specs.Prelude.{◌≡◌, ◌<◌, length, map, pos, slice_index_or, IfOk};
-ghost use Rattle.std.specs.List.{All};
-ghost use Rattle.midranks.specs.Ties.{tie_groups, values_in};
+ghost use Rattle.std.specs.Prelude.{◌≡◌, map, IfOk};
 ghost use Rattle.pooled_columns.specs.PooledColumns.{column_sizes};
-ghost use Rattle.pooled_columns.specs.ColumnSteps.{first_scores};
 
 use midranks::{Tie, tie_groups};
 use std::alloc::Global;
@@ -27,29 +24,6 @@ fn sizes(alloc: Global, ties: &[Tie]) -> Result<Nums, NoMemory>
     Ok(sizes)
 }
 
-// The first of some scores.
-fn first_of(scores: &[i128]) -> i128
-    requires { 0 < length scores.now }
-    ensures { result ≡ slice_index_or scores.now 0 (pos 0) }
-{
-    scores[0]
-}
-
-// Of the scores of values in ascending order, the first one of each tie group.
-fn first_scores(alloc: Global, ties: &[Tie], scores: &[i128]) -> Result<Ints, NoMemory>
-    requires some { All (λ tie. 0 < tie.count) ties.now }
-    requires as_many { values_in ties.now ≡ length scores.now }
-    ensures { IfOk result (λ firsts. firsts ≡ first_scores ties.now scores.now) }
-{
-    let mut firsts = Ints::empty(alloc);
-    let mut later = scores;
-    for tie in ties {
-        firsts.push(first_of(later))?;
-        later = &later[tie.count as usize..];
-    }
-    Ok(firsts)
-}
-
 /// The sizes alone of the columns of values in ascending order.
 pub fn column_sizes(alloc: Global, values: &[i128]) -> Result<Nums, NoMemory>
     ensures { IfOk result (λ sizes. sizes ≡ column_sizes values.now) }
@@ -58,17 +32,11 @@ pub fn column_sizes(alloc: Global, values: &[i128]) -> Result<Nums, NoMemory>
     sizes(alloc, groups.as_slice())
 }
 
-/// The columns of values in ascending order with these scores.
-pub fn columns_of(alloc: Global, values: &[i128], scores: &[i128]) -> Result<Columns, NoMemory>
-    requires { length scores.now ≡ length values.now }
-    ensures sizes { IfOk result (λ columns. columns.sizes ≡ column_sizes values.now) }
-    ensures scores { let ties = tie_groups values.now in
-        IfOk result (λ columns. columns.scores ≡ first_scores ties scores.now) }
+/// The columns of tie groups with these scores.
+pub(crate) fn columns_of(alloc: Global, ties: &[Tie], scores: Ints) -> Result<Columns, NoMemory>
+    ensures sizes { IfOk result (λ columns. columns.sizes ≡ map (λ t. t.count) ties.now) }
+    ensures scores { IfOk result (λ columns. columns.scores ≡ scores) }
 {
-    let groups = tie_groups(alloc, values)?;
-    let ties = groups.as_slice();
-    Ok(Columns {
-        sizes: sizes(alloc, ties)?,
-        scores: first_scores(alloc, ties, scores)?,
-    })
+    let sizes = sizes(alloc, ties)?;
+    Ok(Columns { sizes, scores })
 }

@@ -11,7 +11,7 @@ use crate::columns::{Columns, columns_of};
 use crate::subjects::labels_in;
 use labelled::{Labelled, LinearSum, ScoredLabels};
 use sample_reader::{Groups, pooled_subjects, values};
-use scores::{ScoreFault, ScoreKind, Scored, scored};
+use scores::{ScoreFault, ScoreKind, Scored, TieScores, tie_scores};
 use std::alloc::Global;
 use weights::{Bytes, Ints, PrepareFault, WideOf, multinomial};
 
@@ -25,11 +25,11 @@ pub struct ScoredSubjects {
 }
 
 // The scores of values. A sum of scores that is too wide makes the statistic too wide.
-fn scored_values(alloc: Global, kind: ScoreKind, values: &[i128]) -> Result<Scored, PrepareFault>
+fn scored_values(alloc: Global, kind: ScoreKind, values: &[i128]) -> Result<TieScores, PrepareFault>
     requires { length values.now ≤ MOST_VALUES }
     ensures { IsScoredBy kind values.now result }
 {
-    match scored(alloc, kind, values) {
+    match tie_scores(alloc, kind, values) {
         Ok(scored) => Ok(scored),
         Err(ScoreFault::TooWide) => Err(PrepareFault::TooWide(WideOf::Statistic)),
         Err(ScoreFault::NoMemory) => Err(PrepareFault::NoMemory),
@@ -51,10 +51,11 @@ pub fn scored_subjects(
     let labels = labels_in(alloc, &subjects)?;
     let values = values(alloc, &subjects)?;
     let scored = scored_values(alloc, kind, values.as_slice())?;
-    let columns = columns_of(alloc, values.as_slice(), scored.list.as_slice())?;
+    let scores = scored.scores;
+    let columns = columns_of(alloc, scored.ties.as_slice(), scores)?;
     Ok(ScoredSubjects {
         labels,
-        scored,
+        scored: scored.all,
         columns,
     })
 }

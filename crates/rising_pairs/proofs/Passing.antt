@@ -1,21 +1,12 @@
 -- The counts of the numbers of pairs whose value passes, and the labellings that have them.
-use Rattle.std.proofs.Common.{◌≡◌, ℕ, zero, suc, ◌+◌, ◌-◌, ◌<◌, ◌≤◌, List, [], ◌∷◌, ◌++◌, Bool, true, false, cond, refl, ◌∙◌, ap, subst, arith, nat_eq}
+use Rattle.std.proofs.Common.{◌≡◌, ℕ, ◌+◌, ◌-◌, ◌<◌, ◌≤◌, List, [], ◌∷◌, Bool, true, false, cond, refl, ◌∙◌, ap, subst, arith, nat_eq}
 use Rattle.std.specs.List.{sum_by, count_by, AllByRecursion, range_with_len, Contains}
 use Rattle.std.proofs.lemmas.List.Sums.{sum_by-cons, sum_by-append}
 use Rattle.std.proofs.lemmas.Bool.Decides.{nat_tests}
 use Rattle.weights.specs.Labellings.{labellings, labels}
 use Rattle.enumerate.proofs.JoinedMembers.{own}
 use Rattle.rising_pairs.specs.RisingPairs.{rising_count, rising_pairs}
-
-range-split : (a b s : ℕ) → range_with_len s (a + b) ≡ range_with_len s a ++ range_with_len (s + a) b
-range-split zero b s =
-    let one : 0 + b ≡ b = omega arith in
-    let two : s + 0 ≡ s = omega arith in
-    rw (one, two) refl
-range-split (suc a) b s =
-    let one : suc a + b ≡ suc (a + b) = omega arith in
-    let two : s + suc a ≡ (s + 1) + a = omega arith in
-    rw (one, two) (ap (λ rest. s ∷ rest) (range-split a b (s + 1)))
+use Rattle.weights.proofs.Ranges.{range-split}
 
 one-alone : (f : ℕ → ℕ) (x : ℕ) → sum_by f (x ∷ []) ≡ f x
 one-alone f x = omega arith
@@ -24,12 +15,12 @@ one-alone f x = omega arith
 pub next-place : (f : ℕ → ℕ) (n : ℕ) → sum_by f (labels (n + 1)) ≡ sum_by f (labels n) + f n
 next-place f n =
     let start : 0 + n ≡ n = omega arith in
-    ap (sum_by f) (range-split n 1 0) ∙ sum_by-append f (labels n) (range_with_len (0 + n) 1) ∙ rw start (ap (λ m. sum_by f (labels n) + m) (one-alone f n))
+    ap (sum_by f) (range-split 0 n 1) ∙ sum_by-append f (labels n) (range_with_len (0 + n) 1) ∙ rw start (ap (λ m. sum_by f (labels n) + m) (one-alone f n))
 
 pub within-all : (f : ℕ → ℕ) (n m : ℕ) → n < m → sum_by f (labels n) + f n ≤ sum_by f (labels m)
 within-all f n m h =
     let parts : m ≡ (n + 1) + (m - (n + 1)) = omega (arith, h) in
-    let whole = ap (λ k. sum_by f (labels k)) parts ∙ ap (sum_by f) (range-split (n + 1) (m - (n + 1)) 0) ∙ sum_by-append f (labels (n + 1)) (range_with_len (0 + (n + 1)) (m - (n + 1))) in
+    let whole = ap (λ k. sum_by f (labels k)) parts ∙ ap (sum_by f) (range-split 0 (n + 1) (m - (n + 1))) ∙ sum_by-append f (labels (n + 1)) (range_with_len (0 + (n + 1)) (m - (n + 1))) in
     omega (arith, whole, next-place f n)
 
 -- what follows of some item that is counted follows

@@ -2,13 +2,14 @@
 use Rattle.std.proofs.Common.{◌≡◌, ℕ, zero, suc, ◌+◌, ◌-◌, ◌*◌, ◌/◌, ◌<◌, ◌≤◌, min, drop, get_or, add-one, drop-cons, drop_of_length-le, List, [], ◌∷◌, length, Bool, true, false, refl, ◌∙◌, ap, sym, subst, arith}
 use Rattle.std.specs.Int.{div_ceil}
 use Rattle.std.specs.Prelude.{nat_le}
-use Rattle.std.proofs.Math.Nat.{div-eq_of_lt, mod-eq_of_lt, mul-le-mul_right, mul-le-mul}
+use Rattle.std.proofs.Math.Nat.{div-eq_of_lt, mod-eq_of_lt, mul-le-mul_right}
 use Rattle.std.proofs.lemmas.Bool.{leb-true}
 use Rattle.weights.specs.declared.TheConstants.{MAX}
 use Rattle.completion_bounds.specs.Fillings.{filled_in_turn, product_by}
 use Rattle.completion_bounds.proofs.Capped.{IsMultiplied, cap-later, multiplied-next}
 use Rattle.row_products.specs.Factorials.{cut}
 use Rattle.row_products.specs.RowProducts.{factorial}
+use Rattle.weights.proofs.Products.{product-some}
 
 -- a factor that is cut off leaves a cut product as it is
 pub cut-inner : (p w : ℕ) → 1 ≤ p → cut (p * cut w) ≡ cut (p * w)
@@ -20,16 +21,13 @@ cut-inner p w h = ap cut (turned p (cut w)) ∙ cap-later w p (MAX + 1) h ∙ ap
 pub cut-some : (n : ℕ) → 1 ≤ n → 1 ≤ cut n
 cut-some n h = omega (arith, h)
 
-one_more : (p q : ℕ) → 1 ≤ p → 1 ≤ q → 1 ≤ p * q
-one_more p q h j = let one = mul-le-mul {n₁ = 1} {m₁ = 1} h j in omega (arith, one)
-
 pub factorial_some : (n : ℕ) → 1 ≤ factorial n
 factorial_some zero = omega arith
-factorial_some (suc n) = one_more (suc n) (factorial n) (omega arith) (factorial_some n)
+factorial_some (suc n) = product-some (suc n) (factorial n) (omega arith) (factorial_some n)
 
 pub products_some : (f : ℕ → ℕ) → ((c : ℕ) → 1 ≤ f c) → (cs : List ℕ) → 1 ≤ product_by f cs
 products_some f each [] = omega arith
-products_some f each (c ∷ cs) = one_more (f c) (product_by f cs) (each c) (products_some f each cs)
+products_some f each (c ∷ cs) = product-some (f c) (product_by f cs) (each c) (products_some f each cs)
 
 -- factorials are no less for greater numbers, and from the 34th on they pass the greatest weight
 factorial-rises : (n d : ℕ) → factorial n ≤ factorial (d + n)
@@ -84,7 +82,7 @@ filling-next all w left columns i cell within e f =
               ∙ cap-later (w * factorial (min c left)) rest (MAX + 1) (products_some factorial factorial_some (filled_in_turn (left - min c left) cs))
               ∙ ap cut (grouped w (factorial (min c left)) rest)
               ∙ g.value;
-          some = cut-some _ (one_more w (cut (factorial (min c left))) g.some (cut-some _ (factorial_some (min c left))));
+          some = cut-some _ (product-some w (cut (factorial (min c left))) g.some (cut-some _ (factorial_some (min c left))));
           most = omega arith;
         }
 

@@ -15,7 +15,7 @@ use Rattle.sample_reader.specs.Groups.{GroupData, group_sizes}
 use Rattle.sample_reader.specs.Orders.{reordered_strata}
 use Rattle.sample_reader.specs.Sequences.{sequence_in}
 use Rattle.sample_reader.specs.StrataGroups.{StrataGroupData, strata_groups_in}
-use Rattle.sample_reader.specs.declared.TheConstants.{MOST_BIVARIATE, MOST_LABELS}
+use Rattle.sample_reader.specs.declared.TheConstants.{MOST_BIVARIATE_ROWS, MOST_LABELS}
 use Rattle.sample_reader.specs.declared.layout.Layout.TheVariants.{Pairs, Groups, Blocks, BinaryBlocks, StrataGroups, Sequence}
 use Rattle.record_reader.specs.Layouts.{field_fault, row_fault}
 
@@ -122,8 +122,8 @@ no_pairs = refl
 
 -- ---- bivariate samples
 
-most_bivariate : MOST_BIVARIATE ≡ 120
-most_bivariate = refl
+most_bivariate_rows : MOST_BIVARIATE_ROWS ≡ 120
+most_bivariate_rows = refl
 
 turned_bivariate : bivariate_in Refuse (Listed (3 ∷ 1 ∷ [])) (three (codes "a") (codes "b") (codes "c") ∷ three (codes "1") (codes "") (codes "2") ∷ three (codes "5") (codes "x") (codes "-4") ∷ [])
     ≡ Ok (record { first = pos (2 * 10 ^ 18) ∷ negsuc (4 * 10 ^ 18 - 1) ∷ []; second = pos (10 ^ 18) ∷ pos (5 * 10 ^ 18) ∷ [] })

@@ -8,7 +8,7 @@ use Rattle.record_reader.specs.declared.layouts.Shape.{Shape}
 use Rattle.record_reader.specs.Layouts.{Layout, read_in}
 use Rattle.weights.specs.Results.{with_value}
 use Rattle.sample_reader.specs.CellLayouts.{PairValues, pair_layout}
-use Rattle.sample_reader.specs.declared.TheConstants.{MOST_BIVARIATE}
+use Rattle.sample_reader.specs.declared.TheConstants.{MOST_BIVARIATE_ROWS}
 
 -- Each row's first value and its second, in units of 10^-18.
 pub record BivariateData : Type 0 where
@@ -17,7 +17,7 @@ pub record BivariateData : Type 0 where
 
 abbrev pub bivariate_shape : Shape
 bivariate_shape =
-    record { narrowest = 2; widest = 2; too_wide = FieldCount; most_rows = MOST_BIVARIATE }
+    record { narrowest = 2; widest = 2; too_wide = FieldCount; most_rows = MOST_BIVARIATE_ROWS }
 
 -- the layout of pairs, of which each has two values, and of which there are fewer
 abbrev pub bivariate_layout : Layout PairValues

@@ -5,7 +5,7 @@ ghost use Rattle.record_reader.specs.Layouts.{MayPick};
 ghost use Rattle.sample_reader.specs.Bivariate.{bivariate_in};
 ghost use Rattle.sample_reader.specs.Data.{bivariate_data_of};
 
-use crate::MOST_BIVARIATE;
+use crate::MOST_BIVARIATE_ROWS;
 use crate::pair_rows::{PairLayout, PairsSoFar};
 use crate::samples::BivariateSample;
 use record_reader::{FieldFault, Kind, Layout, LayoutFault, Missing, Picks, Rows, Shape, read_in};
@@ -25,7 +25,7 @@ impl Layout<PairsSoFar> for BivariateLayout {
             narrowest: 2,
             widest: 2,
             too_wide: Kind::FieldCount,
-            most_rows: MOST_BIVARIATE,
+            most_rows: MOST_BIVARIATE_ROWS,
         }
     }
 
@@ -55,8 +55,8 @@ impl Layout<PairsSoFar> for BivariateLayout {
 /// subject.
 ///
 /// A value is a number text, with spaces and tabs around it ignored. There are 1 to
-/// [`MOST_BIVARIATE`] rows below the header, whose texts are not used. Rows and fields have numbers
-/// from 1, so the header is row 1.
+/// [`MOST_BIVARIATE_ROWS`] rows below the header, whose texts are not used. Rows and fields have
+/// numbers from 1, so the header is row 1.
 ///
 /// Where rows with a missing value are dropped, a row below the header that is not one too many, is
 /// as wide as the header, and of which a picked value is empty or `NA`, gives no subject, and none

@@ -35,4 +35,4 @@ pub use subjects::{Subject, ordered_subjects, pooled_subjects, values};
 pub const MOST_LABELS: u64 = 8;
 
 /// The greatest number of rows of a bivariate sample.
-pub const MOST_BIVARIATE: u64 = 120;
+pub const MOST_BIVARIATE_ROWS: u64 = 120;

@@ -1,7 +1,6 @@
 -- No scale is 0.
-use Rattle.std.proofs.Common.{ℕ, ◌*◌, ◌≤◌, List, length, arith}
+use Rattle.std.proofs.Common.{◌≤◌, List, length, arith}
 use Rattle.std.specs.Prelude.{ℤ}
-use Rattle.std.proofs.Math.Nat.{mul-le-mul}
 use Rattle.scores.specs.PlaceScores.{multiple_to}
 use Rattle.scores.specs.RawScores.{decimals}
 use Rattle.scores.specs.Scores.{common_size, scale_of}
@@ -10,9 +9,7 @@ use Rattle.scores.specs.declared.kinds.ScoreKind.TheVariants.{Wilcoxon, Ansari, 
 use Rattle.scores.proofs.AverageLemmas.{common_size-some}
 use Rattle.scores.proofs.MultipleLemmas.{multiple_to-some}
 use Rattle.scores.proofs.RawLemmas.{power-some}
-
-product-some : (a b : ℕ) → 1 ≤ a → 1 ≤ b → 1 ≤ a * b
-product-some a b h k = (let one : 1 * 1 ≤ a * b = mul-le-mul h k in omega (arith, one))
+use Rattle.weights.proofs.Products.{product-some}
 
 pub scale-some : (kind : ScoreKind) (values : List ℤ) → 1 ≤ scale_of kind values
 scale-some Wilcoxon values = omega arith

@@ -1,12 +1,14 @@
 -- Scores on the way.
 use Rattle.std.specs.Prelude.{◌≡◌, ⊤, ℕ, ℤ, pos, ◌*◌, ◌/◌, ◌%◌, ◌^◌, ◌<◌, ◌≤◌, nat_abs, nat_eq, Bool, List, [], ◌∷◌, map, take, drop, Result, Ok, Err}
 use Rattle.std.specs.List.{sum}
+use Rattle.midranks.specs.Ties.{tie_groups}
 use Rattle.midranks.specs.declared.ties.Tie.{Tie}
 use Rattle.scores.specs.RawScores.{decimals, raw_score}
 use Rattle.scores.specs.Scores.{averaged}
 use Rattle.weights.specs.Numbers.{absolute_sum}
 use Rattle.scores.specs.declared.kinds.ScoreFault.{ScoreFault}
 use Rattle.scores.specs.declared.kinds.ScoreFault.TheVariants.{TooWide, NoMemory}
+use Rattle.scores.specs.declared.kinds.TieScores.{TieScores}
 use Rattle.scores.specs.declared.kinds.Scored.{Scored}
 use Rattle.scores.specs.declared.whole.WholeValues.{WholeValues}
 use Rattle.weights.specs.declared.TheConstants.{MAX}
@@ -18,6 +20,14 @@ IsScoredAs scores scale (Ok s) =
     × (absolute_sum scores ≤ MAX)
 IsScoredAs scores scale (Err TooWide) = MAX < absolute_sum scores
 IsScoredAs scores scale (Err NoMemory) = ⊤
+
+-- the scores of tie groups, and of all their values, are these over this scale, or the refusal
+abbrev pub AreScoredBy : (ℤ → ℤ) → ℕ → List ℤ → Result TieScores ScoreFault → Type 0
+AreScoredBy f scale values (Ok g) =
+    (g.ties ≡ tie_groups values) × (g.scores ≡ map (λ t. f t.value) (tie_groups values))
+    × IsScoredAs (map f values) scale (Ok g.all)
+AreScoredBy f scale values (Err TooWide) = MAX < absolute_sum (map f values)
+AreScoredBy f scale values (Err NoMemory) = ⊤
 
 -- scores by the scores of places
 abbrev pub averaged_scores : List ℕ → List ℤ → List ℤ

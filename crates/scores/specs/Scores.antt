@@ -9,6 +9,7 @@ use Rattle.scores.specs.PlaceScores.{ansari_place, common_multiple, median_place
 use Rattle.scores.specs.RawScores.{decimals, raw_score}
 use Rattle.scores.specs.declared.kinds.ScoreKind.{ScoreKind}
 use Rattle.scores.specs.declared.kinds.ScoreKind.TheVariants.{Wilcoxon, Ansari, Mood, Savage, Median, Raw}
+use Rattle.scores.specs.declared.kinds.TieScores.{TieScores}
 use Rattle.scores.specs.declared.kinds.Scored.{Scored}
 
 -- the least common multiple of the sizes of groups
@@ -71,3 +72,10 @@ pub record AreScores (kind : ScoreKind) (values : List ℤ) (scored : Scored) : 
   pub list : scored.list ≡ score_list kind values
   pub scale : scored.scale ≡ scale_of kind values
   pub sum : scored.sum ≡ score_sum kind values
+
+-- the tie groups of the values are scored by this kind, and all values
+pub record AreTieScores (kind : ScoreKind) (values : List ℤ) (scored : TieScores) :
+    Type 0 where
+  pub ties : scored.ties ≡ tie_groups values
+  pub scores : scored.scores ≡ map (λ t. score_of kind values t.value) (tie_groups values)
+  pub all : AreScores kind values scored.all

@@ -1,15 +1,16 @@
 // Place scores, averaged over equal values.
-ghost use Rattle.std.specs.Prelude.{◌≡◌, ◌+◌, ◌*◌, ◌/◌, ◌<◌, ◌≤◌, ℤ, pos, map, length, IfOk};
+ghost use Rattle.std.specs.Prelude.{◌≡◌, ◌+◌, ◌*◌, ◌/◌, ◌<◌, ◌≤◌, pos, map, length, IfOk};
 ghost use Rattle.std.specs.List.{All, sum};
-ghost use Rattle.midranks.specs.Ties.{tie_groups, values_in};
-ghost use Rattle.scores.specs.Scores.{common_size};
-ghost use Rattle.scores.specs.ScoreSteps.{IsScoredAs, averaged_scores, group_scores};
+ghost use Rattle.midranks.specs.Ties.{values_in};
+ghost use Rattle.scores.specs.Scores.{averaged, common_size};
+ghost use Rattle.scores.specs.ScoreSteps.{AreScoredBy, group_scores};
 ghost use Rattle.weights.specs.declared.TheConstants.{MAX};
 
-use crate::kinds::{ScoreFault, Scored};
+use crate::kinds::{ScoreFault, Scored, TieScores};
 use crate::multiples::multiple_of_sizes;
+use crate::spread::spread;
 use crate::sums::total;
-use midranks::{Tie, group_of, tie_groups};
+use midranks::{Tie, tie_groups};
 use std::alloc::Global;
 use weights::{Ints, NoMemory, bounded_product};
 
@@ -50,33 +51,19 @@ fn means(alloc: Global, ties: &[Tie], places: &[u128], multiple: u128) -> Result
     Ok(scores)
 }
 
-// The score of each value, from those of the tie groups.
-fn spread(alloc: Global, ties: &[Tie], scores: &[i128], values: &[i128]) -> Result<Ints, NoMemory>
-    requires groups { ties.now ≡ tie_groups values.now }
-    requires as_many { length scores.now ≡ length ties.now }
-    ensures { IfOk result (λ list. (f : ℤ → ℤ) → scores.now ≡ map (λ t. f t.value) ties.now
-        → list ≡ map f values.now) }
-{
-    let mut list = Ints::empty(alloc);
-    for value in values {
-        list.push(scores[group_of(ties, *value)])?;
-    }
-    Ok(list)
-}
-
 /// The scores of values by scores of their places, `unit` times as fine as the tie sizes ask for.
 pub(crate) fn averaged(
     alloc: Global,
     values: &[i128],
     places: &[u128],
     unit: u128,
-) -> Result<Scored, ScoreFault>
+) -> Result<TieScores, ScoreFault>
     requires as_many { length places.now ≡ length values.now }
     requires some { 0 < unit }
     requires most { unit ≤ MAX }
     requires small { 1 < length values.now → unit ≤ 2 * sum places.now }
     ensures { let scale = common_size values.now * unit in
-        IsScoredAs (averaged_scores places.now values.now) scale result }
+        AreScoredBy (λ v. pos (averaged places.now values.now v)) scale values.now result }
 {
     let groups = tie_groups(alloc, values)?;
     let ties = groups.as_slice();
@@ -85,9 +72,10 @@ pub(crate) fn averaged(
     let sum = bounded_product(multiple, total).ok_or(ScoreFault::TooWide)?;
     let scores = means(alloc, ties, places, multiple)?;
     let list = spread(alloc, ties, scores.as_slice(), values)?;
-    Ok(Scored {
-        list,
-        scale: multiple * unit,
-        sum,
+    let scale = multiple * unit;
+    Ok(TieScores {
+        ties: groups,
+        scores,
+        all: Scored { list, scale, sum },
     })
 }

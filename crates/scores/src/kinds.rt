@@ -1,4 +1,5 @@
 // The kinds of scores, and what is made of a list by one.
+use midranks::Ties;
 use thiserror::Error;
 use weights::{Ints, NoMemory};
 
@@ -38,6 +39,17 @@ pub struct Scored {
     pub scale: u128,
     /// The sum of the absolute values of the list.
     pub sum: u128,
+}
+
+/// The scores of the tie groups of a list of values, and of the list.
+#[derive(Drop)]
+pub struct TieScores {
+    /// The distinct values in ascending order, each with how often it occurs.
+    pub ties: Ties,
+    /// A whole number for each distinct value.
+    pub scores: Ints,
+    /// The scores of all values.
+    pub all: Scored,
 }
 
 /// Why there are no scores.

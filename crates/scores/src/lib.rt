@@ -10,11 +10,12 @@ mod places;
 mod ranks;
 mod raw;
 mod scores;
+mod spread;
 mod sums;
 mod whole;
 
-pub use kinds::{ScoreFault, ScoreKind, Scored};
+pub use kinds::{ScoreFault, ScoreKind, Scored, TieScores};
 pub use labelled_sums::labelled_sum;
 pub use multiples::common_multiple;
-pub use scores::scored;
+pub use scores::{scored, tie_scores};
 pub use whole::{WholeValues, whole_values};

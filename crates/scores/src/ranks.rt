@@ -1,24 +1,25 @@
 // Wilcoxon's scores.
 ghost use Rattle.std.specs.Prelude.{◌≤◌, length};
 ghost use Rattle.midranks.specs.declared.TheConstants.{MOST_VALUES};
-ghost use Rattle.scores.specs.Scores.{score_list};
-ghost use Rattle.scores.specs.ScoreSteps.{IsScoredAs};
+ghost use Rattle.scores.specs.Scores.{score_of};
+ghost use Rattle.scores.specs.ScoreSteps.{AreScoredBy};
 
-use crate::kinds::{ScoreFault, ScoreKind, Scored};
-use crate::sums::summed;
-use midranks::{MOST_VALUES, doubled};
+use crate::kinds::{ScoreFault, ScoreKind, TieScores};
+use crate::spread::scores_of_all;
+use midranks::{MOST_VALUES, group_ranks, tie_groups};
 use std::alloc::Global;
 use weights::Ints;
 
 /// The doubled midranks, over 2.
-pub(crate) fn wilcoxon(alloc: Global, values: &[i128]) -> Result<Scored, ScoreFault>
+pub(crate) fn wilcoxon(alloc: Global, values: &[i128]) -> Result<TieScores, ScoreFault>
     requires { length values.now ≤ MOST_VALUES }
-    ensures { IsScoredAs (score_list ScoreKind.Wilcoxon values.now) 2 result }
+    ensures { AreScoredBy (score_of ScoreKind.Wilcoxon values.now) 2 values.now result }
 {
-    let ranks = doubled(alloc, values)?;
-    let mut list = Ints::empty(alloc);
+    let ties = tie_groups(alloc, values)?;
+    let ranks = group_ranks(alloc, ties.as_slice())?;
+    let mut scores = Ints::empty(alloc);
     for rank in ranks.as_slice() {
-        list.push(*rank as i128)?;
+        scores.push(*rank as i128)?;
     }
-    summed(list, 2)
+    scores_of_all(alloc, ties, scores, values, 2)
 }

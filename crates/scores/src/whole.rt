@@ -7,8 +7,8 @@ ghost use Rattle.scores.specs.ScoreSteps.{AreWhole, is_multiple_of};
 use std::alloc::Global;
 use weights::{Ints, NoMemory};
 
-// One, in the unit of values.
-const ONE: u128 = 1_000_000_000_000_000_000;
+/// One, in the unit of values.
+pub(crate) const ONE: u128 = 1_000_000_000_000_000_000;
 
 /// Values times the least power of ten that makes them whole.
 #[derive(Drop)]
@@ -27,8 +27,8 @@ fn are_multiples(values: &[i128], unit: u128) -> bool
     values.iter().all(|value| value.unsigned_abs() % unit == 0)
 }
 
-// The greatest of 10^18, 10^17, .., 1 that divides all values.
-fn greatest_unit(values: &[i128]) -> u128
+/// The greatest of 10^18, 10^17, .., 1 that divides all values.
+pub(crate) fn greatest_unit(values: &[i128]) -> u128
     ensures { result ≡ 10 ^ (18 - decimals values.now) }
 {
     let mut unit = ONE;

@@ -11,7 +11,7 @@ use Rattle.std.proofs.lemmas.Bool.{leb-true}
 use Rattle.weights.specs.Labellings.{number_of_labellings}
 use Rattle.weights.proofs.Binomials.{binomial-zero, number_of_labellings-cons}
 use Rattle.weights.proofs.Sized.{first_and}
-use Rattle.sequence_tests.specs.KendallNetwork.{rises}
+use Rattle.sequence_tests.specs.KendallNetwork.{concordant_pairs}
 use Rattle.sequence_tests.proofs.CodeLaws.{padded, some, some-long, sum-first, sum-some}
 
 -- x with what stands where r is 0 moved to the end
@@ -145,25 +145,25 @@ labellings-arranged r x f = sym (labellings-some (arranged r x)) ∙ ap number_o
 pub sum-end : (xs : List ℕ) → sum (xs ++ 0 ∷ []) ≡ sum xs
 sum-end xs = omega (arith, sum_by-append (λ v. v) xs (0 ∷ []), sum-first 0 [])
 
-rises-end : (xs ys : List ℕ) → length xs ≡ length ys → rises (xs ++ 0 ∷ []) (ys ++ 0 ∷ []) ≡ rises xs ys
-rises-end [] [] e = refl
-rises-end [] (y ∷ ys) e = absurd (omega (arith, e))
-rises-end (x ∷ xs) [] e = absurd (omega (arith, e))
-rises-end (x ∷ xs) (y ∷ ys) e = rw (sum-end ys, rises-end xs ys (omega (arith, e))) refl
+concordant-end : (xs ys : List ℕ) → length xs ≡ length ys → concordant_pairs (xs ++ 0 ∷ []) (ys ++ 0 ∷ []) ≡ concordant_pairs xs ys
+concordant-end [] [] e = refl
+concordant-end [] (y ∷ ys) e = absurd (omega (arith, e))
+concordant-end (x ∷ xs) [] e = absurd (omega (arith, e))
+concordant-end (x ∷ xs) (y ∷ ys) e = rw (sum-end ys, concordant-end xs ys (omega (arith, e))) refl
 
-pub rises-arranged : (r x y : List ℕ) → length x ≡ length r → length y ≡ length r → fits x r ≡ true → fits y r ≡ true → rises (arranged r x) (arranged r y) ≡ rises x y
-rises-arranged [] x y e g f h = refl
-rises-arranged (r ∷ rs) [] y e g f h = absurd (omega (arith, e))
-rises-arranged (r ∷ rs) (a ∷ x) [] e g f h = absurd (omega (arith, g))
-rises-arranged (zero ∷ rs) (suc a ∷ x) (b ∷ y) e g f h = absurd (none-fits a x rs f)
-rises-arranged (zero ∷ rs) (zero ∷ x) (suc b ∷ y) e g f h = absurd (none-fits b y rs h)
-rises-arranged (zero ∷ rs) (zero ∷ x) (zero ∷ y) e g f h =
+pub concordant-arranged : (r x y : List ℕ) → length x ≡ length r → length y ≡ length r → fits x r ≡ true → fits y r ≡ true → concordant_pairs (arranged r x) (arranged r y) ≡ concordant_pairs x y
+concordant-arranged [] x y e g f h = refl
+concordant-arranged (r ∷ rs) [] y e g f h = absurd (omega (arith, e))
+concordant-arranged (r ∷ rs) (a ∷ x) [] e g f h = absurd (omega (arith, g))
+concordant-arranged (zero ∷ rs) (suc a ∷ x) (b ∷ y) e g f h = absurd (none-fits a x rs f)
+concordant-arranged (zero ∷ rs) (zero ∷ x) (suc b ∷ y) e g f h = absurd (none-fits b y rs h)
+concordant-arranged (zero ∷ rs) (zero ∷ x) (zero ∷ y) e g f h =
     let one : fits x rs ≡ true = (first_and (nat_le 0 0) (fits x rs) f).1 in
     let two : fits y rs ≡ true = (first_and (nat_le 0 0) (fits y rs) h).1 in
-    rises-end (arranged rs x) (arranged rs y) (length-arranged rs x (omega (arith, e)) ∙ sym (length-arranged rs y (omega (arith, g))))
-    ∙ rises-arranged rs x y (omega (arith, e)) (omega (arith, g)) one two
+    concordant-end (arranged rs x) (arranged rs y) (length-arranged rs x (omega (arith, e)) ∙ sym (length-arranged rs y (omega (arith, g))))
+    ∙ concordant-arranged rs x y (omega (arith, e)) (omega (arith, g)) one two
     ∙ omega arith
-rises-arranged (suc r ∷ rs) (a ∷ x) (b ∷ y) e g f h =
+concordant-arranged (suc r ∷ rs) (a ∷ x) (b ∷ y) e g f h =
     let one : fits x rs ≡ true = (first_and (nat_le a (suc r)) (fits x rs) f).1 in
     let two : fits y rs ≡ true = (first_and (nat_le b (suc r)) (fits y rs) h).1 in
-    rw (sum-arranged rs y two, rises-arranged rs x y (omega (arith, e)) (omega (arith, g)) one two) refl
+    rw (sum-arranged rs y two, concordant-arranged rs x y (omega (arith, e)) (omega (arith, g)) one two) refl

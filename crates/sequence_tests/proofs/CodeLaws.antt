@@ -7,7 +7,7 @@ use Rattle.std.proofs.Math.Nat.{mul-le-mul_left, mul-div_cancel_left, pow-le-pow
 use Rattle.std.proofs.lemmas.Nat.{pow-add, pow_pos}
 use Rattle.std.proofs.lemmas.List.Sums.{sum_by-cons, sum_by-take-drop}
 use Rattle.label_network.proofs.Rows.{write-more}
-use Rattle.sequence_tests.specs.Codes.{marks, with_count, last_mark, code, first_count, later_bits, counts_in, counts_of_code}
+use Rattle.sequence_tests.specs.CountCodes.{marks, with_count, last_mark, code, first_count, later_bits, counts_in, counts_of_code}
 
 pub sum-first : (x : ℕ) (xs : List ℕ) → sum (x ∷ xs) ≡ x + sum xs
 sum-first x xs = sum_by-cons (λ v. v) x xs

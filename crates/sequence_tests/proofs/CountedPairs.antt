@@ -8,7 +8,7 @@ use Rattle.weights.specs.Labellings.{counts_of}
 use Rattle.weights.proofs.Counted.{count_of}
 use Rattle.weights.proofs.Sums.{sum_by-plus, sum_by-same, sum_by-same_where, sum_by-swap, sum_by-times, sum_by-zero}
 use Rattle.sequence_tests.specs.Kendall.{one_where_greater, one_where_less}
-use Rattle.sequence_tests.specs.KendallNetwork.{rises}
+use Rattle.sequence_tests.specs.KendallNetwork.{concordant_pairs}
 use Rattle.sequence_tests.proofs.CodeLaws.{sum-first}
 
 -- the pairs of one of each list for which f says how much they add
@@ -58,12 +58,12 @@ less-is x y = elim (leb_tells (x + 1) y) [
 above-is : (s n : ℕ) (ys : List ℕ) → AllByRecursion (λ y. y < s + suc n) ys → sum (map (λ i. count_of i ys) (range_with_len (s + 1) n)) ≡ sum_by (λ y. one_where_less s y) ys
 above-is s n ys a = counted-from n (s + 1) ys (below-next s n ys a) ∙ sym (sum_by-same _ _ (less-is s) ys)
 
-rises-from : (n s : ℕ) (xs ys : List ℕ) → AllByRecursion (λ x. x < s + n) xs → AllByRecursion (λ y. y < s + n) ys
-    → rises (map (λ i. count_of i xs) (range_with_len s n)) (map (λ i. count_of i ys) (range_with_len s n)) ≡ sum_by (λ x. cond (nat_le s x) (sum_by (λ y. one_where_less x y) ys) 0) xs
-rises-from zero s xs ys a b = sym (none-below s (λ x. sum_by (λ y. one_where_less x y) ys) xs a)
-rises-from (suc n) s xs ys a b =
-    ap (λ m. count_of s xs * m + rises (map (λ i. count_of i xs) (range_with_len (s + 1) n)) (map (λ i. count_of i ys) (range_with_len (s + 1) n))) (above-is s n ys b)
-    ∙ ap (λ m. count_of s xs * sum_by (λ y. one_where_less s y) ys + m) (rises-from n (s + 1) xs ys (below-next s n xs a) (below-next s n ys b))
+concordant-from : (n s : ℕ) (xs ys : List ℕ) → AllByRecursion (λ x. x < s + n) xs → AllByRecursion (λ y. y < s + n) ys
+    → concordant_pairs (map (λ i. count_of i xs) (range_with_len s n)) (map (λ i. count_of i ys) (range_with_len s n)) ≡ sum_by (λ x. cond (nat_le s x) (sum_by (λ y. one_where_less x y) ys) 0) xs
+concordant-from zero s xs ys a b = sym (none-below s (λ x. sum_by (λ y. one_where_less x y) ys) xs a)
+concordant-from (suc n) s xs ys a b =
+    ap (λ m. count_of s xs * m + concordant_pairs (map (λ i. count_of i xs) (range_with_len (s + 1) n)) (map (λ i. count_of i ys) (range_with_len (s + 1) n))) (above-is s n ys b)
+    ∙ ap (λ m. count_of s xs * sum_by (λ y. one_where_less s y) ys + m) (concordant-from n (s + 1) xs ys (below-next s n xs a) (below-next s n ys b))
     ∙ sym (split s (λ x. sum_by (λ y. one_where_less x y) ys) xs)
 
 from-zero : (k : ℕ) (xs : List ℕ) → AllByRecursion (λ x. x < k) xs → AllByRecursion (λ x. x < 0 + k) xs
@@ -71,10 +71,10 @@ from-zero k [] a = tt
 from-zero k (x ∷ xs) a = (omega (arith, a.0), from-zero k xs a.1)
 
 -- pairs that rise, by the counts of the labels
-pub rises-are : (k : ℕ) (xs ys : List ℕ) → AllByRecursion (λ x. x < k) xs → AllByRecursion (λ y. y < k) ys → rises (counts_of k xs) (counts_of k ys) ≡ crossed one_where_less xs ys
-rises-are k xs ys a b =
-    rises-from k 0 xs ys (from-zero k xs a) (from-zero k ys b)
+pub concordant-are : (k : ℕ) (xs ys : List ℕ) → AllByRecursion (λ x. x < k) xs → AllByRecursion (λ y. y < k) ys → concordant_pairs (counts_of k xs) (counts_of k ys) ≡ crossed one_where_less xs ys
+concordant-are k xs ys a b =
+    concordant-from k 0 xs ys (from-zero k xs a) (from-zero k ys b)
     ∙ sum_by-same (λ x. cond (nat_le 0 x) (sum_by (λ y. one_where_less x y) ys) 0) (λ x. sum_by (λ y. one_where_less x y) ys) (λ x. rw (le-leb 0 x (omega arith)) refl) xs
 
-pub falls-are : (k : ℕ) (xs ys : List ℕ) → AllByRecursion (λ x. x < k) xs → AllByRecursion (λ y. y < k) ys → rises (counts_of k ys) (counts_of k xs) ≡ crossed one_where_greater xs ys
-falls-are k xs ys a b = rises-are k ys xs b a ∙ sum_by-swap (λ y x. one_where_less y x) ys xs
+pub discordant-are : (k : ℕ) (xs ys : List ℕ) → AllByRecursion (λ x. x < k) xs → AllByRecursion (λ y. y < k) ys → concordant_pairs (counts_of k ys) (counts_of k xs) ≡ crossed one_where_greater xs ys
+discordant-are k xs ys a b = concordant-are k ys xs b a ∙ sum_by-swap (λ y x. one_where_less y x) ys xs

@@ -20,6 +20,7 @@ use Rattle.midranks.proofs.TieLemmas.{all-weaker, groups-ascend}
 use Rattle.sample_reader.specs.Bivariate.{BivariateData}
 use Rattle.sample_reader.specs.Groups.{GroupData}
 use Rattle.sample_reader.specs.PooledSample.{labels_of, values_of}
+use Rattle.sample_reader.specs.declared.samples.BivariateSample.{BivariateSample}
 use Rattle.sample_reader.specs.declared.subjects.Subject.{Subject}
 use Rattle.stage_network.specs.Follows.{Follows}
 use Rattle.stage_network.specs.Judged.{judge_of}
@@ -41,6 +42,16 @@ use Rattle.sequence_tests.proofs.KendallPlans.{kendall_gives, moved}
 use Rattle.sequence_tests.proofs.KendallValues.{value-is, values_of_ties}
 use Rattle.sequence_tests.proofs.PairSums.{statistic-few}
 use Rattle.sequence_tests.proofs.Places.{groups-few, places-below, places-counted, sizes-sum}
+
+-- ---- of a sample that was read
+
+pub read-paired : (sample : BivariateSample) → length sample.second ≡ length sample.first
+read-paired sample = sample.one_second_each ∙ sym sample.one_first_each
+
+pub read-few : (sample : BivariateSample) → length sample.first ≤ 120
+read-few sample = omega (arith, sample.one_first_each, sample.few_enough)
+
+-- ---- of its two values of each subject
 
 pub value-fits : (v : ℤ) → unsigned_abs v ≤ 14400 → RuleFits (Far 1 (pos 0) 0) v
 value-fits v h = far-fits 1 (pos 0) v (lit≤ tt) (omega (arith, h))

@@ -16,33 +16,37 @@ use Rattle.room_network.specs.Meanings.{AreReached, IsMeasure}
 use Rattle.room_network.specs.Plans.{alone}
 use Rattle.room_network.specs.Numbers.{IsNumber, IsOutcome, so_far}
 use Rattle.room_network.specs.declared.numbers.Operation.TheVariants.{Sum}
-use Rattle.sequence_tests.specs.KendallNetwork.{added, kendall_meaning, kendall_numbers, open_pairs, rises, turn}
+use Rattle.sequence_tests.specs.KendallNetwork.{added, kendall_meaning, kendall_numbers, open_pairs, pairs_among, concordant_pairs, concordance}
 use Rattle.sequence_tests.specs.KendallRooms.{counts_left, kendall_floor, kendall_plan}
 use Rattle.sequence_tests.specs.KendallSteps.{AreKendallCounts, IsKendall}
 use Rattle.sequence_tests.proofs.CodeLaws.{sum-first}
 use Rattle.sequence_tests.proofs.KendallPlans.{after-few, choice, choice-few, left-sum}
 
 -- pairs of a subject here and a later one, whose second values are not equal
-pub rises-most : (x y : List ℕ) → rises x y + rises y x ≤ sum x * sum y
-rises-most [] [] = omega arith
-rises-most [] (b ∷ y) = omega arith
-rises-most (a ∷ x) [] = omega arith
-rises-most (a ∷ x) (b ∷ y) =
-    rw (sum-first a x, sum-first b y) (omega (arith, rises-most x y))
+pub concordant-most : (x y : List ℕ) → concordant_pairs x y + concordant_pairs y x ≤ sum x * sum y
+concordant-most [] [] = omega arith
+concordant-most [] (b ∷ y) = omega arith
+concordant-most (a ∷ x) [] = omega arith
+concordant-most (a ∷ x) (b ∷ y) =
+    rw (sum-first a x, sum-first b y) (omega (arith, concordant-most x y))
 
-turn-low : (x y : List ℕ) → (pos 0 -ℤ pos (sum x * sum y)) ≤ℤ turn x y
-turn-low x y = omega (arith, ints, rises-most x y)
+concordance-low : (x y : List ℕ) → (pos 0 -ℤ pos (sum x * sum y)) ≤ℤ concordance x y
+concordance-low x y = omega (arith, ints, concordant-most x y)
 
-turn-high : (x y : List ℕ) → turn x y ≤ℤ pos (sum x * sum y)
-turn-high x y = omega (arith, ints, rises-most x y)
+concordance-high : (x y : List ℕ) → concordance x y ≤ℤ pos (sum x * sum y)
+concordance-high x y = omega (arith, ints, concordant-most x y)
 
-all-pairs : (cs : List ℕ) → sum cs ≤ 120 → rises cs cs ≤ 14400
-all-pairs cs h = omega (arith, rises-most cs cs, mul-le-mul h h)
+pub concordant-among : (cs : List ℕ) → concordant_pairs cs cs ≡ pairs_among cs
+concordant-among [] = refl
+concordant-among (c ∷ cs) = ap (λ n. c * sum cs + n) (concordant-among cs)
+
+all-pairs : (cs : List ℕ) → sum cs ≤ 120 → pairs_among cs ≤ 14400
+all-pairs cs h = omega (arith, concordant-among cs, concordant-most cs cs, mul-le-mul h h)
 
 open-next : (columns : List ℕ) (g : ℕ) → g < length columns → open_pairs columns g ≡ slice_index columns g * sum (drop (g + 1) columns) + open_pairs columns (g + 1)
 open-next columns g h =
     let split : drop g columns ≡ get_or columns g 0 ∷ drop (g + 1) columns = rw add-one (drop-cons columns g 0 h) in
-    ap (λ cs. rises cs cs) split
+    ap pairs_among split
 
 open-end : (columns : List ℕ) (g : ℕ) → length columns ≤ g → open_pairs columns g ≡ 0
 open-end columns g h = rw (drop_of_length-le columns {i = g} h) refl
@@ -64,8 +68,8 @@ module _ (columns rows : List ℕ) (judge : Judge) where
     chosen : IsChoice (slice_index columns g) left c
     chosen = choice columns rows a g room r c o
 
-    pub turn-few : unsigned_abs (added columns (length rows) g room c) ≤ 14400
-    turn-few = omega (arith, ints, turn-low c (minus left c), turn-high c (minus left c), mul-le-mul (choice-few columns rows a g room r c o) (after-few columns rows a g room r c o))
+    pub added-few : unsigned_abs (added columns (length rows) g room c) ≤ 14400
+    added-few = omega (arith, ints, concordance-low c (minus left c), concordance-high c (minus left c), mul-le-mul (choice-few columns rows a g room r c o) (after-few columns rows a g room r c o))
 
     placed : sum c * sum (minus left c) ≡ slice_index columns g * sum (drop (g + 1) columns)
     placed =
@@ -77,10 +81,10 @@ module _ (columns rows : List ℕ) (judge : Judge) where
     narrower = rw placed (open-next columns g before)
 
     pub rising : (s : ℤ) → (s +ℤ (pos 0 -ℤ pos (open_pairs columns g))) ≤ℤ ((s +ℤ added columns (length rows) g room c) +ℤ (pos 0 -ℤ pos (open_pairs columns (g + 1))))
-    rising s = omega (arith, ints, narrower, turn-low c (minus left c))
+    rising s = omega (arith, ints, narrower, concordance-low c (minus left c))
 
     pub falling : (s : ℤ) → ((s +ℤ added columns (length rows) g room c) +ℤ pos (open_pairs columns (g + 1))) ≤ℤ (s +ℤ pos (open_pairs columns g))
-    falling s = omega (arith, ints, narrower, turn-high c (minus left c))
+    falling s = omega (arith, ints, narrower, concordance-high c (minus left c))
 
   less-none : (s : ℤ) → s +ℤ (pos 0 -ℤ pos (open_pairs columns (length columns))) ≡ s
   less-none s = rw (open-end columns (length columns) (omega arith)) (omega (arith, ints))
@@ -122,7 +126,7 @@ module _ (columns rows : List ℕ) (judge : Judge) where
   pub kendall_number : IsKendall columns rows judge → IsNumber (kendall_floor columns rows) (kendall_numbers columns rows judge)
   kendall_number h = record {
     narrows = kendall_measure h.counts;
-    steps = λ g room c p v. omega (arith, partial-few h.counts g room p v.reached, turn-few h.counts g room (room-reached g room p v.reached) v.before c v.allowed);
+    steps = λ g room c p v. omega (arith, partial-few h.counts g room p v.reached, added-few h.counts g room (room-reached g room p v.reached) v.before c v.allowed);
     lows = λ g room p r. low-outcome h.counts g room p r h.rules_fit;
     highs = λ g room p r. high-outcome h.counts g room p r h.rules_fit;
   }

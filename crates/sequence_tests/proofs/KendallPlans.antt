@@ -22,7 +22,7 @@ use Rattle.label_network.proofs.Differing.{choices-differ}
 use Rattle.label_network.proofs.LaterChoices.{least-first}
 use Rattle.label_network.proofs.Narrowing.{chosen, fits-self, minus-within}
 use Rattle.label_network.proofs.Sizes.{fewer-labellings}
-use Rattle.sequence_tests.specs.Codes.{code, counts_of_code}
+use Rattle.sequence_tests.specs.CountCodes.{code, counts_of_code}
 use Rattle.sequence_tests.specs.KendallRooms.{counts_left, kendall_plan, room_of_counts}
 use Rattle.sequence_tests.specs.KendallSteps.{AreKendallCounts}
 use Rattle.sequence_tests.proofs.Arranged.{arranged, choices-arranged, labellings-arranged, length-arranged, minus-arranged, padded-some, some-arranged, sum-arranged}

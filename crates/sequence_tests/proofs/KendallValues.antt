@@ -21,11 +21,11 @@ use Rattle.label_network.specs.LaterSums.{subjects}
 use Rattle.room_network.specs.Numbers.{so_far}
 use Rattle.label_network.proofs.Narrowing.{fits-self, minus-within}
 use Rattle.sequence_tests.specs.Kendall.{kendall_statistic, one_where_greater, one_where_less, over_pairs}
-use Rattle.sequence_tests.specs.KendallNetwork.{added, kendall_meaning, rises, turn}
+use Rattle.sequence_tests.specs.KendallNetwork.{added, kendall_meaning, concordant_pairs, concordance}
 use Rattle.sequence_tests.specs.KendallRooms.{room_of_counts}
-use Rattle.sequence_tests.proofs.Arranged.{arranged, minus-arranged, rises-arranged}
+use Rattle.sequence_tests.proofs.Arranged.{arranged, minus-arranged, concordant-arranged}
 use Rattle.sequence_tests.proofs.CodeLaws.{sum-first}
-use Rattle.sequence_tests.proofs.CountedPairs.{crossed, falls-are, rises-are}
+use Rattle.sequence_tests.proofs.CountedPairs.{crossed, discordant-are, concordant-are}
 use Rattle.sequence_tests.proofs.KendallPlans.{AreFor, counts-are, moved, next-is}
 
 -- ---- subjects in two parts
@@ -160,20 +160,20 @@ all-drop P (suc c) (x ∷ xs) a = all-drop P c xs a.1
 -- ---- the network
 
 -- what is added by counts that stand as the room's do
-pub left-turn : (r c : List ℕ) → length c ≡ length r → fits c r ≡ true → turn (arranged r c) (minus (arranged r r) (arranged r c)) ≡ turn c (minus r c)
-left-turn r c e f =
+pub left-concordance : (r c : List ℕ) → length c ≡ length r → fits c r ≡ true → concordance (arranged r c) (minus (arranged r r) (arranged r c)) ≡ concordance c (minus r c)
+left-concordance r c e f =
     let left : minus (arranged r r) (arranged r c) ≡ arranged r (minus r c) = minus-arranged r r c refl e in
     let within : fits (minus r c) r ≡ true = minus-within r c r f (fits-self r) in
-    let up : rises (arranged r c) (arranged r (minus r c)) ≡ rises c (minus r c) = rises-arranged r c (minus r c) e (length-minus r c) f within in
-    let down : rises (arranged r (minus r c)) (arranged r c) ≡ rises (minus r c) c = rises-arranged r (minus r c) c (length-minus r c) e within f in
-    ap (turn (arranged r c)) left ∙ rw (up, down) refl
+    let up : concordant_pairs (arranged r c) (arranged r (minus r c)) ≡ concordant_pairs c (minus r c) = concordant-arranged r c (minus r c) e (length-minus r c) f within in
+    let down : concordant_pairs (arranged r (minus r c)) (arranged r c) ≡ concordant_pairs (minus r c) c = concordant-arranged r (minus r c) c (length-minus r c) e within f in
+    ap (concordance (arranged r c)) left ∙ rw (up, down) refl
 
 module _ (columns rows : List ℕ) (judge : Judge) where
   abbrev k : ℕ
   k = length rows
 
-  turn-is : (xs ys : List ℕ) → AllByRecursion (λ x. x < k) xs → AllByRecursion (λ y. y < k) ys → turn (counts_of k xs) (counts_of k ys) ≡ pos (crossed one_where_less xs ys) -ℤ pos (crossed one_where_greater xs ys)
-  turn-is xs ys a b = rw (rises-are k xs ys a b, falls-are k xs ys a b) refl
+  concordance-is : (xs ys : List ℕ) → AllByRecursion (λ x. x < k) xs → AllByRecursion (λ y. y < k) ys → concordance (counts_of k xs) (counts_of k ys) ≡ pos (crossed one_where_less xs ys) -ℤ pos (crossed one_where_greater xs ys)
+  concordance-is xs ys a b = rw (concordant-are k xs ys a b, discordant-are k xs ys a b) refl
 
   value-from : (cs : List ℕ) (g : ℕ) (q : List ℤ) (xs : List ℕ) → drop g columns ≡ cs → length xs ≡ sum cs → length xs ≤ 120 → AllByRecursion (λ x. x < k) xs
       → so_far (partial_after (kendall_meaning columns rows judge) g (room_of_counts (counts_of k xs)) q (moved (counts_of k xs) (columns_of k cs xs))) ≡ so_far q +ℤ (pos (by_stages one_where_less cs xs) -ℤ pos (by_stages one_where_greater cs xs))
@@ -189,7 +189,7 @@ module _ (columns rows : List ℕ) (judge : Judge) where
       let for : AreFor columns rows g r = record { long = length-counts_of k xs; whole = ap sum d ∙ sym long ∙ sym whole; few = omega (arith, whole, few) } in
       let next = next-is columns rows g r x for x_long both.0 ∙ ap room_of_counts both.1 in
       let add : added columns k g (room_of_counts r) (arranged r x) ≡ pos (crossed one_where_less (take c xs) (drop c xs)) -ℤ pos (crossed one_where_greater (take c xs) (drop c xs)) =
-      ap (λ s. turn (arranged r x) (minus s (arranged r x))) (counts-are columns rows g r for) ∙ left-turn r x x_long both.0 ∙ ap (turn x) both.1 ∙ turn-is (take c xs) (drop c xs) (all-take (λ x. x < k) c xs a) (all-drop (λ x. x < k) c xs a) in
+      ap (λ s. concordance (arranged r x) (minus s (arranged r x))) (counts-are columns rows g r for) ∙ left-concordance r x x_long both.0 ∙ ap (concordance x) both.1 ∙ concordance-is (take c xs) (drop c xs) (all-take (λ x. x < k) c xs a) (all-drop (λ x. x < k) c xs a) in
       let t : ℤ = added columns k g (room_of_counts r) (arranged r x) in
       ap (λ room. so_far (partial_after (kendall_meaning columns rows judge) (g + 1) room ((so_far q +ℤ t) ∷ []) (moved (minus r x) (columns_of k cs (drop c xs))))) next
       ∙ ap (λ s. so_far (partial_after (kendall_meaning columns rows judge) (g + 1) (room_of_counts z) ((so_far q +ℤ t) ∷ []) (moved s (columns_of k cs (drop c xs))))) both.1

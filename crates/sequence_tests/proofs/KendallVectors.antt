@@ -6,7 +6,7 @@ use Rattle.weights.specs.declared.tails.Tail.TheVariants.{Less, Greater, Two}
 use Rattle.midranks.specs.Ties.{tie_groups}
 use Rattle.sample_reader.specs.Bivariate.{BivariateData}
 use Rattle.sample_reader.specs.PooledSample.{paired_subjects}
-use Rattle.sequence_tests.specs.Codes.{code}
+use Rattle.sequence_tests.specs.CountCodes.{code}
 use Rattle.sequence_tests.specs.Kendall.{kendall_test, places_of}
 use Rattle.sequence_tests.specs.TurnedKendall.{turned_bivariate}
 

@@ -6,18 +6,18 @@ pub mod KendallNarrows
 pub mod CountedPairs
 pub mod KendallValues
 pub mod PairLoops
-pub mod KendallParts
+pub mod KendallSeats
 pub mod PairSums
 pub mod Places
 pub mod KendallFitting
 mod TableSums
 mod TurnedSums
-mod SameSum
+mod TurnedObserved
 mod TurnedRatios
 pub mod RunNarrows
 pub mod RunKeys
 pub mod RunValues
 pub mod RunWriting
-pub mod FittingRuns
+pub mod RunsFitting
 mod KendallVectors
 pub mod RunVectors

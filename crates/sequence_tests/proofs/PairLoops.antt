@@ -3,8 +3,8 @@ use Rattle.std.proofs.Common.{◌≡◌, ℕ, ◌+◌, ◌-◌, ◌*◌, ◌<◌
 use Rattle.std.specs.List.{sum}
 use Rattle.std.proofs.Math.Nat.{mul-le-mul}
 use Rattle.std.proofs.lemmas.List.Sums.{sum_by-cons, sum_by-take-drop}
-use Rattle.sequence_tests.specs.KendallNetwork.{rises}
-use Rattle.sequence_tests.proofs.KendallNarrows.{rises-most}
+use Rattle.sequence_tests.specs.KendallNetwork.{concordant_pairs}
+use Rattle.sequence_tests.proofs.KendallNarrows.{concordant-most}
 
 -- the pairs of the places from i on, and what stands later there
 pub record IsPairing (here later : List ℕ) (i pairs greater : ℕ) : Type 0 where
@@ -12,7 +12,7 @@ pub record IsPairing (here later : List ℕ) (i pairs greater : ℕ) : Type 0 wh
   pub few_here : sum here ≤ 120
   pub few_later : sum later ≤ 120
   pub within : i ≤ length here
-  pub pairs_are : pairs ≡ rises (drop i here) (drop i later)
+  pub pairs_are : pairs ≡ concordant_pairs (drop i here) (drop i later)
   pub greater_is : greater ≡ sum (drop i later)
 
 -- one place further to the front
@@ -29,8 +29,8 @@ pairing-next {here = here} {later = later} {i = i} {pairs = pairs} {greater = gr
     let first : drop (i - 1) here ≡ get_or here (i - 1) 0 ∷ drop i here = subst (λ n. drop (i - 1) here ≡ get_or here (i - 1) 0 ∷ drop n here) back (rw add-one (drop-cons here (i - 1) 0 (omega (arith, some, k.within)))) in
     let second : drop (i - 1) later ≡ get_or later (i - 1) 0 ∷ drop i later = subst (λ n. drop (i - 1) later ≡ get_or later (i - 1) 0 ∷ drop n later) back (rw add-one (drop-cons later (i - 1) 0 (omega (arith, some, k.within, k.long)))) in
     let sums : sum (drop (i - 1) later) ≡ get_or later (i - 1) 0 + greater = ap sum second ∙ sum_by-cons (λ v. v) (get_or later (i - 1) 0) (drop i later) ∙ ap (λ n. get_or later (i - 1) 0 + n) (sym k.greater_is) in
-    let all : rises (drop (i - 1) here) (drop (i - 1) later) ≡ get_or here (i - 1) 0 * greater + pairs = rw (first, second, k.greater_is, k.pairs_are) refl in
-    let few : rises (drop (i - 1) here) (drop (i - 1) later) ≤ 14400 = omega (arith, rises-most (drop (i - 1) here) (drop (i - 1) later), mul-le-mul (drop-few here (i - 1) k.few_here) (drop-few later (i - 1) k.few_later)) in
+    let all : concordant_pairs (drop (i - 1) here) (drop (i - 1) later) ≡ get_or here (i - 1) 0 * greater + pairs = rw (first, second, k.greater_is, k.pairs_are) refl in
+    let few : concordant_pairs (drop (i - 1) here) (drop (i - 1) later) ≤ 14400 = omega (arith, concordant-most (drop (i - 1) here) (drop (i - 1) later), mul-le-mul (drop-few here (i - 1) k.few_here) (drop-few later (i - 1) k.few_later)) in
     record {
       product_fits = omega (arith, all, few);
       pairs_fit = omega (arith, all, few);

@@ -10,15 +10,10 @@ use Rattle.sample_reader.specs.PooledSample.{paired_subjects}
 use Rattle.sample_reader.specs.declared.subjects.Subject.{Subject}
 use Rattle.sequence_tests.specs.Kendall.{kendall_statistic, one_where_greater, one_where_less, over_pairs}
 use Rattle.sequence_tests.specs.KendallSteps.{ordered, pairs_with}
+use Rattle.pooled_columns.proofs.PooledValues.{length-paired}
 
 abbrev pub no_subject : Subject
 no_subject = record { value = pos 0; label = 0 }
-
-pub length-paired : (firsts : List ℤ) (xs : List ℕ) → length xs ≡ length firsts → length (paired_subjects firsts xs) ≡ length firsts
-unfolding paired_subjects
-length-paired [] xs e = refl
-length-paired (v ∷ firsts) [] e = absurd (omega (arith, e))
-length-paired (v ∷ firsts) (x ∷ xs) e = ap suc (length-paired firsts xs (omega (arith, e)))
 
 paired-at : (firsts : List ℤ) (xs : List ℕ) (i : ℕ) → length xs ≡ length firsts → i < length firsts → get_or (paired_subjects firsts xs) i no_subject ≡ record { value = get_or firsts i (pos 0); label = get_or xs i 0 }
 unfolding paired_subjects
@@ -27,29 +22,29 @@ paired-at (v ∷ firsts) [] i e h = absurd (omega (arith, e))
 paired-at (v ∷ firsts) (x ∷ xs) zero e h = refl
 paired-at (v ∷ firsts) (x ∷ xs) (suc i) e h = paired-at firsts xs i (omega (arith, e)) (omega (arith, h))
 
-module _ (rises : Bool) (firsts : List ℤ) (xs : List ℕ) (long : length xs ≡ length firsts) where
+module _ (concordant : Bool) (firsts : List ℤ) (xs : List ℕ) (long : length xs ≡ length firsts) where
   abbrev ss : List Subject
   ss = paired_subjects firsts xs
 
   -- one subject more that another is paired with
-  pub with-next : (v : ℤ) (x i : ℕ) → i < length firsts → pairs_with rises v x (take i ss) + cond (int_lt v (get_or firsts i (pos 0))) (ordered rises x (get_or xs i 0)) 0 ≡ pairs_with rises v x (take (i + 1) ss)
+  pub with-next : (v : ℤ) (x i : ℕ) → i < length firsts → pairs_with concordant v x (take i ss) + cond (int_lt v (get_or firsts i (pos 0))) (ordered concordant x (get_or xs i 0)) 0 ≡ pairs_with concordant v x (take (i + 1) ss)
   with-next v x i h =
-      let more = sum_by_more (λ (b : Subject). cond (int_lt v b.value) (ordered rises x b.label) 0) ss i no_subject (omega (arith, h, length-paired firsts xs long)) in
-      let term = ap (λ (b : Subject). cond (int_lt v b.value) (ordered rises x b.label) 0) (paired-at firsts xs i long h) in
+      let more = sum_by_more (λ (b : Subject). cond (int_lt v b.value) (ordered concordant x b.label) 0) ss i no_subject (omega (arith, h, length-paired firsts xs long)) in
+      let term = ap (λ (b : Subject). cond (int_lt v b.value) (ordered concordant x b.label) 0) (paired-at firsts xs i long h) in
       omega (arith, more, term)
 
-  pub with-all : (v : ℤ) (x i : ℕ) → length firsts ≤ i → pairs_with rises v x (take i ss) ≡ pairs_with rises v x ss
-  with-all v x i h = ap (pairs_with rises v x) (take_all i ss (omega (arith, h, length-paired firsts xs long)))
+  pub with-all : (v : ℤ) (x i : ℕ) → length firsts ≤ i → pairs_with concordant v x (take i ss) ≡ pairs_with concordant v x ss
+  with-all v x i h = ap (pairs_with concordant v x) (take_all i ss (omega (arith, h, length-paired firsts xs long)))
 
   -- one subject more
-  pub over-next : (i : ℕ) → i < length firsts → over_pairs (ordered rises) (take i ss) ss + pairs_with rises (get_or firsts i (pos 0)) (get_or xs i 0) ss ≡ over_pairs (ordered rises) (take (i + 1) ss) ss
+  pub over-next : (i : ℕ) → i < length firsts → over_pairs (ordered concordant) (take i ss) ss + pairs_with concordant (get_or firsts i (pos 0)) (get_or xs i 0) ss ≡ over_pairs (ordered concordant) (take (i + 1) ss) ss
   over-next i h =
-      let more = sum_by_more (λ (a : Subject). pairs_with rises a.value a.label ss) ss i no_subject (omega (arith, h, length-paired firsts xs long)) in
-      let term = ap (λ (a : Subject). pairs_with rises a.value a.label ss) (paired-at firsts xs i long h) in
+      let more = sum_by_more (λ (a : Subject). pairs_with concordant a.value a.label ss) ss i no_subject (omega (arith, h, length-paired firsts xs long)) in
+      let term = ap (λ (a : Subject). pairs_with concordant a.value a.label ss) (paired-at firsts xs i long h) in
       omega (arith, more, term)
 
-  pub over-all : (i : ℕ) → length firsts ≤ i → over_pairs (ordered rises) (take i ss) ss ≡ over_pairs (ordered rises) ss ss
-  over-all i h = ap (λ here. over_pairs (ordered rises) here ss) (take_all i ss (omega (arith, h, length-paired firsts xs long)))
+  pub over-all : (i : ℕ) → length firsts ≤ i → over_pairs (ordered concordant) (take i ss) ss ≡ over_pairs (ordered concordant) ss ss
+  over-all i h = ap (λ here. over_pairs (ordered concordant) here ss) (take_all i ss (omega (arith, h, length-paired firsts xs long)))
 
 -- ---- how large K is
 

@@ -14,7 +14,7 @@ use Rattle.label_network.proofs.OverRooms.{over_place}
 use Rattle.label_network.proofs.Narrowing.{IsLeft, chosen}
 use Rattle.label_network.proofs.Rows.{length-abs}
 use Rattle.label_network.proofs.Sizes.{sizes-of_pos}
-use Rattle.sequence_tests.specs.RunCounts.{firsts_in, last_in, least_to_come, most_to_come, runs_meaning, runs_outlook, runs_so_far, seconds_in}
+use Rattle.sequence_tests.specs.RunNetwork.{firsts_in, last_in, least_to_come, most_to_come, runs_meaning, runs_outlook, runs_so_far, seconds_in}
 use Rattle.sequence_tests.specs.RunSteps.{RunSeat, least_left, most_left, AreRunNumbers, AreTwoSizes, IsRunning}
 use Rattle.sequence_tests.proofs.RunNarrows.{IsPartial, reached_left, reached_partial, sum-ones, sum-two, two-of}
 

@@ -13,7 +13,7 @@ use Rattle.weights.proofs.Sized.{first_and, length-minus}
 use Rattle.label_network.specs.Meanings.{AreReached, IsMeasure, Meaning}
 use Rattle.label_network.proofs.Narrowing.{IsLeft, IsNarrowing, measured, reached-kept, reached-left}
 use Rattle.sequence_tests.proofs.CodeLaws.{sum-first}
-use Rattle.sequence_tests.specs.RunCounts.{begins_run, firsts_in, label_in, last_in, least_to_come, most_to_come, runs_meaning, runs_so_far, seconds_in}
+use Rattle.sequence_tests.specs.RunNetwork.{begins_run, firsts_in, label_in, last_in, least_to_come, most_to_come, runs_meaning, runs_so_far, seconds_in}
 
 pub sum-two : (a b : ℕ) → sum (a ∷ b ∷ []) ≡ a + b
 sum-two a b = omega (arith, sum-first a (b ∷ []), sum-first b [])

@@ -8,7 +8,7 @@ use Rattle.weights.specs.Labellings.{counts_of}
 use Rattle.stage_network.specs.declared.verdicts.Judge.{Judge}
 use Rattle.label_network.proofs.Endings.{labelling_value, partial_after}
 use Rattle.label_network.specs.Meanings.{Meaning}
-use Rattle.sequence_tests.specs.RunCounts.{begins_run, label_in, runs_meaning, runs_so_far}
+use Rattle.sequence_tests.specs.RunNetwork.{begins_run, label_in, runs_meaning, runs_so_far}
 use Rattle.sequence_tests.proofs.RunNarrows.{begins-few}
 use Rattle.sequence_tests.specs.Runs.{blocks, put_before, runs}
 

@@ -21,7 +21,7 @@ use Rattle.stage_network.specs.Network.{Network, IsReached}
 use Rattle.stage_network.specs.Written.{RunsFor, StandsFor}
 use Rattle.label_network.specs.LabelNetwork.{label_network}
 use Rattle.label_network.proofs.Narrowing.{chosen}
-use Rattle.sequence_tests.specs.RunCounts.{begins_run, labels_for, runs_meaning, sequence_meaning, written_network, written_runs}
+use Rattle.sequence_tests.specs.RunNetwork.{begins_run, labels_for, runs_meaning, sequence_meaning, written_network, written_runs}
 use Rattle.sequence_tests.specs.Runs.{rows_with, runs_test}
 use Rattle.sequence_tests.proofs.RunNarrows.{IsOne, here, one-each, one_first, one_second}
 

@@ -16,9 +16,9 @@ use Rattle.turned_tables.specs.Turned.{fronted, turned}
 use Rattle.turned_tables.proofs.Shapes.{length-across}
 use Rattle.turned_tables.proofs.TurnedLines.{AreLong, across, across-fronted, level-turned, long-turned, totals-turned}
 use Rattle.sequence_tests.specs.Kendall.{kendall_statistic, one_where_greater, one_where_less, over_pairs}
-use Rattle.sequence_tests.specs.KendallNetwork.{rises}
+use Rattle.sequence_tests.specs.KendallNetwork.{concordant_pairs}
 use Rattle.sequence_tests.proofs.CodeLaws.{sum-first}
-use Rattle.sequence_tests.proofs.CountedPairs.{crossed, falls-are, rises-are}
+use Rattle.sequence_tests.proofs.CountedPairs.{crossed, discordant-are, concordant-are}
 use Rattle.sequence_tests.proofs.KendallValues.{all-drop, all-take, by_stages, counts_in, pairs-are, values_of_ties}
 
 -- what each column and the later ones add, of a table of so many rows
@@ -27,11 +27,11 @@ over_later f k [] = 0
 over_later f k (x ∷ w) = f x (across k w) + over_later f k w
 
 -- the pairs whose row is less for the later subject
-abbrev falls : List ℕ → List ℕ → ℕ
-falls x y = rises y x
+abbrev discordant_pairs : List ℕ → List ℕ → ℕ
+discordant_pairs x y = concordant_pairs y x
 
 abbrev pub table_sum : ℕ → List (List ℕ) → ℤ
-table_sum k w = pos (over_later rises k w) -ℤ pos (over_later falls k w)
+table_sum k w = pos (over_later concordant_pairs k w) -ℤ pos (over_later discordant_pairs k w)
 
 -- ---- of a labelling
 
@@ -61,8 +61,8 @@ over-columns f h k each (c ∷ cs) xs e a =
 -- of subjects in ascending groups of first values
 pub table-is : (ts : List Tie) (k : ℕ) (xs : List ℕ) → IsAscending ts → length xs ≡ sum (counts_in ts) → AllByRecursion (λ x. x < k) xs → kendall_statistic (values_of_ties ts) xs ≡ table_sum k (columns_of k (counts_in ts) xs)
 table-is ts k xs up long below =
-    ap (λ n. pos n -ℤ pos (over_pairs one_where_greater (paired_subjects (values_of_ties ts) xs) (paired_subjects (values_of_ties ts) xs))) (pairs-are one_where_less ts xs up long ∙ over-columns rises one_where_less k (rises-are k) (counts_in ts) xs long below)
-    ∙ ap (λ n. pos (over_later rises k (columns_of k (counts_in ts) xs)) -ℤ pos n) (pairs-are one_where_greater ts xs up long ∙ over-columns falls one_where_greater k (falls-are k) (counts_in ts) xs long below)
+    ap (λ n. pos n -ℤ pos (over_pairs one_where_greater (paired_subjects (values_of_ties ts) xs) (paired_subjects (values_of_ties ts) xs))) (pairs-are one_where_less ts xs up long ∙ over-columns concordant_pairs one_where_less k (concordant-are k) (counts_in ts) xs long below)
+    ∙ ap (λ n. pos (over_later concordant_pairs k (columns_of k (counts_in ts) xs)) -ℤ pos n) (pairs-are one_where_greater ts xs up long ∙ over-columns discordant_pairs one_where_greater k (discordant-are k) (counts_in ts) xs long below)
 
 -- ---- of a table turned
 
@@ -79,31 +79,31 @@ sum-across n (line ∷ lines) a =
     sum-plus line (across n lines) (a.0 ∙ sym (length-across n lines a.1))
     ∙ omega (arith, total-is line, sum-across n lines a.1, sum-first (total line) (map total lines))
 
-rising-fronted : (n : ℕ) (x : List ℕ) (lines : List (List ℕ)) → length x ≡ length lines → AreLong n lines → over_later rises (suc n) (fronted x lines) ≡ rises x (map total lines) + over_later rises n lines
-rising-fronted n [] [] e a = refl
-rising-fronted n [] (line ∷ lines) e a = absurd (omega (arith, e))
-rising-fronted n (b ∷ x) [] e a = absurd (omega (arith, e))
-rising-fronted n (b ∷ x) (line ∷ lines) e a =
-    ap (λ v. rises (b ∷ line) v + over_later rises (suc n) (fronted x lines)) (across-fronted n x lines (omega (arith, e)))
-    ∙ regroup b (sum (across n lines)) (sum (map total lines)) (rises line (across n lines)) (rises x (map total lines)) (over_later rises n lines) (over_later rises (suc n) (fronted x lines)) (sum-across n lines a.1) (rising-fronted n x lines (omega (arith, e)) a.1)
+concordant-fronted : (n : ℕ) (x : List ℕ) (lines : List (List ℕ)) → length x ≡ length lines → AreLong n lines → over_later concordant_pairs (suc n) (fronted x lines) ≡ concordant_pairs x (map total lines) + over_later concordant_pairs n lines
+concordant-fronted n [] [] e a = refl
+concordant-fronted n [] (line ∷ lines) e a = absurd (omega (arith, e))
+concordant-fronted n (b ∷ x) [] e a = absurd (omega (arith, e))
+concordant-fronted n (b ∷ x) (line ∷ lines) e a =
+    ap (λ v. concordant_pairs (b ∷ line) v + over_later concordant_pairs (suc n) (fronted x lines)) (across-fronted n x lines (omega (arith, e)))
+    ∙ regroup b (sum (across n lines)) (sum (map total lines)) (concordant_pairs line (across n lines)) (concordant_pairs x (map total lines)) (over_later concordant_pairs n lines) (over_later concordant_pairs (suc n) (fronted x lines)) (sum-across n lines a.1) (concordant-fronted n x lines (omega (arith, e)) a.1)
   where
     regroup : (b s t u v r q : ℕ) → s ≡ t → q ≡ v + r → (b * s + u) + q ≡ (b * t + v) + (u + r)
     regroup b s t u v r q e f = rw (e, f) (omega arith)
 
-falling-fronted : (n : ℕ) (x : List ℕ) (lines : List (List ℕ)) → length x ≡ length lines → AreLong n lines → over_later falls (suc n) (fronted x lines) ≡ rises (map total lines) x + over_later falls n lines
-falling-fronted n [] [] e a = refl
-falling-fronted n [] (line ∷ lines) e a = absurd (omega (arith, e))
-falling-fronted n (b ∷ x) [] e a = absurd (omega (arith, e))
-falling-fronted n (b ∷ x) (line ∷ lines) e a =
-    ap (λ v. rises v (b ∷ line) + over_later falls (suc n) (fronted x lines)) (across-fronted n x lines (omega (arith, e)))
-    ∙ regroup (total x) (sum x) (total line) (sum line) (rises (across n lines) line) (rises (map total lines) x) (over_later falls n lines) (over_later falls (suc n) (fronted x lines)) (total-is x) (total-is line) (falling-fronted n x lines (omega (arith, e)) a.1)
+discordant-fronted : (n : ℕ) (x : List ℕ) (lines : List (List ℕ)) → length x ≡ length lines → AreLong n lines → over_later discordant_pairs (suc n) (fronted x lines) ≡ concordant_pairs (map total lines) x + over_later discordant_pairs n lines
+discordant-fronted n [] [] e a = refl
+discordant-fronted n [] (line ∷ lines) e a = absurd (omega (arith, e))
+discordant-fronted n (b ∷ x) [] e a = absurd (omega (arith, e))
+discordant-fronted n (b ∷ x) (line ∷ lines) e a =
+    ap (λ v. concordant_pairs v (b ∷ line) + over_later discordant_pairs (suc n) (fronted x lines)) (across-fronted n x lines (omega (arith, e)))
+    ∙ regroup (total x) (sum x) (total line) (sum line) (concordant_pairs (across n lines) line) (concordant_pairs (map total lines) x) (over_later discordant_pairs n lines) (over_later discordant_pairs (suc n) (fronted x lines)) (total-is x) (total-is line) (discordant-fronted n x lines (omega (arith, e)) a.1)
   where
     regroup : (p q s t u v r m : ℕ) → p ≡ q → s ≡ t → m ≡ v + r → (p * t + u) + m ≡ (s * q + v) + (u + r)
     regroup p q s t u v r m e f g = rw (e, f, g) (grind arith)
 
-none-rise : (x : List ℕ) → rises x [] ≡ 0
-none-rise [] = refl
-none-rise (a ∷ x) = refl
+none-concordant : (x : List ℕ) → concordant_pairs x [] ≡ 0
+none-concordant [] = refl
+none-concordant (a ∷ x) = refl
 
 over-none : (f : List ℕ → List ℕ → ℕ) → ((x : List ℕ) → f [] x ≡ 0) → (k : ℕ) → over_later f 0 (replicate k []) ≡ 0
 over-none f none zero = refl
@@ -118,4 +118,4 @@ over-turned f none front k (x ∷ w) a =
     ∙ ap (λ n. f x (across k w) + n) (over-turned f none front k w a.1)
 
 pub sum-turned : (k : ℕ) (w : List (List ℕ)) → AreLong k w → table_sum (length w) (turned k w) ≡ table_sum k w
-sum-turned k w a = ap (λ n. pos n -ℤ pos (over_later falls (length w) (turned k w))) (over-turned rises (λ x. refl) rising-fronted k w a) ∙ ap (λ n. pos (over_later rises k w) -ℤ pos n) (over-turned falls none-rise falling-fronted k w a)
+sum-turned k w a = ap (λ n. pos n -ℤ pos (over_later discordant_pairs (length w) (turned k w))) (over-turned concordant_pairs (λ x. refl) concordant-fronted k w a) ∙ ap (λ n. pos (over_later concordant_pairs k w) -ℤ pos n) (over-turned discordant_pairs none-concordant discordant-fronted k w a)

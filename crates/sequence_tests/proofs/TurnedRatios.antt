@@ -1,5 +1,5 @@
 -- What is counted in Kendall's test is what is counted in the test turned, in the ratio of the totals.
-use Rattle.std.proofs.Common.{◌≡◌, ℕ, zero, suc, ◌*◌, ◌/◌, ◌<◌, ◌≤◌, List, [], ◌∷◌, length, map, Bool, true, false, cond, refl, sym, ◌∙◌, ap, arith, mul_comm}
+use Rattle.std.proofs.Common.{◌≡◌, ℕ, zero, suc, ◌*◌, ◌/◌, ◌%◌, ◌<◌, ◌≤◌, List, [], ◌∷◌, length, map, Bool, true, false, cond, refl, sym, ◌∙◌, ap, arith, mul_comm}
 use Rattle.std.specs.Prelude.{ℤ, pos, ◌<ℤ◌}
 use Rattle.std.specs.List.{AllByRecursion, sum_by}
 use Rattle.std.specs.Ordering.{int_eq}
@@ -27,8 +27,8 @@ use Rattle.turned_tables.proofs.Weighed.{cancel}
 use Rattle.sequence_tests.specs.Kendall.{kendall_says, kendall_test}
 use Rattle.sequence_tests.specs.declared.kendall_made.KendallMade.{KendallMade}
 use Rattle.sequence_tests.specs.KendallMade.{AreMade}
-use Rattle.sequence_tests.specs.TurnedKendall.{AreInRatio, IsPart, turned_bivariate, weighed_line}
-use Rattle.sequence_tests.proofs.SameSum.{observed-turned}
+use Rattle.sequence_tests.specs.TurnedKendall.{AreInRatio, turned_bivariate, weighed_line}
+use Rattle.sequence_tests.proofs.TurnedObserved.{observed-turned}
 use Rattle.sequence_tests.proofs.TurnedSums.{sums-turned, total-is}
 
 -- ---- the rules, and the numerators
@@ -57,9 +57,11 @@ numerators-turned t long tail =
 numerator-within : (t : BivariateData) (tail : Tail) → numerator (kendall_test t) tail ≤ total (kendall_test t)
 numerator-within t tail = omega (arith, numerator-sums t tail, sum_by-filter-≤ unit_weight (λ r. passes (rule_of (kendall_test t) tail) ((kendall_says t).statistic r)) (labellings (column_sizes t.second)))
 
--- a numerator of the test turned is a part of its total, that gives the numerator
+-- a part of a total that in the ratio of another is a whole number, and the numerator
 pub record Gives (t : BivariateData) (tail : Tail) (part of all : ℕ) : Type 0 where
-  pub is_part : IsPart part of all
+  pub some : 0 < of
+  pub within : part ≤ of
+  pub whole : (all * part) % of ≡ 0
   pub law : (found : ℕ) → found * of ≡ part * all → found ≡ numerator (kendall_test t) tail
 
 pub gives : (t u : BivariateData) (here there : KendallMade) (tail : Tail) (part : ℕ) → u ≡ turned_bivariate t → AreMade t here → AreMade u there → part ≡ numerator (kendall_test u) tail → Gives t tail part there.total here.total
@@ -72,11 +74,9 @@ gives t u here there tail part e a b p =
     let ratio : numerator (kendall_test t) tail * there.total ≡ part * here.total =
     ap (λ n. numerator (kendall_test t) tail * n) of ∙ numerators-turned t a.long tail ∙ sym (ap (λ n. n * here.total) there_part ∙ ap (λ n. numerator (kendall_test v) tail * n) all) in
     record {
-      is_part = record {
-        some = some;
-        within = omega (arith, there_part, of, numerator-within v tail);
-        whole = no-rest (numerator (kendall_test t) tail) there.total (here.total * part) some (ratio ∙ mul_comm part here.total);
-      };
+      some = some;
+      within = omega (arith, there_part, of, numerator-within v tail);
+      whole = no-rest (numerator (kendall_test t) tail) there.total (here.total * part) some (ratio ∙ mul_comm part here.total);
       law = λ n f. cancel n (numerator (kendall_test t) tail) there.total some (f ∙ sym ratio);
     }
 

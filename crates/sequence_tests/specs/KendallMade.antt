@@ -1,5 +1,5 @@
 -- What is kept of a prepared test of Kendall's K.
-use Rattle.std.specs.Prelude.{◌≡◌, ◌≤◌, ℤ, List, length}
+use Rattle.std.specs.Prelude.{◌≡◌, ◌≤◌, length}
 use Rattle.weights.specs.declared.TheConstants.{MAX}
 use Rattle.weights.specs.Labellings.{number_of_labellings}
 use Rattle.sample_reader.specs.PooledSample.{values_of}
@@ -7,9 +7,6 @@ use Rattle.sample_reader.specs.Bivariate.{BivariateData}
 use Rattle.pooled_columns.specs.PooledColumns.{column_sizes}
 use Rattle.sequence_tests.specs.Kendall.{kendall_subjects}
 use Rattle.sequence_tests.specs.declared.kendall_made.KendallMade.{KendallMade}
-
-abbrev pub bivariate_from : List ℤ → List ℤ → BivariateData
-bivariate_from first second = record { first = first; second = second }
 
 -- what is made of two values of each subject
 pub record AreMade (sample : BivariateData) (made : KendallMade) : Type 0 where

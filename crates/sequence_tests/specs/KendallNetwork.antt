@@ -17,23 +17,29 @@ use Rattle.pooled_columns.specs.PooledColumns.{column_sizes}
 use Rattle.sequence_tests.specs.Kendall.{kendall_subjects, kendall_test}
 use Rattle.sequence_tests.specs.KendallRooms.{counts_left, kendall_floor}
 
--- the pairs of a subject here and a later one whose second value is greater, by the counts of both
-abbrev pub rises : List ℕ → List ℕ → ℕ
-rises [] later = 0
-rises (a ∷ here) [] = 0
-rises (a ∷ here) (b ∷ later) = a * sum later + rises here later
+-- the concordant pairs of a subject here and a later one: those where the later one has the greater
+-- second value, by the counts of both
+abbrev pub concordant_pairs : List ℕ → List ℕ → ℕ
+concordant_pairs [] later = 0
+concordant_pairs (a ∷ here) [] = 0
+concordant_pairs (a ∷ here) (b ∷ later) = a * sum later + concordant_pairs here later
 
--- what subjects add with those that are placed later
-abbrev pub turn : List ℕ → List ℕ → ℤ
-turn here later = pos (rises here later) -ℤ pos (rises later here)
+-- what subjects add with those that are placed later: the concordant pairs, less the discordant
+abbrev pub concordance : List ℕ → List ℕ → ℤ
+concordance here later = pos (concordant_pairs here later) -ℤ pos (concordant_pairs later here)
+
+-- the pairs of subjects of two different counts
+abbrev pub pairs_among : List ℕ → ℕ
+pairs_among [] = 0
+pairs_among (count ∷ counts) = count * sum counts + pairs_among counts
 
 -- the pairs of subjects not yet placed before stage g that have distinct first values
 abbrev pub open_pairs : List ℕ → ℕ → ℕ
-open_pairs columns g = rises (drop g columns) (drop g columns)
+open_pairs columns g = pairs_among (drop g columns)
 
 -- what a choice adds
 abbrev pub added : List ℕ → ℕ → ℕ → List ℤ → List ℕ → ℤ
-added columns m g room c = turn c (minus (counts_left columns m g room) c)
+added columns m g room c = concordance c (minus (counts_left columns m g room) c)
 
 abbrev pub kendall_numbers : List ℕ → List ℕ → Judge → Numbers (List ℤ)
 kendall_numbers columns rows judge = record {

@@ -7,7 +7,7 @@ use Rattle.weights.specs.Grouped.{choices, minus}
 use Rattle.room_network.specs.Plans.{Floor, Plan}
 use Rattle.label_network.specs.ChoiceOrder.{later_choices}
 use Rattle.label_network.specs.LabelRooms.{label_weight}
-use Rattle.sequence_tests.specs.Codes.{code, counts_of_code}
+use Rattle.sequence_tests.specs.CountCodes.{code, counts_of_code}
 
 -- the number of a room
 abbrev pub code_in : List ℤ → ℕ

@@ -45,12 +45,12 @@ pub record IsKendall (columns rows : List ℕ) (judge : Judge) : Type 0 where
 
 -- 1 where the second of two numbers is greater, or where it is less
 abbrev pub ordered : Bool → ℕ → ℕ → ℕ
-ordered rises x y = if rises then one_where_less x y else one_where_greater x y
+ordered concordant x y = if concordant then one_where_less x y else one_where_greater x y
 
 -- what a subject adds with those that have a greater first value
 abbrev pub pairs_with : Bool → ℤ → ℕ → List Subject → ℕ
-pairs_with rises v x subjects =
-    sum_by (λ b. if int_lt v b.value then ordered rises x b.label else 0) subjects
+pairs_with concordant v x subjects =
+    sum_by (λ b. if int_lt v b.value then ordered concordant x b.label else 0) subjects
 
 -- what is known of a room that is reached, and of what is left there
 pub record KendallSeat (columns rows : List ℕ) (g : ℕ) (room : List ℤ) : Type 0 where

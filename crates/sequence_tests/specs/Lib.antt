@@ -1,9 +1,9 @@
 pub mod Kendall
 pub mod Runs
-pub mod Codes
+pub mod CountCodes
 pub mod KendallRooms
 pub mod KendallNetwork
-pub mod RunCounts
+pub mod RunNetwork
 pub mod SequenceTests
 pub mod TurnedKendall
 pub mod KendallSteps

@@ -10,7 +10,7 @@ use Rattle.label_network.specs.LabelSteps.{AreSizes}
 use Rattle.label_network.specs.Meanings.{sizes_in}
 use Rattle.sample_reader.specs.Sequences.{SequenceData}
 use Rattle.sequence_tests.specs.Runs.{row_counts}
-use Rattle.sequence_tests.specs.RunCounts.{firsts_in, last_in, least_to_come, most_to_come, runs_so_far, seconds_in}
+use Rattle.sequence_tests.specs.RunNetwork.{firsts_in, last_in, least_to_come, most_to_come, runs_so_far, seconds_in}
 
 -- a partial has a label, or 2, and a number of runs
 pub record AreRunNumbers (p : List ℤ) : Type 0 where
@@ -48,9 +48,6 @@ pub record RunSeat (judge : Judge) (remaining partial : List ℤ) : Type 0 where
   pub high_fits : nat_abs (runs_so_far partial) + most_left remaining partial ≤ 4 * MOST_ROWS
   pub low : JudgeFits judge (runs_so_far partial +ℤ pos (least_left remaining partial))
   pub high : JudgeFits judge (runs_so_far partial +ℤ pos (most_left remaining partial))
-
-abbrev pub sequence_of : List (List ℕ) → List ℕ → SequenceData
-sequence_of labels members = record { labels = labels; members = members }
 
 -- what is known of a sequence whose rows have these counts
 pub record AreRuns (sequence : SequenceData) (sizes : List ℕ) : Type 0 where

@@ -8,7 +8,7 @@ use Rattle.stage_network.specs.Network.{Network}
 use Rattle.stage_network.specs.OneOf.{of_either}
 use Rattle.sequence_tests.specs.Kendall.{kendall_test}
 use Rattle.sequence_tests.specs.KendallNetwork.{kendall_network}
-use Rattle.sequence_tests.specs.RunCounts.{running_runs, runs_network}
+use Rattle.sequence_tests.specs.RunNetwork.{running_runs, runs_network}
 use Rattle.sequence_tests.specs.Runs.{runs_test}
 
 abbrev pub sequence_test : OneOf BivariateData SequenceData → ConditionalTest

@@ -1,6 +1,6 @@
 -- Kendall's test turned: the two values of each subject change places. K stays, and what is counted
 -- is in the ratio of the totals.
-use Rattle.std.specs.Prelude.{◌≡◌, ℕ, ◌*◌, ◌/◌, ◌%◌, ◌<◌, ◌≤◌, map}
+use Rattle.std.specs.Prelude.{◌≡◌, ℕ, ◌*◌, ◌/◌, map}
 use Rattle.weights.specs.declared.lines.Line.{Line}
 use Rattle.weights.specs.declared.tails.Tail.{Tail}
 use Rattle.weights.specs.Conditional.{distribution, numerator, observed_statistic, total}
@@ -24,9 +24,3 @@ pub record AreInRatio (t u : BivariateData) : Type 0 where
   pub distributions :
       let weighed = weighed_line (total (kendall_test t)) (total (kendall_test u)) in
       distribution (kendall_test t) ≡ map weighed (distribution (kendall_test u))
-
--- a part of a total that in the ratio of another total is a whole number
-pub record IsPart (part of all : ℕ) : Type 0 where
-  pub some : 0 < of
-  pub within : part ≤ of
-  pub whole : (all * part) % of ≡ 0

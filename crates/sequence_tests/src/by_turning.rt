@@ -1,9 +1,10 @@
 // Kendall's test by the test as it stands or by the test turned, where no key is to be counted.
-ghost use Rattle.std.specs.Prelude.{◌≡◌, ◌*◌, true, IfOk};
+ghost use Rattle.std.specs.Prelude.{◌≡◌, true, IfOk};
+ghost use Rattle.weights.specs.Conditional.{numerator};
 ghost use Rattle.stage_network.specs.Follows.{AreNumerators};
 ghost use Rattle.stage_network.specs.Judged.{judge_of};
 ghost use Rattle.sequence_tests.specs.Kendall.{kendall_test};
-ghost use Rattle.sequence_tests.specs.TurnedKendall.{IsPart, turned_bivariate};
+ghost use Rattle.sequence_tests.specs.TurnedKendall.{turned_bivariate};
 
 use crate::pair_order::PairOrder;
 use crate::turned::turned_of;
@@ -11,7 +12,7 @@ use labelled::LabelStatistic;
 use stage_network::{Judge, TailSum, TailSums, tail_sums_by_rooms};
 use std::alloc::Global;
 use turned_tables::in_ratio;
-use weights::{NoMemory, Tails};
+use weights::{NoMemory, Tail, Tails};
 
 // The numerators by the network of the test as it stands.
 fn sums_as_they_stand(
@@ -28,16 +29,27 @@ fn sums_as_they_stand(
     Ok(sums)
 }
 
-// A part of a total, in the ratio of another; of a tail that is not asked nothing.
-fn in_ratio_where(asked: bool, found: TailSum, of: u128, all: u128) -> TailSum
-    requires { asked ≡ true → IsPart found.sum of all }
-    ensures { asked ≡ true → result.sum * of ≡ found.sum * all }
+// The numerator of a tail by that of the test turned, in the ratio of the totals; of a tail that is
+// not asked nothing.
+fn numerator_by_turning(
+    order: &PairOrder,
+    turned: &PairOrder,
+    asked: bool,
+    found: TailSum,
+    _tail: Tail,
+) -> TailSum
+    requires turned { turned.now ≡ turned_bivariate order.now }
+    requires found { asked ≡ true → found.sum ≡ numerator (kendall_test turned.now) _tail }
+    ensures { asked ≡ true → result.sum ≡ numerator (kendall_test order.now) _tail }
 {
     if !asked {
         return TailSum { sum: 0, opened: 0 };
     }
+    let here = order.made();
+    let there = turned.made();
+    let of = there.total;
     TailSum {
-        sum: in_ratio(found.sum, of, all),
+        sum: in_ratio(found.sum, of, here.total),
         opened: 0,
     }
 }
@@ -54,15 +66,11 @@ fn sums_by_turning(
     requires judge { judge ≡ judge_of (kendall_test order.now) }
     ensures { IfOk result (AreNumerators (kendall_test order.now) tails) }
 {
-    let here = order.made();
-    let there = turned.made();
     let found = sums_as_they_stand(alloc, turned, judge, tails)?;
-    let all = here.total;
-    let of = there.total;
     Ok(TailSums {
-        less: in_ratio_where(tails.less, found.less, of, all),
-        greater: in_ratio_where(tails.greater, found.greater, of, all),
-        two: in_ratio_where(tails.two, found.two, of, all),
+        less: numerator_by_turning(order, turned, tails.less, found.less, Tail::Less),
+        greater: numerator_by_turning(order, turned, tails.greater, found.greater, Tail::Greater),
+        two: numerator_by_turning(order, turned, tails.two, found.two, Tail::Two),
     })
 }
 

@@ -21,13 +21,11 @@ use weights::{NoMemory, PrepareFault, Tail, Tails};
 pub type Kendall = Labelled<PairOrder>;
 
 /// Prepares two values of each subject.
-pub(crate) fn prepare(alloc: Global, sample: &BivariateSample) -> Result<Kendall, PrepareFault>
-    ensures { Prepares kendall_test (bivariate_data_of sample.now) result }
+pub(crate) fn prepare(alloc: Global, sample: BivariateSample) -> Result<Kendall, PrepareFault>
+    ensures { Prepares kendall_test (bivariate_data_of sample) result }
 {
-    let first = &sample.first;
-    let second = &sample.second;
-    let subjects = kendall_subjects(alloc, first.as_slice(), second.as_slice())?;
-    let order = PairOrder::of(alloc, first, second, &subjects)?;
+    let subjects = kendall_subjects(alloc, &sample)?;
+    let order = PairOrder::of(alloc, sample, &subjects)?;
     let observed = labels_in(alloc, &subjects)?;
     let total = order.made().total;
     Ok(Labelled::new(order, observed.as_slice(), 1, 1, 0, total))

@@ -7,7 +7,7 @@ ghost use Rattle.room_network.specs.Plans.{alone};
 ghost use Rattle.sequence_tests.specs.KendallRooms.{code_in, counts_left, kendall_floor, kendall_plan};
 ghost use Rattle.sequence_tests.specs.KendallSteps.{AreKendallCounts, AreSome, IsCode, IsCoded, KendallChoice, KendallSeat};
 
-use crate::codes::read_code;
+use crate::count_codes::read_code;
 use crate::counts::take_choice;
 use std::alloc::Global;
 use weights::{NoMemory, only, total_of};

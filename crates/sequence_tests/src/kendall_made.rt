@@ -1,12 +1,12 @@
 // Two values of each subject, made ready for Kendall's test.
-ghost use Rattle.std.specs.Prelude.{◌≡◌, length, IfOk};
+ghost use Rattle.std.specs.Prelude.{◌≡◌, IfOk};
 ghost use Rattle.std.specs.List.{Any};
 ghost use Rattle.midranks.specs.Ties.{IsAscending};
+ghost use Rattle.sample_reader.specs.Data.{bivariate_data_of};
 ghost use Rattle.sequence_tests.specs.Kendall.{kendall_subjects, place_among, places_of};
-ghost use Rattle.sequence_tests.specs.KendallMade.{bivariate_from};
 
 use midranks::{Tie, group_of, tie_groups};
-use sample_reader::{Subject, ordered_subjects};
+use sample_reader::{BivariateSample, Subject, ordered_subjects};
 use std::alloc::Global;
 use weights::{Ints, NoMemory, Nums};
 
@@ -49,13 +49,11 @@ fn places_of(alloc: Global, values: &[i128]) -> Result<Nums, NoMemory>
 /// value among the distinct ones.
 pub(crate) fn kendall_subjects(
     alloc: Global,
-    first: &[i128],
-    second: &[i128],
+    sample: &BivariateSample,
 ) -> Result<Vec<Subject>, NoMemory>
-    requires { length second.now ≡ length first.now }
     ensures { IfOk result (λ subjects.
-        subjects.items ≡ kendall_subjects (bivariate_from first.now second.now)) }
+        subjects.items ≡ kendall_subjects (bivariate_data_of sample.now)) }
 {
-    let places = places_of(alloc, second)?;
-    ordered_subjects(alloc, first, places.as_slice())
+    let places = places_of(alloc, sample.second.as_slice())?;
+    ordered_subjects(alloc, sample.first.as_slice(), places.as_slice())
 }

@@ -4,7 +4,7 @@ ghost use Rattle.sequence_tests.specs.KendallNetwork.{kendall_meaning};
 ghost use Rattle.sequence_tests.specs.KendallSteps.{IsKendall};
 
 use crate::kendall_counts::KendallCounts;
-use crate::pairs::{open_pairs, turn};
+use crate::pairs::{concordance, open_pairs};
 use room_network::{NumberMeasure, Operation};
 use stage_network::{Interval, Judge};
 use std::alloc::Global;
@@ -61,7 +61,7 @@ impl NumberMeasure for KendallMeasure {
         let mut numbers = [0u64; 120];
         let left = &mut numbers[..self.counts.rows.len()];
         self.counts.read_after(stage, room, choice, left);
-        turn(choice, left)
+        concordance(choice, left)
     }
 
     fn later(&self, stage: usize, room: &[i128]) -> Interval {

@@ -3,7 +3,7 @@ ghost use Rattle.std.specs.Prelude.{◌≡◌, IfOk};
 ghost use Rattle.label_network.specs.LabelSteps.{IsHeld};
 ghost use Rattle.sequence_tests.specs.KendallSteps.{AreKendallCounts};
 
-use crate::codes::code_of;
+use crate::count_codes::code_of;
 use crate::counts::{first_choice, next_choice};
 use crate::kendall_counts::KendallCounts;
 use label_network::{Binomials, weight_in};

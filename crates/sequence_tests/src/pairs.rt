@@ -1,15 +1,15 @@
 // Pairs of subjects, counted by their second values.
 ghost use Rattle.std.specs.Prelude.{◌≡◌, ◌≤◌, drop, length, pos};
 ghost use Rattle.std.specs.List.{sum};
-ghost use Rattle.sequence_tests.specs.KendallNetwork.{open_pairs, rises, turn};
+ghost use Rattle.sequence_tests.specs.KendallNetwork.{concordance, concordant_pairs, open_pairs};
 
 // The pairs of a subject here and a later one whose second value is greater, from a place on.
-fn rises_from(here: &[u64], later: &[u64], place: usize) -> u64
+fn concordant_from(here: &[u64], later: &[u64], place: usize) -> u64
     requires long { length here.now ≡ length later.now }
     requires few_here { sum here.now ≤ 120 }
     requires few_later { sum later.now ≤ 120 }
     requires within { place ≤ length here.now }
-    ensures { result ≡ rises (drop place here.now) (drop place later.now) }
+    ensures { result ≡ concordant_pairs (drop place here.now) (drop place later.now) }
 {
     let mut pairs: u64 = 0;
     let mut greater: u64 = 0;
@@ -23,13 +23,13 @@ fn rises_from(here: &[u64], later: &[u64], place: usize) -> u64
 }
 
 /// What subjects add with those that are placed later.
-pub(crate) fn turn(here: &[u64], later: &[u64]) -> i128
+pub(crate) fn concordance(here: &[u64], later: &[u64]) -> i128
     requires long { length here.now ≡ length later.now }
     requires few_here { sum here.now ≤ 120 }
     requires few_later { sum later.now ≤ 120 }
-    ensures { result ≡ turn here.now later.now }
+    ensures { result ≡ concordance here.now later.now }
 {
-    rises_from(here, later, 0) as i128 - rises_from(later, here, 0) as i128
+    concordant_from(here, later, 0) as i128 - concordant_from(later, here, 0) as i128
 }
 
 /// The pairs of subjects of two columns from a stage on.
@@ -38,5 +38,5 @@ pub(crate) fn open_pairs(columns: &[u64], stage: usize) -> i128
     requires within { stage ≤ length columns.now }
     ensures { result ≡ pos (open_pairs columns.now stage) }
 {
-    rises_from(columns, columns, stage) as i128
+    concordant_from(columns, columns, stage) as i128
 }

@@ -7,14 +7,14 @@ ghost use Rattle.sample_reader.specs.Data.{sequence_data_of};
 ghost use Rattle.sequence_tests.specs.Runs.{runs, runs_test};
 ghost use Rattle.sequence_tests.specs.RunSteps.{AreRuns};
 
-use crate::run_counts::{RunCounts, begins_run};
+use crate::run_measure::{RunMeasure, begins_run};
 use label_network::{LabelStages, label_stages};
 use labelled::{LabelStatistic, Labelled};
-use sample_reader::{Labels, Sequence};
+use sample_reader::Sequence;
 use stage_network::Judge;
 use std::alloc::Global;
 use std::marker::Model;
-use weights::{Bytes, NoMemory, Nums, PrepareFault, Tail, WideOf, multinomial};
+use weights::{Bytes, NoMemory, PrepareFault, Tail, WideOf, multinomial};
 
 /// A runs test whose data are checked.
 pub type Runs = Labelled<RunNumber>;
@@ -22,22 +22,19 @@ pub type Runs = Labelled<RunNumber>;
 /// The number of runs. It is seen as the sequence that it was prepared of.
 #[derive(Drop)]
 pub struct RunNumber {
-    // What it was prepared of, by which contracts name it.
-    labels: Labels,
-    members: Nums,
-    // How many rows have each label.
-    sizes: Nums,
+    sequence: Sequence,
 }
 
 impl Model for RunNumber {
+    ghost use Rattle.sample_reader.specs.Data.{sequence_data_of};
     ghost use Rattle.sample_reader.specs.Sequences.{SequenceData};
-    ghost use Rattle.sequence_tests.specs.RunSteps.{AreRuns, sequence_of};
+    ghost use Rattle.sequence_tests.specs.RunSteps.{AreRuns};
 
     ghost Value = { SequenceData };
 
-    ghost view = { λ t. sequence_of t.labels t.members };
+    ghost view = { λ t. sequence_data_of t.sequence };
 
-    ghost invariant = { λ t. AreRuns (sequence_of t.labels t.members) t.sizes };
+    ghost invariant = { λ t. AreRuns (sequence_data_of t.sequence) t.sequence.sizes };
 }
 
 // The labels of rows.
@@ -80,21 +77,17 @@ fn centre_of(first: u64, second: u64) -> i128
 /// # Errors
 /// `TooWide(Total)` where there are more labellings than `weights::MAX`, or else `NoMemory` where
 /// memory runs out. The statistic of at most 10,000 rows is never too wide.
-pub(crate) fn prepare(alloc: Global, sequence: &Sequence) -> Result<Runs, PrepareFault>
-    ensures { Prepares runs_test (sequence_data_of sequence.now) result }
+pub(crate) fn prepare(alloc: Global, sequence: Sequence) -> Result<Runs, PrepareFault>
+    ensures { Prepares runs_test (sequence_data_of sequence) result }
 {
-    let sizes = sequence.sizes.as_slice();
-    let Some(total) = multinomial(sizes) else {
+    let Some(total) = multinomial(sequence.sizes.as_slice()) else {
         return Err(PrepareFault::TooWide(WideOf::Total));
     };
     let observed = labels_in(alloc, sequence.members.as_slice())?;
-    let centre = centre_of(sizes[0], sizes[1]);
     let rows = sequence.members.as_slice().len() as u128;
-    let number = RunNumber {
-        labels: sequence.labels.copy()?,
-        members: sequence.members.copy()?,
-        sizes: sequence.sizes.copy()?,
-    };
+    let number = RunNumber { sequence };
+    let sizes = number.counts();
+    let centre = centre_of(sizes[0], sizes[1]);
     Ok(Labelled::new(number, observed.as_slice(), 1, rows, centre, total))
 }
 
@@ -103,16 +96,16 @@ impl RunNumber {
     fn counts(&self) -> &[u64]
         ensures { AreRuns self.now result.now }
     {
-        self.sizes.as_slice()
+        self.sequence.sizes.as_slice()
     }
 }
 
 impl LabelStatistic for RunNumber {
     ghost use Rattle.label_network.specs.LabelNetwork.{label_network};
-    ghost use Rattle.sequence_tests.specs.RunCounts.{sequence_meaning, written_network};
+    ghost use Rattle.sequence_tests.specs.RunNetwork.{sequence_meaning, written_network};
     ghost use Rattle.sequence_tests.specs.Runs.{runs_says};
 
-    type Built = LabelStages<RunCounts>;
+    type Built = LabelStages<RunMeasure>;
 
     ghost says = { runs_says };
 
@@ -138,7 +131,7 @@ impl LabelStatistic for RunNumber {
 
     fn stages_of(&self, alloc: Global, judge: Judge) -> Result<Self::Built, NoMemory> {
         let sizes = self.counts();
-        let measure = RunCounts::new(sizes[0], sizes[1], judge);
+        let measure = RunMeasure::new(sizes[0], sizes[1], judge);
         let columns = vec![in alloc; 1u64; (sizes[0] + sizes[1]) as usize]?;
         label_stages(alloc, &columns, sizes, measure)
     }

@@ -1,11 +1,13 @@
 // Kendall's test turned: the two values of each subject change places.
 ghost use Rattle.std.specs.Prelude.{◌≡◌, length, IfOk, IfSome};
 ghost use Rattle.sample_reader.specs.Bivariate.{BivariateData};
+ghost use Rattle.sample_reader.specs.Data.{bivariate_data_of};
 ghost use Rattle.sequence_tests.specs.TurnedKendall.{AreInRatio, turned_bivariate};
 
 use crate::kendall_made::kendall_subjects;
 use crate::pair_order::PairOrder;
-use crate::work::is_less_turned;
+use crate::room_work::is_less_work_turned;
+use sample_reader::BivariateSample;
 use std::alloc::Global;
 use weights::{NoMemory, PrepareFault};
 
@@ -17,19 +19,30 @@ pub fn turned_tests()
         → AreInRatio t (turned_bivariate t) }
 {}
 
+// The sample with the two values of each subject in each other's place.
+fn turned_sample(sample: &BivariateSample) -> Result<BivariateSample, NoMemory>
+    ensures { IfOk result (λ turned.
+        bivariate_data_of turned ≡ turned_bivariate (bivariate_data_of sample.now)) }
+{
+    Ok(BivariateSample {
+        rows: sample.rows,
+        first: sample.second.copy()?,
+        second: sample.first.copy()?,
+    })
+}
+
 /// The test turned, which serves where it is less work. None where it is not, and where its total
 /// is too wide.
 pub(crate) fn turned_of(alloc: Global, order: &PairOrder) -> Result<Option<PairOrder>, NoMemory>
     ensures { IfOk result (λ found. IfSome found (λ turned. turned ≡ turned_bivariate order.now)) }
 {
     let made = order.made();
-    if !is_less_turned(made.columns.as_slice(), made.rows.as_slice()) {
+    if !is_less_work_turned(made.columns.as_slice(), made.rows.as_slice()) {
         return Ok(None);
     }
-    let first = order.second();
-    let second = order.first();
-    let subjects = kendall_subjects(alloc, first.as_slice(), second.as_slice())?;
-    match PairOrder::of(alloc, first, second, &subjects) {
+    let sample = turned_sample(order.sample())?;
+    let subjects = kendall_subjects(alloc, &sample)?;
+    match PairOrder::of(alloc, sample, &subjects) {
         Ok(turned) => Ok(Some(turned)),
         Err(PrepareFault::NoMemory) => Err(NoMemory),
         Err(PrepareFault::TooWide(_)) => Ok(None),

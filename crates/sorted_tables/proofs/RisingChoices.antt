@@ -1,5 +1,5 @@
 -- The choices that stand for others one after another: the next one, and that none lies between.
-use Rattle.std.proofs.Common.{◌≡◌, ℕ, zero, suc, ◌+◌, ◌-◌, ◌*◌, ◌<◌, ◌≤◌, List, [], ◌∷◌, ◌++◌, length, filter, map, min, max, Option, Some, None, Bool, true, false, cond, not, ◌&&◌, refl, sym, ◌∙◌, ap, subst, arith, add-zero, zero-add, suc-add, nat_eq, nat_le, nat_lt, eq-eqb, le-ltb, lt-ltb, ◌⊎◌, inl, inr}
+use Rattle.std.proofs.Common.{◌≡◌, ℕ, suc, ◌+◌, ◌-◌, ◌*◌, ◌<◌, ◌≤◌, List, [], ◌∷◌, ◌++◌, length, filter, map, min, max, Option, Some, None, Bool, true, false, cond, not, ◌&&◌, refl, sym, ◌∙◌, ap, subst, arith, zero-add, nat_eq, nat_le, nat_lt, eq-eqb, le-ltb, lt-ltb, ◌⊎◌, inl, inr}
 use Rattle.std.specs.List.{AllByRecursion, flat_map, range_with_len, sum}
 use Rattle.std.proofs.lemmas.Bool.{and_left, and_parts, cases_Bool, cases_lt, both_ways, eqb-true, le-leb, leb-true, ltb-true}
 use Rattle.std.proofs.lemmas.Bool.Decides.{eqb_tells, leb_tells}
@@ -18,6 +18,7 @@ use Rattle.sorted_tables.specs.GatheredChoices.{gets_less, is_gathered}
 use Rattle.sorted_tables.specs.SortedSteps.{raised, run}
 use Rattle.sorted_tables.proofs.GatheredChoices.{later-each}
 use Rattle.sorted_tables.proofs.GatheredForms.{Rise, gathered-risen, less-here, less-not, less-parts, risen-gathered}
+use Rattle.weights.proofs.Ranges.{range-split}
 
 pub filter-same_where : {X : Type 0} (P : X → Type 0) (p q : X → Bool) → ((x : X) → P x → p x ≡ q x) → (xs : List X) → AllByRecursion P xs → filter p xs ≡ filter q xs
 filter-same_where P p q e [] a = refl
@@ -180,10 +181,6 @@ later-kept q a c r b rs x o e =
     ∙ ap (λ ys. ys ++ filter (fits_behind q a (r ∷ rs)) (flat_map (λ d. map (λ y. d ∷ y) (choices (c - d) rs)) (range_with_len (b + 1) (min c r - b))))
     (fronts-kept q a r b rs (later_choices (c - b) rs x) (all_weaker (IsChoice (c - b) rs) (λ y. length y ≡ length rs) (λ y p. p.long) (later_choices (c - b) rs x) (later-each (c - b) rs x o)) ∙ ap (λ t. cond t [] (map (λ y. b ∷ y) (filter (fits_behind r b rs) (later_choices (c - b) rs x)))) e)
     ∙ ap (λ ys. map (λ y. b ∷ y) (filter (fits_behind r b rs) (later_choices (c - b) rs x)) ++ ys) (kept-range q a c r rs (b + 1) (min c r - b))
-
-range-split : (s n k : ℕ) → range_with_len s (n + k) ≡ range_with_len s n ++ range_with_len (s + n) k
-range-split s zero k = rw (zero-add k, add-zero s) refl
-range-split s (suc n) k = rw (suc-add n k, range-split (s + 1) n k) (ap (λ i. s ∷ (range_with_len (s + 1) n ++ range_with_len i k)) (let same : (s + 1) + n ≡ s + suc n = omega arith in same))
 
 kept-split : (q a c r : ℕ) (rs : List ℕ) (s n k : ℕ) → kept_with q a c r rs s (n + k) ≡ kept_with q a c r rs s n ++ kept_with q a c r rs (s + n) k
 kept-split q a c r rs s n k = ap (flat_map (kept_front q a c r rs)) (range-split s n k) ∙ flat_map-append (kept_front q a c r rs) (range_with_len s n) (range_with_len (s + n) k)

@@ -10,6 +10,7 @@ use Rattle.stage_network.specs.Laws.{IsLawful}
 use Rattle.stage_network.specs.Network.{Network, IsReached}
 use Rattle.stage_network.specs.NodeSteps.{AllReached}
 use Rattle.stage_network.proofs.Steps.{all_paths, all-step, reached-next}
+use Rattle.weights.proofs.Products.{product-some}
 
 -- an element's term is at most the sum
 pub term-le-sum_by : {X : Type 0} (f : X → ℕ) (xs : List X) (x : X) → Contains xs x → f x ≤ sum_by f xs
@@ -19,16 +20,13 @@ some_element : {X : Type 0} (xs : List X) → xs ≢ [] → (x : X) × Contains 
 some_element [] h = absurd (h refl)
 some_element (x ∷ xs) h = (x, (0, omega arith, refl))
 
-product_least : (a b : ℕ) → 1 ≤ a → 1 ≤ b → 1 ≤ a * b
-product_least a b h j = grind arith
-
 all_paths-least : (n : Network) → IsLawful n → (m g : ℕ) (k : List ℤ) → IsReached n g k → g + m ≡ n.count → 1 ≤ all_paths n m g k
 all_paths-least n l zero g k r e = omega arith
 all_paths-least n l (suc m) g k r e =
     let before : g < n.count = omega arith in
     let some : (c : List ℕ) × Contains (n.choices g k) c = some_element (n.choices g k) (l.some_choice g k r before) in
     let here : 1 ≤ n.weight g k some.0 * all_paths n m (g + 1) (n.next g k some.0) =
-    product_least _ _ (l.weighty g k some.0 r some.1)
+    product-some _ _ (l.weighty g k some.0 r some.1)
     (all_paths-least n l m (g + 1) (n.next g k some.0) (reached-next n g k some.0 r before some.1) (omega arith)) in
     let most : n.weight g k some.0 * all_paths n m (g + 1) (n.next g k some.0) ≤ sum_by (λ c. n.weight g k c * all_paths n m (g + 1) (n.next g k c)) (n.choices g k) =
     term-le-sum_by (λ c. n.weight g k c * all_paths n m (g + 1) (n.next g k c)) (n.choices g k) some.0 some.1 in

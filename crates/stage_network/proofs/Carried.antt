@@ -13,7 +13,7 @@ use Rattle.stage_network.specs.Opened.{is_open, is_open_for_some}
 use Rattle.stage_network.proofs.Steps.{sum_by-flat_map, sum_by-same}
 use Rattle.stage_network.proofs.Conserved.{weighted-successors, all_append, all_map, all_weaker, not_undecided}
 use Rattle.stage_network.proofs.OpenKeys.{distinct_filter, keys-filter}
-use Rattle.stage_network.proofs.Roomwise.{heavy-arc}
+use Rattle.weights.proofs.Products.{product-some}
 
 pub carried : (n : Network) (g : ℕ) (here later : List ℤ → ℕ) → ((k : List ℤ) → here k ≡ sum_by (λ c. n.weight g k c * later (n.next g k c)) (n.choices g k)) → (nodes : List Node) → weighted later (flat_map (successors n g) nodes) ≡ weighted here nodes
 carried n g here later step nodes =
@@ -25,7 +25,7 @@ successors-heavy n l g [] r h = tt
 successors-heavy n l g (a ∷ nodes) r h =
     all_append (λ (b : Node). 1 ≤ b.weight) (successors n g a) (flat_map (successors n g) nodes)
     (all_map (λ (b : Node). 1 ≤ b.weight) (successor n g a) (n.choices g a.key)
-    (all_weaker (Contains (n.choices g a.key)) (λ c. 1 ≤ a.weight * n.weight g a.key c) (λ c allowed. heavy-arc a.weight (n.weight g a.key c) h.0 (l.weighty g a.key c r.0 allowed)) (n.choices g a.key)
+    (all_weaker (Contains (n.choices g a.key)) (λ c. 1 ≤ a.weight * n.weight g a.key c) (λ c allowed. product-some a.weight (n.weight g a.key c) h.0 (l.weighty g a.key c r.0 allowed)) (n.choices g a.key)
     (recursion_from_All _ _ (All-contains_itself (n.choices g a.key)))))
     (successors-heavy n l g nodes r.1 h.1)
 

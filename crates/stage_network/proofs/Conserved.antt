@@ -32,11 +32,11 @@ abbrev pub open_part : Network → ℕ → (List ℤ → ℕ) → Node → ℕ
 open_part n g here a = cond (is_open_for_some n g a.key) (a.weight * here a.key) 0
 
 -- a verdict's word on the sums
-inside-sum : (n : Network) → IsLawful n → (t : Tail) (g : ℕ) (k : List ℤ) → IsReached n g k → g ≤ n.count → n.verdict t g k ≡ Inside → extreme_weight n t g k ≡ total_weight n g k
+pub inside-sum : (n : Network) → IsLawful n → (t : Tail) (g : ℕ) (k : List ℤ) → IsReached n g k → g ≤ n.count → n.verdict t g k ≡ Inside → extreme_weight n t g k ≡ total_weight n g k
 unfolding total_weight extreme_weight
 inside-sum n l t g k r h v = ap (sum_by (path_weight n g k)) (filter_all (is_extreme n t g k) (completions n g k) (l.inside t g k r h v))
 
-outside-sum : (n : Network) → IsLawful n → (t : Tail) (g : ℕ) (k : List ℤ) → IsReached n g k → g ≤ n.count → n.verdict t g k ≡ Outside → extreme_weight n t g k ≡ 0
+pub outside-sum : (n : Network) → IsLawful n → (t : Tail) (g : ℕ) (k : List ℤ) → IsReached n g k → g ≤ n.count → n.verdict t g k ≡ Outside → extreme_weight n t g k ≡ 0
 unfolding extreme_weight
 outside-sum n l t g k r h v = ap (sum_by (path_weight n g k)) (filter_none (is_extreme n t g k) (completions n g k) (l.outside t g k r h v))
 

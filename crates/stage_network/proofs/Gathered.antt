@@ -17,7 +17,8 @@ use Rattle.weights.proofs.Filters.{all_append, all_map}
 use Rattle.stage_network.proofs.OpenKeys.{map-append, distinct_filter, keys-filter, all_filter, same-holds}
 use Rattle.stage_network.proofs.Bounds.{weights-le-weighted}
 use Rattle.stage_network.proofs.Stepping.{reached_at}
-use Rattle.stage_network.proofs.Roomwise.{all_segment, heavy_at, heavy-arc}
+use Rattle.stage_network.proofs.Roomwise.{all_segment, heavy_at}
+use Rattle.weights.proofs.Products.{product-some}
 
 -- the arcs to the rooms below one more
 three : (a t x : ℕ) → cond (nat_lt a (t + 1)) x 0 ≡ cond (nat_lt a t) x 0 + cond (nat_eq a t) x 0
@@ -104,7 +105,7 @@ module _ (n : Network) (g width : ℕ) (nodes rooms : List Node) where
 module _ (n : Network) (g width : ℕ) (nodes rooms : List Node) (here : AreNodes n g nodes) where
   pub spread-heavy : (p : Arc → Bool) (arcs : List Arc) → AllFine n g width nodes rooms arcs → AllHeavy (spread_out n g nodes (filter p arcs))
   spread-heavy p arcs a = spread-all n g width nodes rooms (λ (b : Node). 1 ≤ b.weight) (λ a. IsFine n g width nodes rooms a × (p a ≡ true))
-      (λ w f i d h k. heavy-arc _ _ (heavy_at nodes i d here.heavy (omega (arith, k, f.0.chosen.last))) (here.lawful.weighty g (get_or nodes i d).key w.choice (reached_at n g nodes i d here.reached (omega (arith, k, f.0.chosen.last))) (f.0.chosen.allowed i d h k)))
+      (λ w f i d h k. product-some _ _ (heavy_at nodes i d here.heavy (omega (arith, k, f.0.chosen.last))) (here.lawful.weighty g (get_or nodes i d).key w.choice (reached_at n g nodes i d here.reached (omega (arith, k, f.0.chosen.last))) (f.0.chosen.allowed i d h k)))
       (filter p arcs) (fine_filter n g width nodes rooms p arcs a)
 
   pub spread-reached : (p : Arc → Bool) (arcs : List Arc) → AllFine n g width nodes rooms arcs → AllReached n (g + 1) (spread_out n g nodes (filter p arcs))

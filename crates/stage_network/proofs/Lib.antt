@@ -52,4 +52,3 @@ pub mod RowCourses
 pub mod Gathering
 pub mod RowLines
 pub mod Folding
-pub mod Ranges

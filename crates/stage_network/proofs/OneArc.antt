@@ -7,8 +7,9 @@ use Rattle.stage_network.specs.Network.{Network, IsReached}
 use Rattle.stage_network.specs.NodeSteps.{AllReached, AreNodes}
 use Rattle.stage_network.specs.Rooms.{IsArc}
 use Rattle.stage_network.specs.ArcSteps.{Arc, AllFine, IsChoiceOf, IsFine, IsRun, chosen, segment, arc_nodes}
-use Rattle.stage_network.proofs.Roomwise.{all_at, heavy_at, heavy-arc, pour-fits, pour-more, whole-key}
+use Rattle.stage_network.proofs.Roomwise.{all_at, heavy_at, pour-fits, pour-more, whole-key}
 use Rattle.stage_network.proofs.Stepping.{reached_at}
+use Rattle.weights.proofs.Products.{product-some}
 
 -- an arc of a list, by what was read of it
 pub arc_is : (arcs : List Arc) (i start end weight : ℕ) (choice : List ℕ) → ((d : Arc) → start ≡ (get_or arcs i d).start) → ((d : Arc) → end ≡ (get_or arcs i d).end) → ((d : Arc) → weight ≡ (get_or arcs i d).weight) → ((d : Arc) → choice ≡ (get_or arcs i d).choice) → (d : Arc) → get_or arcs i d ≡ record { start = start; end = end; choice = choice; weight = weight; target = (get_or arcs i d).target }
@@ -77,7 +78,7 @@ module _ (n : Network) (g width h : ℕ) (e : h ≡ width) (nodes : List Node) (
     pub start-heavy : (count : ℕ) → ((d : Node) → count ≡ (get_or nodes i d).weight) → 1 ≤ count * weight
     start-heavy count weighs =
         let d = node [] 0 in
-        heavy-arc count weight (rw (weighs d) (heavy_at nodes i d are.heavy low))
+        product-some count weight (rw (weighs d) (heavy_at nodes i d are.heavy low))
         (rw (← fine.weighs i d from below) (are.lawful.weighty g (get_or nodes i d).key choice (reached_at n g nodes i d are.reached low) (fine.allowed i d from below)))
 
 -- a key that was written from a node's room and partial

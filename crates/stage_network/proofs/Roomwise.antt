@@ -135,9 +135,6 @@ fine_arc n g width nodes rooms s e t w c k next roomed reached order last run ta
 nat_eq-same : (m : ℕ) → nat_eq m m ≡ true
 nat_eq-same m = grind arith
 
-pub heavy-arc : (a b : ℕ) → 1 ≤ a → 1 ≤ b → 1 ≤ a * b
-heavy-arc a b h k = grind arith
-
 -- the arcs to one room, from the last to the first
 bucket-last : (t : ℕ) (arcs : List Arc) (i : ℕ) (d : Arc) → i < length arcs → (get_or arcs i d).target ≡ t → bucket t (take (i + 1) arcs) ≡ bucket t (take i arcs) ++ get_or arcs i d ∷ []
 bucket-last t arcs i d low e =

@@ -135,6 +135,7 @@ impl<A: Roomed, B: Roomed> Roomed for OneOf<A, B> {
         }
     }
 
+    #[inline(always)]
     fn advance(
         &self,
         stage: usize,
@@ -164,6 +165,7 @@ impl<A: Roomed, B: Roomed> Roomed for OneOf<A, B> {
         }
     }
 
+    #[inline(always)]
     fn verdict_by(
         &self,
         stage: usize,

@@ -11,8 +11,8 @@ use Rattle.strata_cells.proofs.StrataSums.{next-drop, past-drop}
 use Rattle.stratified_tests.specs.StrataTests.{multiple_of}
 use Rattle.stratified_tests.specs.StrataSteps.{AreOdds, strata_total, stratum_total}
 use Rattle.stratified_tests.proofs.Multiples.{last-within}
-use Rattle.stratified_tests.proofs.OddsLaws.{product-some}
 use Rattle.stratified_tests.proofs.StrataLaws.{all-some, stratum-some}
+use Rattle.weights.proofs.Products.{product-some}
 
 -- strata that are weighed
 pub record IsTotalled (odds : Option Odds) (strata : List Stratum) (i all : ℕ) : Type 0 where

@@ -1,7 +1,7 @@
 -- Weights by odds: they multiply where subjects are put together, and each is at least 1.
 use Rattle.std.proofs.Common.{◌≡◌, ℕ, ◌+◌, ◌-◌, ◌*◌, ◌^◌, ◌≤◌, refl, ◌∙◌, ap, subst, arith}
 use Rattle.std.specs.Prelude.{Option, Some, None}
-use Rattle.std.proofs.Math.Nat.{mul-le-mul, one-le-pow, pow-zero}
+use Rattle.std.proofs.Math.Nat.{one-le-pow, pow-zero}
 use Rattle.std.proofs.lemmas.Nat.{pow-add}
 use Rattle.weights.specs.declared.odds.Odds.{Odds}
 use Rattle.strata_cells.specs.declared.stratum.Stratum.{Stratum}
@@ -11,6 +11,7 @@ use Rattle.strata_cells.proofs.FirstCells.{left-within}
 use Rattle.stratified_tests.specs.StrataTests.{weight_by}
 use Rattle.stratified_tests.specs.StrataNetwork.{weighed_cell}
 use Rattle.stratified_tests.specs.StrataSteps.{AreOdds}
+use Rattle.weights.proofs.Products.{product-some}
 
 pub no-odds : AreOdds None
 no-odds = record { usable = λ o e. absurd (cc e) }
@@ -20,9 +21,6 @@ some-odds odds i = record { usable = λ o e. subst IsOdds (same odds o e) i }
   where
     same : (o p : Odds) → Some o ≡ Some p → o ≡ p
     same o p e = cc
-
-pub product-some : (a b : ℕ) → 1 ≤ a → 1 ≤ b → 1 ≤ a * b
-product-some a b h k = mul-le-mul h k
 
 module _ (odds : Odds) (i : IsOdds odds) where
   pub above-some : (x : ℕ) → 1 ≤ odds.above ^ x

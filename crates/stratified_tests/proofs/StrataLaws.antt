@@ -33,8 +33,9 @@ use Rattle.strata_cells.proofs.StrataSums.{drop-head, past-end}
 use Rattle.stratified_tests.specs.StrataTests.{stratified_test, weight_by}
 use Rattle.stratified_tests.specs.StrataNetwork.{cell_choices, cells_from, strata_addends, stratified_network, weighed_cell}
 use Rattle.stratified_tests.specs.StrataSteps.{AreOdds, AreStages, greatest_sum, strata_total, stratum_total}
-use Rattle.stage_network.proofs.Ranges.{range-different}
-use Rattle.stratified_tests.proofs.OddsLaws.{cell-is, product-some, weight-joined, weight-least, weight-none}
+use Rattle.weights.proofs.Ranges.{range-different}
+use Rattle.stratified_tests.proofs.OddsLaws.{cell-is, weight-joined, weight-least, weight-none}
+use Rattle.weights.proofs.Products.{product-some}
 
 -- ---- one stratum
 

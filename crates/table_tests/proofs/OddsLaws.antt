@@ -34,11 +34,9 @@ use Rattle.weights.specs.Odds.{IsOdds, odds_weight}
 use Rattle.table_tests.specs.OddsNetworks.{odds_at, odds_plan}
 use Rattle.table_tests.specs.OddsSteps.{AreWeighted, cell_weight, cells_weight, odds_total}
 use Rattle.weights.proofs.CellSums.{allowed_cells, by_cells, divided, zeros_in}
+use Rattle.weights.proofs.Products.{product-some}
 
 -- ---- products
-
-pub product_least : (a b : ℕ) → 1 ≤ a → 1 ≤ b → 1 ≤ a * b
-product_least a b h j = grind arith
 
 pub product_left : (a b : ℕ) → 1 ≤ b → a ≤ a * b
 product_left a b h = grind arith
@@ -83,7 +81,7 @@ members xs = recursion_from_All (Contains xs) xs (All-contains_itself xs)
 -- ---- odds
 
 pub some-weight : (odds : Odds) → IsOdds odds → (n x : ℕ) → 1 ≤ odds_weight odds n x
-some-weight odds i n x = product_least (odds.above ^ x) (odds.below ^ (n - x)) (one-le-pow x odds.above i.above_some) (one-le-pow (n - x) odds.below i.below_some)
+some-weight odds i n x = product-some (odds.above ^ x) (odds.below ^ (n - x)) (one-le-pow x odds.above i.above_some) (one-le-pow (n - x) odds.below i.below_some)
 
 at-some : (odds : Odds) → IsOdds odds → (g : ℕ) → 1 ≤ odds_at odds g
 at-some odds i zero = i.above_some
@@ -208,7 +206,7 @@ module _ (odds : Odds) (columns rows : List ℕ) (total : ℕ) (a : AreWeighted 
         next_long = s.next_long;
         some_choice = λ g room r. s.some_choice g room (same-rooms odds columns rows g room r);
         different = λ g room r. s.different g room (same-rooms odds columns rows g room r);
-        weighty = λ g room c r before o. product_least (number_of_labellings c) (odds_at odds g ^ slice_index c 0) (number_of_labellings-positive c) (one-le-pow (slice_index c 0) (odds_at odds g) (at-some odds a.some_odds g));
+        weighty = λ g room c r before o. product-some (number_of_labellings c) (odds_at odds g ^ slice_index c 0) (number_of_labellings-positive c) (one-le-pow (slice_index c 0) (odds_at odds g) (at-some odds a.some_odds g));
         fits = omega (arith, own-total (map pos rows) refl, a.total_fits);
       }
 
@@ -270,12 +268,12 @@ module _ (odds : Odds) (columns rows : List ℕ) (total : ℕ) (a : AreWeighted 
       (term-le-sum_by (λ c. own.weight g room c * total_weight (alone own) (g + 1) (own.floor.next g room c)) ((alone own).choices g room) c o)
 
   some-arc : (g : ℕ) (room : List ℤ) (c : List ℕ) → 1 ≤ own.weight g room c
-  some-arc g room c = product_least (number_of_labellings c) (odds_at odds g ^ slice_index c 0) (number_of_labellings-positive c) (one-le-pow (slice_index c 0) (odds_at odds g) (at-some odds a.some_odds g))
+  some-arc g room c = product-some (number_of_labellings c) (odds_at odds g ^ slice_index c 0) (number_of_labellings-positive c) (one-le-pow (slice_index c 0) (odds_at odds g) (at-some odds a.some_odds g))
 
   some-rest : (room : List ℤ) → IsReached (alone own) 1 room → 1 ≤ total_weight (alone own) 1 room
   some-rest room r =
       subst (λ n. 1 ≤ n) (sym (last-rest room r))
-      (product_least (number_of_labellings (sizes_in room)) (odds.below ^ slice_index (sizes_in room) 0) (number_of_labellings-positive (sizes_in room)) (one-le-pow (slice_index (sizes_in room) 0) odds.below a.some_odds.below_some))
+      (product-some (number_of_labellings (sizes_in room)) (odds.below ^ slice_index (sizes_in room) 0) (number_of_labellings-positive (sizes_in room)) (one-le-pow (slice_index (sizes_in room) 0) odds.below a.some_odds.below_some))
 
   chain : (w r t m : ℕ) → w * r ≤ t → t ≤ m → 1 ≤ r → w ≤ m
   chain w r t m h l s = omega (arith, h, l, product_left w r s)
@@ -334,8 +332,8 @@ pub record AreWithin (a b x y : ℕ) : Type 0 where
 
 pub are-within : (a b x y : ℕ) → 1 ≤ a → 1 ≤ b → 1 ≤ x → 1 ≤ y → AreWithin a b x y
 are-within a b x y h i j k =
-    let ways : a * b ≤ a * b * (x * y) = product_left (a * b) (x * y) (product_least x y j k) in
-    let each : x * y ≤ a * b * (x * y) = product_right (a * b) (x * y) (product_least a b h i) in
+    let ways : a * b ≤ a * b * (x * y) = product_left (a * b) (x * y) (product-some x y j k) in
+    let each : x * y ≤ a * b * (x * y) = product_right (a * b) (x * y) (product-some a b h i) in
     record {
       first = omega (arith, ways, product_left a b i);
       second = omega (arith, ways, product_right a b h);

@@ -4,24 +4,22 @@ use Rattle.std.specs.Prelude.{ℤ}
 use Rattle.std.specs.List.{sum}
 use Rattle.std.proofs.lemmas.List.Sums.{sum_by-cons}
 use Rattle.weights.specs.declared.tails.Tail.{Tail}
-use Rattle.weights.proofs.Centred.{measured-is, rules-fit}
 use Rattle.stage_network.specs.declared.verdicts.Judge.{Judge}
 use Rattle.stage_network.specs.Judged.{judge_of}
 use Rattle.stage_network.specs.Follows.{Follows}
-use Rattle.label_network.specs.LabelNetwork.{label_network}
+use Rattle.label_network.specs.LabelNetwork.{IsMargin, label_network, over_rooms}
 use Rattle.label_network.specs.LaterSums.{subjects}
 use Rattle.label_network.specs.Linear.{IsLinear, linear_statistic}
-use Rattle.label_network.proofs.LabelFollows.{label_follows}
 use Rattle.label_network.proofs.Later.{length-subjects}
 use Rattle.label_network.proofs.LinearNarrows.{linear_measure}
-use Rattle.table_tests.specs.FisherSteps.{LinearFacts}
-use Rattle.table_tests.specs.LinearByLinear.{ScoredTable, linear_test}
+use Rattle.label_network.proofs.LinearValues.{statistic-value}
+use Rattle.labelled.proofs.LabelLaws.{label-follows}
+use Rattle.table_tests.specs.LinearByLinear.{ScoredTable, linear_says, linear_test}
 use Rattle.table_tests.specs.TableNetworks.{subject_meaning}
 use Rattle.table_tests.specs.Tables.{column_sums, row_sums}
 use Rattle.table_tests.specs.TableSteps.{AreFitting}
-use Rattle.table_tests.proofs.LinearTests.{are-scored, as-long, as-wide, bounded, follows, is-centred, linear-of, margin, total-some}
-use Rattle.table_tests.proofs.MarginSums.{even, few-labels}
-use Rattle.label_network.proofs.LinearValues.{statistic-value}
+use Rattle.table_tests.proofs.LinearTests.{as-long, as-wide, is-linear, margin}
+use Rattle.table_tests.proofs.MarginSums.{even}
 
 -- so many columns of one subject
 pub single-subjects : (units : List ℤ) → subjects units (replicate (length units) 1) ≡ units
@@ -43,15 +41,12 @@ module _ (t : ScoredTable) (f : AreFitting t) where
   abbrev singles : List ℕ
   singles = replicate (length units) 1
 
-  as-many : length units ≡ sum (column_sums t.table)
-  as-many = length-subjects t.column_scores (column_sums t.table) (as-long t f)
-
   level : sum singles ≡ sum (row_sums t.table)
-  level = sum-singles (length units) ∙ as-many ∙ even t.table
+  level = sum-singles (length units) ∙ length-subjects t.column_scores (column_sums t.table) (as-long t f) ∙ even t.table
 
-  linear-singles : IsLinear t.row_scores (row_sums t.table) units singles (judge_of (linear_test t))
-  linear-singles =
-      let written : IsLinear t.row_scores (row_sums t.table) t.column_scores (column_sums t.table) (judge_of (linear_test t)) = linear-of t f in
+  pub linear-singles : (judge : Judge) → judge ≡ judge_of (linear_test t) → IsLinear t.row_scores (row_sums t.table) units singles judge
+  linear-singles judge e =
+      let written : IsLinear t.row_scores (row_sums t.table) t.column_scores (column_sums t.table) judge = is-linear t f judge e in
       record {
         wide = written.wide;
         long = sym (length-singles (length units));
@@ -65,36 +60,21 @@ module _ (t : ScoredTable) (f : AreFitting t) where
         rules_fit = rw (single-subjects units) written.rules_fit;
       }
 
-  follows-singles : (tail : Tail) → Follows (linear_test t) tail (label_network (subject_meaning t))
-  follows-singles tail =
-      let judge : Judge = judge_of (linear_test t) in
-      label_follows (subject_meaning t) (linear_measure t.row_scores (row_sums t.table) units singles judge linear-singles) (linear_test t) tail (record {
-        judge_is = refl;
-        reference = refl;
-        alike = λ xs. refl;
-        values = λ xs m.
-            measured-is (linear_test t) refl tail xs
-            ∙ ap (λ vs. linear_statistic t.row_scores vs xs) (sym (single-subjects units))
-            ∙ statistic-value t.row_scores (row_sums t.table) units singles judge (as-wide t f) (sym (length-singles (length units))) xs;
-      })
+  pub margin-singles : IsMargin (over_rooms (subject_meaning t)) singles (row_sums t.table)
+  margin-singles =
+      let written = margin t f in
+      let labelled = written.labelled in
+      record {
+        floor_is = refl;
+        labelled = record { level = level; units = labelled.units; few = labelled.few; total = labelled.total };
+        some = written.some;
+        wide = written.wide;
+      }
 
-  pub linear_facts : LinearFacts t
-  linear_facts = record {
-    few = few-labels t.table f.table;
-    long = as-long t f;
-    bounded = bounded t f;
-    some = total-some t;
-    rules = rules-fit (linear_test t) (is-centred t f);
-    linear = linear-of t f;
-    margin = margin t f;
-    single = linear-singles;
-    single_margin = record {
-      floor_is = refl;
-      labelled = record { level = level; units = (margin t f).labelled.units; few = few-labels t.table f.table; total = f.table.total_fits };
-      some = (margin t f).some;
-      wide = (margin t f).wide;
-    };
-    follows = λ tail has. follows t f tail;
-    follows_single = follows-singles;
-    labels = are-scored t f;
-  }
+  pub follows-singles : (tail : Tail) → Follows (linear_test t) tail (label_network (subject_meaning t))
+  follows-singles =
+      let judge : Judge = judge_of (linear_test t) in
+      label-follows (linear_says t) (subject_meaning t) (linear_measure t.row_scores (row_sums t.table) units singles judge (linear-singles judge refl)) refl refl
+      (λ xs m.
+      ap (λ vs. linear_statistic t.row_scores vs xs) (sym (single-subjects units))
+      ∙ statistic-value t.row_scores (row_sums t.table) units singles judge (as-wide t f) (sym (length-singles (length units))) xs)

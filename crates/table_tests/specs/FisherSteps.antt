@@ -1,29 +1,24 @@
 -- What is known of a table of a shape that its tests take, as the bodies read it.
-use Rattle.std.specs.Prelude.{◌≡◌, ℕ, ◌≤◌, List, length, replicate, slice_index, true}
-use Rattle.std.specs.List.{Contains}
-use Rattle.weights.specs.declared.tails.Tail.{Tail}
+use Rattle.std.specs.Prelude.{◌≡◌, ℕ, ◌≤◌, List, length, slice_index, true}
 use Rattle.weights.specs.declared.tails.Tail.TheVariants.{Two}
 use Rattle.weights.specs.declared.TheConstants.{MAX}
 use Rattle.weights.specs.Conditional.{total}
 use Rattle.weights.specs.Frames.{IsShown, RulesFit}
 use Rattle.weights.specs.Grouped.{columns_of, table_weight}
-use Rattle.weights.specs.Labellings.{labellings}
 use Rattle.completion_bounds.specs.Fillings.{falling}
 use Rattle.stage_network.specs.Follows.{AllFollow, Follows}
 use Rattle.stage_network.specs.Judged.{judge_of}
-use Rattle.label_network.specs.LabelNetwork.{IsMargin, label_network, over_rooms}
-use Rattle.label_network.specs.LaterSums.{subjects}
+use Rattle.label_network.specs.LabelNetwork.{IsMargin, over_rooms}
 use Rattle.label_network.specs.Linear.{IsLinear}
 use Rattle.sorted_tables.specs.SortedRooms.{rising}
 use Rattle.table_reader.specs.TableLayout.{TableData}
 use Rattle.table_tests.specs.FisherExact.{fisher_test, rarity}
 use Rattle.table_tests.specs.LastSteps.{AreLast}
-use Rattle.table_tests.specs.LinearByLinear.{ScoredTable, linear_test}
 use Rattle.table_tests.specs.SortedWeighing.{sorted_network}
 use Rattle.table_tests.specs.TableNetworks.{first_cell_meaning, first_scores, fisher_network}
-use Rattle.table_tests.specs.TableNetworks.{linear_network, product_meaning, rarity_meaning, subject_meaning}
+use Rattle.table_tests.specs.TableNetworks.{rarity_meaning}
 use Rattle.table_tests.specs.Tables.{column_sums, is_two_by_two, row_sums}
-use Rattle.table_tests.specs.TableSteps.{AreColumns, AreScored}
+use Rattle.table_tests.specs.TableSteps.{AreColumns}
 use Rattle.table_tests.specs.WeightSteps.{IsWeighing}
 
 -- of a table that is prepared for Fisher's test
@@ -51,24 +46,3 @@ pub record FisherLabels (t : TableData) (labels : List ℕ) : Type 0 where
   pub first : slice_index (column_sums t) 0 ≤ length labels
   pub few : table_weight (columns_of t.rows (column_sums t) labels) ≤ MAX
   pub rarity : rarity t labels ≡ table_weight (columns_of t.rows (column_sums t) labels)
-
--- of a table with scores
-pub record LinearFacts (t : ScoredTable) : Type 0 where
-  pub few : length (row_sums t.table) ≤ 8
-  pub long : length t.column_scores ≡ length (column_sums t.table)
-  pub bounded : total (linear_test t) ≤ MAX
-  pub some : 1 ≤ total (linear_test t)
-  pub rules : RulesFit (linear_test t)
-  pub linear : IsLinear t.row_scores (row_sums t.table) t.column_scores (column_sums t.table)
-      (judge_of (linear_test t))
-  pub margin : IsMargin (over_rooms (product_meaning t)) (column_sums t.table) (row_sums t.table)
-  pub single : let units = subjects t.column_scores (column_sums t.table) in
-      IsLinear t.row_scores (row_sums t.table) units (replicate (length units) 1)
-      (judge_of (linear_test t))
-  pub single_margin : let units = subjects t.column_scores (column_sums t.table) in
-      IsMargin (over_rooms (subject_meaning t)) (replicate (length units) 1) (row_sums t.table)
-  pub follows : AllFollow (linear_test t) (linear_network t)
-  pub follows_single : (tail : Tail)
-      → Follows (linear_test t) tail (label_network (subject_meaning t))
-  pub labels : (xs : List ℕ) → Contains (labellings (row_sums t.table)) xs
-      → AreScored t.row_scores t.column_scores (column_sums t.table) xs

@@ -1,20 +1,19 @@
 -- What the bodies compute of a table, column by column, and what is kept of a prepared one.
-use Rattle.std.specs.Prelude.{◌≡◌, ℕ, ◌*◌, ◌<◌, ◌≤◌, ℤ, List, length, slice_index, unsigned_abs}
+use Rattle.std.specs.Prelude.{◌≡◌, ℕ, ◌*◌, ◌<◌, ◌≤◌, ℤ, List, length, slice_index}
 use Rattle.std.specs.List.{sum}
 use Rattle.weights.specs.declared.TheConstants.{MAX}
 use Rattle.weights.specs.Frames.{IsFrameOf}
 use Rattle.weights.specs.Labellings.{number_of_labellings}
 use Rattle.completion_bounds.specs.Pairings.{greatest_score}
-use Rattle.label_network.specs.Linear.{row_sum}
 use Rattle.table_reader.specs.declared.TheConstants.{MOST_COUNT, MOST_TABLE_COLUMNS, MOST_TABLE_ROWS}
 use Rattle.table_reader.specs.Counts.{AreCounts}
 use Rattle.table_reader.specs.TableLayout.{TableData}
 use Rattle.table_tests.specs.declared.TheConstants.{MOST_SCORE}
 use Rattle.table_tests.specs.declared.margins.Margins.{Margins}
-use Rattle.table_tests.specs.declared.linear_table.Products.{Products}
+use Rattle.table_tests.specs.declared.linear_table.ScoredMargins.{ScoredMargins}
 use Rattle.table_tests.specs.declared.fisher_table.Weighed.{Weighed}
 use Rattle.table_tests.specs.FisherExact.{fisher_test}
-use Rattle.table_tests.specs.LinearByLinear.{ScoredTable, linear_test}
+use Rattle.table_tests.specs.LinearByLinear.{ScoredTable}
 use Rattle.table_tests.specs.Tables.{column_sums, is_two_by_two, row_sums}
 
 -- no score is greater than may be
@@ -42,14 +41,6 @@ pub record AreScored (us vs : List ℤ) (columns labels : List ℕ) : Type 0 whe
   pub few : length us ≤ MOST_TABLE_ROWS
   pub level : length vs ≡ length columns
   pub whole : AreColumns columns labels
-
--- a score for each row and for each column, whose sums over the subjects can be multiplied
-pub record AreCentred (rows : List ℕ) (us : List ℤ) (columns : List ℕ) (vs : List ℤ) : Type 0 where
-  pub rows_level : length rows ≡ length us
-  pub columns_level : length columns ≡ length vs
-  pub rows_fit : greatest_score us * sum rows ≤ MAX
-  pub columns_fit : greatest_score vs * sum columns ≤ MAX
-  pub fits : unsigned_abs (row_sum us rows) * unsigned_abs (row_sum vs columns) ≤ MAX
 
 -- the sums of the rows and of the columns
 pub record AreMargins (table : TableData) (margins : Margins) : Type 0 where
@@ -80,12 +71,11 @@ pub record AreFitting (scored : ScoredTable) : Type 0 where
   pub row_sizes : AreScores scored.row_scores
   pub column_sizes : AreScores scored.column_scores
 
--- what is made of such a table
-pub record IsScored (scored : ScoredTable) (made : Products) : Type 0 where
+-- the sums of such a table, and its scores
+pub record IsScored (scored : ScoredTable) (made : ScoredMargins) : Type 0 where
   pub margins : AreMargins scored.table made.margins
   pub row_scores : made.row_scores ≡ scored.row_scores
   pub column_scores : made.column_scores ≡ scored.column_scores
-  pub frame : IsFrameOf (linear_test scored) made.frame
   pub fitting : AreFitting scored
 
 -- what is made of a table

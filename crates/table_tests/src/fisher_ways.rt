@@ -1,9 +1,10 @@
 // Both ways to the answer of Fisher's test.
-ghost use Rattle.std.specs.Prelude.{◌≡◌, pos, true, IfOk, Contains};
+ghost use Rattle.std.specs.Prelude.{◌≡◌, pos, false, true, IfOk, Contains};
 ghost use Rattle.weights.specs.Labellings.{labellings};
 ghost use Rattle.completion_bounds.specs.Fillings.{falling};
 ghost use Rattle.label_network.specs.Linear.{linear_meaning};
 ghost use Rattle.sorted_tables.specs.SortedRooms.{rising};
+ghost use Rattle.stage_network.specs.Follows.{AreNumerators, HasTails};
 ghost use Rattle.table_tests.specs.FisherExact.{fisher_test, first_cell, rarity};
 ghost use Rattle.table_tests.specs.SortedWeighing.{sorted_meaning, sorted_rarity_meaning};
 ghost use Rattle.table_tests.specs.TableNetworks.{first_cell_meaning, fisher_network, rarity_meaning};
@@ -22,9 +23,9 @@ use enumerate::{Plain, first_labelling, next_labelling};
 use label_network::label_stages;
 use room_network::Numbered;
 use sorted_tables::rise;
-use stage_network::{OneOf, Prepared, Spread, Stages, TailSum};
+use stage_network::{OneOf, Prepared, Spread, Stages, TailSum, TailSums, tail_sums_by_rooms};
 use std::alloc::Global;
-use weights::{Bytes, Frame, NoMemory, Tail};
+use weights::{Bytes, Frame, NoMemory, Tail, Tails};
 
 // Sizes of rows with the greatest first, and of columns with the least first.
 #[derive(Drop)]
@@ -141,6 +142,22 @@ impl FisherTable {
             Tail::Two => Ok(OneOf::Second(OneOf::First(self.by_weight(alloc)?))),
         }
     }
+
+    // The numerators of the asked tails but that on both sides, by one sweep over the first cell. A
+    // table of 2 by 2 alone has such tails.
+    fn sides(&self, alloc: Global, sides: Tails) -> Result<TailSums, NoMemory>
+        requires has { HasTails (fisher_test self.now) sides }
+        requires one_sided { sides.two ≡ false }
+        ensures { IfOk result (AreNumerators (fisher_test self.now) sides) }
+    {
+        if !self.made().two_by_two {
+            return Ok(TailSums::none());
+        }
+        self.facts();
+        let cells = self.by_first_cell(alloc)?;
+        let sums = tail_sums_by_rooms(alloc, &cells, sides)?;
+        Ok(sums)
+    }
 }
 
 impl Plain for FisherTable {
@@ -214,6 +231,19 @@ impl Prepared for FisherTable {
 
     fn quick_sum(&self, alloc: Global, asked: bool, tail: Tail) -> Result<TailSum, NoMemory> {
         quick_sum(alloc, self, asked, tail)
+    }
+
+    // `less` and `greater` by one sweep.
+    fn numerators(&self, alloc: Global, tails: Tails) -> Result<TailSums, NoMemory> {
+        let Tails { less, greater, two } = tails;
+        let sides = Tails {
+            less,
+            greater,
+            two: false,
+        };
+        let sums = self.sides(alloc, sides)?;
+        let two = self.quick_sum(alloc, two, Tail::Two)?;
+        Ok(TailSums { two, ..sums })
     }
 
     fn quick_distribution(&self, alloc: Global) -> Result<Spread, NoMemory> {

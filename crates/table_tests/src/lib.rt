@@ -32,7 +32,7 @@ mod turned;
 mod weight_measure;
 
 pub use fisher_table::{FisherTable, fisher_tails, is_two_by_two};
-pub use linear_table::LinearTable;
+pub use linear_table::{LinearTable, ProductSum};
 pub use odds_rooms::OddsRooms;
 pub use odds_table::OddsTable;
 pub use product_stages::ProductStages;

@@ -1,111 +1,93 @@
-// Both ways to the answer of the linear-by-linear test.
+// The sum of products as the statistic of the linear-by-linear test, and its networks.
 ghost use Rattle.std.specs.Prelude.{◌≡◌, IfOk};
+ghost use Rattle.stage_network.specs.Judged.{judge_of};
 ghost use Rattle.label_network.specs.Linear.{linear_meaning};
 ghost use Rattle.table_tests.specs.LinearByLinear.{linear_test};
 ghost use Rattle.table_tests.specs.TableNetworks.{subject_meaning};
 
-use crate::linear_table::LinearTable;
+use crate::linear_table::ProductSum;
 use crate::product_stages::{ProductStages, product_stages};
 use crate::single_subjects::{single_columns, subject_scores};
 use crate::sums::labelled_sum;
-use enumerate::{Plain, first_labelling, next_labelling};
-use stage_network::Prepared;
+use labelled::LabelStatistic;
+use stage_network::Judge;
 use std::alloc::Global;
-use weights::{Bytes, Frame, NoMemory, Tail};
+use weights::{NoMemory, Tail};
 
-impl LinearTable {
-    // The network whose columns are single subjects.
-    fn by_subjects(&self, alloc: Global) -> Result<ProductStages, NoMemory>
-        ensures { let meaning = subject_meaning self.now in
-            IfOk result (λ s. linear_meaning s.1.scores.items s.1.rows.items
-            s.1.later.scores.items s.1.later.columns.items s.1.judge ≡ meaning) }
-    {
-        self.facts();
-        let scores = subject_scores(alloc, self.column_scores(), self.column_sums())?;
-        let columns = single_columns(alloc, scores.len())?;
-        product_stages(
-            alloc,
-            self.row_sums(),
-            columns.as_slice(),
-            self.row_scores(),
-            scores.as_slice(),
-            self.judge(),
-        )
-    }
+// The network whose columns are single subjects.
+fn by_subjects(alloc: Global, sum: &ProductSum, judge: Judge) -> Result<ProductStages, NoMemory>
+    requires { judge ≡ judge_of (linear_test sum.now) }
+    ensures { let meaning = subject_meaning sum.now in
+        IfOk result (λ s. linear_meaning s.1.scores.items s.1.rows.items
+        s.1.later.scores.items s.1.later.columns.items s.1.judge ≡ meaning) }
+{
+    let made = sum.made();
+    let columns = made.margins.columns.as_slice();
+    let scores = subject_scores(alloc, made.column_scores.as_slice(), columns)?;
+    let singles = single_columns(alloc, scores.len())?;
+    product_stages(
+        alloc,
+        made.margins.rows.as_slice(),
+        singles.as_slice(),
+        made.row_scores.as_slice(),
+        scores.as_slice(),
+        judge,
+    )
 }
 
-impl Plain for LinearTable {
-    ghost test = { linear_test };
-
-    fn first(&self, alloc: Global) -> Result<Bytes, NoMemory> {
-        self.facts();
-        first_labelling(alloc, self.row_sums())
-    }
-
-    fn next(&self, labels: &mut Bytes) -> bool {
-        next_labelling(labels.as_mut_slice())
-    }
-
-    fn weight(&self, _labels: &[u8]) -> u128 {
-        1
-    }
-
-    fn value(&self, labels: &[u8]) -> i128 {
-        self.facts();
-        labelled_sum(
-            self.row_scores(),
-            self.column_scores(),
-            self.column_sums(),
-            labels,
-        )
-    }
-
-    fn frame(&self) -> Frame {
-        self.facts();
-        self.made().frame
-    }
-
-    fn measure(&self, labels: &[u8], _tail: Tail) -> i128 {
-        self.value(labels)
-    }
-}
-
-impl Prepared for LinearTable {
-    ghost use Rattle.table_tests.specs.TableNetworks.{linear_network};
+impl LabelStatistic for ProductSum {
+    ghost use Rattle.label_network.specs.LabelNetwork.{label_network};
+    ghost use Rattle.table_tests.specs.LinearByLinear.{linear_says};
+    ghost use Rattle.table_tests.specs.TableNetworks.{product_meaning};
 
     type Built = ProductStages;
 
-    ghost network = { linear_network };
+    ghost says = { linear_says };
 
-    ghost runs = { linear_network };
+    ghost network = { λ scored. label_network (product_meaning scored) };
+
+    ghost runs = { λ scored. label_network (product_meaning scored) };
+
+    fn sound(&self) {
+        let _made = self.made();
+    }
+
+    fn sizes(&self) -> &[u64] {
+        self.made().margins.rows.as_slice()
+    }
+
+    fn value(&self, labels: &[u8]) -> i128 {
+        let made = self.made();
+        labelled_sum(
+            made.row_scores.as_slice(),
+            made.column_scores.as_slice(),
+            made.margins.columns.as_slice(),
+            labels,
+        )
+    }
 
     fn has_tail(&self, _tail: Tail) -> bool {
         true
     }
 
-    fn is_shared(&self) -> bool {
-        true
-    }
-
-    fn stages_of(&self, alloc: Global, _tail: Tail) -> Result<Self::Built, NoMemory> {
-        self.facts();
+    fn stages_of(&self, alloc: Global, judge: Judge) -> Result<Self::Built, NoMemory> {
+        let made = self.made();
         product_stages(
             alloc,
-            self.row_sums(),
-            self.column_sums(),
-            self.row_scores(),
-            self.column_scores(),
-            self.judge(),
+            made.margins.rows.as_slice(),
+            made.margins.columns.as_slice(),
+            made.row_scores.as_slice(),
+            made.column_scores.as_slice(),
+            judge,
         )
     }
 
     // Of two rows the sizes that remain are few, whatever the columns are.
-    fn quick_stages_of(&self, alloc: Global, tail: Tail) -> Result<Self::Built, NoMemory> {
-        if self.row_sums().len() == 2 {
-            self.stages_of(alloc, tail)
+    fn quick_stages_of(&self, alloc: Global, judge: Judge) -> Result<Self::Built, NoMemory> {
+        if self.made().margins.rows.len() == 2 {
+            self.stages_of(alloc, judge)
         } else {
-            self.facts();
-            self.by_subjects(alloc)
+            by_subjects(alloc, self, judge)
         }
     }
 }

@@ -9,7 +9,7 @@ ghost use Rattle.table_tests.specs.Tables.{is_two_by_two};
 ghost use Rattle.table_tests.specs.TableSteps.{AreScores, scored_of};
 
 use crate::fisher_table::FisherTable;
-use crate::linear_table::LinearTable;
+use crate::linear_table::{LinearTable, prepare};
 use crate::odds_table::OddsTable;
 use stage_network::OneOf;
 use std::alloc::Global;
@@ -50,7 +50,7 @@ pub fn prepare_linear(
     ensures { let scored = scored_of (table_data_of table.now) row_scores.now column_scores.now in
         Prepares table_test (OneOf.First (OneOf.Second scored)) result }
 {
-    let linear = LinearTable::prepare(alloc, table, row_scores, column_scores)?;
+    let linear = prepare(alloc, table, row_scores, column_scores)?;
     Ok(OneOf::First(OneOf::Second(linear)))
 }
 

@@ -15,4 +15,4 @@ returns c =
     let dropped = dropped_told c.args.request.now.settings.now layout.Sequence c.args.request.now.rows.now in
     rw c.in_ok-sequence.ensures.ok
     (asked_outcome sequence_test sequence_network running_network c.args.request.now.asking (sequence_sizes sequence) dropped extra.None
-    (Second sequence) _ _ c.prepare_runs-problem.ensures (rw (c.heading-heading.ensures.sizes ∙ c.sequence_sizes.ensures, c.heading-heading.ensures.dropped, c.heading-heading.ensures.extra) at c.report_on.ensures))
+    (Second sequence) _ _ c.prepare_runs-problem.ensures (rw (c.heading-heading.ensures.sizes ∙ c.in_ok-sequence_sizes.ensures, c.heading-heading.ensures.dropped, c.heading-heading.ensures.extra) at c.report_on.ensures))

@@ -11,4 +11,4 @@ returns c =
     let cells = c.in_ok-strata.strata.cells in
     rw c.in_ok-strata.ensures.ok
     (asked_outcome homogeneity_test homogeneity_network homogeneity_network c.args.request.now.asking (strata_sizes cells) None extra.None
-    (First cells) _ _ c.prepare_zelen-problem.ensures (rw (c.heading_of.ensures.sizes, c.heading_of.ensures.dropped, c.heading_of.ensures.extra) at c.report_on.ensures))
+    (First cells) _ _ c.prepare_zelen-problem.ensures (rw (c.heading_of-heading.ensures.sizes, c.heading_of-heading.ensures.dropped, c.heading_of-heading.ensures.extra) at c.report_on.ensures))

@@ -3,7 +3,7 @@ use mir.Syntax.{w128}
 use mir.Val.{to_z, of_z}
 use Rattle.std.proofs.lemmas.Int.{ints, to_z-of_z}
 use Rattle.scores.specs.Scores.{labelled_sum}
-use Rattle.homogeneity.proofs.RankFitting.{value-apart}
+use Rattle.homogeneity.proofs.RankLimits.{value-apart}
 use Rattle.homogeneity.proofs.rank_made.frame_of.Goals as goal
 
 pub far-requires : goal.far-requires

@@ -6,7 +6,7 @@ use Rattle.sample_reader.specs.Data.{strata_data_of}
 use Rattle.homogeneity.specs.StrataSteps.{part_centre, part_of, parts_total}
 use Rattle.homogeneity.specs.StratifiedRanks.{ranked_strata_test, second_size, strata_subjects}
 use Rattle.homogeneity.specs.declared.rank_strata.Part.{Part}
-use Rattle.homogeneity.proofs.RankFitting.{centre-is, ranked}
+use Rattle.homogeneity.proofs.RankLimits.{centre-is, ranked}
 use Rattle.homogeneity.proofs.StrataSubjects.{usable-from}
 use Rattle.homogeneity.proofs.rank_made.made_of.Goals as goal
 

@@ -1,5 +1,5 @@
 use Rattle.sample_reader.specs.Data.{strata_data_of}
-use Rattle.homogeneity.proofs.RankFitting.{ranks-are}
+use Rattle.homogeneity.proofs.RankLimits.{ranks-are}
 use Rattle.homogeneity.proofs.StrataSubjects.{usable-from}
 use Rattle.homogeneity.proofs.rank_made.ranks_fit.Goals as goal
 

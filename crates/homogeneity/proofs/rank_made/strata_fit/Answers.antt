@@ -1,5 +1,5 @@
 use Rattle.sample_reader.specs.Data.{strata_data_of}
-use Rattle.homogeneity.proofs.RankFitting.{strata-facts}
+use Rattle.homogeneity.proofs.RankLimits.{strata-facts}
 use Rattle.homogeneity.proofs.StrataSubjects.{usable-from}
 use Rattle.homogeneity.proofs.rank_made.strata_fit.Goals as goal
 

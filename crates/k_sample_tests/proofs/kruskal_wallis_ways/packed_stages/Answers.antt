@@ -4,8 +4,8 @@ use Rattle.scores.specs.PlaceScores.{common_multiple}
 use Rattle.sample_reader.specs.Groups.{group_sizes}
 use Rattle.k_sample_tests.specs.KruskalWallis.{ScoredGroups}
 use Rattle.k_sample_tests.specs.SumMeanings.{AreSums}
-use Rattle.k_sample_tests.proofs.FittingCentred.{multiple-is, multiple-some, multiple-within, packed-seen, seen-adds, seen-ordered, seen-packed, size-parts, some-scores, square-within}
-use Rattle.k_sample_tests.proofs.FittingKruskalWallis.{column-total}
+use Rattle.k_sample_tests.proofs.FittingCentred.{multiple-is, multiple-some, packed-seen, seen-adds, seen-ordered, seen-packed, size-parts, some-scores, square-within}
+use Rattle.k_sample_tests.proofs.FittingKruskalWallis.{column-total, multiple-within}
 use Rattle.k_sample_tests.proofs.kruskal_wallis_ways.packed_stages.Goals as goal
 
 pub overflow_mul-multiple : goal.overflow_mul-multiple
@@ -13,7 +13,7 @@ overflow_mul-multiple c =
     let made = c.made-made.ensures in
     let samples : ScoredGroups = c.args.problem.now in
     let multiple : c.index.result.now * get_or c.as_slice-groups.result.now 0 0 ≡ common_multiple (group_sizes samples.groups) = multiple-is samples made.fitting c.index.result.now c.index.result.now c.as_slice-groups.result.now (c.index.ensures ∙ ap (λ fs. get_or fs 0 c.index.result.now) made.factors) (c.as_slice-groups.ensures ∙ made.sizes) in
-    rw multiple (omega (arith, multiple-within samples made.fitting, made.fitting.bound_fits))
+    rw multiple (omega (arith, multiple-within samples, made.fitting.bound_fits))
 
 pub new-seen-requires-clause-any : goal.new-seen-requires-clause-any
 new-seen-requires-clause-any c = rw (c.as_slice.ensures ∙ c.made-made.ensures.scores) (some-scores c.args.problem.now c.made-made.ensures.fitting)

@@ -5,7 +5,7 @@ use mir.Val.{to_z, of_z}
 use Rattle.std.proofs.lemmas.Int.{to_z-of_z}
 use Rattle.packed_keys.specs.PackedGroups.{plus_each}
 use Rattle.label_network.proofs.Rows.{grown, written}
-use Rattle.k_sample_tests.proofs.RankNarrows.{length-plus}
+use Rattle.packed_keys.proofs.AddedDigits.{length-plus}
 use Rattle.k_sample_tests.proofs.RankWriting.{plus-at}
 use Rattle.k_sample_tests.proofs.rank_sums.plus_each.Goals as goal
 

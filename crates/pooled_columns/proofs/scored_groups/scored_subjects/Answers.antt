@@ -1,15 +1,12 @@
-use Rattle.std.proofs.Common.{◌≡◌, ◌∙◌, Err, ap, subst}
+use Rattle.std.proofs.Common.{◌≡◌, ◌∙◌, Err, ap, map, subst}
 use Rattle.std.proofs.lemmas.Result.{err_from_is_err_and}
-use Rattle.midranks.specs.Ties.{tie_groups}
-use Rattle.scores.specs.Scores.{AreScores, score_of}
+use Rattle.midranks.specs.declared.ties.Tie.{Tie}
+use Rattle.scores.specs.Scores.{AreTieScores}
 use Rattle.sample_reader.specs.Data.{data_of}
 use Rattle.sample_reader.specs.PooledSample.{labels_of, values_of}
-use Rattle.pooled_columns.specs.ColumnSteps.{first_scores}
-use Rattle.pooled_columns.specs.PooledColumns.{column_sizes, pooled_values}
+use Rattle.pooled_columns.specs.PooledColumns.{pooled_values}
 use Rattle.pooled_columns.specs.ScoredGroups.{IsScoredBy}
 use Rattle.pooled_columns.proofs.GroupFacts.{few_subjects, labels-small}
-use Rattle.pooled_columns.proofs.PooledValues.{pooled-rises}
-use Rattle.pooled_columns.proofs.TieColumns.{first_scores-are}
 use Rattle.pooled_columns.proofs.scored_groups.scored_subjects.Goals as goal
 
 pub labels_in-requires : goal.labels_in-requires
@@ -30,13 +27,10 @@ pub returns : goal.returns
 returns c =
     let values = pooled_values (data_of c.args.groups.now) in
     let held : c.as_slice.result.now ≡ values = c.as_slice.ensures ∙ c.in_ok-values.ensures ∙ ap values_of (c.deref-2.ensures.value ∙ c.in_ok-subjects.ensures) in
-    let again : c.as_slice-2.result.now ≡ values = c.as_slice-2.ensures ∙ c.in_ok-values.ensures ∙ ap values_of (c.deref-2.ensures.value ∙ c.in_ok-subjects.ensures) in
-    let scores : AreScores c.args.kind values c.in_ok-scored.scored = subst (λ vs. AreScores c.args.kind vs c.in_ok-scored.scored) held c.in_ok-scored.ensures in
+    let scores : AreTieScores c.args.kind values c.in_ok-scored.scored = subst (λ vs. AreTieScores c.args.kind vs c.in_ok-scored.scored) held c.in_ok-scored.ensures in
     record {
       labels = c.in_ok-labels.ensures ∙ ap labels_of (c.deref.ensures.value ∙ c.in_ok-subjects.ensures);
-      scores = scores;
-      column_sizes = c.in_ok-columns.ensures.sizes ∙ ap column_sizes again;
-      column_scores =
-          c.in_ok-columns.ensures.scores ∙ ap (λ vs. first_scores (tie_groups vs) c.as_slice-3.result.now) again
-          ∙ ap (first_scores (tie_groups values)) (c.as_slice-3.ensures ∙ scores.list) ∙ first_scores-are (score_of c.args.kind values) values (pooled-rises (data_of c.args.groups.now));
+      scores = scores.all;
+      column_sizes = c.in_ok-columns.ensures.sizes ∙ ap (map (λ (t : Tie). t.count)) (c.as_slice-2.ensures ∙ scores.ties);
+      column_scores = c.in_ok-columns.ensures.scores ∙ scores.scores;
     }

@@ -11,8 +11,8 @@ loop-i-preserved c =
     let sum = rw (to_z-of_z w128 (get_or c.args.firsts.now c.loop-i.i (pos 0)) b) at c.pairs_with-pairs.ensures.sum in
     record {
       few = omega (arith, c.loop-i.invariant.few, c.pairs_with-pairs.ensures.few, c.requires.few);
-      here = omega (arith, c.loop-i.invariant.here, sum, over-next c.args.rises c.args.firsts.now c.args.seconds.now c.requires.long c.loop-i.i c.loop-i-test.true);
+      here = omega (arith, c.loop-i.invariant.here, sum, over-next c.args.concordant c.args.firsts.now c.args.seconds.now c.requires.long c.loop-i.i c.loop-i-test.true);
     }
 
 pub returns-clause-sum : goal.returns-clause-sum
-returns-clause-sum c = c.loop-i.invariant.here ∙ over-all c.args.rises c.args.firsts.now c.args.seconds.now c.requires.long c.loop-i.i (omega (arith, c.loop-i-test.false))
+returns-clause-sum c = c.loop-i.invariant.here ∙ over-all c.args.concordant c.args.firsts.now c.args.seconds.now c.requires.long c.loop-i.i (omega (arith, c.loop-i-test.false))

@@ -7,5 +7,5 @@ use Rattle.sequence_tests.proofs.kendall_sums.pairs_over.Given as goal
 abbrev pub invariant-loop-i : goal.invariant-loop-i
 invariant-loop-i l = record {
   few : l.pairs ≤ 120 * l.i;
-  here : l.pairs ≡ over_pairs (ordered l.rises) (take l.i (paired_subjects l.firsts l.seconds)) (paired_subjects l.firsts l.seconds);
+  here : l.pairs ≡ over_pairs (ordered l.concordant) (take l.i (paired_subjects l.firsts l.seconds)) (paired_subjects l.firsts l.seconds);
 }

@@ -14,12 +14,12 @@ loop-i-preserved c =
     let pair = rw (to_z-of_z w128 (get_or c.args.firsts.now c.loop-i.i (pos 0)) b) at c.one_pair-pairs.ensures.value in
     record {
       few = omega (arith, c.loop-i.invariant.few, c.one_pair-pairs.ensures.few);
-      here = omega (arith, c.loop-i.invariant.here, pair, with-next c.args.rises c.args.firsts.now c.args.seconds.now c.requires.long (to_z w128 (of_z w128 c.args.first)) c.args.second c.loop-i.i c.loop-i-test.true);
+      here = omega (arith, c.loop-i.invariant.here, pair, with-next c.args.concordant c.args.firsts.now c.args.seconds.now c.requires.long (to_z w128 (of_z w128 c.args.first)) c.args.second c.loop-i.i c.loop-i-test.true);
     }
 
 pub returns-clause-sum : goal.returns-clause-sum
 returns-clause-sum c =
     let a : FitsSigned w128 c.args.first = record { sfits = c.ranges.first.sfits } in
     c.loop-i.invariant.here
-    ∙ with-all c.args.rises c.args.firsts.now c.args.seconds.now c.requires.long (to_z w128 (of_z w128 c.args.first)) c.args.second c.loop-i.i (omega (arith, c.loop-i-test.false))
-    ∙ ap (λ v. pairs_with c.args.rises v c.args.second (paired_subjects c.args.firsts.now c.args.seconds.now)) (to_z-of_z w128 c.args.first a)
+    ∙ with-all c.args.concordant c.args.firsts.now c.args.seconds.now c.requires.long (to_z w128 (of_z w128 c.args.first)) c.args.second c.loop-i.i (omega (arith, c.loop-i-test.false))
+    ∙ ap (λ v. pairs_with c.args.concordant v c.args.second (paired_subjects c.args.firsts.now c.args.seconds.now)) (to_z-of_z w128 c.args.first a)

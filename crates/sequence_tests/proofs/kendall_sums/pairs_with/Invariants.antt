@@ -6,5 +6,5 @@ use Rattle.sequence_tests.proofs.kendall_sums.pairs_with.Given as goal
 abbrev pub invariant-loop-i : goal.invariant-loop-i
 invariant-loop-i l = record {
   few : l.pairs ≤ l.i;
-  here : l.pairs ≡ pairs_with l.rises l.first l.second (take l.i (paired_subjects l.firsts l.seconds));
+  here : l.pairs ≡ pairs_with l.concordant l.first l.second (take l.i (paired_subjects l.firsts l.seconds));
 }

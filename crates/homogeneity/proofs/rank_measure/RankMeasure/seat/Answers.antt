@@ -1,6 +1,6 @@
 use Rattle.std.proofs.Common.{refl}
 use Rattle.homogeneity.specs.RankRooms.{rank_meaning, rank_plan}
-use Rattle.homogeneity.proofs.Naturals.{reached-room}
+use Rattle.homogeneity.proofs.NaturalMeasures.{reached-room}
 use Rattle.homogeneity.proofs.RankPlans.{seat}
 use Rattle.homogeneity.proofs.rank_measure.RankMeasure.seat.Goals as goal
 

@@ -1,8 +1,8 @@
 use Rattle.std.proofs.Common.{◌≡◌, ◌∙◌, ap}
 use Rattle.midranks.specs.Ties.{tie_groups}
 use Rattle.sample_reader.specs.PooledSample.{values_of}
-use Rattle.homogeneity.proofs.RankData.{values-long}
-use Rattle.homogeneity.proofs.StrataLoops.{lists-more}
+use Rattle.homogeneity.proofs.RankColumns.{values-long}
+use Rattle.homogeneity.proofs.OneMoreStratum.{lists-more}
 use Rattle.homogeneity.proofs.rank_strata.RankStrata.push.Goals as goal
 
 pub push_columns-requires-clause-all : goal.push_columns-requires-clause-all

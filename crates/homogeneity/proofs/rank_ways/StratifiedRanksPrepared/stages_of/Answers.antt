@@ -6,7 +6,7 @@ use Rattle.homogeneity.specs.RankRooms.{rank_meaning, rank_weight}
 use Rattle.homogeneity.specs.StratifiedRanks.{ranked_strata_test, strata_subjects, stratified_rank_test}
 use Rattle.homogeneity.specs.declared.rank_measure.RankMeasure.{RankMeasure}
 use Rattle.homogeneity.specs.declared.rank_rooms.RankRooms.{RankRooms}
-use Rattle.homogeneity.proofs.RankFitting.{network-same}
+use Rattle.homogeneity.proofs.RankLimits.{network-same}
 use Rattle.homogeneity.proofs.rank_ways.StratifiedRanksPrepared.stages_of.Goals as goal
 
 pub invariant_of-measure : goal.invariant_of-measure

@@ -3,5 +3,5 @@ use Rattle.homogeneity.proofs.zelen_measure.ZelenMeasureNumberMeasure.judge.Goal
 
 pub returns-clause-sound : goal.returns-clause-sound
 returns-clause-sound c =
-    let s = c.args.self.now.rests in
+    let s = c.args.self.now.counts in
     zelen_number s.strata s.sum s.right.summed.can c.args.self.now.judge s.right.fits c.args.self.now.right.rules_fit

@@ -6,7 +6,7 @@ use Rattle.strata_cells.specs.declared.stratum.Stratum.{Stratum}
 use Rattle.strata_cells.specs.Strata.{strata_of}
 use Rattle.homogeneity.specs.Zelen.{observed_sum_test}
 use Rattle.homogeneity.specs.ZelenNetwork.{zelen_meaning, zelen_weights}
-use Rattle.homogeneity.specs.declared.rests.Rests.{Rests}
+use Rattle.homogeneity.specs.declared.sum_counts.SumCounts.{SumCounts}
 use Rattle.homogeneity.specs.declared.zelen_measure.ZelenMeasure.{ZelenMeasure}
 use Rattle.homogeneity.specs.declared.zelen_rooms.ZelenRooms.{ZelenRooms}
 use Rattle.homogeneity.proofs.ZelenTests.{network-same}
@@ -25,9 +25,9 @@ returns-clause-built c =
     let judge : c.of.result ≡ judge_of (observed_sum_test strata) = c.of.ensures (observed_sum_test strata) made.frame_is in
     let measure = c.in_ok-measure.ensures in
     let whole : c.new-3.result ≡ (c.new-rooms.result, c.in_ok-measure.measure) = c.new-3.ensures.parts ∙ ap (λ (m : ZelenMeasure). (c.new-rooms.result, m)) c.new-2.ensures in
-    ap (λ (b : ZelenRooms × ZelenMeasure). room_network (zelen_meaning b.1.rests.strata b.1.rests.sum b.1.judge) (zelen_weights b.0.rests.strata)) whole
-    ∙ network-same strata c.new-rooms.result.rests.strata c.in_ok-measure.measure.rests.strata c.in_ok-measure.measure.rests.sum c.in_ok-measure.measure.judge
-    (ap (λ (r : Rests). r.strata) c.new-rooms.ensures ∙ c.in_ok-rests_of.ensures.strata ∙ made.tables)
-    (ap (λ (r : Rests). r.strata) measure.rests ∙ c.in_ok-rests.ensures.strata ∙ made.tables)
-    (ap (λ (r : Rests). r.sum) measure.rests ∙ c.in_ok-rests.ensures.sum ∙ made.sum_is)
+    ap (λ (b : ZelenRooms × ZelenMeasure). room_network (zelen_meaning b.1.counts.strata b.1.counts.sum b.1.judge) (zelen_weights b.0.counts.strata)) whole
+    ∙ network-same strata c.new-rooms.result.counts.strata c.in_ok-measure.measure.counts.strata c.in_ok-measure.measure.counts.sum c.in_ok-measure.measure.judge
+    (ap (λ (r : SumCounts). r.strata) c.new-rooms.ensures ∙ c.in_ok-counts_of.ensures.strata ∙ made.tables)
+    (ap (λ (r : SumCounts). r.strata) measure.counts ∙ c.in_ok-counts.ensures.strata ∙ made.tables)
+    (ap (λ (r : SumCounts). r.sum) measure.counts ∙ c.in_ok-counts.ensures.sum ∙ made.sum_is)
     (measure.judge ∙ judge)

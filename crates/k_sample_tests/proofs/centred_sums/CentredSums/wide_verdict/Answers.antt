@@ -1,9 +1,7 @@
-use Rattle.std.proofs.Common.{◌≡◌, ◌+◌, ◌∙◌, ap, min, rules}
+use Rattle.std.proofs.Common.{◌≡◌, ◌+◌, min, rules}
 use Rattle.std.specs.Prelude.{pos}
-use mir.Syntax.{w128}
-use mir.Val.{to_z, of_z}
-use Rattle.std.proofs.lemmas.Int.{to_z-of_z}
 use Rattle.completion_bounds.specs.Boxes.{greatest_squares, least_squares}
+use Rattle.stage_network.specs.Judged.{rule_in, verdict_of}
 use Rattle.packed_keys.specs.PackedGroups.{plus_each}
 use Rattle.k_sample_tests.proofs.CentredKeys.{capped-twice}
 use Rattle.k_sample_tests.proofs.centred_sums.CentredSums.wide_verdict.Goals as goal
@@ -11,10 +9,10 @@ use Rattle.k_sample_tests.proofs.centred_sums.CentredSums.wide_verdict.Goals as 
 pub returns : goal.returns
 returns c =
     let m = c.args.self.now in
-    let least = least_squares (plus_each c.args.partial.now c.args.least.now) (plus_each c.args.partial.now c.args.greatest.now) m.sums.factors.items in
-    let greatest = greatest_squares (plus_each c.args.partial.now c.args.least.now) (plus_each c.args.partial.now c.args.greatest.now) m.sums.factors.items in
-    let low : c.raised.result ≡ pos (min (m.base + min least m.sums.bound) m.sums.bound) = search rules in
-    let high : c.raised-2.result ≡ pos (min (m.base + min greatest m.sums.bound) m.sums.bound) = search rules in
-    let low-is : to_z w128 (of_z w128 c.raised.result) ≡ pos (min (m.base + least) m.sums.bound) = to_z-of_z w128 c.raised.result (search rules) ∙ low ∙ ap pos (capped-twice m.base least m.sums.bound) in
-    let high-is : to_z w128 (of_z w128 c.raised-2.result) ≡ pos (min (m.base + greatest) m.sums.bound) = to_z-of_z w128 c.raised-2.result (search rules) ∙ high ∙ ap pos (capped-twice m.base greatest m.sums.bound) in
-    rw (low-is, high-is) at c.judged.ensures
+    let bound = m.sums.bound in
+    let lows = plus_each c.args.partial.now c.args.least.now in
+    let highs = plus_each c.args.partial.now c.args.greatest.now in
+    let least = least_squares lows highs m.sums.factors.items in
+    let greatest = greatest_squares lows highs m.sums.factors.items in
+    let given : c.judged.result ≡ verdict_of (rule_in m.sums.judge c.args.tail) (pos (min (m.base + min least bound) bound)) (pos (min (m.base + min greatest bound) bound)) = search rules in
+    rw (capped-twice m.base least bound, capped-twice m.base greatest bound) at given

@@ -1,7 +1,6 @@
 use Rattle.std.proofs.Common.{◌∙◌, ap, arith, length, refl, sym}
 use Rattle.label_network.specs.declared.ends.End.TheVariants.{Least, Greatest}
-use Rattle.k_sample_tests.proofs.CentredKeys.{back-is, box-fits, end-addable, end-narrow, ends-long, front-is, kept, outlook-long, partial-few, side-is, side-long}
-use Rattle.k_sample_tests.proofs.RankWriting.{sums-room}
+use Rattle.k_sample_tests.proofs.CentredKeys.{back-is, box-fits, end-addable, end-narrow, ends-long, front-is, kept, least-most, outlook-long, partial-few, side-is, side-long}
 use Rattle.k_sample_tests.proofs.centred_sums.CentredSumsMeasure.verdict_by.Goals as goal
 
 pub split_at-requires : goal.split_at-requires
@@ -34,55 +33,58 @@ returns-then-not-self c =
       side-is c.args.self.now c.args._stage c.args._remaining.now c.args.partial.now c.requires.reached Greatest,
     ) refl
 
-pub slice_bounds-low_numbers-end : goal.slice_bounds-low_numbers-end
-slice_bounds-low_numbers-end c = partial-few c.args.self.now c.args._stage c.args._remaining.now c.args.partial.now c.requires.reached
+pub ends-lows-requires-clause-few : goal.ends-lows-requires-clause-few
+ends-lows-requires-clause-few c = partial-few c.args.self.now c.args._stage c.args._remaining.now c.args.partial.now c.requires.reached
 
-pub slice_bounds-lows-end : goal.slice_bounds-lows-end
-slice_bounds-lows-end c = sym (sums-room (length c.args.partial.now) (partial-few c.args.self.now c.args._stage c.args._remaining.now c.args.partial.now c.requires.reached))
-
-pub slice_bounds-high_numbers-end : goal.slice_bounds-high_numbers-end
-slice_bounds-high_numbers-end c = partial-few c.args.self.now c.args._stage c.args._remaining.now c.args.partial.now c.requires.reached
-
-pub slice_bounds-highs-end : goal.slice_bounds-highs-end
-slice_bounds-highs-end c = sym (sums-room (length c.args.partial.now) (partial-few c.args.self.now c.args._stage c.args._remaining.now c.args.partial.now c.requires.reached))
-
-pub write_ends-requires-clause-narrow : goal.write_ends-requires-clause-narrow
-write_ends-requires-clause-narrow c =
+pub ends-lows-requires-clause-narrow : goal.ends-lows-requires-clause-narrow
+ends-lows-requires-clause-narrow c =
     rw (c.split_at.ensures.front, front-is c.args.self.now c.args._stage c.args._remaining.now c.args.partial.now c.requires.reached c.args.outlook.now c.requires.outlook) (end-narrow c.args.self.now c.args._stage c.args._remaining.now c.args.partial.now c.requires.reached Least (c.args.self.now.boxes c.if-not-self.false))
 
-pub write_ends-requires-clause-room : goal.write_ends-requires-clause-room
-write_ends-requires-clause-room c = sums-room (length c.args.partial.now) (partial-few c.args.self.now c.args._stage c.args._remaining.now c.args.partial.now c.requires.reached)
+pub ends-highs-requires-clause-few : goal.ends-highs-requires-clause-few
+ends-highs-requires-clause-few c = partial-few c.args.self.now c.args._stage c.args._remaining.now c.args.partial.now c.requires.reached
 
-pub write_ends-requires-2-clause-narrow : goal.write_ends-requires-2-clause-narrow
-write_ends-requires-2-clause-narrow c =
+pub ends-highs-requires-clause-narrow : goal.ends-highs-requires-clause-narrow
+ends-highs-requires-clause-narrow c =
     rw (c.split_at.ensures.back, back-is c.args.self.now c.args._stage c.args._remaining.now c.args.partial.now c.requires.reached c.args.outlook.now c.requires.outlook) (end-narrow c.args.self.now c.args._stage c.args._remaining.now c.args.partial.now c.requires.reached Greatest (c.args.self.now.boxes c.if-not-self.false))
 
-pub write_ends-requires-2-clause-one_each : goal.write_ends-requires-2-clause-one_each
-write_ends-requires-2-clause-one_each c =
+pub ends-highs-requires-clause-one_each : goal.ends-highs-requires-clause-one_each
+ends-highs-requires-clause-one_each c =
     ap length (c.split_at.ensures.back ∙ back-is c.args.self.now c.args._stage c.args._remaining.now c.args.partial.now c.requires.reached c.args.outlook.now c.requires.outlook) ∙ ends-long c.args.self.now c.args._stage c.args._remaining.now c.args.partial.now c.requires.reached Greatest
 
-pub write_ends-requires-2-clause-room : goal.write_ends-requires-2-clause-room
-write_ends-requires-2-clause-room c = sums-room (length c.args.partial.now) (partial-few c.args.self.now c.args._stage c.args._remaining.now c.args.partial.now c.requires.reached)
+pub narrow_squares-low-requires-clause-highs : goal.narrow_squares-low-requires-clause-highs
+narrow_squares-low-requires-clause-highs c =
+    rw (c.ends-lows.ensures, c.ends-highs.ensures, c.split_at.ensures.front, c.split_at.ensures.back, front-is c.args.self.now c.args._stage c.args._remaining.now c.args.partial.now c.requires.reached c.args.outlook.now c.requires.outlook, back-is c.args.self.now c.args._stage c.args._remaining.now c.args.partial.now c.requires.reached c.args.outlook.now c.requires.outlook)
+    (side-long c.args.self.now c.args._stage c.args._remaining.now c.args.partial.now c.requires.reached Greatest ∙ sym (side-long c.args.self.now c.args._stage c.args._remaining.now c.args.partial.now c.requires.reached Least))
 
-pub judge_box-requires-clause-one_each : goal.judge_box-requires-clause-one_each
-judge_box-requires-clause-one_each c =
-    rw (c.write_ends.ensures, c.split_at.ensures.front, front-is c.args.self.now c.args._stage c.args._remaining.now c.args.partial.now c.requires.reached c.args.outlook.now c.requires.outlook) (side-long c.args.self.now c.args._stage c.args._remaining.now c.args.partial.now c.requires.reached Least)
+pub narrow_squares-low-requires-clause-factors : goal.narrow_squares-low-requires-clause-factors
+narrow_squares-low-requires-clause-factors c =
+    rw (c.factors.ensures, c.ends-lows.ensures, c.split_at.ensures.front, front-is c.args.self.now c.args._stage c.args._remaining.now c.args.partial.now c.requires.reached c.args.outlook.now c.requires.outlook)
+    (c.args.self.now.sums.right.squaring.one_each ∙ sym (side-long c.args.self.now c.args._stage c.args._remaining.now c.args.partial.now c.requires.reached Least))
 
-pub judge_box-requires-clause-as_many : goal.judge_box-requires-clause-as_many
-judge_box-requires-clause-as_many c =
-    rw (c.write_ends-2.ensures, c.split_at.ensures.back, back-is c.args.self.now c.args._stage c.args._remaining.now c.args.partial.now c.requires.reached c.args.outlook.now c.requires.outlook) (side-long c.args.self.now c.args._stage c.args._remaining.now c.args.partial.now c.requires.reached Greatest)
+pub narrow_squares-low-requires-clause-fits : goal.narrow_squares-low-requires-clause-fits
+narrow_squares-low-requires-clause-fits c =
+    rw (c.ends-lows.ensures, c.ends-highs.ensures, c.split_at.ensures.front, c.split_at.ensures.back, front-is c.args.self.now c.args._stage c.args._remaining.now c.args.partial.now c.requires.reached c.args.outlook.now c.requires.outlook, back-is c.args.self.now c.args._stage c.args._remaining.now c.args.partial.now c.requires.reached c.args.outlook.now c.requires.outlook, c.factors.ensures)
+    (omega (arith, box-fits c.args.self.now c.args._stage c.args._remaining.now c.args.partial.now c.requires.reached (c.args.self.now.boxes c.if-not-self.false).room))
 
-pub judge_box-requires-clause-fits : goal.judge_box-requires-clause-fits
-judge_box-requires-clause-fits c =
-    rw (c.write_ends.ensures, c.write_ends-2.ensures, c.split_at.ensures.front, c.split_at.ensures.back, front-is c.args.self.now c.args._stage c.args._remaining.now c.args.partial.now c.requires.reached c.args.outlook.now c.requires.outlook, back-is c.args.self.now c.args._stage c.args._remaining.now c.args.partial.now c.requires.reached c.args.outlook.now c.requires.outlook)
+pub judged-requires-clause-least : goal.judged-requires-clause-least
+judged-requires-clause-least c =
+    rw (c.narrow_squares-low.ensures.least, c.ends-lows.ensures, c.ends-highs.ensures, c.split_at.ensures.front, c.split_at.ensures.back, front-is c.args.self.now c.args._stage c.args._remaining.now c.args.partial.now c.requires.reached c.args.outlook.now c.requires.outlook, back-is c.args.self.now c.args._stage c.args._remaining.now c.args.partial.now c.requires.reached c.args.outlook.now c.requires.outlook, c.factors.ensures)
+    (omega (arith, least-most, box-fits c.args.self.now c.args._stage c.args._remaining.now c.args.partial.now c.requires.reached (c.args.self.now.boxes c.if-not-self.false).room))
+
+pub judged-requires-clause-greatest : goal.judged-requires-clause-greatest
+judged-requires-clause-greatest c =
+    rw (c.narrow_squares-low.ensures.greatest, c.ends-lows.ensures, c.ends-highs.ensures, c.split_at.ensures.front, c.split_at.ensures.back, front-is c.args.self.now c.args._stage c.args._remaining.now c.args.partial.now c.requires.reached c.args.outlook.now c.requires.outlook, back-is c.args.self.now c.args._stage c.args._remaining.now c.args.partial.now c.requires.reached c.args.outlook.now c.requires.outlook, c.factors.ensures)
     (box-fits c.args.self.now c.args._stage c.args._remaining.now c.args.partial.now c.requires.reached (c.args.self.now.boxes c.if-not-self.false).room)
 
 pub returns : goal.returns
 returns c =
-    c.judge_box.ensures
+    c.judged.ensures
     ∙ rw (
-      c.write_ends.ensures,
-      c.write_ends-2.ensures,
+      c.narrow_squares-low.ensures.least,
+      c.narrow_squares-low.ensures.greatest,
+      c.factors.ensures,
+      c.ends-lows.ensures,
+      c.ends-highs.ensures,
       c.split_at.ensures.front,
       c.split_at.ensures.back,
       front-is c.args.self.now c.args._stage c.args._remaining.now c.args.partial.now c.requires.reached c.args.outlook.now c.requires.outlook,

@@ -1,7 +1,4 @@
 use Rattle.packed_keys.proofs.groups.PackedGroupsStages.first_choice.Goals as goal
 
 pub first_choice-requires-clause-reached : goal.first_choice-requires-clause-reached
-first_choice-requires-clause-reached g c = rw c.self.invariant.by_left (rw (← c.self.view_is) at c.requires.reached)
-
-pub returns : goal.returns
-returns g c = rw (← c.self.view_is) (rw c.self.invariant.by_left at c.first_choice.ensures)
+first_choice-requires-clause-reached g c = rw (← c.self.view_is) at c.requires.reached

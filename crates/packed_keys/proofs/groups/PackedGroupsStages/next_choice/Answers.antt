@@ -1,7 +1,4 @@
 use Rattle.packed_keys.proofs.groups.PackedGroupsStages.next_choice.Goals as goal
 
 pub next_choice-requires-clause-reached : goal.next_choice-requires-clause-reached
-next_choice-requires-clause-reached g c = rw c.self.invariant.by_left (rw (← c.self.view_is) at c.requires.reached)
-
-pub returns : goal.returns
-returns g c = rw (← c.self.view_is) (rw c.self.invariant.by_left at c.next_choice.ensures)
+next_choice-requires-clause-reached g c = rw (← c.self.view_is) at c.requires.reached

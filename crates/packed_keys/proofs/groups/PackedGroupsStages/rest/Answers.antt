@@ -1,7 +1,4 @@
 use Rattle.packed_keys.proofs.groups.PackedGroupsStages.rest.Goals as goal
 
 pub rest-requires : goal.rest-requires
-rest-requires g c = rw c.self.invariant.by_left (rw (← c.self.view_is) at c.requires)
-
-pub returns : goal.returns
-returns g c = rw (← c.self.view_is) (rw c.self.invariant.by_left at c.rest.ensures)
+rest-requires g c = rw (← c.self.view_is) at c.requires

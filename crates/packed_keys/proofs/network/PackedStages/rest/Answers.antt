@@ -9,5 +9,5 @@ returns g c =
     let n : Network = g.S.Stages.network c.self.inside.stages in
     rw (← c.self.view_is)
     (c.rest.ensures
-    ∙ ap (total_weight n c.args.stage) (rw (← c.self.view_is) at c.read.ensures.is)
-    ∙ sym (packed-total (g.S.Roomed.room_width c.self.inside.stages) c.self.inside.bits n c.self.invariant.may c.args.stage c.args.key.now (rw (← c.self.view_is) at c.requires)))
+    ∙ ap (total_weight n c.args.stage) (rw (← c.self.view_is) at c.read-here.ensures.is)
+    ∙ sym (packed-total c.self.invariant.may c.args.stage c.args.key.now (rw (← c.self.view_is) at c.requires)))

@@ -1,4 +1,4 @@
-use Rattle.sequence_tests.proofs.KendallParts.{kendall_choice}
+use Rattle.sequence_tests.proofs.KendallSeats.{kendall_choice}
 use Rattle.sequence_tests.proofs.kendall_counts.KendallCounts.choice_seat.Goals as goal
 
 pub returns : goal.returns

@@ -1,4 +1,4 @@
-use Rattle.sequence_tests.proofs.KendallParts.{kendall_seat}
+use Rattle.sequence_tests.proofs.KendallSeats.{kendall_seat}
 use Rattle.sequence_tests.proofs.kendall_counts.KendallCounts.seat.Goals as goal
 
 pub returns : goal.returns

@@ -4,7 +4,7 @@ use mir.Syntax.{w128}
 use mir.Val.{to_z, of_z}
 use Rattle.std.proofs.lemmas.Int.{to_z-of_z}
 use Rattle.weights.proofs.Items.{one_item}
-use Rattle.sequence_tests.specs.Codes.{code}
+use Rattle.sequence_tests.specs.CountCodes.{code}
 use Rattle.sequence_tests.proofs.kendall_rooms.KendallRoomsRooms.cross.Goals as goal
 
 pub returns-clause-next : goal.returns-clause-next

@@ -1,6 +1,0 @@
-use Rattle.std.proofs.Common.{◌≡◌, ◌+◌, drop}
-use Rattle.homogeneity.specs.ZelenNetwork.{least_sum}
-use Rattle.homogeneity.proofs.laters.least_sum.Given as goal
-
-abbrev pub invariant-loop-stratum : goal.invariant-loop-stratum
-invariant-loop-stratum l = l.all + least_sum (drop l.stratum-index l.strata) ≡ least_sum l.strata

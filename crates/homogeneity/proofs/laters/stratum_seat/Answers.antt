@@ -1,5 +1,0 @@
-use Rattle.homogeneity.proofs.Windows.{stratum-seat}
-use Rattle.homogeneity.proofs.laters.stratum_seat.Goals as goal
-
-pub returns : goal.returns
-returns c = stratum-seat c.args._strata.now c.args._sum c.requires.summed c.args._place c.requires.place c.args._later.now c.requires.later

@@ -1,9 +1,0 @@
-use Rattle.std.proofs.Common.{◌∙◌, refl, sym}
-use mir.Syntax.{w128}
-use Rattle.std.proofs.lemmas.Int.{to_z-of_z}
-use Rattle.weights.proofs.Centred.{measured-is}
-use Rattle.table_tests.specs.LinearByLinear.{linear_test}
-use Rattle.table_tests.proofs.linear_ways.LinearTablePlain.measure.Goals as goal
-
-pub returns : goal.returns
-returns c = to_z-of_z w128 c.value.result (record { sfits = c.value.type_inv }) ∙ c.value.ensures ∙ sym (measured-is (linear_test c.args.self.now) refl c.args._tail c.args.labels.now)
