@@ -1,5 +1,5 @@
 -- What holds of a test of blocks of a file, and of one whose total passes no limit.
-use Rattle.std.proofs.Common.{◌≡◌, ℕ, zero, suc, ◌+◌, ◌*◌, ◌<◌, ◌≤◌, List, [], ◌∷◌, ◌++◌, length, map, ◌⊎◌, inl, inr, refl, sym, ◌∙◌, ap, subst, arith, lit≤, length-append}
+use Rattle.std.proofs.Common.{◌≡◌, true, if◌then◌else◌, ℕ, zero, suc, ◌+◌, ◌*◌, ◌<◌, ◌≤◌, List, [], ◌∷◌, ◌++◌, length, map, ◌⊎◌, inl, inr, refl, sym, ◌∙◌, ap, subst, arith, lit≤, length-append}
 use Rattle.std.specs.Prelude.{ℤ, pos, ◌^◌, Contains}
 use Rattle.std.specs.List.{All, AllByRecursion, concat, sum, sum_by}
 use Rattle.std.proofs.Math.Nat.{mul-le-mul, mul-le-mul_right}
@@ -8,6 +8,7 @@ use Rattle.std.proofs.lemmas.List.{length-map}
 use Rattle.std.proofs.lemmas.List.Elements.{All-contains, All-from_recursion}
 use Rattle.std.proofs.lemmas.List.Sums.{sum_by-append, sum_by-cons}
 use Rattle.weights.specs.declared.tails.Tail.{Tail}
+use Rattle.weights.specs.declared.tails.Tail.TheVariants.{Less, Greater, Two}
 use Rattle.stage_network.specs.Judged.{judge_of}
 use Rattle.stage_network.proofs.Following.{judge-fits}
 use Rattle.stage_network.specs.declared.verdicts.Judge.{Judge}
@@ -28,12 +29,15 @@ use Rattle.stage_network.specs.Addends.{Addends, additive_network}
 use Rattle.stage_network.specs.Network.{Network}
 use Rattle.stage_network.specs.Follows.{Follows}
 use Rattle.stage_network.proofs.AdditiveFollows.{additive_follows}
-use Rattle.block_tests.specs.BlockNetworks.{first_arrangement, line_addends, running_addends, running_network, square_addends}
+use Rattle.labelled.specs.UnweightedTests.{CanBeAnswered}
+use Rattle.labelled.proofs.UnweightedLaws.{can-be-answered}
+use Rattle.block_tests.specs.BlockNetworks.{addends_of, first_arrangement, line_addends, network_by, running_addends, square_addends}
 use Rattle.block_tests.specs.BlockSteps.{AreStages, IsSmall, IsWhole, cells_sum, ways_of}
-use Rattle.block_tests.specs.BlockTests.{BlockTests, TakesCells, block_counts, block_statistic, block_test, blocks_for, bound_of, cells_in, counts_in, cut, measure, observed_cells, page_sum, rearrangements, rows, sides_of, square_sum, squared, treatment_sums}
+use Rattle.block_tests.specs.BlockTests.{BlockTests, TakesCells, block_counts, block_statistic, block_test, blocks_for, bound_of, cells_in, counts_in, cut, has_tail, measure, observed_cells, page_sum, rearrangements, rows, sides_of, square_sum, squared, treatment_sums}
 use Rattle.block_tests.specs.PreparedSteps.{AreBlocks, AreFitting}
 use Rattle.block_tests.specs.declared.kinds.BlockKind.{BlockKind}
 use Rattle.block_tests.specs.declared.kinds.BlockKind.TheVariants.{Friedman, Page, Cochran}
+use Rattle.block_tests.proofs.PageImages.{runs-for}
 use Rattle.block_tests.proofs.PageLaws.{page-measured, page-stages, page_additive, page_pieces}
 use Rattle.block_tests.proofs.Rows.{each-row, each-taken, length-cells, length-cut, midranks-sum, row-small, row-sum, row-whole}
 use Rattle.block_tests.proofs.SquareLaws.{square-stages, square_additive, square_pieces, squares-measured}
@@ -61,7 +65,7 @@ pub ways-some : (blocks : List (List ℕ)) → 1 ≤ ways_of blocks
 ways-some [] = omega arith
 ways-some (counts ∷ blocks) = (let one : 1 * 1 ≤ number_of_labellings counts * ways_of blocks = mul-le-mul (number_of_labellings-positive counts) (ways-some blocks) in omega (arith, one))
 
-pub total-some : (tests : BlockTests) → 1 ≤ total (block_test tests)
+total-some : (tests : BlockTests) → 1 ≤ total (block_test tests)
 total-some tests = omega (arith, total-is tests, ways-some (block_counts tests))
 
 -- ---- each rearrangement
@@ -145,6 +149,12 @@ value-fits Cochran n k v few narrow h = no_factor-fits v
 
 pub measured_at : (tests : BlockTests) (tail : Tail) (r : List ℕ) → measured (block_test tests) tail r ≡ block_statistic tests.kind tests.blocks.blocks tests.blocks.treatments r
 measured_at tests = measured-is (block_test tests) (sides-are tests.kind tests.blocks.blocks tests.blocks.treatments)
+
+-- the first of the tails that a kind of test has
+has-first : (kind : BlockKind) → has_tail kind (if has_tail kind Less then Less else (if has_tail kind Greater then Greater else Two)) ≡ true
+has-first Friedman = refl
+has-first Page = refl
+has-first Cochran = refl
 
 -- ---- blocks of a file
 
@@ -344,14 +354,17 @@ module _ (tests : BlockTests) (f : AreFitting tests) where
   of_kind : BlockKind → Network
   of_kind kind = additive_network (running_addends kind (block_test tests).bound tests.blocks.treatments (block_counts tests) (judge_of (block_test tests)))
 
-  pub follows : (tail : Tail) → Follows (block_test tests) tail (running_network tests tail)
+  follows : (tail : Tail) → Follows (block_test tests) tail (network_by running_addends tests)
   unfolding of_kind
   follows tail = by tests.kind refl
     where
-      by : (kind : BlockKind) → tests.kind ≡ kind → Follows (block_test tests) tail (running_network tests tail)
+      by : (kind : BlockKind) → tests.kind ≡ kind → Follows (block_test tests) tail (network_by running_addends tests)
       by Friedman e = subst (λ kind. Follows (block_test tests) tail (of_kind kind)) (sym e) (squares-follow tail (inl e))
       by Page e = subst (λ kind. Follows (block_test tests) tail (of_kind kind)) (sym e) (page-follows tail e)
       by Cochran e = subst (λ kind. Follows (block_test tests) tail (of_kind kind)) (sym e) (squares-follow tail (inr e))
+
+  pub can-be : CanBeAnswered (block_test tests) (network_by running_addends tests) (network_by addends_of tests)
+  can-be = can-be-answered (block_test tests) (centred tests f.blocks) (λ r. refl) (has-first tests.kind) (total-some tests) f.total_fits follows (runs-for tests)
 
 -- ---- blocks that are read, and their answer
 

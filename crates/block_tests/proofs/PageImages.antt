@@ -11,10 +11,10 @@ use Rattle.stage_network.specs.Completions.{over_arcs}
 use Rattle.stage_network.specs.Judged.{judge_of}
 use Rattle.stage_network.specs.Network.{Network, IsReached}
 use Rattle.stage_network.specs.PartialSums.{plus}
-use Rattle.stage_network.specs.Written.{AreWritten, RunsFor, StandsFor}
+use Rattle.stage_network.specs.Written.{RunsFor, StandsFor}
 use Rattle.stage_network.specs.declared.verdicts.Judge.{Judge}
 use Rattle.stage_network.proofs.Bridge.{choices-before}
-use Rattle.block_tests.specs.BlockNetworks.{addends_of, block_at, block_network, line_addends, line_of, page_addends, page_lines, running_addends, running_network}
+use Rattle.block_tests.specs.BlockNetworks.{addends_of, block_at, line_addends, line_of, network_by, page_addends, page_lines, running_addends}
 use Rattle.block_tests.specs.BlockTests.{BlockTests, block_counts, block_test, page_sum}
 use Rattle.block_tests.specs.declared.kinds.BlockKind.{BlockKind}
 use Rattle.block_tests.specs.declared.kinds.BlockKind.TheVariants.{Friedman, Page, Cochran}
@@ -57,5 +57,5 @@ alike Page bound k blocks judge tail = inr (page-writes k blocks judge tail)
 alike Cochran bound k blocks judge tail = inl refl
 
 -- the keys of the network that runs stand for those of the one that is written
-pub written : (tests : BlockTests) → AreWritten (block_test tests) (running_network tests) (block_network tests)
-written tests tail has = alike tests.kind (block_test tests).bound tests.blocks.treatments (block_counts tests) (judge_of (block_test tests)) tail
+pub runs-for : (tests : BlockTests) (tail : Tail) → RunsFor (network_by running_addends tests) (network_by addends_of tests) tail
+runs-for tests tail = alike tests.kind (block_test tests).bound tests.blocks.treatments (block_counts tests) (judge_of (block_test tests)) tail

@@ -125,12 +125,16 @@ addends_of Friedman bound k = square_addends bound k
 addends_of Page bound k = page_addends k
 addends_of Cochran bound k = square_addends bound k
 
+-- one for all tails, of the addends of a kind
+abbrev pub network_by : (BlockKind → ℕ → ℕ → List (List ℕ) → Judge → Addends) → BlockTests → Network
+network_by addends tests =
+    let test = block_test tests in
+    additive_network (addends tests.kind test.bound tests.blocks.treatments
+    (block_counts tests) (judge_of test))
+
 -- the network as it is written, whose open keys are counted
 abbrev pub block_network : BlockTests → Tail → Network
-block_network tests tail =
-    let test = block_test tests in
-    additive_network (addends_of tests.kind test.bound tests.blocks.treatments
-    (block_counts tests) (judge_of test))
+block_network tests tail = network_by addends_of tests
 
 abbrev pub running_addends : BlockKind → ℕ → ℕ → List (List ℕ) → Judge → Addends
 running_addends Friedman bound k = square_addends bound k
@@ -139,7 +143,4 @@ running_addends Cochran bound k = square_addends bound k
 
 -- the network that runs: its keys are those that are written
 abbrev pub running_network : BlockTests → Tail → Network
-running_network tests tail =
-    let test = block_test tests in
-    additive_network (running_addends tests.kind test.bound tests.blocks.treatments
-    (block_counts tests) (judge_of test))
+running_network tests tail = network_by running_addends tests

@@ -2,9 +2,7 @@
 use Rattle.std.specs.Prelude.{◌≡◌, ℕ, ℤ, ◌*◌, ◌≤◌, List, length, map}
 use Rattle.std.specs.List.{sum}
 use Rattle.weights.specs.Conditional.{TwoSided, by_distance, by_rarity, distance, total}
-use Rattle.weights.specs.Frames.{IsFrameOf}
 use Rattle.weights.specs.declared.TheConstants.{MAX}
-use Rattle.weights.specs.declared.frames.Frame.{Frame}
 use Rattle.weights.specs.declared.rules.Rule.{Rule}
 use Rattle.weights.specs.declared.rules.Rule.TheVariants.{AtMost, Far}
 use Rattle.record_reader.specs.declared.TheConstants.{MOST_ROWS}
@@ -37,10 +35,8 @@ pub record AreFitting (tests : BlockTests) : Type 0 where
   pub total_fits : total (block_test tests) ≤ MAX
 
 pub record IsPrepared
-    (tests : BlockTests) (blocks : List (List ℕ)) (lengths : List ℕ) (bound : ℕ) (frame : Frame)
-    : Type 0 where
+    (tests : BlockTests) (blocks : List (List ℕ)) (lengths : List ℕ) (bound : ℕ) : Type 0 where
   pub fitting : AreFitting tests
   pub blocks_are : blocks ≡ block_counts tests
   pub lengths_are : map sum (block_counts tests) ≡ lengths
   pub bound_is : bound ≡ (block_test tests).bound
-  pub frame_is : IsFrameOf (block_test tests) frame

@@ -1,11 +1,9 @@
 // Blocks that are prepared for their test.
 ghost use Rattle.std.specs.Prelude.{◌≡◌, ◌*◌, ◌≤◌, length, map, Contains, SomeIff};
 ghost use Rattle.std.specs.List.{sum};
-ghost use Rattle.weights.specs.Frames.{IsFrameOf};
 ghost use Rattle.weights.specs.Wide.{Prepares};
 ghost use Rattle.weights.specs.declared.TheConstants.{MAX};
 ghost use Rattle.record_reader.specs.declared.TheConstants.{MOST_ROWS};
-ghost use Rattle.stage_network.specs.Judged.{judge_of};
 ghost use Rattle.sample_reader.specs.Data.{block_data_of};
 ghost use Rattle.block_tests.specs.BlockTests.{TakesCells, block_counts, block_statistic};
 ghost use Rattle.block_tests.specs.BlockTests.{block_test, blocks_for, bound_of};
@@ -17,16 +15,19 @@ use crate::block::{Block, lengths};
 use crate::kinds::BlockKind;
 use crate::ranked::rank_blocks;
 use crate::sums::block_statistic;
+use labelled::Unweighted;
 use sample_reader::Blocks;
-use stage_network::Judge;
 use std::alloc::Global;
 use std::marker::Model;
 use weights::{Frame, Ints, Nums, PrepareFault, Rule, WideOf, bounded_product};
 
-/// A test of blocks whose data are checked. It is seen as its kind and the blocks that it was
+/// A test of blocks whose data are checked.
+pub type BlockTest = Unweighted<BlockStatistic>;
+
+/// What a test measures of the treatments' sums. It is seen as its kind and the blocks that it was
 /// prepared of.
 #[derive(Drop)]
-pub struct BlockTest {
+pub struct BlockStatistic {
     kind: BlockKind,
     blocks: u64,
     treatments: u64,
@@ -36,10 +37,9 @@ pub struct BlockTest {
     // How many cells each block has, for the walk.
     lengths: Nums,
     bound: u128,
-    frame: Frame,
 }
 
-impl Model for BlockTest {
+impl Model for BlockStatistic {
     ghost use Rattle.block_tests.specs.BlockTests.{BlockTests};
     ghost use Rattle.block_tests.specs.PreparedSteps.{IsPrepared, tests_of};
 
@@ -48,7 +48,7 @@ impl Model for BlockTest {
     ghost view = { λ t. tests_of t.kind t.blocks t.treatments t.cells };
 
     ghost invariant = { λ t. let tests = tests_of t.kind t.blocks t.treatments t.cells in
-        IsPrepared tests t.made.items t.lengths t.bound t.frame };
+        IsPrepared tests t.made.items t.lengths t.bound };
 }
 
 // How many rearrangements blocks have. None exactly where their number passes the greatest.
@@ -171,7 +171,7 @@ pub fn prepare(alloc: Global, kind: BlockKind, blocks: &Blocks) -> Result<BlockT
     let cells = ranked.cells.as_slice();
     let bound = bound_of(kind, rows, treatments, cells);
     let frame = frame_of(kind, rows, treatments, cells, total);
-    Ok(BlockTest {
+    let statistic = BlockStatistic {
         kind,
         blocks: rows,
         treatments,
@@ -179,11 +179,11 @@ pub fn prepare(alloc: Global, kind: BlockKind, blocks: &Blocks) -> Result<BlockT
         made: ranked.blocks,
         lengths,
         bound,
-        frame,
-    })
+    };
+    Ok(Unweighted::of(statistic, frame))
 }
 
-impl BlockTest {
+impl BlockStatistic {
     /// Which test it is.
     pub(crate) fn kind(&self) -> BlockKind
         ensures { result ≡ self.now.kind }
@@ -218,22 +218,6 @@ impl BlockTest {
         ensures { result ≡ (block_test self.now).bound }
     {
         self.bound
-    }
-
-    /// What is said of the test.
-    pub(crate) fn frame_made(&self) -> Frame
-        ensures frame { IsFrameOf (block_test self.now) result }
-        ensures fitting { AreFitting self.now }
-    {
-        self.frame
-    }
-
-    /// The rules of its tails.
-    pub(crate) fn judge(&self) -> Judge
-        ensures judge { result ≡ judge_of (block_test self.now) }
-        ensures fitting { AreFitting self.now }
-    {
-        Judge::of(&self.frame_made())
     }
 
     /// What is measured of a rearrangement.

@@ -3,6 +3,7 @@ ghost use Rattle.std.specs.Prelude.{◌≡◌, ◌/◌, ◌≤◌, ◌⊎◌, is
 ghost use Rattle.weights.specs.declared.TheConstants.{MAX};
 ghost use Rattle.weights.specs.declared.tails.Tail.{Tail};
 ghost use Rattle.stage_network.specs.Follows.{Follows};
+ghost use Rattle.stage_network.specs.Judged.{judge_of};
 ghost use Rattle.ordered_groups.specs.OrderedNetworks.{ordered_network};
 ghost use Rattle.block_tests.specs.BlockNetworks.{line_addends, square_addends};
 ghost use Rattle.block_tests.specs.BlockSteps.{AreStages, cells_sum};
@@ -12,54 +13,25 @@ ghost use Rattle.block_tests.specs.Servings.{all_servings, has_room_for, serving
 ghost use Rattle.block_tests.specs.declared.kinds.BlockKind.TheVariants.{Friedman, Cochran};
 
 use crate::block::first_arrangements;
-use crate::block_test::BlockTest;
+use crate::block_test::BlockStatistic;
 use crate::kinds::BlockKind;
 use crate::page::{PageBlocks, page_blocks};
 use crate::served_blocks::{OrderedBlocks, ServedBlocks, has_room_for, served_blocks};
 use crate::squares::{SquareBlocks, block_copies};
-use enumerate::{Plain, next_joined};
+use enumerate::next_joined;
+use labelled::UnweightedTest;
 use packed_keys::{Packed, bits_for};
-use stage_network::{AdditiveStages, Judge, OneOf, Prepared, Stages};
+use stage_network::{AdditiveStages, Judge, OneOf, Stages};
 use std::alloc::Global;
-use weights::{Bytes, Frame, NoMemory, Tail};
+use weights::{Bytes, NoMemory, Tail};
 
 // Of fewer treatments than these all arrangements of a block are tried.
 const FEW: usize = 5;
 
-impl Plain for BlockTest {
-    ghost use Rattle.block_tests.specs.BlockTests.{block_test};
-
-    ghost test = { block_test };
-
-    fn first(&self, alloc: Global) -> Result<Bytes, NoMemory> {
-        first_arrangements(alloc, self.blocks())
-    }
-
-    fn next(&self, labels: &mut Bytes) -> bool {
-        next_joined(self.lengths(), labels.as_mut_slice())
-    }
-
-    fn weight(&self, _labels: &[u8]) -> u128 {
-        1
-    }
-
-    fn value(&self, labels: &[u8]) -> i128 {
-        self.statistic_of(labels)
-    }
-
-    fn frame(&self) -> Frame {
-        self.frame_made()
-    }
-
-    fn measure(&self, labels: &[u8], _tail: Tail) -> i128 {
-        self.value(labels)
-    }
-}
-
 // The network of a test whose treatments' sums are squared.
 fn square_stages(
     alloc: Global,
-    test: &BlockTest,
+    test: &BlockStatistic,
     judge: Judge,
 ) -> Result<AdditiveStages<SquareBlocks>, NoMemory>
     requires stages { let k = test.now.blocks.treatments in
@@ -80,7 +52,12 @@ fn square_stages(
 
 // The network of a test whose treatments' sums are squared, with numbers that are given to
 // treatments one after another.
-fn ordered_stages(alloc: Global, test: &BlockTest) -> Result<OrderedBlocks, NoMemory>
+fn ordered_stages(
+    alloc: Global,
+    test: &BlockStatistic,
+    judge: Judge,
+) -> Result<OrderedBlocks, NoMemory>
+    requires judge { judge ≡ judge_of (block_test test.now) }
     requires kind { (test.now.kind ≡ Friedman) ⊎ (test.now.kind ≡ Cochran) }
     requires some { 2 ≤ test.now.blocks.treatments }
     ensures follows { IfOk result (λ s. (t : Tail) → Follows (block_test test.now) t
@@ -95,12 +72,17 @@ fn ordered_stages(alloc: Global, test: &BlockTest) -> Result<OrderedBlocks, NoMe
     ensures items { let vs = all_servings (block_counts test.now) in
         IfOk result (λ s. s.1.servings.items.items ≡ vs) }
 {
-    let stages = served_blocks(alloc, test.blocks(), test.treatments(), test.judge())?;
+    let stages = served_blocks(alloc, test.blocks(), test.treatments(), judge)?;
     Ok(stages)
 }
 
 // The same with the sums in one number. None exactly where one number has no room for them.
-fn served_stages(alloc: Global, test: &BlockTest) -> Result<Option<ServedBlocks>, NoMemory>
+fn served_stages(
+    alloc: Global,
+    test: &BlockStatistic,
+    judge: Judge,
+) -> Result<Option<ServedBlocks>, NoMemory>
+    requires judge { judge ≡ judge_of (block_test test.now) }
     requires kind { (test.now.kind ≡ Friedman) ⊎ (test.now.kind ≡ Cochran) }
     requires some { 2 ≤ test.now.blocks.treatments }
     ensures follows { IfOk result (λ made. IfSome made (λ s. (t : Tail)
@@ -111,7 +93,7 @@ fn served_stages(alloc: Global, test: &BlockTest) -> Result<Option<ServedBlocks>
         IfOk result (λ made. is_some made ≡ has_room_for test.now.blocks.treatments count) }
 {
     let treatments = test.treatments();
-    let stages = ordered_stages(alloc, test)?;
+    let stages = ordered_stages(alloc, test, judge)?;
     let count = stages.stages();
     if !has_room_for(treatments, count) {
         return Ok(None);
@@ -122,7 +104,7 @@ fn served_stages(alloc: Global, test: &BlockTest) -> Result<Option<ServedBlocks>
 // The network of Page's test.
 fn page_stages(
     alloc: Global,
-    test: &BlockTest,
+    test: &BlockStatistic,
     judge: Judge,
 ) -> Result<AdditiveStages<PageBlocks>, NoMemory>
     requires { let k = test.now.blocks.treatments in
@@ -135,28 +117,43 @@ fn page_stages(
     AdditiveStages::new(alloc, inside)
 }
 
-impl Prepared for BlockTest {
-    ghost use Rattle.block_tests.specs.BlockNetworks.{block_network, running_network};
+impl UnweightedTest for BlockStatistic {
+    ghost use Rattle.block_tests.specs.BlockNetworks.{addends_of, network_by, running_addends};
+    ghost use Rattle.block_tests.specs.BlockTests.{block_test};
 
     type Built = OneOf<
         OneOf<ServedBlocks, AdditiveStages<SquareBlocks>>,
         AdditiveStages<PageBlocks>,
     >;
 
-    ghost network = { block_network };
+    ghost test = { block_test };
 
-    ghost runs = { running_network };
+    ghost network = { network_by addends_of };
+
+    ghost runs = { network_by running_addends };
+
+    fn sound(&self) {
+        let _fitting = self.blocks();
+    }
+
+    fn first(&self, alloc: Global) -> Result<Bytes, NoMemory> {
+        first_arrangements(alloc, self.blocks())
+    }
+
+    fn next(&self, labels: &mut Bytes) -> bool {
+        next_joined(self.lengths(), labels.as_mut_slice())
+    }
+
+    fn value(&self, labels: &[u8]) -> i128 {
+        self.statistic_of(labels)
+    }
 
     fn has_tail(&self, tail: Tail) -> bool {
         self.kind() == BlockKind::Page || tail == Tail::Greater
     }
 
-    fn is_shared(&self) -> bool {
-        true
-    }
-
-    fn stages_of(&self, alloc: Global, _tail: Tail) -> Result<Self::Built, NoMemory> {
-        let judge = self.judge();
+    fn stages_of(&self, alloc: Global, judge: Judge) -> Result<Self::Built, NoMemory> {
+        let _fitting = self.blocks();
         match self.kind() {
             BlockKind::Page => {
                 let stages = page_stages(alloc, self, judge)?;
@@ -170,14 +167,17 @@ impl Prepared for BlockTest {
     }
 
     // Where blocks have more than a few treatments, numbers are given to these one after another.
-    fn quick_stages_of(&self, alloc: Global, tail: Tail) -> Result<Self::Built, NoMemory> {
+    fn quick_stages_of(&self, alloc: Global, judge: Judge) -> Result<Self::Built, NoMemory> {
+        self.sound();
         match self.kind() {
-            BlockKind::Friedman if self.treatments() >= FEW => match served_stages(alloc, self)? {
-                Some(stages) => Ok(OneOf::First(OneOf::First(stages))),
-                None => self.stages_of(alloc, tail),
-            },
+            BlockKind::Friedman if self.treatments() >= FEW => {
+                match served_stages(alloc, self, judge)? {
+                    Some(stages) => Ok(OneOf::First(OneOf::First(stages))),
+                    None => self.stages_of(alloc, judge),
+                }
+            }
             BlockKind::Friedman | BlockKind::Page | BlockKind::Cochran => {
-                self.stages_of(alloc, tail)
+                self.stages_of(alloc, judge)
             }
         }
     }

@@ -4,7 +4,7 @@ ghost use Rattle.std.specs.Option.{option_copied};
 ghost use Rattle.weights.specs.Conditional.{distribution};
 ghost use Rattle.weights.specs.Wide.{too_wide};
 ghost use Rattle.settings.specs.Usable.{IsPieceOf};
-ghost use Rattle.stage_network.specs.Follows.{HasTails, answer_of, open_keys, uncounted};
+ghost use Rattle.stage_network.specs.Follows.{HasTails, answer_of, open_keys};
 ghost use Rattle.stage_network.specs.Lines.{WeightsFit};
 ghost use Rattle.exact_run.specs.CauseSteps.{IsDivided, MeetsAnd, prepared_outcome};
 ghost use Rattle.exact_run.specs.Divided.{IsDivisible};
@@ -139,27 +139,6 @@ pub(crate) struct Heading {
     pub extra: Extra,
 }
 
-// The answer of a problem, of which no key is counted: from its distribution, where this is known.
-fn uncounted_answer<P: Prepared>(
-    alloc: Global,
-    tails: Tails,
-    problem: &P,
-    spread: Option<&Spread>,
-) -> Result<Answer, NoMemory>
-    requires has { HasTails (P.test problem.now) tails }
-    requires lines { let whole = distribution (P.test problem.now) in
-        IfSome (option_copied spread) (λ lines. lines ≡ whole) }
-    requires weights { IfSome (option_copied spread) WeightsFit }
-    ensures answer { IfOk result (λ answer. answer
-        ≡ answer_of (P.test problem.now) uncounted tails Way.Plain) }
-    ensures some { IfOk result (λ answer. 1 ≤ answer.total) }
-{
-    match spread {
-        Some(spread) => answer_from(alloc, problem, tails, spread),
-        None => quick_answer(alloc, problem, tails),
-    }
-}
-
 // The answer of a problem, whose open keys are counted where they are shown. Where they are not,
 // and the walk is not asked, its distribution tells the tails, if it is known.
 fn answer_for<P: Prepared>(
@@ -178,12 +157,11 @@ fn answer_for<P: Prepared>(
         answer ≡ answer_of (P.test problem.now) opened tails (way_of asking.nodes)) }
     ensures some { IfOk result (λ answer. 1 ≤ answer.total) }
 {
-    if asking.nodes {
-        answer(alloc, problem, tails, Way::Network)
-    } else if asking.plain {
-        answer(alloc, problem, tails, Way::Plain)
-    } else {
-        uncounted_answer(alloc, tails, problem, spread)
+    match spread {
+        Some(_) | None if asking.nodes => answer(alloc, problem, tails, Way::Network),
+        Some(_) | None if asking.plain => answer(alloc, problem, tails, Way::Plain),
+        Some(spread) => answer_from(alloc, problem, tails, spread),
+        None => quick_answer(alloc, problem, tails),
     }
 }
 

@@ -1,19 +1,18 @@
 -- The numbers of strata, of which none passes a limit, and what is kept of samples that are prepared.
-use Rattle.std.proofs.Common.{◌≡◌, ℕ, ◌+◌, ◌-◌, ◌*◌, ◌≤◌, List, [], ◌∷◌, length, map, refl, sym, ◌∙◌, ap, subst, arith, lit≤}
+use Rattle.std.proofs.Common.{◌≡◌, ℕ, ◌+◌, ◌-◌, ◌*◌, ◌≤◌, List, [], ◌∷◌, length, map, inl, refl, sym, ◌∙◌, ap, subst, arith, lit≤}
 use Rattle.std.specs.Prelude.{ℤ, pos, slice_index, unsigned_abs}
 use Rattle.std.specs.List.{AllByRecursion, concat, sum, sum_by}
 use Rattle.std.proofs.Math.Nat.{mul-le-mul_right, mul-le-mul}
 use Rattle.std.proofs.lemmas.List.Elements.{All-from_recursion}
 use Rattle.std.proofs.lemmas.List.Sums.{sum_by-cons}
 use Rattle.weights.specs.Conditional.{ConditionalTest, total}
-use Rattle.weights.specs.Frames.{IsFrameOf}
 use Rattle.weights.specs.Labellings.{number_of_labellings}
 use Rattle.weights.specs.Numbers.{absolute_sum}
 use Rattle.weights.specs.Rules.{RuleFits}
 use Rattle.weights.specs.declared.TheConstants.{MAX}
 use Rattle.weights.specs.declared.rules.Rule.TheVariants.{Far}
 use Rattle.weights.specs.declared.tails.Tail.{Tail}
-use Rattle.weights.proofs.Centred.{IsCentred, far-fits, measured-is, rule-fits, rules-fit}
+use Rattle.weights.proofs.Centred.{IsCentred, far-fits, measured-is, rule-fits}
 use Rattle.weights.proofs.Sums.{sum_by-map}
 use Rattle.scores.specs.Scores.{labelled_sum}
 use Rattle.scores.proofs.LabelledSums.{labelled-within}
@@ -23,6 +22,7 @@ use Rattle.stage_network.specs.Follows.{Follows}
 use Rattle.stage_network.specs.Judged.{JudgeFits, judge_of}
 use Rattle.stage_network.specs.declared.verdicts.Judge.{Judge}
 use Rattle.stage_network.proofs.Following.{judge-fits}
+use Rattle.labelled.proofs.UnweightedLaws.{can-be-answered}
 use Rattle.room_network.specs.RoomNetworks.{room_network}
 use Rattle.room_network.proofs.RoomKeys.{plan_widths}
 use Rattle.room_network.proofs.RoomFollows.{room_follows}
@@ -172,23 +172,19 @@ module _ (samples : StrataGroupData) (u : AreUsable samples) where
       record { twice = twice; centre = centre; centre_fits = omega (arith, centre, twice) }
 
   -- what is kept
-  pub ranked : (made : RankedStrata) → AreLists (strata_subjects samples) made.strata → made.sizes ≡ map (λ (p : Part). p.subjects) made.strata.parts → parts_total (map part_of (strata_subjects samples)) ≤ MAX → IsFrameOf (stratified_rank_test samples) made.frame → AreRanked samples made
-  ranked made lists sizes h frame =
+  pub ranked : (made : RankedStrata) → AreLists (strata_subjects samples) made.strata → made.sizes ≡ map (λ (p : Part). p.subjects) made.strata.parts → parts_total (map part_of (strata_subjects samples)) ≤ MAX → AreRanked samples made
+  ranked made lists sizes h =
       let f : AreFitStrata strata = fitting h in
       record {
         usable = u;
         lists = lists;
-        frame = frame;
-        total_fits = f.total_fits;
-        some = total-some strata f;
         sound = subst ArePartsSound (sym lists.parts) (parts-sound strata each);
         parts = ap (map part_sizes) lists.parts ∙ all-sizes strata each;
         sizes = sizes-two strata each ∙ ap (map (λ (p : Part). p.subjects)) (sym lists.parts) ∙ sym sizes;
         ranks_fit = rw lists.ranks (omega (arith, ranks-absolute strata f, (fit strata f).ranks_fit));
         fit = rw lists.columns (fit strata f);
         sums_fit = rw lists.columns (sums-fit strata f);
-        rules_fit = rules-fit (stratified_rank_test samples) (centred strata f);
-        follows = λ t has. follows strata f t;
+        answered = can-be-answered (stratified_rank_test samples) (centred strata f) (λ r. refl) refl (total-some strata f) f.total_fits (follows strata f) (λ tail. inl refl);
       }
 
 -- the numbers of a frame

@@ -2,15 +2,14 @@
 use Rattle.std.specs.Prelude.{◌≡◌, ◌+◌, ◌≤◌, pos, List, map}
 use Rattle.std.specs.List.{concat, sum, sum_by}
 use Rattle.weights.specs.Conditional.{total}
-use Rattle.weights.specs.Frames.{IsFrameOf, RulesFit}
 use Rattle.weights.specs.Numbers.{absolute_sum}
 use Rattle.weights.specs.declared.TheConstants.{MAX}
 use Rattle.sample_reader.specs.PooledSample.{labels_of}
 use Rattle.sample_reader.specs.declared.subjects.Subject.{Subject}
 use Rattle.sample_reader.specs.StrataGroups.{StrataGroupData}
-use Rattle.stage_network.specs.Follows.{AllFollow}
 use Rattle.stage_network.specs.Judged.{judge_of}
-use Rattle.homogeneity.specs.RankNetworks.{AreUsable, stratified_rank_network}
+use Rattle.labelled.specs.UnweightedTests.{CanBeAnswered}
+use Rattle.homogeneity.specs.RankNetworks.{AreUsable, ranked_strata_network}
 use Rattle.homogeneity.specs.RankRooms.{columns_of}
 use Rattle.homogeneity.specs.RankSteps.{AreFitColumns, AreRankSums}
 use Rattle.homogeneity.specs.StrataSteps.{ArePartsSound, part_centre, part_of}
@@ -29,22 +28,18 @@ pub record AreLists (strata : List (List Subject)) (made : RankStrata) : Type 0 
   pub labels : made.labels ≡ concat (map labels_of strata)
 
 -- what is kept of samples in strata whose labellings pass no limit: their lists, of which parts and
--- columns are sound, that no sum of their ranks and no rule passes a limit, and that the network
--- follows the test
+-- columns are sound, that no sum of their ranks passes a limit, and that the test can be answered
 pub record AreRanked (samples : StrataGroupData) (made : RankedStrata) : Type 0 where
   pub usable : AreUsable samples
   pub lists : AreLists (strata_subjects samples) made.strata
-  pub frame : IsFrameOf (stratified_rank_test samples) made.frame
-  pub total_fits : total (stratified_rank_test samples) ≤ MAX
-  pub some : 1 ≤ total (stratified_rank_test samples)
   pub sound : ArePartsSound made.strata.parts
   pub parts : map part_sizes made.strata.parts ≡ map two_sizes (strata_subjects samples)
   pub sizes : map sum (map two_sizes (strata_subjects samples)) ≡ made.sizes
   pub ranks_fit : absolute_sum made.strata.ranks ≤ MAX
   pub fit : AreFitColumns made.strata.columns
   pub sums_fit : AreRankSums made.strata.columns (judge_of (stratified_rank_test samples))
-  pub rules_fit : RulesFit (stratified_rank_test samples)
-  pub follows : AllFollow (stratified_rank_test samples) (stratified_rank_network samples)
+  pub answered : let network = ranked_strata_network (strata_subjects samples) in
+      CanBeAnswered (stratified_rank_test samples) network network
 
 -- what is known of samples that were read: their strata can be counted
 pub record StrataFacts (samples : StrataGroupData) : Type 0 where

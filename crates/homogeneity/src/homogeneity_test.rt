@@ -3,7 +3,7 @@ ghost use Rattle.weights.specs.Wide.{Prepares};
 ghost use Rattle.sample_reader.specs.Data.{strata_data_of};
 ghost use Rattle.homogeneity.specs.Homogeneities.{homogeneity_test};
 
-use crate::stratified_ranks::StratifiedRanks;
+use crate::stratified_ranks::{StratifiedRanks, prepare};
 use crate::zelen::Zelen;
 use sample_reader::StrataGroups;
 use stage_network::OneOf;
@@ -40,5 +40,5 @@ pub fn prepare_zelen(alloc: Global, strata: Strata) -> Result<Homogeneity, Prepa
 pub fn prepare_ranks(alloc: Global, samples: StrataGroups) -> Result<Homogeneity, PrepareFault>
     ensures { Prepares homogeneity_test (OneOf.Second (strata_data_of samples)) result }
 {
-    Ok(OneOf::Second(StratifiedRanks::prepare(alloc, samples)?))
+    Ok(OneOf::Second(prepare(alloc, samples)?))
 }

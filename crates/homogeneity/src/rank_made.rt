@@ -1,6 +1,7 @@
 // What is made of samples in strata for the rank sum test.
 ghost use Rattle.std.specs.Prelude.{◌≡◌, ◌+◌, ◌<◌, ◌≤◌, map, pos, IfOk, MatchOption};
 ghost use Rattle.weights.specs.Conditional.{distance, total};
+ghost use Rattle.weights.specs.Frames.{IsFrameOf};
 ghost use Rattle.weights.specs.Numbers.{absolute_sum};
 ghost use Rattle.weights.specs.declared.TheConstants.{MAX};
 ghost use Rattle.scores.specs.Scores.{labelled_sum};
@@ -22,8 +23,6 @@ pub(crate) struct RankedStrata {
     pub strata: RankStrata,
     /// The strata's sizes, for the walk.
     pub sizes: Nums,
-    /// The observed statistic, its scale, the total and the rule of both sides.
-    pub frame: Frame,
 }
 
 // What is said of the test of so many labellings.
@@ -61,14 +60,15 @@ fn ranks_fit(_samples: &StrataGroups, _parts: &[Part])
     ensures { RanksFit (strata_data_of _samples.now) _parts.now }
 {}
 
-/// What is made of samples in strata, or None exactly where their labellings pass the greatest
-/// weight.
+/// What is made of samples in strata, and what is said of their test, or None exactly where their
+/// labellings pass the greatest weight.
 pub(crate) fn made_of(
     alloc: Global,
     samples: &StrataGroups,
-) -> Result<Option<RankedStrata>, NoMemory>
+) -> Result<Option<(RankedStrata, Frame)>, NoMemory>
     ensures { let given = strata_data_of samples.now in IfOk result (λ found.
-        MatchOption found (MAX < total (stratified_rank_test given)) (AreRanked given)) }
+        MatchOption found (MAX < total (stratified_rank_test given)) (λ made.
+        AreRanked given made.0 × IsFrameOf (stratified_rank_test given) made.1)) }
 {
     strata_fit(samples);
     let strata = RankStrata::of(alloc, samples)?;
@@ -85,9 +85,5 @@ pub(crate) fn made_of(
         centre,
         total,
     );
-    Ok(Some(RankedStrata {
-        strata,
-        sizes,
-        frame,
-    }))
+    Ok(Some((RankedStrata { strata, sizes }, frame)))
 }

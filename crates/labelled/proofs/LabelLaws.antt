@@ -10,11 +10,10 @@ use Rattle.weights.specs.declared.tails.Tail.{Tail}
 use Rattle.weights.specs.declared.tails.Tail.TheVariants.{Less, Greater, Two}
 use Rattle.std.specs.List.{count_by}
 use Rattle.weights.specs.Conditional.{is_extreme, numerator, total}
-use Rattle.weights.specs.Frames.{IsShown, RulesFit}
 use Rattle.weights.specs.Labellings.{labellings, number_of_labellings}
 use Rattle.weights.specs.Rules.{RuleFits, passes, rule_of}
 use Rattle.weights.specs.Wide.{Prepares, too_wide}
-use Rattle.weights.proofs.Centred.{IsCentred, all-weigh, bound-wide, measured-is, not-wide, rule-fits, rules-fit, shown, total-wide}
+use Rattle.weights.proofs.Centred.{IsCentred, bound-wide, measured-is, not-wide, rule-fits, total-wide}
 use Rattle.weights.proofs.FirstLabel.{number_of_labellings-positive}
 use Rattle.weights.proofs.ByRule.{is_extreme-by_rule}
 use Rattle.weights.proofs.Chosen.{one_if}
@@ -24,12 +23,15 @@ use Rattle.enumerate.proofs.JoinedMembers.{each-labelling}
 use Rattle.stage_network.specs.declared.verdicts.Judge.{Judge}
 use Rattle.stage_network.specs.Follows.{Follows}
 use Rattle.stage_network.specs.Judged.{JudgeFits, judge_of, rule_in}
+use Rattle.stage_network.specs.Network.{Network}
 use Rattle.stage_network.proofs.Following.{judge-fits}
 use Rattle.label_network.proofs.Endings.{labelling_value}
 use Rattle.label_network.specs.LabelNetwork.{label_network}
 use Rattle.label_network.specs.Meanings.{Meaning, IsMeasure}
 use Rattle.label_network.proofs.LabelFollows.{label_follows}
 use Rattle.labelled.specs.LabelTests.{IsSound, IsWithin, IsRefusedBy, LabelTest, label_test}
+use Rattle.labelled.specs.UnweightedTests.{CanBeAnswered}
+use Rattle.labelled.proofs.UnweightedLaws.{can-be-answered}
 
 pub total-of : (t : LabelTest) → total (label_test t) ≡ number_of_labellings t.sizes
 total-of t = sum_by-one (labellings t.sizes)
@@ -38,17 +40,8 @@ pub total-some : (t : LabelTest) → 1 ≤ total (label_test t)
 total-some t = omega (arith, total-of t, number_of_labellings-positive t.sizes)
 
 module _ (t : LabelTest) (w : IsWithin t) where
-  pub total-fits : total (label_test t) ≤ MAX
-  total-fits = omega (arith, total-of t, w.total_fits)
-
-  pub centred : IsCentred (label_test t) t.factor t.centre
+  centred : IsCentred (label_test t) t.factor t.centre
   centred = record { by = refl; observed = w.fits t.observed w.observed; each = w.fits }
-
-  pub label-rules : RulesFit (label_test t)
-  label-rules = rules-fit (label_test t) centred
-
-  pub label-shown : IsShown (label_test t)
-  label-shown = shown (label_test t) refl w.shown (all-weigh (labellings t.sizes))
 
   -- the rules fit whatever both sides' rule does
   pub label-judge : (judge : Judge) → judge ≡ judge_of (label_test t) → (v : ℤ) → RuleFits (Far t.factor t.centre 0) v → JudgeFits judge v
@@ -66,6 +59,11 @@ label-follows t m s judge rows values tail = label_follows m s (label_test t) ta
 -- which is written down as it runs
 pub label-sound : (t : LabelTest) (m : Meaning) → IsWithin t → IsMeasure m → m.judge ≡ judge_of (label_test t) → m.rows ≡ t.sizes → ((xs : List ℕ) → Contains (labellings t.sizes) xs → t.statistic xs ≡ labelling_value m xs) → IsSound t (label_network m) (label_network m)
 label-sound t m within s judge rows values = record { within = within; follows = label-follows t m s judge rows values; written = λ tail. inl refl }
+
+-- a test that is sound can be answered
+pub label-answered : (t : LabelTest) (n q : Network) → IsSound t n q → CanBeAnswered (label_test t) n q
+label-answered t n q s =
+    can-be-answered (label_test t) (centred t s.within) (λ r. refl) s.within.shown (total-some t) (omega (arith, total-of t, s.within.total_fits)) s.follows s.written
 
 -- what is too wide, and what is not
 pub label-wide : (t : LabelTest) → (number_of_labellings t.sizes ≤ MAX → ⊥) → too_wide (label_test t) ≡ Some Total

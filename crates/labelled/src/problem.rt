@@ -1,122 +1,83 @@
-// A test of labellings that can be answered.
+// A test whose rearrangements all weigh 1, that can be answered.
 ghost use Rattle.std.specs.Prelude.{◌≡◌};
 ghost use Rattle.weights.specs.Frames.{IsFrameOf};
-ghost use Rattle.weights.specs.Labellings.{number_of_labellings};
-ghost use Rattle.labelled.specs.LabelTests.{label_test};
 
-use crate::statistic::LabelStatistic;
-use enumerate::{Plain, first_labelling, next_labelling};
+use crate::unweighted::UnweightedTest;
+use enumerate::Plain;
 use stage_network::{Judge, Prepared, TailSums};
 use std::alloc::Global;
 use std::marker::Model;
-use weights::{Bytes, Frame, NoMemory, Rule, Tail, Tails};
+use weights::{Bytes, Frame, NoMemory, Tail, Tails};
 
-/// A test of labellings whose data are checked. It is seen as its statistic.
+/// A test of lists of labels that all weigh 1, with what is said of it. It is seen as the test.
 #[derive(Drop)]
-pub struct Labelled<S: LabelStatistic> {
-    statistic: S,
-    frame: Frame,
+pub struct Unweighted<T: UnweightedTest> {
+    pub(crate) test: T,
+    pub(crate) frame: Frame,
 }
 
-impl<S: LabelStatistic> Model for Labelled<S> {
+impl<T: UnweightedTest> Model for Unweighted<T> {
     ghost use Rattle.weights.specs.Frames.{IsFrameOf};
-    ghost use Rattle.labelled.specs.LabelTests.{label_test};
 
-    ghost Value = { S };
+    ghost Value = { T };
 
-    ghost view = { λ l. l.statistic };
+    ghost view = { λ u. u.test };
 
-    ghost invariant = { λ l. IsFrameOf (label_test (S.says l.statistic)) l.frame };
+    ghost invariant = { λ u. IsFrameOf (T.test u.test) u.frame };
 }
 
-impl<S: LabelStatistic> Labelled<S> {
-    /// The test of a statistic, whose observed labels, scale, factor and centre these are, and of
-    /// which there are so many labellings.
-    pub fn new(
-        statistic: S,
-        observed: &[u8],
-        scale: u128,
-        factor: u128,
-        centre: i128,
-        total: u128,
-    ) -> Labelled<S>
-        requires observed { observed.now ≡ (S.says statistic).observed }
-        requires scale { scale ≡ (S.says statistic).scale }
-        requires factor { factor ≡ (S.says statistic).factor }
-        requires centre { centre ≡ (S.says statistic).centre }
-        requires total { total ≡ number_of_labellings (S.says statistic).sizes }
-        ensures { result ≡ statistic }
+impl<T: UnweightedTest> Unweighted<T> {
+    /// A test, of which this is to be said.
+    pub fn of(test: T, frame: Frame) -> Unweighted<T>
+        requires { IsFrameOf (T.test test) frame }
+        ensures { result ≡ test }
     {
-        statistic.sound();
-        let value = statistic.value(observed);
-        let frame = Frame {
-            statistic: value,
-            scale,
-            total,
-            two: Rule::far(factor, centre, value),
-        };
-        Labelled { statistic, frame }
-    }
-
-    /// The test of a statistic, of which this is to be said.
-    pub fn framed(statistic: S, frame: Frame) -> Labelled<S>
-        requires { IsFrameOf (label_test (S.says statistic)) frame }
-        ensures { result ≡ statistic }
-    {
-        Labelled { statistic, frame }
-    }
-
-    /// The statistic, and what is to be said of its test.
-    pub fn parts(self) -> (S, Frame)
-        ensures statistic { result.0 ≡ self }
-        ensures frame { IsFrameOf (label_test (S.says self)) result.1 }
-    {
-        (self.statistic, self.frame)
+        Unweighted { test, frame }
     }
 }
 
-impl<S: LabelStatistic> Plain for Labelled<S> {
-    ghost use Rattle.labelled.specs.LabelTests.{label_test};
-
-    ghost test = { λ l. label_test (S.says l) };
+impl<T: UnweightedTest> Plain for Unweighted<T> {
+    ghost test = { λ u. T.test u };
 
     fn first(&self, alloc: Global) -> Result<Bytes, NoMemory> {
-        self.statistic.sound();
-        first_labelling(alloc, self.statistic.sizes())
+        self.test.sound();
+        self.test.first(alloc)
     }
 
     fn next(&self, labels: &mut Bytes) -> bool {
-        next_labelling(labels.as_mut_slice())
+        self.test.next(labels)
     }
 
     fn weight(&self, _labels: &[u8]) -> u128 {
+        self.test.sound();
         1
     }
 
     fn value(&self, labels: &[u8]) -> i128 {
-        self.statistic.value(labels)
+        self.test.value(labels)
     }
 
     fn frame(&self) -> Frame {
-        self.statistic.sound();
+        self.test.sound();
         self.frame
     }
 
     fn measure(&self, labels: &[u8], _tail: Tail) -> i128 {
-        self.statistic.value(labels)
+        self.test.sound();
+        self.test.value(labels)
     }
 }
 
-impl<S: LabelStatistic> Prepared for Labelled<S> {
-    type Built = S::Built;
+impl<T: UnweightedTest> Prepared for Unweighted<T> {
+    type Built = T::Built;
 
-    ghost network = { λ l tail. S.network l };
+    ghost network = { λ u tail. T.network u };
 
-    ghost runs = { λ l tail. S.runs l };
+    ghost runs = { λ u tail. T.runs u };
 
     fn has_tail(&self, tail: Tail) -> bool {
-        self.statistic.sound();
-        self.statistic.has_tail(tail)
+        self.test.sound();
+        self.test.has_tail(tail)
     }
 
     fn is_shared(&self) -> bool {
@@ -124,17 +85,15 @@ impl<S: LabelStatistic> Prepared for Labelled<S> {
     }
 
     fn stages_of(&self, alloc: Global, _tail: Tail) -> Result<Self::Built, NoMemory> {
-        self.statistic.sound();
-        self.statistic.stages_of(alloc, Judge::of(&self.frame))
+        self.test.sound();
+        self.test.stages_of(alloc, Judge::of(&self.frame))
     }
 
     fn quick_stages_of(&self, alloc: Global, _tail: Tail) -> Result<Self::Built, NoMemory> {
-        self.statistic
-            .quick_stages_of(alloc, Judge::of(&self.frame))
+        self.test.quick_stages_of(alloc, Judge::of(&self.frame))
     }
 
     fn numerators(&self, alloc: Global, tails: Tails) -> Result<TailSums, NoMemory> {
-        self.statistic
-            .numerators(alloc, Judge::of(&self.frame), tails)
+        self.test.numerators(alloc, Judge::of(&self.frame), tails)
     }
 }

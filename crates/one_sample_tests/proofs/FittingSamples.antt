@@ -35,11 +35,13 @@ use Rattle.stage_network.specs.Judged.{JudgeFits, judge_of}
 use Rattle.stage_network.specs.declared.verdicts.Judge.{Judge}
 use Rattle.stage_network.proofs.AdditiveLaws.{additive_intervals}
 use Rattle.stage_network.proofs.Following.{judge-fits}
+use Rattle.labelled.specs.UnweightedTests.{CanBeAnswered}
+use Rattle.labelled.proofs.UnweightedLaws.{can-be-answered}
 use Rattle.table_reader.specs.TableLayout.{TableData}
 use Rattle.one_sample_tests.specs.declared.kinds.SignKind.{SignKind}
 use Rattle.one_sample_tests.specs.declared.kinds.SignKind.TheVariants.{SignedRank, Sign, RawSigned}
 use Rattle.one_sample_tests.specs.SignedSamples.{SignedSample, discordant, magnitudes, nonzero, one_sample_test, sign_scores, signs_of, used_scores, used_sizes}
-use Rattle.one_sample_tests.specs.SignNetwork.{mark_addends, one_sample_network}
+use Rattle.one_sample_tests.specs.SignNetwork.{mark_addends, mark_network}
 use Rattle.one_sample_tests.specs.SampleSteps.{AreStages, IsMadeOf, sizes_in}
 use Rattle.one_sample_tests.proofs.MarkNetwork.{ends_at, sound_stages}
 use Rattle.one_sample_tests.proofs.MarkSums.{by_groups, by_marks, number_of_marks}
@@ -79,7 +81,7 @@ used-many sample = as-many sample.kind (used_sizes sample) ∙ length-map (nonze
 pub total-of : (sample : SignedSample) → total (one_sample_test sample) ≡ 2 ^ length (used_scores sample)
 total-of sample = number_of_marks (length (used_scores sample))
 
-pub total-some : (n : ℕ) → 1 ≤ 2 ^ n
+total-some : (n : ℕ) → 1 ≤ 2 ^ n
 total-some n = one-le-pow n 2 (lit≤ tt)
 
 pub value-fits : (s : ℕ) → 2 * s ≤ MAX → (v : ℤ) → pos 0 ≤ℤ v → v ≤ℤ pos s → RuleFits (Far 2 (pos s) 0) v
@@ -113,7 +115,7 @@ module _ (sample : SignedSample) (total : 2 ^ length (used_scores sample) ≤ MA
   sum-fits : (r : List ℕ) → RuleFits (Far 2 (pos (absolute_sum (used_scores sample))) 0) (labelled_sum 1 (used_scores sample) r)
   sum-fits r = value-fits (absolute_sum (used_scores sample)) bound (labelled_sum 1 (used_scores sample) r) (labelled-least 1 (used_scores sample) r (used-some sample)) (labelled-most 1 (used_scores sample) r)
 
-  pub centred : IsCentred (one_sample_test sample) 2 (pos (absolute_sum (used_scores sample)))
+  centred : IsCentred (one_sample_test sample) 2 (pos (absolute_sum (used_scores sample)))
   centred = record { by = refl; observed = sum-fits (signs_of (nonzero sample.differences)); each = λ r m. sum-fits r }
 
   extreme-fits : (n : ℕ) → n ≤ absolute_sum (used_scores sample) → JudgeFits (judge_of (one_sample_test sample)) (pos n)
@@ -130,7 +132,7 @@ module _ (sample : SignedSample) (total : 2 ^ length (used_scores sample) ≤ MA
     high_fits = extreme-fits (sizes_in (tie_groups (used_scores sample))) (omega (arith, groups-size (used_scores sample)));
   }
 
-  pub follows : (tail : Tail) → Follows (one_sample_test sample) tail (one_sample_network sample tail)
+  follows : (tail : Tail) → Follows (one_sample_test sample) tail (mark_network sample)
   follows tail =
       let scores : List ℤ = used_scores sample in
       let groups : List Tie = tie_groups scores in
@@ -143,6 +145,9 @@ module _ (sample : SignedSample) (total : 2 ^ length (used_scores sample) ≤ MA
             ∙ sum_by-same (λ r. cond (p (labelled_sum 1 scores r)) 1 0) (λ r. cond (p (measured test tail r)) 1 0) (λ r. ap (λ z. cond (p z) 1 0) (sym (measured-is test refl tail r))) (sign_lists (length scores))
             ∙ sym (sum_by-filter unit_weight (λ r. p (measured test tail r)) (sign_lists (length scores)));
       }
+
+  pub can-be : CanBeAnswered (one_sample_test sample) (mark_network sample) (mark_network sample)
+  can-be = can-be-answered (one_sample_test sample) centred (λ r. refl) refl (omega (arith, total-of sample, total-some (length (used_scores sample)))) (omega (arith, total-of sample, total)) follows (λ tail. inl refl)
 
 pub refused : (sample : SignedSample) (e : PrepareFault) → 2 ^ length (used_scores sample) ≤ MAX → IsMadeOf sample (Err e) → Prepares one_sample_test sample (Err e)
 refused sample (TooWide Total) fits is = absurd is

@@ -2,6 +2,7 @@
 use Rattle.std.specs.Prelude.{◌≡◌, ⊤, ℕ, ℤ, pos, ◌*◌, ◌^◌, ◌<◌, ◌≤◌, ◌≤ℤ◌, nat_abs, List, All, length, Result, Ok, Err}
 use Rattle.std.specs.List.{sum_by}
 use Rattle.weights.specs.Frames.{IsFrameOf}
+use Rattle.weights.specs.declared.frames.Frame.{Frame}
 use Rattle.stage_network.specs.Judged.{JudgeFits}
 use Rattle.weights.specs.declared.TheConstants.{MAX}
 use Rattle.stage_network.specs.declared.verdicts.Judge.{Judge}
@@ -41,13 +42,12 @@ IsSignScored kind sizes (Err fault.NoMemory) = ⊤
 pub record AreMarked (sample : SignedSample) (made : ScoredMarks) : Type 0 where
   pub scores : made.scores ≡ used_scores sample
   pub groups : made.groups ≡ tie_groups (used_scores sample)
-  pub frame : IsFrameOf (one_sample_test sample) made.frame
   pub total_fits : 2 ^ length (used_scores sample) ≤ MAX
   pub bound_fits : (one_sample_test sample).bound ≤ MAX
 
--- that is made, or the bound is too wide
-abbrev pub IsMadeOf : SignedSample → Result ScoredMarks PrepareFault → Type 0
-IsMadeOf sample (Ok made) = AreMarked sample made
+-- that is made, with what is said of the test, or the bound is too wide
+abbrev pub IsMadeOf : SignedSample → Result (ScoredMarks × Frame) PrepareFault → Type 0
+IsMadeOf sample (Ok made) = AreMarked sample made.0 × IsFrameOf (one_sample_test sample) made.1
 IsMadeOf sample (Err (TooWide Total)) = ⊥
 IsMadeOf sample (Err (TooWide Statistic)) = MAX < (one_sample_test sample).bound
 IsMadeOf sample (Err NoMemory) = ⊤

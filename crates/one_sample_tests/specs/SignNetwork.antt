@@ -39,6 +39,10 @@ mark_addends groups judge = record {
   judge = judge;
 }
 
-abbrev pub one_sample_network : SignedSample → Tail → Network
-one_sample_network sample tail = additive_network
+abbrev pub mark_network : SignedSample → Network
+mark_network sample = additive_network
     (mark_addends (tie_groups (used_scores sample)) (judge_of (one_sample_test sample)))
+
+-- one network for all tails
+abbrev pub one_sample_network : SignedSample → Tail → Network
+one_sample_network sample tail = mark_network sample

@@ -11,12 +11,13 @@ ghost use Rattle.one_sample_tests.specs.SignNetwork.{one_sample_network};
 
 mod kinds;
 mod mark_stages;
+mod mark_sum;
 mod marks;
 mod one_sample;
 mod scored_marks;
-mod ways;
 
 pub use kinds::SignKind;
+pub use mark_sum::MarkSum;
 pub use one_sample::{OneSample, prepare_mcnemar, prepare_pairs, used_pairs};
 use stage_network::{Answer, Spread, Way};
 use std::alloc::Global;

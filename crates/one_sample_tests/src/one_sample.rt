@@ -3,39 +3,20 @@ ghost use Rattle.std.specs.Prelude.{◌≡◌, ◌≤◌, ◌++◌, length, repl
 ghost use Rattle.weights.specs.Wide.{Prepares};
 ghost use Rattle.midranks.specs.declared.TheConstants.{MOST_VALUES};
 ghost use Rattle.table_reader.specs.Data.{table_data_of};
-ghost use Rattle.stage_network.specs.Judged.{judge_of};
 ghost use Rattle.one_sample_tests.specs.SignedSamples.{discordant, nonzero, one_sample_test, sample_of};
-ghost use Rattle.one_sample_tests.specs.SampleSteps.{AreDifferences, AreMarked};
+ghost use Rattle.one_sample_tests.specs.SampleSteps.{AreDifferences};
 
 use crate::kinds::SignKind;
-use crate::scored_marks::{ScoredMarks, made_of};
+use crate::mark_sum::MarkSum;
+use crate::scored_marks::made_of;
+use labelled::Unweighted;
 use sample_reader::Pairs;
-use stage_network::Judge;
 use std::alloc::Global;
-use std::marker::Model;
 use table_reader::Table;
 use weights::{Ints, NoMemory, PrepareFault, WideOf, power};
 
-/// A test of one sample whose data are checked. It is seen as the kind of scores and the
-/// differences that it was prepared of.
-#[derive(Drop)]
-pub struct OneSample {
-    // What it was prepared of, by which contracts name it.
-    kind: SignKind,
-    differences: Ints,
-    made: ScoredMarks,
-}
-
-impl Model for OneSample {
-    ghost use Rattle.one_sample_tests.specs.SignedSamples.{SignedSample, sample_of};
-    ghost use Rattle.one_sample_tests.specs.SampleSteps.{AreMarked};
-
-    ghost Value = { SignedSample };
-
-    ghost view = { λ t. sample_of t.kind t.differences };
-
-    ghost invariant = { λ t. AreMarked (sample_of t.kind t.differences) t.made };
-}
+/// A test of one sample whose data are checked.
+pub type OneSample = Unweighted<MarkSum>;
 
 // How many differences are not zero.
 fn number_used(differences: &[i128]) -> u64
@@ -63,12 +44,9 @@ fn prepare(alloc: Global, kind: SignKind, differences: Ints) -> Result<OneSample
     let Some(total) = power(2, number_used(differences.as_slice())) else {
         return Err(PrepareFault::TooWide(WideOf::Total));
     };
-    let made = made_of(alloc, kind, differences.as_slice(), total)?;
-    Ok(OneSample {
-        kind,
-        differences,
-        made,
-    })
+    let (made, frame) = made_of(alloc, kind, differences.as_slice(), total)?;
+    let sum = MarkSum::new(kind, differences, made);
+    Ok(Unweighted::of(sum, frame))
 }
 
 /// Prepares the test of pairs by the signs of their differences: the sum of the scores of the
@@ -120,20 +98,4 @@ pub fn prepare_mcnemar(alloc: Global, table: &Table) -> Result<OneSample, Prepar
     push_times(&mut differences, 1, plus)?;
     push_times(&mut differences, -1, minus)?;
     prepare(alloc, SignKind::Sign, differences)
-}
-
-impl OneSample {
-    /// What was made of the differences.
-    pub(crate) fn made(&self) -> &ScoredMarks
-        ensures { AreMarked self.now result.now }
-    {
-        &self.made
-    }
-
-    /// The rules of its tails.
-    pub(crate) fn judge(&self) -> Judge
-        ensures { result ≡ judge_of (one_sample_test self.now) }
-    {
-        Judge::of(&self.made().frame)
-    }
 }

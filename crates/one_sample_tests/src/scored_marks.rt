@@ -22,8 +22,6 @@ pub(crate) struct ScoredMarks {
     pub scores: Ints,
     /// How many share each score, ascending.
     pub groups: Ties,
-    /// The observed statistic, its scale, the total and the rule of both sides.
-    pub frame: Frame,
 }
 
 // A score of 1 for each.
@@ -78,14 +76,14 @@ fn frame_of(scored: &Scored, marks: &[u8], total: u128) -> Frame
     }
 }
 
-/// The differences of a sample that are not zero, scored, with so many lists of marks. They are
-/// refused exactly where the test's bound is too wide.
+/// The differences of a sample that are not zero, scored, and what is said of their test with so
+/// many lists of marks. They are refused exactly where the test's bound is too wide.
 pub(crate) fn made_of(
     alloc: Global,
     kind: SignKind,
     differences: &[i128],
     total: u128,
-) -> Result<ScoredMarks, PrepareFault>
+) -> Result<(ScoredMarks, Frame), PrepareFault>
     requires few { length differences.now ≤ MOST_VALUES }
     requires size { AreDifferences differences.now }
     requires total { total ≡ 2 ^ length (nonzero differences.now) }
@@ -105,9 +103,6 @@ pub(crate) fn made_of(
     };
     let groups = tie_groups(alloc, scored.list.as_slice())?;
     let frame = frame_of(&scored, marks.as_slice(), total);
-    Ok(ScoredMarks {
-        scores: scored.list,
-        groups,
-        frame,
-    })
+    let scores = scored.list;
+    Ok((ScoredMarks { scores, groups }, frame))
 }

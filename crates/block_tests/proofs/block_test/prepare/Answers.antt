@@ -37,22 +37,28 @@ frame_of-frame-requires-clause-whole c =
     let cells = ranked-cells c.args.kind c.args.blocks.now.blocks c.args.blocks.now.treatments c.as_slice.result.now c.args.blocks.now.cells c.in_ok-ranked.ranked.cells c.as_slice.ensures c.in_ok-ranked.ensures.cells in
     ap length (c.as_slice-cells.ensures ∙ cells) ∙ (observed-of (blocks_for c.args.kind (block_data_of c.args.blocks.now)) (blocks-read c.args.kind c.args.blocks.now c.requires)).long
 
-pub invariant_of-result : goal.invariant_of-result
-invariant_of-result c =
+pub invariant_of-statistic : goal.invariant_of-statistic
+invariant_of-statistic c =
     let tests : BlockTests = blocks_for c.args.kind (block_data_of c.args.blocks.now) in
     let blocks = ranked-blocks c.args.kind c.args.blocks.now.blocks c.args.blocks.now.treatments c.as_slice.result.now c.args.blocks.now.cells c.in_ok-ranked.ranked.blocks.items c.as_slice.ensures c.in_ok-ranked.ensures.blocks in
     let ways = rw (c.deref.ensures.value ∙ blocks) at c.in-Some.ensures in
     let cells = c.as_slice-cells.ensures ∙ ranked-cells c.args.kind c.args.blocks.now.blocks c.args.blocks.now.treatments c.as_slice.result.now c.args.blocks.now.cells c.in_ok-ranked.ranked.cells c.as_slice.ensures c.in_ok-ranked.ensures.cells in
-    let fit : AreFitting tests = fitting tests (blocks-read c.args.kind c.args.blocks.now c.requires) ways.0 in
-    let sides = sides-are tests.kind tests.blocks.blocks tests.blocks.treatments in
-    subst (λ (values : List ℤ). IsPrepared (tests_of c.args.kind c.args.blocks.now.blocks c.args.blocks.now.treatments values) c.in_ok-ranked.ranked.blocks.items c.in_ok-lengths.lengths c.bound_of-bound.result c.frame_of-frame.result) (sym c.in_ok-copy.ensures)
+    subst (λ (values : List ℤ). IsPrepared (tests_of c.args.kind c.args.blocks.now.blocks c.args.blocks.now.treatments values) c.in_ok-ranked.ranked.blocks.items c.in_ok-lengths.lengths c.bound_of-bound.result) (sym c.in_ok-copy.ensures)
     (record {
-      fitting = fit;
+      fitting = fitting tests (blocks-read c.args.kind c.args.blocks.now c.requires) ways.0;
       blocks_are = blocks;
       lengths_are = ap (map sum) (sym (c.deref-2.ensures.value ∙ blocks)) ∙ c.in_ok-lengths.ensures;
       bound_is = c.bound_of-bound.ensures ∙ ap (bound_of c.args.kind c.args.blocks.now.blocks c.args.blocks.now.treatments) cells;
-      frame_is = rw (c.frame_of-frame.ensures, cells) (framed _ _ (block_test tests) _ sides refl refl (ways.1 ∙ sym (total-is tests)) (ap (λ s. far_of s (block_statistic tests.kind tests.blocks.blocks tests.blocks.treatments (observed_cells tests))) sides));
     })
+
+pub of-requires : goal.of-requires
+of-requires c =
+    let tests : BlockTests = blocks_for c.args.kind (block_data_of c.args.blocks.now) in
+    let blocks = ranked-blocks c.args.kind c.args.blocks.now.blocks c.args.blocks.now.treatments c.as_slice.result.now c.args.blocks.now.cells c.in_ok-ranked.ranked.blocks.items c.as_slice.ensures c.in_ok-ranked.ensures.blocks in
+    let ways = rw (c.deref.ensures.value ∙ blocks) at c.in-Some.ensures in
+    let cells = c.as_slice-cells.ensures ∙ ranked-cells c.args.kind c.args.blocks.now.blocks c.args.blocks.now.treatments c.as_slice.result.now c.args.blocks.now.cells c.in_ok-ranked.ranked.cells c.as_slice.ensures c.in_ok-ranked.ensures.cells in
+    let sides = sides-are tests.kind tests.blocks.blocks tests.blocks.treatments in
+    rw (c.in_ok-copy.ensures, c.frame_of-frame.ensures, cells) (framed _ _ (block_test tests) _ sides refl refl (ways.1 ∙ sym (total-is tests)) (ap (λ s. far_of s (block_statistic tests.kind tests.blocks.blocks tests.blocks.treatments (observed_cells tests))) sides))
 
 pub returns : goal.returns
 returns c =
@@ -60,4 +66,4 @@ returns c =
     let blocks = ranked-blocks c.args.kind c.args.blocks.now.blocks c.args.blocks.now.treatments c.as_slice.result.now c.args.blocks.now.cells c.in_ok-ranked.ranked.blocks.items c.as_slice.ensures c.in_ok-ranked.ensures.blocks in
     let ways = rw (c.deref.ensures.value ∙ blocks) at c.in-Some.ensures in
     let fit : AreFitting tests = fitting tests (blocks-read c.args.kind c.args.blocks.now c.requires) ways.0 in
-    (rw c.in_ok-copy.ensures refl, not-wide (block_test tests) refl fit.total_fits (bound-fits tests fit))
+    (rw (c.of.ensures, c.in_ok-copy.ensures) refl, not-wide (block_test tests) refl fit.total_fits (bound-fits tests fit))

@@ -15,7 +15,7 @@ use Rattle.block_tests.proofs.ServingFollows.{tests-follow, tests-servings}
 use Rattle.block_tests.proofs.ways.ordered_stages.Goals as goal
 
 pub served_blocks-requires : goal.served_blocks-requires
-served_blocks-requires c = rw (c.treatments.ensures, c.blocks-2.ensures.blocks, c.judge.ensures.judge) (tests-servings c.args.test.now c.judge.ensures.fitting c.requires.kind Greater)
+served_blocks-requires c = rw (c.treatments.ensures, c.blocks-2.ensures.blocks, c.requires.judge) (tests-servings c.args.test.now c.blocks-2.ensures.fitting c.requires.kind Greater)
 
 -- mirrors that are made of a test's blocks
 record AreFor (tests : BlockTests) (mirrors : List ℕ) : Type 0 where
@@ -33,12 +33,12 @@ made-for tests f kind k blocks mirrors e i m even =
 
 pub returns-clause-follows : goal.returns-clause-follows
 returns-clause-follows c t =
-    rw (c.in_ok-stages.ensures.sums, c.in_ok-stages.ensures.sizes ∙ ap alike c.treatments.ensures, c.in_ok-stages.ensures.treatments ∙ c.treatments.ensures, c.in_ok-stages.ensures.items ∙ ap all_servings c.blocks-2.ensures.blocks, c.in_ok-stages.ensures.judge ∙ c.judge.ensures.judge)
-    ((made-for c.args.test.now c.judge.ensures.fitting c.requires.kind c.treatments.result c.blocks-2.result.now c.in_ok-stages.stages.1.servings.mirrors.items c.treatments.ensures c.blocks-2.ensures.blocks c.in_ok-stages.ensures.mirrors c.in_ok-stages.ensures.even).follows t)
+    rw (c.in_ok-stages.ensures.sums, c.in_ok-stages.ensures.sizes ∙ ap alike c.treatments.ensures, c.in_ok-stages.ensures.treatments ∙ c.treatments.ensures, c.in_ok-stages.ensures.items ∙ ap all_servings c.blocks-2.ensures.blocks, c.in_ok-stages.ensures.judge ∙ c.requires.judge)
+    ((made-for c.args.test.now c.blocks-2.ensures.fitting c.requires.kind c.treatments.result c.blocks-2.result.now c.in_ok-stages.stages.1.servings.mirrors.items c.treatments.ensures c.blocks-2.ensures.blocks c.in_ok-stages.ensures.mirrors c.in_ok-stages.ensures.even).follows t)
 
 pub returns-clause-packs : goal.returns-clause-packs
 returns-clause-packs c room =
-    let it = made-for c.args.test.now c.judge.ensures.fitting c.requires.kind c.treatments.result c.blocks-2.result.now c.in_ok-stages.stages.1.servings.mirrors.items c.treatments.ensures c.blocks-2.ensures.blocks c.in_ok-stages.ensures.mirrors c.in_ok-stages.ensures.even in
+    let it = made-for c.args.test.now c.blocks-2.ensures.fitting c.requires.kind c.treatments.result c.blocks-2.result.now c.in_ok-stages.stages.1.servings.mirrors.items c.treatments.ensures c.blocks-2.ensures.blocks c.in_ok-stages.ensures.mirrors c.in_ok-stages.ensures.even in
     let k : ℕ = c.args.test.now.blocks.treatments in
-    rw (c.in_ok-stages.ensures.sums, c.in_ok-stages.ensures.sizes ∙ ap alike c.treatments.ensures, c.in_ok-stages.ensures.treatments ∙ c.treatments.ensures, c.in_ok-stages.ensures.items ∙ ap all_servings c.blocks-2.ensures.blocks, c.in_ok-stages.ensures.judge ∙ c.judge.ensures.judge)
-    (packed-sums k (all_servings (block_counts c.args.test.now)) (judge_of (block_test c.args.test.now)) (tests-servings c.args.test.now c.judge.ensures.fitting c.requires.kind Greater) c.in_ok-stages.stages.1.servings.mirrors.items it.mirrors_are c.requires.some room (block_test c.args.test.now) Greater (it.follows Greater))
+    rw (c.in_ok-stages.ensures.sums, c.in_ok-stages.ensures.sizes ∙ ap alike c.treatments.ensures, c.in_ok-stages.ensures.treatments ∙ c.treatments.ensures, c.in_ok-stages.ensures.items ∙ ap all_servings c.blocks-2.ensures.blocks, c.in_ok-stages.ensures.judge ∙ c.requires.judge)
+    (packed-sums k (all_servings (block_counts c.args.test.now)) (judge_of (block_test c.args.test.now)) (tests-servings c.args.test.now c.blocks-2.ensures.fitting c.requires.kind Greater) c.in_ok-stages.stages.1.servings.mirrors.items it.mirrors_are c.requires.some room (block_test c.args.test.now) Greater (it.follows Greater))

@@ -20,6 +20,7 @@ returns c =
     let given = strata_data_of c.args.samples.now in
     let lists = c.in_ok-strata.ensures in
     let total = rw (c.as_slice-parts.ensures ∙ lists.parts) at c.in-Some.ensures in
-    let centre : c.centre_of-centre.result ≡ sum_by (λ s. second_size s * (length s + 1)) (strata_subjects given) = c.centre_of-centre.ensures ∙ ap (sum_by part_centre) (c.as_slice-parts.ensures ∙ lists.parts) ∙ centre-is (strata_subjects given) in
-    ranked given (usable-from c.args.samples.now) _ lists (c.in_ok-sizes.ensures ∙ ap (map (λ (part : Part). part.subjects)) c.as_slice-parts.ensures) total.0
-    (rw (c.frame_of-frame.ensures, c.as_slice.ensures ∙ lists.ranks, c.as_slice-2.ensures ∙ lists.labels, centre, total.1) (framed 1 (pos (sum_by (λ s. second_size s * (length s + 1)) (strata_subjects given))) (ranked_strata_test (strata_subjects given)) _ refl refl refl (sym (c.strata_fit.ensures.total_is)) refl))
+    let centre : c.centre_of-centre.result ≡ sum_by (λ s. second_size s * (length s + 1)) (strata_subjects given) = c.centre_of-centre.ensures ∙ ap (sum_by part_centre) (c.as_slice-parts.ensures ∙ lists.parts) ∙ centre-is (strata_subjects given) in (
+      ranked given (usable-from c.args.samples.now) _ lists (c.in_ok-sizes.ensures ∙ ap (map (λ (part : Part). part.subjects)) c.as_slice-parts.ensures) total.0,
+      rw (c.frame_of-frame.ensures, c.as_slice.ensures ∙ lists.ranks, c.as_slice-2.ensures ∙ lists.labels, centre, total.1) (framed 1 (pos (sum_by (λ s. second_size s * (length s + 1)) (strata_subjects given))) (ranked_strata_test (strata_subjects given)) _ refl refl refl (sym (c.strata_fit.ensures.total_is)) refl),
+    )

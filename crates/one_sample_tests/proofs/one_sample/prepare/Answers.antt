@@ -1,4 +1,4 @@
-use Rattle.std.proofs.Common.{◌≡◌, ◌∙◌, ◌^◌, ◌≤◌, length, Err, refl, sym, ap, subst}
+use Rattle.std.proofs.Common.{◌≡◌, ◌∙◌, ◌^◌, ◌≤◌, length, Err, sym, ap, subst}
 use Rattle.std.proofs.lemmas.Result.{err_from_is_err_and}
 use Rattle.weights.specs.declared.TheConstants.{MAX}
 use Rattle.weights.proofs.Centred.{not-wide, total-wide}
@@ -21,8 +21,14 @@ returns-in_err-made c =
     let p = err_from_is_err_and c.from_residual.result c.from_residual.ensures.1 in
     rw (p.1, p.2) (refused sample c.in_err-made.field-0.0 total (subst (λ ds. IsMadeOf (sample_of c.args.kind ds) (Err c.in_err-made.field-0.0)) c.as_slice-2.ensures c.in_err-made.ensures))
 
+pub new-sum-requires : goal.new-sum-requires
+new-sum-requires c = (rw c.as_slice-2.ensures at c.in_ok-made.ensures).0
+
+pub of-requires : goal.of-requires
+of-requires c = rw c.new-sum.ensures (rw c.as_slice-2.ensures at c.in_ok-made.ensures).1
+
 pub returns : goal.returns
 returns c =
     let sample : SignedSample = sample_of c.args.kind c.args.differences in
-    let made = rw c.as_slice-2.ensures at c.in_ok-made.ensures in
-    (refl, not-wide (one_sample_test sample) (total-of sample) made.total_fits made.bound_fits)
+    let made = (rw c.as_slice-2.ensures at c.in_ok-made.ensures).0 in
+    (c.of.ensures ∙ c.new-sum.ensures, not-wide (one_sample_test sample) (total-of sample) made.total_fits made.bound_fits)

@@ -26,11 +26,12 @@ returns c =
     let sizes : c.as_slice-3.result.now ≡ used_sizes sample = c.as_slice-3.ensures ∙ c.in_ok-sizes.ensures ∙ ap magnitudes (c.as_slice.ensures ∙ c.in_ok-used.ensures) in
     let are : AreSignScores c.args.kind (used_sizes sample) c.in-Ok.scored = subst (λ ss. AreSignScores c.args.kind ss c.in-Ok.scored) sizes c.in-Ok.ensures in
     let marks : c.as_slice-5.result.now ≡ signs_of (nonzero sample.differences) = c.as_slice-5.ensures ∙ c.in_ok-marks.ensures ∙ ap signs_of (c.as_slice-2.ensures ∙ c.in_ok-used.ensures) in
-    let bound : 2 * c.in-Ok.scored.sum ≤ MAX = c.in-Some.ensures.0 in
-    record {
-      scores = are.list;
-      groups = c.in_ok-groups.ensures.groups ∙ ap tie_groups (c.as_slice-4.ensures ∙ are.list);
-      frame = rw (c.frame_of-frame.ensures, are.list, marks) (record { statistic = refl; scale = are.scale; total = c.requires.total ∙ ap (λ n. 2 ^ n) (sym (used-many sample)) ∙ sym (total-of sample); two = refl });
-      total_fits = rw (used-many sample) (omega (arith, c.requires.total, c.requires.fits));
-      bound_fits = omega (arith, bound, are.sum);
-    }
+    let bound : 2 * c.in-Ok.scored.sum ≤ MAX = c.in-Some.ensures.0 in (
+      record {
+        scores = are.list;
+        groups = c.in_ok-groups.ensures.groups ∙ ap tie_groups (c.as_slice-4.ensures ∙ are.list);
+        total_fits = rw (used-many sample) (omega (arith, c.requires.total, c.requires.fits));
+        bound_fits = omega (arith, bound, are.sum);
+      },
+      rw (c.frame_of-frame.ensures, are.list, marks) (record { statistic = refl; scale = are.scale; total = c.requires.total ∙ ap (λ n. 2 ^ n) (sym (used-many sample)) ∙ sym (total-of sample); two = refl }),
+    )

@@ -1,0 +1,105 @@
+// The statistic of the stratified rank sum test, and both ways to it.
+ghost use Rattle.std.specs.Prelude.{◌≡◌};
+ghost use Rattle.sample_reader.specs.Data.{strata_data_of};
+ghost use Rattle.homogeneity.specs.RankMade.{AreRanked};
+
+use crate::part_numbers::first_labels;
+use crate::rank_made::RankedStrata;
+use crate::rank_measure::RankMeasure;
+use crate::rank_rooms::RankRooms;
+use enumerate::next_joined;
+use labelled::UnweightedTest;
+use room_network::{Numbered, RoomNetwork};
+use sample_reader::StrataGroups;
+use scores::labelled_sum;
+use stage_network::{Judge, TailSums};
+use std::alloc::Global;
+use std::marker::Model;
+use weights::{Bytes, NoMemory, Tail, Tails};
+
+/// The sum of the second group's ranks, each among the values of its own stratum. It is seen as the
+/// samples that it was prepared of.
+#[derive(Drop)]
+pub struct StrataRankSum {
+    // What it was prepared of, by which contracts name it.
+    samples: StrataGroups,
+    made: RankedStrata,
+}
+
+impl Model for StrataRankSum {
+    ghost use Rattle.sample_reader.specs.Data.{strata_data_of};
+    ghost use Rattle.sample_reader.specs.StrataGroups.{StrataGroupData};
+    ghost use Rattle.homogeneity.specs.RankMade.{AreRanked};
+
+    ghost Value = { StrataGroupData };
+
+    ghost view = { λ s. strata_data_of s.samples };
+
+    ghost invariant = { λ s. AreRanked (strata_data_of s.samples) s.made };
+}
+
+impl StrataRankSum {
+    /// That of samples of which this was made.
+    pub(crate) fn new(samples: StrataGroups, made: RankedStrata) -> StrataRankSum
+        requires { AreRanked (strata_data_of samples) made }
+        ensures { result ≡ strata_data_of samples }
+    {
+        StrataRankSum { samples, made }
+    }
+
+    // What was made of the samples.
+    fn made(&self) -> &RankedStrata
+        ensures { AreRanked self.now result.now }
+    {
+        &self.made
+    }
+}
+
+impl UnweightedTest for StrataRankSum {
+    ghost use Rattle.homogeneity.specs.RankNetworks.{ranked_strata_network};
+    ghost use Rattle.homogeneity.specs.StratifiedRanks.{strata_subjects, stratified_rank_test};
+
+    type Built = RoomNetwork<RankRooms, Numbered<RankMeasure>>;
+
+    ghost test = { stratified_rank_test };
+
+    ghost network = { λ samples. ranked_strata_network (strata_subjects samples) };
+
+    ghost runs = { λ samples. ranked_strata_network (strata_subjects samples) };
+
+    fn sound(&self) {
+        let _made = self.made();
+    }
+
+    fn first(&self, alloc: Global) -> Result<Bytes, NoMemory> {
+        first_labels(alloc, self.made().strata.parts.as_slice())
+    }
+
+    fn next(&self, labels: &mut Bytes) -> bool {
+        next_joined(self.made().sizes.as_slice(), labels.as_mut_slice())
+    }
+
+    fn value(&self, labels: &[u8]) -> i128 {
+        labelled_sum(self.made().strata.ranks.as_slice(), labels, 1)
+    }
+
+    fn has_tail(&self, _tail: Tail) -> bool {
+        true
+    }
+
+    fn stages_of(&self, alloc: Global, judge: Judge) -> Result<Self::Built, NoMemory> {
+        let made = self.made();
+        let rooms = RankRooms::new(alloc, made.strata.columns.copy()?)?;
+        let columns = made.strata.columns.copy()?;
+        let measure = RankMeasure { columns, judge };
+        Ok(RoomNetwork::new(rooms, Numbered::new(measure)))
+    }
+
+    // Where sums seldom meet, by two halves.
+    fn numerators(&self, alloc: Global, judge: Judge, tails: Tails) -> Result<TailSums, NoMemory> {
+        self.sound();
+        let stages = self.stages_of(alloc, judge)?;
+        let sums = halves::tail_sums(alloc, &stages, &judge, tails)?;
+        Ok(sums)
+    }
+}

@@ -1,0 +1,13 @@
+use Rattle.std.proofs.Common.{◌∙◌}
+use Rattle.weights.specs.declared.tails.Tail.TheVariants.{Less}
+use Rattle.stage_network.specs.Judged.{judge_of}
+use Rattle.stage_network.proofs.Following.{extreme-is}
+use Rattle.labelled.proofs.unweighted.UnweightedTest.numerators.Goals as goal
+
+pub tail_sums_by_rooms-requires : goal.tail_sums_by_rooms-requires
+tail_sums_by_rooms-requires g c =
+    record { judge = judge_of (g.Self.UnweightedTest.test c.args.self.now); intervals = (c.in_ok-stages.ensures Less).intervals }
+
+pub returns : goal.returns
+returns g c t a =
+    c.in_ok-sums.ensures.sum t a ∙ extreme-is (g.Self.UnweightedTest.test c.args.self.now) t (g.Self.Built.Stages.network c.in_ok-stages.stages) (c.in_ok-stages.ensures t)

@@ -1,9 +1,0 @@
-use Rattle.std.proofs.Common.{◌∙◌, refl, sym}
-use mir.Syntax.{w128}
-use Rattle.std.proofs.lemmas.Int.{to_z-of_z}
-use Rattle.weights.proofs.Centred.{measured-is}
-use Rattle.one_sample_tests.specs.SignedSamples.{one_sample_test}
-use Rattle.one_sample_tests.proofs.ways.OneSamplePlain.measure.Goals as goal
-
-pub returns : goal.returns
-returns c = to_z-of_z w128 c.value.result (record { sfits = c.value.type_inv }) ∙ c.value.ensures ∙ sym (measured-is (one_sample_test c.args.self.now) refl c.args._tail c.args.labels.now)

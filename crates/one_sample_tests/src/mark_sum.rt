@@ -1,0 +1,108 @@
+// The statistic of a test of one sample, and both ways to it.
+ghost use Rattle.std.specs.Prelude.{◌≡◌};
+ghost use Rattle.one_sample_tests.specs.SignedSamples.{sample_of};
+ghost use Rattle.one_sample_tests.specs.SampleSteps.{AreMarked};
+
+use crate::kinds::SignKind;
+use crate::mark_stages::MarkStages;
+use crate::marks::first_marks;
+use crate::scored_marks::ScoredMarks;
+use drawn_sums::sign_sums;
+use enumerate::next_signs;
+use labelled::UnweightedTest;
+use scores::labelled_sum;
+use stage_network::{AdditiveStages, Judge, TailSums};
+use std::alloc::Global;
+use std::marker::Model;
+use weights::{Bytes, Ints, NoMemory, Tail, Tails};
+
+/// The sum of the scores of the plus marks. It is seen as the kind of scores and the differences
+/// that it was prepared of.
+#[derive(Drop)]
+pub struct MarkSum {
+    // What it was prepared of, by which contracts name it.
+    kind: SignKind,
+    differences: Ints,
+    made: ScoredMarks,
+}
+
+impl Model for MarkSum {
+    ghost use Rattle.one_sample_tests.specs.SignedSamples.{SignedSample, sample_of};
+    ghost use Rattle.one_sample_tests.specs.SampleSteps.{AreMarked};
+
+    ghost Value = { SignedSample };
+
+    ghost view = { λ s. sample_of s.kind s.differences };
+
+    ghost invariant = { λ s. AreMarked (sample_of s.kind s.differences) s.made };
+}
+
+impl MarkSum {
+    /// That of differences of which this was made.
+    pub(crate) fn new(kind: SignKind, differences: Ints, made: ScoredMarks) -> MarkSum
+        requires { AreMarked (sample_of kind differences) made }
+        ensures { result ≡ sample_of kind differences }
+    {
+        MarkSum {
+            kind,
+            differences,
+            made,
+        }
+    }
+
+    // What was made of the differences.
+    fn made(&self) -> &ScoredMarks
+        ensures { AreMarked self.now result.now }
+    {
+        &self.made
+    }
+}
+
+impl UnweightedTest for MarkSum {
+    ghost use Rattle.one_sample_tests.specs.SignedSamples.{one_sample_test};
+    ghost use Rattle.one_sample_tests.specs.SignNetwork.{mark_network};
+
+    type Built = AdditiveStages<MarkStages>;
+
+    ghost test = { one_sample_test };
+
+    ghost network = { mark_network };
+
+    ghost runs = { mark_network };
+
+    fn sound(&self) {
+        let _made = self.made();
+    }
+
+    fn first(&self, alloc: Global) -> Result<Bytes, NoMemory> {
+        first_marks(alloc, self.made().scores.len())
+    }
+
+    fn next(&self, labels: &mut Bytes) -> bool {
+        next_signs(labels.as_mut_slice())
+    }
+
+    fn value(&self, labels: &[u8]) -> i128 {
+        labelled_sum(self.made().scores.as_slice(), labels, 1)
+    }
+
+    fn has_tail(&self, _tail: Tail) -> bool {
+        true
+    }
+
+    fn stages_of(&self, alloc: Global, judge: Judge) -> Result<Self::Built, NoMemory> {
+        let groups = self.made().groups.copy()?;
+        AdditiveStages::new(alloc, MarkStages { groups, judge })
+    }
+
+    // By draws of the plus marks, or, where sums seldom meet, by two halves.
+    fn numerators(&self, alloc: Global, judge: Judge, tails: Tails) -> Result<TailSums, NoMemory> {
+        self.sound();
+        if let Some(sums) = sign_sums(alloc, self.made().scores.as_slice(), &judge, tails)? {
+            return Ok(sums);
+        }
+        let stages = self.stages_of(alloc, judge)?;
+        let sums = halves::tail_sums(alloc, &stages, &judge, tails)?;
+        Ok(sums)
+    }
+}
