@@ -1,9 +1,10 @@
 # Tries the R client on examples; a line for each: 0 where it came right, else 1, and what was tried. With the word
 # `library` behind the examples it goes by the library, in this process.
 arguments <- commandArgs(trailingOnly = TRUE)
-examples <- arguments[1]
-source(file.path(examples, "..", "clients", "exact.R"))
-if (identical(arguments[-1], "library")) exact_library()
+top <- arguments[1]
+examples <- arguments[2]
+source(file.path(top, "clients", "exact.R"))
+if (identical(arguments[-(1:2)], "library")) exact_library()
 
 tell <- function(right, what) cat(if (isTRUE(right)) 0 else 1, what, "\n")
 data_of <- function(name) read.csv(file.path(examples, paste0(name, ".csv")))

@@ -10,7 +10,8 @@ import sys
 from fractions import Fraction
 
 EXAMPLES = pathlib.Path(sys.argv[1])
-sys.path.insert(0, str(EXAMPLES.parent / "clients"))
+TOP = pathlib.Path(__file__).resolve().parent.parent
+sys.path.insert(0, str(TOP / "clients"))
 import exact  # noqa: E402
 
 if sys.argv[2:] == ["library"]:
@@ -43,7 +44,7 @@ def refused(kind, *given, **options):
     return False
 
 
-PLACES = (EXAMPLES.parent / "docs" / "REFUSALS.md").read_text(encoding="utf-8")
+PLACES = (TOP / "docs" / "REFUSALS.md").read_text(encoding="utf-8")
 
 
 def has_place(text):
@@ -122,11 +123,11 @@ tell(str(fine.statistic) == "1", "Python: eighteen decimals")
 tell(exact.run("ranksum", six, order=["y", "x"]).less == exact.run("ranksum", six).greater, "Python: another order")
 # every line that the rows have has a place, and every word of help
 lines = set()
-for row in (EXAMPLES / "rows.txt").read_text(encoding="utf-8").splitlines():
+for row in (TOP / "tests" / "rows.txt").read_text(encoding="utf-8").splitlines():
     if row[:1] in "234567" and row[1:11] == " refused: ":
         lines.add(row[2:].removesuffix("\\n"))
 for line in sorted(lines) + [f"refused: {cause}" for cause in exact.HELPS]:
     tell(has_place(str(exact.Refused(line))), f"Python: a place for {line}")
 tell(len(lines) > 100, "Python: more than a hundred lines")
-r_text = (EXAMPLES.parent / "clients" / "exact.R").read_text(encoding="utf-8")
+r_text = (TOP / "clients" / "exact.R").read_text(encoding="utf-8")
 tell(all(f'"{cause}" = "{what}"' in r_text for cause, what in exact.HELPS.items()), "R: the same helps")

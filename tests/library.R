@@ -1,6 +1,6 @@
 # Tries the library from R on the problems of `library`; a line for each: 0 where it came right, else 1.
 arguments <- commandArgs(trailingOnly = TRUE)
-source(file.path(arguments[1], "..", "clients", "exact.R"))
+source(file.path(arguments[1], "clients", "exact.R"))
 here <- exact_library()
 bytes_of <- function(file) readBin(file, "raw", file.size(file))
 

@@ -4,7 +4,7 @@ KIT is the kit's folder, MODULE.bc the LLVM module that its backend made of the 
 of dlmalloc.c, STACK the bytes of the stack. The kit's backend compiles no heap for wasm64. Of a crate without one its
 module for wasm64 is that for x86-64 but for two guards, which are written here in the same words: a function traps where
 its frame would lie below the stack, and an export goes through __rattle_enter and __rattle_leave, so that none is entered
-after a trap or while another runs. Nothing of this step is proved; examples/page holds what comes out against the program.
+after a trap or while another runs. Nothing of this step is proved; tests/page holds what comes out against the program.
 """
 import itertools
 import pathlib
