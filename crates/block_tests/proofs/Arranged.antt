@@ -17,7 +17,7 @@ use Rattle.enumerate.proofs.Extremes.{NeverFalls}
 use Rattle.enumerate.proofs.FirstLabelling.{ascending, ascending_begins}
 use Rattle.enumerate.proofs.Steps.{labellings_begin}
 use Rattle.enumerate.proofs.Walking.{Contains-first}
-use Rattle.stage_network.proofs.Swaps.{sum_by-swap_at, swap_at}
+use Rattle.networks.proofs.Swaps.{sum_by-swap_at, swap_at}
 use Rattle.block_tests.specs.BlockNetworks.{first_arrangement, greatest_cell, least_cell}
 
 -- ---- the first arrangement

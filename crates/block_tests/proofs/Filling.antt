@@ -8,7 +8,7 @@ use Rattle.weights.specs.Grouped.{fits, minus}
 use Rattle.weights.specs.InOrder.{in_order, put_in}
 use Rattle.weights.proofs.OneOrder.{length-in_order, sum_by-in_order}
 use Rattle.weights.proofs.Sized.{first_and}
-use Rattle.stage_network.proofs.Swaps.{swap_at}
+use Rattle.networks.proofs.Swaps.{swap_at}
 use Rattle.block_tests.specs.BlockTests.{added, squared}
 use Rattle.block_tests.specs.Servings.{filled_sums, gained, greatest_squares, settled_sums, waiting_sums}
 use Rattle.block_tests.proofs.ServingRooms.{AreOnes}

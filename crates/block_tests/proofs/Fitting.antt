@@ -9,9 +9,9 @@ use Rattle.std.proofs.lemmas.List.Elements.{All-contains, All-from_recursion}
 use Rattle.std.proofs.lemmas.List.Sums.{sum_by-append, sum_by-cons}
 use Rattle.weights.specs.declared.tails.Tail.{Tail}
 use Rattle.weights.specs.declared.tails.Tail.TheVariants.{Less, Greater, Two}
-use Rattle.stage_network.specs.Judged.{judge_of}
-use Rattle.stage_network.proofs.Following.{judge-fits}
-use Rattle.stage_network.specs.declared.verdicts.Judge.{Judge}
+use Rattle.networks.specs.Judged.{judge_of}
+use Rattle.networks.proofs.Following.{judge-fits}
+use Rattle.networks.specs.declared.verdicts.Judge.{Judge}
 use Rattle.weights.specs.declared.rules.Rule.TheVariants.{Far}
 use Rattle.weights.specs.declared.TheConstants.{MAX}
 use Rattle.weights.specs.Conditional.{by_distance, total}
@@ -25,10 +25,10 @@ use Rattle.weights.proofs.Sums.{sum_by-flat_map, sum_by-map, sum_by-same}
 use Rattle.sample_reader.specs.Data.{block_data_of}
 use Rattle.sample_reader.specs.declared.samples.Blocks.{Blocks}
 use Rattle.enumerate.proofs.JoinedMembers.{all-joined, each-labelling, joined-front}
-use Rattle.stage_network.specs.Addends.{Addends, additive_network}
-use Rattle.stage_network.specs.Network.{Network}
-use Rattle.stage_network.specs.Follows.{Follows}
-use Rattle.stage_network.proofs.AdditiveFollows.{additive_follows}
+use Rattle.networks.specs.Addends.{Addends, additive_network}
+use Rattle.networks.specs.Network.{Network}
+use Rattle.networks.specs.Follows.{Follows}
+use Rattle.networks.proofs.AdditiveFollows.{additive_follows}
 use Rattle.labelled.specs.UnweightedTests.{CanBeAnswered}
 use Rattle.labelled.proofs.UnweightedLaws.{can-be-answered}
 use Rattle.block_tests.specs.BlockNetworks.{addends_of, first_arrangement, line_addends, network_by, running_addends, square_addends}

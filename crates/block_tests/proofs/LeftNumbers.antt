@@ -1,7 +1,7 @@
 -- The numbers that are left of blocks: as many as treatments wait for one, ascending.
 use Rattle.std.proofs.Common.{◌≡◌, ℕ, zero, suc, ◌+◌, ◌-◌, ◌<◌, ◌≤◌, List, [], ◌∷◌, ◌++◌, drop, length, replicate, Bool, true, false, cond, refl, sym, ◌∙◌, ap, subst, arith, add-one, drop_of_length-le}
 use Rattle.std.proofs.lemmas.List.{length-replicate}
-use Rattle.stage_network.specs.declared.verdicts.Judge.{Judge}
+use Rattle.networks.specs.declared.verdicts.Judge.{Judge}
 use Rattle.block_tests.specs.BlockTests.{added}
 use Rattle.block_tests.specs.Servings.{AreServings, ahead, before, later_numbers, left_numbers, serving_at}
 use Rattle.block_tests.specs.declared.serving.Serving.{Serving}

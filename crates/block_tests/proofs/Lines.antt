@@ -6,7 +6,7 @@ use Rattle.std.proofs.lemmas.Bool.{cases_lt, le-ltb, lt-ltb}
 use Rattle.std.proofs.lemmas.List.Sums.{sum_by-cons}
 use Rattle.weights.specs.declared.lines.Line.{Line}
 use Rattle.weights.proofs.Sums.{sum_by-same_where, sum_by-swap}
-use Rattle.stage_network.specs.Lines.{line_sum}
+use Rattle.networks.specs.Lines.{line_sum}
 
 layer-front : (n s m : ℕ) → sum_by (λ t. cond (nat_lt t n) 1 0) (range_with_len s (suc m)) ≡ cond (nat_lt s n) 1 0 + sum_by (λ t. cond (nat_lt t n) 1 0) (range_with_len (s + 1) m)
 layer-front n s m = sum_by-cons (λ t. cond (nat_lt t n) 1 0) s (range_with_len (s + 1) m)

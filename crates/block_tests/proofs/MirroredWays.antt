@@ -9,7 +9,7 @@ use Rattle.weights.proofs.ChoiceLists.{IsChoice, choices-each}
 use Rattle.weights.proofs.Members.{IsLabelling}
 use Rattle.weights.proofs.Sums.{sum_by-same_where}
 use Rattle.enumerate.proofs.JoinedMembers.{each-labelling}
-use Rattle.stage_network.specs.declared.verdicts.Judge.{Judge}
+use Rattle.networks.specs.declared.verdicts.Judge.{Judge}
 use Rattle.label_network.specs.Meanings.{sizes_in}
 use Rattle.label_network.proofs.LabelPlans.{sizes-back}
 use Rattle.label_network.proofs.Rows.{length-pos}

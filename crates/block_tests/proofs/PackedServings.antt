@@ -6,10 +6,10 @@ use Rattle.std.proofs.lemmas.Bool.{ltb-true}
 use Rattle.weights.specs.declared.TheConstants.{MAX}
 use Rattle.weights.specs.Conditional.{ConditionalTest}
 use Rattle.weights.specs.declared.tails.Tail.{Tail}
-use Rattle.stage_network.specs.Follows.{Follows}
-use Rattle.stage_network.specs.Judged.{judge_of}
-use Rattle.stage_network.specs.Network.{Network, IsReached}
-use Rattle.stage_network.specs.declared.verdicts.Judge.{Judge}
+use Rattle.networks.specs.Follows.{Follows}
+use Rattle.networks.specs.Judged.{judge_of}
+use Rattle.networks.specs.Network.{Network, IsReached}
+use Rattle.networks.specs.declared.verdicts.Judge.{Judge}
 use Rattle.room_network.proofs.RoomKeys.{is_key}
 use Rattle.label_network.specs.Meanings.{sizes_in}
 use Rattle.ordered_groups.specs.OrderedNetworks.{MayBeOrdered}

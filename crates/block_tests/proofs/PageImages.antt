@@ -6,14 +6,14 @@ use Rattle.weights.specs.Labellings.{labellings}
 use Rattle.weights.specs.declared.lines.Line.{Line}
 use Rattle.weights.specs.declared.tails.Tail.{Tail}
 use Rattle.weights.proofs.Sums.{sum_by-same}
-use Rattle.stage_network.specs.Addends.{additive_network}
-use Rattle.stage_network.specs.Completions.{over_arcs}
-use Rattle.stage_network.specs.Judged.{judge_of}
-use Rattle.stage_network.specs.Network.{Network, IsReached}
-use Rattle.stage_network.specs.PartialSums.{plus}
-use Rattle.stage_network.specs.Written.{RunsFor, StandsFor}
-use Rattle.stage_network.specs.declared.verdicts.Judge.{Judge}
-use Rattle.stage_network.proofs.Bridge.{choices-before}
+use Rattle.networks.specs.Addends.{additive_network}
+use Rattle.networks.specs.Completions.{over_arcs}
+use Rattle.networks.specs.Judged.{judge_of}
+use Rattle.networks.specs.Network.{Network, IsReached}
+use Rattle.networks.specs.PartialSums.{plus}
+use Rattle.networks.specs.Written.{RunsFor, StandsFor}
+use Rattle.networks.specs.declared.verdicts.Judge.{Judge}
+use Rattle.networks.proofs.Bridge.{choices-before}
 use Rattle.block_tests.specs.BlockNetworks.{addends_of, block_at, line_addends, line_of, network_by, page_addends, page_lines, running_addends}
 use Rattle.block_tests.specs.BlockTests.{BlockTests, block_counts, block_test, page_sum}
 use Rattle.block_tests.specs.declared.kinds.BlockKind.{BlockKind}

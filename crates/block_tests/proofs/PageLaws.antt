@@ -10,18 +10,18 @@ use Rattle.std.proofs.lemmas.List.Sums.{sum_by-cons}
 use Rattle.weights.specs.Conditional.{ascending_values, insert_value, value_weight}
 use Rattle.weights.specs.Labellings.{labellings, number_of_labellings}
 use Rattle.weights.specs.declared.lines.Line.{Line}
-use Rattle.stage_network.specs.declared.verdicts.Judge.{Judge}
+use Rattle.networks.specs.declared.verdicts.Judge.{Judge}
 use Rattle.weights.proofs.FirstLabel.{number_of_labellings-positive}
 use Rattle.weights.proofs.Filters.{all_map}
 use Rattle.weights.proofs.Members.{IsLabelling, range-below}
 use Rattle.weights.proofs.Sums.{sum_by-filter, sum_by-map, sum_by-one, sum_by-same}
-use Rattle.stage_network.specs.Addends.{over_stages, reach, stage_total, stride}
-use Rattle.stage_network.specs.Follows.{statistic_sums}
-use Rattle.stage_network.specs.Lines.{IsSpreadOf}
-use Rattle.stage_network.specs.SoundAddends.{AddsBetween, IsAdditive}
+use Rattle.networks.specs.Addends.{over_stages, reach, stage_total, stride}
+use Rattle.networks.specs.Follows.{statistic_sums}
+use Rattle.networks.specs.Lines.{IsSpreadOf}
+use Rattle.networks.specs.SoundAddends.{AddsBetween, IsAdditive}
 use Rattle.stage_network.proofs.DistributionLines.{distribution-is}
-use Rattle.stage_network.proofs.Flat.{AllAt}
-use Rattle.stage_network.proofs.Parts.{AreStages as AreParts, Pieces, summed}
+use Rattle.networks.proofs.Flat.{AllAt}
+use Rattle.networks.proofs.Parts.{AreStages as AreParts, Pieces, summed}
 use Rattle.enumerate.proofs.JoinedMembers.{each-labelling}
 use Rattle.block_tests.specs.BlockNetworks.{arrangement_test, block_at, first_arrangement, line_of, no_line, line_addends, page_lines, places_from}
 use Rattle.block_tests.specs.BlockSteps.{AreStages, IsSmall, IsWhole}

@@ -7,7 +7,7 @@ use Rattle.std.proofs.lemmas.Bool.{cases_lt}
 use Rattle.std.proofs.lemmas.List.{get_or_append_left}
 use Rattle.std.proofs.lemmas.List.Elements.{All-from_recursion, recursion_from_All}
 use Rattle.weights.proofs.Filters.{all_append}
-use Rattle.stage_network.specs.declared.verdicts.Judge.{Judge}
+use Rattle.networks.specs.declared.verdicts.Judge.{Judge}
 use Rattle.block_tests.specs.BlockTests.{added}
 use Rattle.block_tests.specs.BoundSteps.{IsRowOf, IsSmallRow}
 use Rattle.block_tests.specs.Servings.{AreRows, AreServings, ahead_at, later_numbers, left_numbers, serving_at}

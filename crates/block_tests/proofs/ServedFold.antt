@@ -8,14 +8,14 @@ use Rattle.weights.specs.declared.tails.Tail.{Tail}
 use Rattle.weights.specs.Grouped.{choices, minus}
 use Rattle.weights.proofs.ChoiceLists.{IsChoice}
 use Rattle.weights.proofs.Sized.{length-minus}
-use Rattle.stage_network.specs.declared.verdicts.Judge.{Judge}
-use Rattle.stage_network.specs.Network.{Network, IsReached}
-use Rattle.stage_network.specs.Judged.{HasIntervals, judge_of}
-use Rattle.stage_network.specs.Completions.{over_arcs}
-use Rattle.stage_network.specs.Follows.{Follows}
-use Rattle.stage_network.proofs.Folding.{IsTurned, over_allowed}
-use Rattle.stage_network.proofs.Steps.{reached-next}
-use Rattle.stage_network.proofs.Swaps.{length-swap, map-swap, swap_at}
+use Rattle.networks.specs.declared.verdicts.Judge.{Judge}
+use Rattle.networks.specs.Network.{Network, IsReached}
+use Rattle.networks.specs.Judged.{HasIntervals, judge_of}
+use Rattle.networks.specs.Completions.{over_arcs}
+use Rattle.networks.specs.Follows.{Follows}
+use Rattle.networks.proofs.Folding.{IsTurned, over_allowed}
+use Rattle.networks.proofs.Steps.{reached-next}
+use Rattle.networks.proofs.Swaps.{length-swap, map-swap, swap_at}
 use Rattle.room_network.specs.Meanings.{Meaning}
 use Rattle.room_network.proofs.RoomLaws.{key_long}
 use Rattle.room_network.proofs.RoomKeys.{IsKey, choices_before, is_key, partial-next, room-next}

@@ -11,14 +11,14 @@ use Rattle.std.proofs.lemmas.List.Elements.{All-from_recursion}
 use Rattle.std.proofs.lemmas.List.Sums.{sum_by-cons}
 use Rattle.weights.specs.Labellings.{labellings}
 use Rattle.weights.specs.declared.TheConstants.{MAX}
-use Rattle.stage_network.specs.declared.verdicts.Judge.{Judge}
+use Rattle.networks.specs.declared.verdicts.Judge.{Judge}
 use Rattle.weights.proofs.Members.{IsLabelling}
 use Rattle.weights.proofs.Sums.{sum_by-map, sum_by-one}
-use Rattle.stage_network.specs.Addends.{over_earlier, over_stages, raised_squares, reach, square, stride}
-use Rattle.stage_network.specs.PartialSums.{plus}
-use Rattle.stage_network.specs.SoundAddends.{AddsBetween, IsAdditive, IsSquared}
-use Rattle.stage_network.proofs.Flat.{AllAt}
-use Rattle.stage_network.proofs.Parts.{AreStages as AreParts, Pieces, summed}
+use Rattle.networks.specs.Addends.{over_earlier, over_stages, raised_squares, reach, square, stride}
+use Rattle.networks.specs.PartialSums.{plus}
+use Rattle.networks.specs.SoundAddends.{AddsBetween, IsAdditive, IsSquared}
+use Rattle.networks.proofs.Flat.{AllAt}
+use Rattle.networks.proofs.Parts.{AreStages as AreParts, Pieces, summed}
 use Rattle.enumerate.proofs.JoinedMembers.{each-labelling}
 use Rattle.block_tests.specs.BlockNetworks.{block_at, first_arrangement, greatest_cell, least_cell, square_addends}
 use Rattle.block_tests.specs.BlockSteps.{AreStages, IsSmall, IsWhole, cells_sum}

@@ -7,9 +7,9 @@ use Rattle.weights.specs.Labellings.{labellings, number_of_labellings}
 use Rattle.weights.specs.declared.TheConstants.{MAX}
 use Rattle.weights.proofs.FirstLabel.{number_of_labellings-positive}
 use Rattle.weights.proofs.Members.{IsLabelling}
-use Rattle.stage_network.specs.Addends.{Addends, over_earlier, stage_total, totals}
-use Rattle.stage_network.proofs.Flat.{AllParts}
-use Rattle.stage_network.proofs.Parts.{product_weight}
+use Rattle.networks.specs.Addends.{Addends, over_earlier, stage_total, totals}
+use Rattle.networks.proofs.Flat.{AllParts}
+use Rattle.networks.proofs.Parts.{product_weight}
 use Rattle.enumerate.proofs.JoinedMembers.{each-labelling}
 use Rattle.block_tests.specs.BlockNetworks.{block_at}
 use Rattle.block_tests.specs.BlockSteps.{IsWhole, ways_of}

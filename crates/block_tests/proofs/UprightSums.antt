@@ -5,7 +5,7 @@ use Rattle.std.specs.List.{sum_by, sum, AllByRecursion}
 use Rattle.std.proofs.lemmas.Bool.{eqb-true, ltb-true}
 use Rattle.std.proofs.lemmas.List.Sums.{sum_by-cons}
 use Rattle.weights.proofs.Sized.{first_and}
-use Rattle.stage_network.proofs.Swaps.{map-swap, swap_at}
+use Rattle.networks.proofs.Swaps.{map-swap, swap_at}
 use Rattle.block_tests.specs.BlockTests.{added, squared}
 use Rattle.block_tests.specs.Servings.{over_ends}
 use Rattle.block_tests.specs.Upright.{cubed, lean, mirrored, upright}

@@ -8,13 +8,13 @@ use Rattle.std.specs.List.{range_with_len}
 use Rattle.weights.specs.Conditional.{ConditionalTest, distribution, one_sided, unit_weight}
 use Rattle.weights.specs.Labellings.{labellings}
 use Rattle.weights.specs.declared.lines.Line.{Line}
-use Rattle.stage_network.specs.Judged.{judge_of}
-use Rattle.stage_network.specs.declared.verdicts.Judge.{Judge}
+use Rattle.networks.specs.Judged.{judge_of}
+use Rattle.networks.specs.declared.verdicts.Judge.{Judge}
 use Rattle.weights.specs.declared.tails.Tail.{Tail}
 use Rattle.enumerate.specs.Walk.{members_after}
-use Rattle.stage_network.specs.Addends.{Addends, additive_network}
-use Rattle.stage_network.specs.Network.{Network}
-use Rattle.stage_network.specs.declared.additive.SumValue.TheVariants.{First, Squares}
+use Rattle.networks.specs.Addends.{Addends, additive_network}
+use Rattle.networks.specs.Network.{Network}
+use Rattle.networks.specs.declared.additive.SumValue.TheVariants.{First, Squares}
 use Rattle.block_tests.specs.BlockTests.{BlockTests, block_counts, block_test, page_sum, is_upper}
 use Rattle.block_tests.specs.declared.kinds.BlockKind.{BlockKind}
 use Rattle.block_tests.specs.declared.kinds.BlockKind.TheVariants.{Friedman, Page, Cochran}

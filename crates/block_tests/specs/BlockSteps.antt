@@ -3,8 +3,8 @@ use Rattle.std.specs.Prelude.{◌≡◌, ℕ, ◌*◌, ◌≤◌, ◌≤ℤ◌, 
 use Rattle.std.specs.List.{All, sum, sum_by}
 use Rattle.weights.specs.Labellings.{number_of_labellings}
 use Rattle.weights.specs.declared.TheConstants.{MAX}
-use Rattle.stage_network.specs.Judged.{JudgeFits}
-use Rattle.stage_network.specs.declared.verdicts.Judge.{Judge}
+use Rattle.networks.specs.Judged.{JudgeFits}
+use Rattle.networks.specs.declared.verdicts.Judge.{Judge}
 use Rattle.record_reader.specs.declared.TheConstants.{MOST_ROWS}
 use Rattle.block_tests.specs.BlockNetworks.{first_arrangement}
 

@@ -8,10 +8,10 @@ use Rattle.weights.specs.Grouped.{choices, minus}
 use Rattle.weights.specs.InOrder.{in_order}
 use Rattle.weights.specs.Numbers.{binomial}
 use Rattle.weights.specs.declared.TheConstants.{MAX}
-use Rattle.stage_network.specs.Folded.{folded}
-use Rattle.stage_network.specs.Judged.{JudgeFits}
-use Rattle.stage_network.specs.Network.{Network}
-use Rattle.stage_network.specs.declared.verdicts.Judge.{Judge}
+use Rattle.networks.specs.Folded.{folded}
+use Rattle.networks.specs.Judged.{JudgeFits}
+use Rattle.networks.specs.Network.{Network}
+use Rattle.networks.specs.declared.verdicts.Judge.{Judge}
 use Rattle.room_network.specs.Meanings.{Meaning}
 use Rattle.room_network.specs.Plans.{Floor, Plan, Weights}
 use Rattle.room_network.specs.RoomNetworks.{room_network}

@@ -8,7 +8,7 @@ ghost use Rattle.block_tests.specs.Upright.{mirror_at};
 
 use crate::block::Block;
 use crate::serving::{Ahead, Row, Serving};
-use stage_network::Judge;
+use networks::Judge;
 use std::alloc::Global;
 use weights::NoMemory;
 

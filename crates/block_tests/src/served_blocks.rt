@@ -8,10 +8,10 @@ use crate::block::Block;
 use crate::mirroring::are_even;
 use crate::served_sums::{ServedSums, ServingRooms};
 use crate::servings::{Servings, servings_of};
+use networks::Judge;
 use ordered_groups::InOrder;
 use packed_keys::{Packed, bits_for};
 use room_network::RoomNetwork;
-use stage_network::Judge;
 use std::alloc::Global;
 use weights::NoMemory;
 

@@ -21,8 +21,8 @@ use crate::leaning::write_upright;
 use crate::serving::{Ahead, Bounds};
 use crate::servings::Servings;
 use label_network::{first_counts, next_counts, take_away};
+use networks::{Interval, Verdict};
 use room_network::{Measure, Rooms};
-use stage_network::{Interval, Verdict};
 use weights::Tail;
 
 /// Who is served, number by number: a room marks the treatments that have no number of the block

@@ -7,7 +7,7 @@ ghost use Rattle.block_tests.specs.BlockSteps.{AreStages, cells_sum};
 
 use crate::block::Block;
 use enumerate::next_labelling;
-use stage_network::{Additive, Interval, Judge, SumValue};
+use networks::{Additive, Interval, Judge, SumValue};
 use std::alloc::Global;
 use weights::NoMemory;
 

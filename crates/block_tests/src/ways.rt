@@ -2,8 +2,8 @@
 ghost use Rattle.std.specs.Prelude.{◌≡◌, ◌/◌, ◌≤◌, ◌⊎◌, is_some, length, true, IfOk, IfSome};
 ghost use Rattle.weights.specs.declared.TheConstants.{MAX};
 ghost use Rattle.weights.specs.declared.tails.Tail.{Tail};
-ghost use Rattle.stage_network.specs.Follows.{Follows};
-ghost use Rattle.stage_network.specs.Judged.{judge_of};
+ghost use Rattle.networks.specs.Follows.{Follows};
+ghost use Rattle.networks.specs.Judged.{judge_of};
 ghost use Rattle.ordered_groups.specs.OrderedNetworks.{ordered_network};
 ghost use Rattle.block_tests.specs.BlockNetworks.{line_addends, square_addends};
 ghost use Rattle.block_tests.specs.BlockSteps.{AreStages, cells_sum};
@@ -20,8 +20,8 @@ use crate::served_blocks::{OrderedBlocks, ServedBlocks, has_room_for, served_blo
 use crate::squares::{SquareBlocks, block_copies};
 use enumerate::next_joined;
 use labelled::UnweightedTest;
+use networks::{AdditiveStages, Judge, OneOf, Stages};
 use packed_keys::{Packed, bits_for};
-use stage_network::{AdditiveStages, Judge, OneOf, Stages};
 use std::alloc::Global;
 use weights::{Bytes, NoMemory, Tail};
 

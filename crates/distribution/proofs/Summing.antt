@@ -3,7 +3,7 @@ use Rattle.std.proofs.Common.{◌≡◌, ℕ, ◌+◌, ◌<◌, ◌≤◌, List,
 use Rattle.std.specs.Prelude.{ℤ}
 use Rattle.std.proofs.lemmas.List.Sums.{sum_by_more, sum_by_more_le_part}
 use Rattle.weights.specs.declared.lines.Line.{Line}
-use Rattle.stage_network.specs.Lines.{every, line_sum}
+use Rattle.networks.specs.Lines.{every, line_sum}
 
 cond-≤ : (b : Bool) (x : ℕ) → cond b x 0 ≤ x
 cond-≤ true x = omega arith

@@ -13,8 +13,8 @@ use Rattle.weights.specs.Rules.{passes, rule_of}
 use Rattle.weights.proofs.ByRule.{is_extreme-by_rule}
 use Rattle.weights.proofs.Filters.{filter-same}
 use Rattle.weights.proofs.Sums.{sum_by-same, sum_by-map, sum_by-plus}
-use Rattle.stage_network.specs.Lines.{line_sum}
-use Rattle.stage_network.specs.Follows.{statistic_sums}
+use Rattle.networks.specs.Lines.{line_sum}
+use Rattle.networks.specs.Follows.{statistic_sums}
 use Rattle.stage_network.proofs.DistributionLines.{distribution-is}
 use Rattle.distribution.specs.ByStatistic.{GoesByStatistic}
 

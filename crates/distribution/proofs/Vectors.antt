@@ -3,7 +3,7 @@ use Rattle.std.proofs.Common.{◌≡◌, List, [], ◌∷◌, refl}
 use Rattle.std.specs.Prelude.{pos, negsuc, int_le, nat_le}
 use Rattle.weights.specs.declared.lines.Line.{Line}
 use Rattle.weights.specs.Conditional.{distance}
-use Rattle.stage_network.specs.Lines.{line_sum}
+use Rattle.networks.specs.Lines.{line_sum}
 
 -- -4 1, -2 2, 2 2 and 4 1
 abbrev four_lines : List Line

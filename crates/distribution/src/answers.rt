@@ -3,13 +3,14 @@ ghost use Rattle.std.specs.Prelude.{◌≡◌, ◌≤◌, true, false, IfOk};
 ghost use Rattle.weights.specs.declared.tails.Tail.TheVariants.{Two};
 ghost use Rattle.weights.specs.Conditional.{distribution, numerator};
 ghost use Rattle.weights.specs.Frames.{IsShown, first_tail};
-ghost use Rattle.stage_network.specs.declared.answers.Way.TheVariants as way;
-ghost use Rattle.stage_network.specs.Follows.{HasTails, answer_of, asked_tail, tail_of, uncounted};
-ghost use Rattle.stage_network.specs.Lines.{WeightsFit};
+ghost use Rattle.networks.specs.declared.answers.Way.TheVariants as way;
+ghost use Rattle.networks.specs.Follows.{HasTails, answer_of, asked_tail, tail_of, uncounted};
+ghost use Rattle.networks.specs.Lines.{WeightsFit};
 ghost use Rattle.distribution.specs.ByStatistic.{GoesByStatistic};
 
 use crate::filtered::weight_of;
-use stage_network::{Answer, Prepared, Spread, TailSum};
+use networks::{Answer, Spread, TailSum};
+use stage_network::Prepared;
 use std::alloc::Global;
 use weights::{NoMemory, Rule, Tail, Tails};
 

@@ -5,9 +5,9 @@ ghost use Rattle.weights.specs.Conditional.{ConditionalTest, by_distance, distan
 ghost use Rattle.weights.specs.Conditional.{numerator, observed_statistic};
 ghost use Rattle.weights.specs.declared.tails.Tail.TheVariants.{Less, Greater, Two};
 ghost use Rattle.weights.specs.Rules.{passes};
-ghost use Rattle.stage_network.specs.Lines.{RuleFitsLines, WeightsFit, line_sum};
+ghost use Rattle.networks.specs.Lines.{RuleFitsLines, WeightsFit, line_sum};
 
-use stage_network::Spread;
+use networks::Spread;
 use weights::{Line, Rule};
 
 // The weight of the lines whose values pass a rule.

@@ -2,8 +2,8 @@
 ghost use Rattle.std.specs.Prelude.{◌≡◌, ◌+◌, ◌<◌, cond, length, get_or, IfOk};
 ghost use Rattle.std.specs.List.{AllByRecursion};
 ghost use Rattle.weights.specs.declared.tails.Tail.{Tail};
-ghost use Rattle.stage_network.specs.Asked.{asks};
-ghost use Rattle.stage_network.specs.SweepSteps.{sum_for};
+ghost use Rattle.networks.specs.Asked.{asks};
+ghost use Rattle.networks.specs.EachTail.{sum_for};
 ghost use Rattle.halves.specs.Sides.{AreOrdered, is_in, sides_for};
 ghost use Rattle.drawn_sums.specs.DrawRows.{IsDrawRow, row_draws, rows_draws};
 ghost use Rattle.drawn_sums.specs.Meetings.{met};
@@ -13,7 +13,7 @@ use crate::pairs::row_pairs;
 use crate::rows::DrawRow;
 use crate::stops::Stop;
 use halves::TailSides;
-use stage_network::{TailSum, TailSums};
+use networks::{TailSum, TailSums};
 use weights::{Count, Tails};
 
 fn plus(one: TailSum, other: TailSum) -> Result<TailSum, Stop>

@@ -4,8 +4,8 @@ ghost use Rattle.std.specs.Prelude.{true, cond, drop, map, IfOk};
 ghost use Rattle.std.specs.List.{sum};
 ghost use Rattle.weights.specs.declared.TheConstants.{MAX};
 ghost use Rattle.weights.specs.declared.tails.Tail.{Tail};
-ghost use Rattle.stage_network.specs.Asked.{asks};
-ghost use Rattle.stage_network.specs.SweepSteps.{sum_for};
+ghost use Rattle.networks.specs.Asked.{asks};
+ghost use Rattle.networks.specs.EachTail.{sum_for};
 ghost use Rattle.halves.specs.Pairs.{once};
 ghost use Rattle.halves.specs.Sides.{AreOrdered, is_in, sides_for};
 ghost use Rattle.drawn_sums.specs.DrawRows.{IsDrawRow};
@@ -14,7 +14,7 @@ ghost use Rattle.drawn_sums.specs.Meetings.{AreFew, pair_draws, placed_pairs};
 use crate::rows::{DrawRow, difference_of, sum_of};
 use crate::stops::Stop;
 use halves::{Sides, TailSides, quotient};
-use stage_network::{TailSum, TailSums};
+use networks::{TailSum, TailSums};
 use weights::{Count, MAX, Tails};
 
 // What the cells from a place on count.

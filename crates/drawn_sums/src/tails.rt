@@ -1,9 +1,9 @@
 // The labellings of two groups whose sum of scores passes the rules of a test.
 ghost use Rattle.std.specs.Prelude.{◌≡◌, pos, ◌<◌, ◌≤◌, ◌++◌, true, length, IfOk, IfSome};
 ghost use Rattle.weights.specs.declared.tails.Tail.{Tail};
-ghost use Rattle.stage_network.specs.Asked.{asks};
-ghost use Rattle.stage_network.specs.Judged.{rule_in};
-ghost use Rattle.stage_network.specs.SweepSteps.{sum_for};
+ghost use Rattle.networks.specs.Asked.{asks};
+ghost use Rattle.networks.specs.Judged.{rule_in};
+ghost use Rattle.networks.specs.EachTail.{sum_for};
 ghost use Rattle.halves.specs.Sides.{AreOrdered, is_in, sides_for};
 ghost use Rattle.drawn_sums.specs.Draws.{draw_sum};
 ghost use Rattle.drawn_sums.specs.DrawnSums.{passing_draws};
@@ -15,7 +15,7 @@ use crate::meeting::meeting;
 use crate::mirrors::{mirror, score_total};
 use crate::stops::Stop;
 use halves::TailSides;
-use stage_network::{Judge, TailSums};
+use networks::{Judge, TailSums};
 use std::alloc::Global;
 use weights::{Count, Narrow, NoMemory, Tails, Wide};
 

@@ -3,13 +3,13 @@ use Rattle.std.proofs.Common.{◌≡◌, ◌∙◌, ℕ, Bool, IfOk, Option, Som
 use Rattle.std.specs.Prelude.{IfSome}
 use Rattle.weights.specs.Conditional.{ConditionalTest}
 use Rattle.weights.specs.Wide.{Prepares, too_wide}
-use Rattle.stage_network.specs.Asked.{asks}
+use Rattle.networks.specs.Asked.{asks}
 use Rattle.weights.specs.declared.tails.Tail.{Tail}
 use Rattle.weights.specs.declared.tails.Tail.TheVariants.{Less, Greater, Two}
 use Rattle.weights.specs.declared.tails.Tails.{Tails}
 use Rattle.weights.specs.declared.wide.PrepareFault.{PrepareFault}
 use Rattle.weights.specs.declared.wide.PrepareFault.TheVariants as prepare
-use Rattle.stage_network.specs.Network.{Network}
+use Rattle.networks.specs.Network.{Network}
 use Rattle.settings.specs.declared.names.OptionName.TheVariants as option
 use Rattle.report.specs.declared.headings.Extra.{Extra}
 use Rattle.report.specs.declared.headings.Sizes.{Sizes}

@@ -10,11 +10,11 @@ use Rattle.weights.specs.declared.TheConstants.{MAX}
 use Rattle.weights.specs.declared.tails.Tail.{Tail}
 use Rattle.weights.specs.declared.tails.Tail.TheVariants.{Less, Greater, Two}
 use Rattle.weights.specs.declared.tails.Tails.{Tails}
-use Rattle.stage_network.specs.Asked.{asks}
-use Rattle.stage_network.specs.Completions.{extreme_weight}
-use Rattle.stage_network.specs.Follows.{answer_of, open_keys}
-use Rattle.stage_network.specs.Network.{Network}
-use Rattle.stage_network.proofs.Following.{extreme-is}
+use Rattle.networks.specs.Asked.{asks}
+use Rattle.networks.specs.Completions.{extreme_weight}
+use Rattle.networks.specs.Follows.{answer_of, open_keys}
+use Rattle.networks.specs.Network.{Network}
+use Rattle.networks.proofs.Following.{extreme-is}
 use Rattle.settings.specs.declared.pieces.PieceOf.{PieceOf}
 use Rattle.settings.specs.WholeRuns.{whole}
 use Rattle.settings.specs.declared.settings.Settings.{Settings}

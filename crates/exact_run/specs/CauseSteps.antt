@@ -5,7 +5,7 @@ use Rattle.weights.specs.Results.{and_then}
 use Rattle.weights.specs.declared.tails.Tail.{Tail}
 use Rattle.weights.specs.declared.tails.Tails.{Tails}
 use Rattle.weights.specs.declared.wide.PrepareFault.{PrepareFault}
-use Rattle.stage_network.specs.Network.{Network}
+use Rattle.networks.specs.Network.{Network}
 use Rattle.settings.specs.declared.names.OptionName.TheVariants as option
 use Rattle.settings.specs.declared.names.TestName.{TestName}
 use Rattle.settings.specs.declared.names.TestName.TheVariants as test

@@ -6,11 +6,11 @@ use Rattle.weights.specs.Frames.{first_tail}
 use Rattle.weights.specs.Wide.{too_wide}
 use Rattle.weights.specs.declared.tails.Tail.{Tail}
 use Rattle.weights.specs.declared.tails.Tails.{Tails}
-use Rattle.stage_network.specs.Asked.{asks}
-use Rattle.stage_network.specs.Follows.{Follows}
-use Rattle.stage_network.specs.Laws.{IsLawful}
-use Rattle.stage_network.specs.Network.{Network}
-use Rattle.stage_network.specs.Written.{RunsFor}
+use Rattle.networks.specs.Asked.{asks}
+use Rattle.networks.specs.Follows.{Follows}
+use Rattle.networks.specs.Laws.{IsLawful}
+use Rattle.networks.specs.Network.{Network}
+use Rattle.networks.specs.Written.{RunsFor}
 use Rattle.record_reader.specs.Records.{records_of}
 use Rattle.settings.specs.WholeRuns.{IsAskedAlone, whole}
 use Rattle.settings.specs.declared.pieces.PieceOf.{PieceOf}

@@ -20,8 +20,8 @@ use Rattle.two_sample_tests.specs.TwoSamples.{two_sample_test}
 use Rattle.k_sample_tests.specs.KSamples.{k_sample_network, k_sample_test}
 use Rattle.k_sample_tests.specs.KruskalWallis.{ScoredGroups}
 use Rattle.k_sample_tests.specs.Umbrella.{PeakedGroups}
-use Rattle.stage_network.specs.declared.one_of.OneOf.{OneOf}
-use Rattle.stage_network.specs.declared.one_of.OneOf.TheVariants.{First, Second}
+use Rattle.networks.specs.declared.one_of.OneOf.{OneOf}
+use Rattle.networks.specs.declared.one_of.OneOf.TheVariants.{First, Second}
 use Rattle.exact_run.specs.Question.{Question, dropped_told, layout_refusal, question_about}
 
 -- ---- groups

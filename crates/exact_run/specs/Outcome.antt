@@ -10,9 +10,9 @@ use Rattle.weights.specs.declared.tails.Tail.{Tail}
 use Rattle.weights.specs.declared.tails.Tail.TheVariants as tail
 use Rattle.weights.specs.declared.tails.Tails.{Tails}
 use Rattle.weights.specs.declared.wide.WideOf.{WideOf}
-use Rattle.stage_network.specs.Follows.{answer_of, open_keys}
-use Rattle.stage_network.specs.declared.answers.Way.{Way}
-use Rattle.stage_network.specs.declared.answers.Way.TheVariants as way
+use Rattle.networks.specs.Follows.{answer_of, open_keys}
+use Rattle.networks.specs.declared.answers.Way.{Way}
+use Rattle.networks.specs.declared.answers.Way.TheVariants as way
 use Rattle.weights.specs.Results.{and_then}
 use Rattle.record_reader.specs.Records.{records_of}
 use Rattle.settings.specs.Help.{help}
@@ -26,7 +26,7 @@ use Rattle.settings.specs.declared.names.UsageFault.{UsageFault}
 use Rattle.settings.specs.declared.names.UsageFault.TheVariants as usage
 use Rattle.settings.specs.declared.settings.Settings.{Settings}
 use Rattle.settings.specs.declared.pieces.PieceOf.{PieceOf}
-use Rattle.stage_network.specs.Network.{Network}
+use Rattle.networks.specs.Network.{Network}
 use Rattle.settings.specs.declared.tails.TailChoice.{TailChoice}
 use Rattle.settings.specs.declared.tails.TailChoice.TheVariants as choice
 use Rattle.piece_texts.specs.PieceTexts.{piece_text}

@@ -7,7 +7,7 @@ use Rattle.sample_reader.specs.Bivariate.{BivariateData, bivariate_in}
 use Rattle.sample_reader.specs.Sequences.{SequenceData, sequence_in}
 use Rattle.sample_reader.specs.declared.layout.Layout.TheVariants as layout
 use Rattle.settings.specs.declared.settings.Settings.{Settings}
-use Rattle.stage_network.specs.declared.one_of.OneOf.TheVariants.{First, Second}
+use Rattle.networks.specs.declared.one_of.OneOf.TheVariants.{First, Second}
 use Rattle.report.specs.declared.headings.Extra.TheVariants as extra
 use Rattle.report.specs.declared.headings.Sizes.{Sizes}
 use Rattle.report.specs.declared.headings.Sizes.TheVariants as sizes

@@ -5,7 +5,7 @@ use Rattle.sample_reader.specs.Orders.{reordered_strata}
 use Rattle.sample_reader.specs.StrataGroups.{StrataGroupData, strata_groups_in}
 use Rattle.sample_reader.specs.declared.layout.Layout.TheVariants as layout
 use Rattle.settings.specs.declared.settings.Settings.{Settings}
-use Rattle.stage_network.specs.declared.one_of.OneOf.TheVariants.{Second}
+use Rattle.networks.specs.declared.one_of.OneOf.TheVariants.{Second}
 use Rattle.report.specs.declared.headings.Extra.TheVariants as extra
 use Rattle.report.specs.declared.headings.Sizes.{Sizes}
 use Rattle.report.specs.declared.headings.Sizes.TheVariants as sizes

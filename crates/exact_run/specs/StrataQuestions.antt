@@ -5,7 +5,7 @@ use Rattle.weights.specs.Results.{with_fault, with_value}
 use Rattle.weights.specs.declared.odds.Odds.{Odds}
 use Rattle.table_reader.specs.StrataLayout.{strata_in}
 use Rattle.settings.specs.declared.settings.Settings.{Settings}
-use Rattle.stage_network.specs.declared.one_of.OneOf.TheVariants.{First}
+use Rattle.networks.specs.declared.one_of.OneOf.TheVariants.{First}
 use Rattle.report.specs.declared.headings.Extra.TheVariants as extra
 use Rattle.report.specs.declared.headings.Sizes.{Sizes}
 use Rattle.report.specs.declared.headings.Sizes.TheVariants as sizes

@@ -20,8 +20,8 @@ use Rattle.table_tests.specs.TableTests.{table_network, table_test}
 use Rattle.table_tests.specs.Tables.{is_two_by_two}
 use Rattle.table_tests.specs.FisherOdds.{WeightedTable}
 use Rattle.table_tests.specs.LinearByLinear.{ScoredTable}
-use Rattle.stage_network.specs.declared.one_of.OneOf.{OneOf}
-use Rattle.stage_network.specs.declared.one_of.OneOf.TheVariants.{First, Second}
+use Rattle.networks.specs.declared.one_of.OneOf.{OneOf}
+use Rattle.networks.specs.declared.one_of.OneOf.TheVariants.{First, Second}
 use Rattle.exact_run.specs.Question.{Question, layout_refusal, question_about}
 
 -- the table of the rows: one of two rows and two columns, or any

@@ -1,18 +1,19 @@
 // A part of a divided run.
 ghost use Rattle.std.specs.Prelude.{◌≡◌, ◌≤◌, true, None, IfOk, OnOk};
 ghost use Rattle.weights.specs.Wide.{too_wide};
-ghost use Rattle.stage_network.specs.Follows.{HasTails};
+ghost use Rattle.networks.specs.Follows.{HasTails};
 ghost use Rattle.piece_texts.specs.PieceTexts.{piece_text};
 ghost use Rattle.exact_run.specs.Divided.{IsDivisible, Serves};
 ghost use Rattle.exact_run.specs.Outcome.{part_of, piece_for, tail_piece};
 ghost use Rattle.exact_run.specs.Question.{question_about};
 
 use crate::reports::{Asking, Heading};
+use networks::Stages;
 use piece_texts::{Piece, PieceSum, name_of, piece_text};
 use pieces::part_sum;
 use report::compose_head;
 use settings::PieceOf;
-use stage_network::{Prepared, Stages};
+use stage_network::Prepared;
 use std::alloc::Global;
 use weights::{Bytes, NoMemory, Tail, Tails};
 

@@ -9,22 +9,23 @@ use Rattle.weights.specs.declared.TheConstants.{MAX}
 use Rattle.weights.specs.Rules.{passes}
 use Rattle.weights.proofs.Sums.{sum_by-same_where}
 use Rattle.node_pool.specs.Nodes.{Node, node, weighted}
-use Rattle.stage_network.specs.declared.tail_sums.Kept.TheVariants.{All, Open}
-use Rattle.stage_network.specs.declared.tail_sums.TailSums.{TailSums}
-use Rattle.stage_network.specs.declared.verdicts.Judge.{Judge}
-use Rattle.stage_network.specs.Network.{Network, IsReached}
-use Rattle.stage_network.specs.Completions.{completions, path_weight, path_end, total_weight, extreme_weight, is_extreme, is_inside}
-use Rattle.stage_network.specs.Judged.{HasIntervals, rule_in, verdict_of}
+use Rattle.networks.specs.declared.tail_sums.Kept.TheVariants.{All, Open}
+use Rattle.networks.specs.declared.tail_sums.TailSums.{TailSums}
+use Rattle.networks.specs.declared.verdicts.Judge.{Judge}
+use Rattle.networks.specs.Network.{Network, IsReached}
+use Rattle.networks.specs.Completions.{completions, path_weight, path_end, total_weight, extreme_weight, is_extreme, is_inside}
+use Rattle.networks.specs.Judged.{HasIntervals, rule_in, verdict_of}
 use Rattle.stage_network.specs.NodeSteps.{all_successors}
-use Rattle.stage_network.specs.Asked.{asked, asks}
-use Rattle.stage_network.specs.Laws.{IsLawful}
-use Rattle.stage_network.specs.SweepSteps.{Course, HasSwept, IsCourse, IsWithin, arriving, first_course, staying, sum_for}
+use Rattle.networks.specs.Asked.{asked, asks}
+use Rattle.networks.specs.Laws.{IsLawful}
+use Rattle.networks.specs.EachTail.{sum_for}
+use Rattle.stage_network.specs.SweepSteps.{Course, HasSwept, IsCourse, IsWithin, arriving, first_course, staying}
 use Rattle.stage_network.proofs.Asked.{asked-extreme, asked-extreme_at}
 use Rattle.stage_network.proofs.Carried.{carried}
 use Rattle.stage_network.proofs.Conserved.{sum_by-filter}
 use Rattle.stage_network.proofs.Courses.{swept-kept, swept-light}
-use Rattle.stage_network.proofs.Judging.{EndsBetween, values_between, verdict-point}
-use Rattle.stage_network.proofs.Steps.{sum_by-same}
+use Rattle.networks.proofs.Judging.{EndsBetween, values_between, verdict-point}
+use Rattle.networks.proofs.Steps.{sum_by-same}
 use Rattle.stage_network.proofs.Sweeps.{one, staying-none}
 use Rattle.halves.specs.Summed.{value_sum}
 use Rattle.halves.specs.Pairs.{once}

@@ -11,8 +11,8 @@ use Rattle.std.proofs.Math.Seq.{take-add}
 use Rattle.weights.specs.declared.lines.Line.{Line}
 use Rattle.node_pool.specs.Nodes.{Node, weighted}
 use Rattle.stage_network.specs.ArcSteps.{segment}
-use Rattle.stage_network.specs.Lines.{IsAboveLast, IsAscending, add_line, every, line_sum, with_weight}
-use Rattle.stage_network.proofs.LineSums.{with-ascending}
+use Rattle.networks.specs.Lines.{IsAboveLast, IsAscending, add_line, every, line_sum, with_weight}
+use Rattle.networks.proofs.LineSums.{with-ascending}
 use Rattle.halves.specs.MeetingSteps.{number_behind}
 use Rattle.halves.specs.Pairs.{IsMergeOf, valued, weight_of}
 use Rattle.halves.proofs.Counting.{valued-cons}

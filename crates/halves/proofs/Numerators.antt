@@ -3,12 +3,12 @@ use Rattle.std.proofs.Common.{◌≡◌, ℕ, sym, subst, ◌∙◌, ap}
 use Rattle.weights.specs.Conditional.{ConditionalTest, numerator}
 use Rattle.weights.specs.declared.tails.Tail.{Tail}
 use Rattle.weights.specs.declared.tails.Tail.TheVariants.{Less}
-use Rattle.stage_network.specs.Completions.{extreme_weight}
-use Rattle.stage_network.specs.Follows.{Follows}
-use Rattle.stage_network.specs.Judged.{HasIntervals, judge_of}
-use Rattle.stage_network.specs.Network.{Network}
-use Rattle.stage_network.specs.declared.verdicts.Judge.{Judge}
-use Rattle.stage_network.proofs.Following.{extreme-is}
+use Rattle.networks.specs.Completions.{extreme_weight}
+use Rattle.networks.specs.Follows.{Follows}
+use Rattle.networks.specs.Judged.{HasIntervals, judge_of}
+use Rattle.networks.specs.Network.{Network}
+use Rattle.networks.specs.declared.verdicts.Judge.{Judge}
+use Rattle.networks.proofs.Following.{extreme-is}
 
 -- the verdicts go by the test's rules
 pub judged : (test : ConditionalTest) (m n : Network) (judge : Judge) → m ≡ n → judge ≡ judge_of test → Follows test Less n → HasIntervals m judge

@@ -13,22 +13,22 @@ use Rattle.weights.specs.declared.TheConstants.{MAX}
 use Rattle.weights.specs.Rules.{passes}
 use Rattle.node_pool.specs.Nodes.{Node, node, key_eq, keys, weighted}
 use Rattle.node_pool.specs.PoolSteps.{nodes_of}
-use Rattle.stage_network.specs.declared.tail_sums.TailSums.{TailSums}
-use Rattle.stage_network.specs.Network.{Network, IsReached}
-use Rattle.stage_network.specs.Asked.{asks}
-use Rattle.stage_network.specs.Completions.{completions, path_weight, path_end, total_weight}
+use Rattle.networks.specs.declared.tail_sums.TailSums.{TailSums}
+use Rattle.networks.specs.Network.{Network, IsReached}
+use Rattle.networks.specs.Asked.{asks}
+use Rattle.networks.specs.Completions.{completions, path_weight, path_end, total_weight}
 use Rattle.stage_network.specs.FromKeys.{AreStarts}
-use Rattle.stage_network.specs.Laws.{IsLawful}
+use Rattle.networks.specs.Laws.{IsLawful}
 use Rattle.stage_network.specs.NodeSteps.{AllHeavy, AllReached}
-use Rattle.stage_network.specs.Rooms.{IsRoomed}
-use Rattle.stage_network.specs.Judged.{rule_in}
+use Rattle.networks.specs.Rooms.{IsRoomed}
+use Rattle.networks.specs.Judged.{rule_in}
 use Rattle.stage_network.specs.StageSteps.{Housed}
-use Rattle.stage_network.specs.SweepSteps.{sum_for}
+use Rattle.networks.specs.EachTail.{sum_for}
 use Rattle.stage_network.specs.ArcSteps.{IsRun, segment}
 use Rattle.stage_network.proofs.Bounds.{weights-le-weighted}
 use Rattle.stage_network.proofs.OpenKeys.{one_distinct}
 use Rattle.stage_network.proofs.Roomwise.{all_segment, heavy_at}
-use Rattle.stage_network.proofs.Steps.{sum_by-same}
+use Rattle.networks.proofs.Steps.{sum_by-same}
 use Rattle.stage_network.proofs.Stepping.{reached_at}
 use Rattle.stage_network.proofs.Sweeps.{one}
 use Rattle.halves.specs.MeetingSteps.{AreLast, AreRoomLines, AreSums, AreSumsOn, IsHalved, number_behind}

@@ -5,14 +5,14 @@ use Rattle.weights.specs.declared.tails.Tails.{Tails}
 use Rattle.weights.specs.Rules.{passes}
 use Rattle.weights.proofs.Sums.{sum_by-same_where}
 use Rattle.node_pool.specs.Nodes.{Node, weighted}
-use Rattle.stage_network.specs.declared.tail_sums.TailSums.{TailSums}
-use Rattle.stage_network.specs.declared.verdicts.Judge.{Judge}
-use Rattle.stage_network.specs.Network.{Network, IsReached}
-use Rattle.stage_network.specs.Asked.{asked, asks}
-use Rattle.stage_network.specs.Completions.{extreme_weight}
-use Rattle.stage_network.specs.Judged.{HasIntervals, rule_in}
+use Rattle.networks.specs.declared.tail_sums.TailSums.{TailSums}
+use Rattle.networks.specs.declared.verdicts.Judge.{Judge}
+use Rattle.networks.specs.Network.{Network, IsReached}
+use Rattle.networks.specs.Asked.{asked, asks}
+use Rattle.networks.specs.Completions.{extreme_weight}
+use Rattle.networks.specs.Judged.{HasIntervals, rule_in}
 use Rattle.stage_network.specs.NodeSteps.{AllReached}
-use Rattle.stage_network.specs.SweepSteps.{sum_for}
+use Rattle.networks.specs.EachTail.{sum_for}
 use Rattle.stage_network.proofs.Asked.{asked-extreme}
 use Rattle.halves.specs.MeetingSteps.{AreSumsOn}
 use Rattle.halves.specs.Pairs.{once}

@@ -5,14 +5,15 @@ use Rattle.weights.specs.declared.TheConstants.{MAX}
 use Rattle.weights.specs.declared.tails.Tail.{Tail}
 use Rattle.weights.specs.declared.tails.Tails.{Tails}
 use Rattle.node_pool.specs.Nodes.{Node, weighted}
-use Rattle.stage_network.specs.declared.tail_sums.TailSums.{TailSums}
-use Rattle.stage_network.specs.Network.{Network}
-use Rattle.stage_network.specs.Asked.{asks}
-use Rattle.stage_network.specs.Completions.{total_weight}
+use Rattle.networks.specs.declared.tail_sums.TailSums.{TailSums}
+use Rattle.networks.specs.Network.{Network}
+use Rattle.networks.specs.Asked.{asks}
+use Rattle.networks.specs.Completions.{total_weight}
 use Rattle.stage_network.specs.NodeSteps.{AllHeavy, AllReached}
-use Rattle.stage_network.specs.Shifts.{IsShifting}
+use Rattle.networks.specs.Shifts.{IsShifting}
 use Rattle.stage_network.specs.StageSteps.{Housed}
-use Rattle.stage_network.specs.SweepSteps.{IsShaped, IsWithin, sum_for}
+use Rattle.networks.specs.EachTail.{sum_for}
+use Rattle.stage_network.specs.SweepSteps.{IsShaped, IsWithin}
 use Rattle.halves.specs.Pairs.{ArePairs, once, paired, weight_of}
 use Rattle.halves.specs.Sides.{is_in, sides_for}
 use Rattle.halves.specs.Summed.{IsSummed, value_sum}

@@ -3,10 +3,10 @@ use Rattle.std.specs.Prelude.{◌≡◌, ℕ, ℤ, ◌+ℤ◌, List}
 use Rattle.weights.specs.declared.lines.Line.{Line}
 use Rattle.weights.specs.declared.tails.Tail.{Tail}
 use Rattle.weights.specs.Rules.{passes}
-use Rattle.stage_network.specs.declared.verdicts.Judge.{Judge}
-use Rattle.stage_network.specs.Network.{Network}
-use Rattle.stage_network.specs.Completions.{extreme_weight}
-use Rattle.stage_network.specs.Judged.{HasIntervals, rule_in}
+use Rattle.networks.specs.declared.verdicts.Judge.{Judge}
+use Rattle.networks.specs.Network.{Network}
+use Rattle.networks.specs.Completions.{extreme_weight}
+use Rattle.networks.specs.Judged.{HasIntervals, rule_in}
 use Rattle.halves.specs.Pairs.{once, valued}
 use Rattle.halves.specs.Summed.{AreApart, value_sum}
 

@@ -2,13 +2,15 @@
 ghost use Rattle.std.specs.Prelude.{◌≡◌, ◌+◌, ◌≤◌, true, IfOk};
 ghost use Rattle.weights.specs.declared.tails.Tail.{Tail};
 ghost use Rattle.node_pool.specs.Nodes.{weighted};
-ghost use Rattle.stage_network.specs.Asked.{asks};
-ghost use Rattle.stage_network.specs.Completions.{extreme_weight, total_weight};
-ghost use Rattle.stage_network.specs.SweepSteps.{Course, IsSweeping, first_course, sum_for};
-ghost use Rattle.stage_network.specs.declared.tail_sums.Kept.TheVariants.{Open};
+ghost use Rattle.networks.specs.Asked.{asks};
+ghost use Rattle.networks.specs.Completions.{extreme_weight, total_weight};
+ghost use Rattle.networks.specs.EachTail.{sum_for};
+ghost use Rattle.stage_network.specs.SweepSteps.{Course, IsSweeping, first_course};
+ghost use Rattle.networks.specs.declared.tail_sums.Kept.TheVariants.{Open};
 ghost use Rattle.halves.specs.MeetingSteps.{IsFirstHalf};
 
-use stage_network::{Kept, Roomed, StageNodes, Stages, Sweep, TailSums};
+use networks::{Kept, Roomed, Stages, TailSums};
+use stage_network::{StageNodes, Sweep};
 use std::alloc::Global;
 use weights::{Count, NoMemory, Tails};
 

@@ -1,7 +1,7 @@
 // What the completions of one key come to.
 ghost use Rattle.std.specs.Prelude.{◌≡◌, ◌≤◌, ℕ, ℤ, List, IfOk, IfSome};
-ghost use Rattle.stage_network.specs.Network.{IsReached};
-ghost use Rattle.stage_network.specs.Completions.{total_weight};
+ghost use Rattle.networks.specs.Network.{IsReached};
+ghost use Rattle.networks.specs.Completions.{total_weight};
 ghost use Rattle.stage_network.specs.SweepSteps.{IsWithin};
 ghost use Rattle.halves.specs.MeetingSteps.{AreLast, IsHalved};
 ghost use Rattle.halves.specs.Pairs.{IsMergeOf, valued};
@@ -9,7 +9,8 @@ ghost use Rattle.halves.specs.Roommates.{TellRoommates};
 ghost use Rattle.halves.specs.Summed.{value_sum};
 
 use crate::lines::{merged, number_lines};
-use stage_network::{Kept, Roomed, Spread, StageNodes, Stages, Sweep};
+use networks::{Kept, Roomed, Spread, Stages};
+use stage_network::{StageNodes, Sweep};
 use std::alloc::Global;
 use weights::{Count, Line, NoMemory};
 

@@ -3,11 +3,12 @@ ghost use Rattle.std.specs.Prelude.{◌≡◌, ℕ, ℤ, ◌+◌, ◌-ℤ◌, �
 ghost use Rattle.weights.specs.declared.TheConstants.{MAX};
 ghost use Rattle.node_pool.specs.Nodes.{weighted};
 ghost use Rattle.stage_network.specs.ArcSteps.{segment};
-ghost use Rattle.stage_network.specs.Lines.{IsAboveLast, every, line_sum, with_weight};
+ghost use Rattle.networks.specs.Lines.{IsAboveLast, every, line_sum, with_weight};
 ghost use Rattle.halves.specs.Pairs.{IsMergeOf, valued, weight_of};
 ghost use Rattle.halves.specs.MeetingSteps.{number_behind};
 
-use stage_network::{Spread, StageNodes};
+use networks::Spread;
+use stage_network::StageNodes;
 use std::alloc::Global;
 use weights::{Count, Line, NoMemory};
 

@@ -1,18 +1,17 @@
 // The tail sums of a network, by two halves where that is quicker.
 ghost use Rattle.std.specs.Prelude.{◌≡◌, ◌≤◌, true, IfOk, IfSome};
 ghost use Rattle.weights.specs.declared.tails.Tail.{Tail};
-ghost use Rattle.stage_network.specs.Asked.{asks};
-ghost use Rattle.stage_network.specs.Completions.{extreme_weight, total_weight};
-ghost use Rattle.stage_network.specs.Judged.{HasIntervals};
-ghost use Rattle.stage_network.specs.SweepSteps.{sum_for};
+ghost use Rattle.networks.specs.Asked.{asks};
+ghost use Rattle.networks.specs.Completions.{extreme_weight, total_weight};
+ghost use Rattle.networks.specs.Judged.{HasIntervals};
+ghost use Rattle.networks.specs.EachTail.{sum_for};
 ghost use Rattle.halves.specs.MeetingSteps.{IsHalved};
 ghost use Rattle.halves.specs.Summed.{IsSummed};
 
 use crate::half_way::first_half;
 use crate::meeting::meeting_sums;
-use stage_network::{
-    Judge, Roomed, Stages, TailSums, Width, row_sums, tail_sums_by_rooms, total_of, width_of,
-};
+use networks::{Judge, Roomed, Stages, TailSums};
+use stage_network::{Width, row_sums, tail_sums_by_rooms, total_of, width_of};
 use std::alloc::Global;
 use weights::{Count, Narrow, NoMemory, Tails, Wide};
 

@@ -4,9 +4,9 @@ use Rattle.std.specs.Prelude.{ℤ, pos, ◌≤ℤ◌, Contains}
 use Rattle.std.proofs.Math.Nat.{mul-le-mul_left}
 use Rattle.std.proofs.lemmas.Int.{ints}
 use Rattle.weights.specs.declared.TheConstants.{MAX}
-use Rattle.stage_network.specs.Judged.{JudgeFits}
-use Rattle.stage_network.specs.Network.{IsReached}
-use Rattle.stage_network.specs.declared.verdicts.Judge.{Judge}
+use Rattle.networks.specs.Judged.{JudgeFits}
+use Rattle.networks.specs.Network.{IsReached}
+use Rattle.networks.specs.declared.verdicts.Judge.{Judge}
 use Rattle.room_network.specs.Meanings.{AreReached, IsMeasure, Meaning}
 use Rattle.room_network.specs.Numbers.{Fits, IsNumber, IsOutcome, Numbers, number_meaning, put, so_far, start}
 use Rattle.room_network.specs.Plans.{Plan, alone}

@@ -18,10 +18,10 @@ use Rattle.scores.specs.Scores.{labelled_sum}
 use Rattle.scores.proofs.LabelledSums.{labelled-within}
 use Rattle.sample_reader.specs.StrataGroups.{StrataGroupData}
 use Rattle.sample_reader.specs.declared.subjects.Subject.{Subject}
-use Rattle.stage_network.specs.Follows.{Follows}
-use Rattle.stage_network.specs.Judged.{JudgeFits, judge_of}
-use Rattle.stage_network.specs.declared.verdicts.Judge.{Judge}
-use Rattle.stage_network.proofs.Following.{judge-fits}
+use Rattle.networks.specs.Follows.{Follows}
+use Rattle.networks.specs.Judged.{JudgeFits, judge_of}
+use Rattle.networks.specs.declared.verdicts.Judge.{Judge}
+use Rattle.networks.proofs.Following.{judge-fits}
 use Rattle.labelled.proofs.UnweightedLaws.{can-be-answered}
 use Rattle.room_network.specs.RoomNetworks.{room_network}
 use Rattle.room_network.proofs.RoomKeys.{plan_widths}

@@ -9,12 +9,12 @@ use Rattle.weights.specs.declared.TheConstants.{MAX}
 use Rattle.weights.proofs.Appended.{get-last}
 use Rattle.weights.proofs.FirstLabel.{number_of_labellings-positive}
 use Rattle.weights.proofs.Sums.{sum_by-same}
-use Rattle.stage_network.specs.Completions.{completions, path_weight, total_weight}
-use Rattle.stage_network.specs.Network.{IsReached, Network}
-use Rattle.stage_network.proofs.Bounds.{term-le-sum_by}
-use Rattle.stage_network.proofs.Steps.{reached-next, total_weight-step}
-use Rattle.stage_network.specs.Judged.{JudgeFits}
-use Rattle.stage_network.specs.declared.verdicts.Judge.{Judge}
+use Rattle.networks.specs.Completions.{completions, path_weight, total_weight}
+use Rattle.networks.specs.Network.{IsReached, Network}
+use Rattle.networks.proofs.Elements.{term-le-sum_by}
+use Rattle.networks.proofs.Steps.{reached-next, total_weight-step}
+use Rattle.networks.specs.Judged.{JudgeFits}
+use Rattle.networks.specs.declared.verdicts.Judge.{Judge}
 use Rattle.room_network.specs.Meanings.{IsMeasure}
 use Rattle.room_network.specs.Numbers.{IsNumber}
 use Rattle.room_network.specs.Plans.{IsPlan, Plan, alone}

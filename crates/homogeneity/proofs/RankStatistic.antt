@@ -9,7 +9,7 @@ use Rattle.enumerate.specs.Joined.{joined_labellings}
 use Rattle.scores.specs.Scores.{labelled_sum}
 use Rattle.scores.proofs.LabelledSums.{labelled-none}
 use Rattle.sample_reader.specs.declared.subjects.Subject.{Subject}
-use Rattle.stage_network.specs.declared.verdicts.Judge.{Judge}
+use Rattle.networks.specs.declared.verdicts.Judge.{Judge}
 use Rattle.room_network.specs.Meanings.{partial_after, way_value}
 use Rattle.room_network.specs.Plans.{Gives, alone}
 use Rattle.homogeneity.specs.OneCount.{chosen}

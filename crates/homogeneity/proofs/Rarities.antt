@@ -13,7 +13,7 @@ use Rattle.strata_cells.specs.declared.stratum.Stratum.{Stratum}
 use Rattle.strata_cells.specs.Strata.{cell_weight, cells_in, cells_of, cells_weight, stratum_cell, first_cells, first_column, greatest_cell, least_cell, row_counts, size, strata_labellings, stratum_at}
 use Rattle.strata_cells.proofs.CellLaws.{by-cells, cell_lists}
 use Rattle.strata_cells.proofs.FirstCells.{cells-meet, cells-same, cells-sum, rows-sum, row_labellings, left-within, right-within, weight-some}
-use Rattle.stage_network.proofs.Bounds.{term-le-sum_by}
+use Rattle.networks.proofs.Elements.{term-le-sum_by}
 use Rattle.homogeneity.specs.Zelen.{has_sum, observed_labels, rarity}
 use Rattle.homogeneity.proofs.LabellingsWithSum.{over-none, over-step, over_cells}
 use Rattle.std.proofs.Math.Nat.{mul-le-mul}

@@ -6,7 +6,7 @@ use Rattle.std.specs.List.{filter}
 use Rattle.weights.proofs.Members.{Contains-cons, Contains-filter, same_refl}
 use Rattle.enumerate.specs.Walk.{BeginsWith, StepsThrough, members_after}
 use Rattle.enumerate.proofs.Walking.{Contains-next}
-use Rattle.stage_network.proofs.Images.{filtered_from}
+use Rattle.networks.proofs.Images.{filtered_from}
 use Rattle.strata_cells.specs.declared.stratum.Stratum.{Stratum}
 use Rattle.strata_cells.specs.Strata.{strata_labellings}
 use Rattle.homogeneity.specs.Zelen.{has_sum}

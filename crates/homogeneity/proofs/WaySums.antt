@@ -3,8 +3,8 @@ use Rattle.std.proofs.Common.{◌≡◌, ℕ, suc, ◌+◌, ◌*◌, List, [], �
 use Rattle.std.specs.Prelude.{ℤ}
 use Rattle.std.specs.List.{sum_by}
 use Rattle.weights.proofs.Sums.{sum_by-flat_map, sum_by-map, sum_by-same, sum_by-scaled}
-use Rattle.stage_network.specs.Completions.{path_weight, paths}
-use Rattle.stage_network.specs.Network.{Network}
+use Rattle.networks.specs.Completions.{path_weight, paths}
+use Rattle.networks.specs.Network.{Network}
 
 abbrev pub gather : Network → ℕ → ℕ → List ℤ → (List (List ℕ) → ℕ) → ℕ
 gather n m g k f = sum_by (λ w. path_weight n g k w * f w) (paths n m g k)

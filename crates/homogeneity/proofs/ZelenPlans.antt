@@ -7,10 +7,10 @@ use Rattle.weights.specs.declared.TheConstants.{MAX}
 use Rattle.weights.specs.Conditional.{unit_weight}
 use Rattle.weights.proofs.CellSums.{same-within}
 use Rattle.weights.proofs.Sums.{sum_by-filter, sum_by-map, sum_by-same}
-use Rattle.stage_network.specs.Completions.{path_weight, paths, total_weight}
-use Rattle.stage_network.specs.Network.{IsReached}
-use Rattle.stage_network.specs.Judged.{JudgeFits}
-use Rattle.stage_network.specs.declared.verdicts.Judge.{Judge}
+use Rattle.networks.specs.Completions.{path_weight, paths, total_weight}
+use Rattle.networks.specs.Network.{IsReached}
+use Rattle.networks.specs.Judged.{JudgeFits}
+use Rattle.networks.specs.declared.verdicts.Judge.{Judge}
 use Rattle.room_network.specs.Meanings.{IsMeasure, partial_after, way_value}
 use Rattle.room_network.specs.Numbers.{IsNumber, so_far}
 use Rattle.room_network.specs.declared.numbers.Operation.TheVariants.{Product}

@@ -15,9 +15,9 @@ use Rattle.weights.specs.Rules.{RuleFits, rule_of}
 use Rattle.weights.specs.Wide.{too_wide}
 use Rattle.weights.proofs.Centred.{at_least-fits, at_most-fits}
 use Rattle.weights.proofs.Sums.{sum_by-filter, sum_by-one}
-use Rattle.stage_network.specs.Follows.{AllFollow, Follows}
-use Rattle.stage_network.specs.Judged.{JudgeFits, judge_of, rule_in}
-use Rattle.stage_network.specs.declared.verdicts.Judge.{Judge}
+use Rattle.networks.specs.Follows.{AllFollow, Follows}
+use Rattle.networks.specs.Judged.{JudgeFits, judge_of, rule_in}
+use Rattle.networks.specs.declared.verdicts.Judge.{Judge}
 use Rattle.room_network.specs.RoomNetworks.{room_network}
 use Rattle.room_network.proofs.RoomFollows.{room_follows}
 use Rattle.strata_cells.specs.declared.stratum.Stratum.{Stratum}
@@ -32,7 +32,7 @@ use Rattle.homogeneity.specs.SumSteps.{AreSized}
 use Rattle.homogeneity.specs.ZelenMade.{AreObserved, IsMember}
 use Rattle.homogeneity.specs.ZelenSteps.{AreSummed, CanHave}
 use Rattle.homogeneity.specs.declared.zelen.ObservedStrata.{ObservedStrata}
-use Rattle.stage_network.proofs.Images.{filtered_from}
+use Rattle.networks.proofs.Images.{filtered_from}
 use Rattle.homogeneity.proofs.ZelenPlans.{cut, value-of, zelen_gives, zelen_measure, zelen_width}
 use Rattle.homogeneity.proofs.Rarities.{AreCells, cells-long, member-cells, rarity-by, rarity-is}
 use Rattle.homogeneity.proofs.LesserWeights.{number-some}

@@ -3,9 +3,9 @@ use Rattle.std.specs.Prelude.{ℕ, List}
 use Rattle.weights.specs.Conditional.{ConditionalTest}
 use Rattle.weights.specs.declared.tails.Tail.{Tail}
 use Rattle.sample_reader.specs.StrataGroups.{StrataGroupData}
-use Rattle.stage_network.specs.declared.one_of.OneOf.{OneOf}
-use Rattle.stage_network.specs.Network.{Network}
-use Rattle.stage_network.specs.OneOf.{of_either}
+use Rattle.networks.specs.declared.one_of.OneOf.{OneOf}
+use Rattle.networks.specs.Network.{Network}
+use Rattle.networks.specs.OneOf.{of_either}
 use Rattle.homogeneity.specs.RankNetworks.{stratified_rank_network}
 use Rattle.homogeneity.specs.StratifiedRanks.{stratified_rank_test}
 use Rattle.homogeneity.specs.Zelen.{zelen_test}

@@ -7,7 +7,7 @@ use Rattle.weights.specs.declared.TheConstants.{MAX}
 use Rattle.sample_reader.specs.PooledSample.{labels_of}
 use Rattle.sample_reader.specs.declared.subjects.Subject.{Subject}
 use Rattle.sample_reader.specs.StrataGroups.{StrataGroupData}
-use Rattle.stage_network.specs.Judged.{judge_of}
+use Rattle.networks.specs.Judged.{judge_of}
 use Rattle.labelled.specs.UnweightedTests.{CanBeAnswered}
 use Rattle.homogeneity.specs.RankNetworks.{AreUsable, ranked_strata_network}
 use Rattle.homogeneity.specs.RankRooms.{columns_of}

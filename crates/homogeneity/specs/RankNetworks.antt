@@ -7,8 +7,8 @@ use Rattle.weights.specs.declared.tails.Tail.{Tail}
 use Rattle.record_reader.specs.declared.TheConstants.{MOST_ROWS}
 use Rattle.sample_reader.specs.StrataGroups.{StrataGroupData}
 use Rattle.sample_reader.specs.declared.subjects.Subject.{Subject}
-use Rattle.stage_network.specs.Judged.{judge_of}
-use Rattle.stage_network.specs.Network.{Network}
+use Rattle.networks.specs.Judged.{judge_of}
+use Rattle.networks.specs.Network.{Network}
 use Rattle.room_network.specs.RoomNetworks.{room_network}
 use Rattle.homogeneity.specs.RankRooms.{columns_of, rank_meaning, rank_weight}
 use Rattle.homogeneity.specs.StratifiedRanks.{ranked_strata_test, strata_subjects}

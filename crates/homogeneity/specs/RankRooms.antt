@@ -7,7 +7,7 @@ use Rattle.midranks.specs.Ties.{tie_groups, values_in}
 use Rattle.midranks.specs.declared.ties.Tie.{Tie}
 use Rattle.sample_reader.specs.PooledSample.{values_of}
 use Rattle.sample_reader.specs.declared.subjects.Subject.{Subject}
-use Rattle.stage_network.specs.declared.verdicts.Judge.{Judge}
+use Rattle.networks.specs.declared.verdicts.Judge.{Judge}
 use Rattle.room_network.specs.Meanings.{Meaning}
 use Rattle.room_network.specs.Numbers.{Numbers, number_meaning}
 use Rattle.room_network.specs.Plans.{Floor, Plan, Weights}

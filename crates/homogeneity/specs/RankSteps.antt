@@ -3,9 +3,9 @@ use Rattle.std.specs.Prelude.{◌≡◌, ⊤, ℕ, ℤ, ◌+◌, ◌-◌, ◌*�
 use Rattle.std.specs.List.{sum}
 use Rattle.weights.specs.declared.TheConstants.{MAX}
 use Rattle.midranks.specs.declared.TheConstants.{MOST_VALUES}
-use Rattle.stage_network.specs.Completions.{total_weight}
-use Rattle.stage_network.specs.Judged.{JudgeFits}
-use Rattle.stage_network.specs.declared.verdicts.Judge.{Judge}
+use Rattle.networks.specs.Completions.{total_weight}
+use Rattle.networks.specs.Judged.{JudgeFits}
+use Rattle.networks.specs.declared.verdicts.Judge.{Judge}
 use Rattle.room_network.specs.Plans.{alone}
 use Rattle.homogeneity.specs.OneCount.{IsOneCount, chosen, remaining}
 use Rattle.homogeneity.specs.RankRooms.{column_at, column_ranks, fewest_here, greatest_added, least_added, most_here}

@@ -4,8 +4,8 @@ use Rattle.std.specs.List.{filter}
 use Rattle.weights.specs.Conditional.{total}
 use Rattle.weights.specs.Frames.{IsFrameOf}
 use Rattle.weights.specs.declared.TheConstants.{MAX}
-use Rattle.stage_network.specs.Follows.{AllFollow}
-use Rattle.stage_network.specs.Judged.{JudgeFits, judge_of}
+use Rattle.networks.specs.Follows.{AllFollow}
+use Rattle.networks.specs.Judged.{JudgeFits, judge_of}
 use Rattle.strata_cells.specs.declared.stratum.Stratum.{Stratum}
 use Rattle.strata_cells.specs.Strata.{cells_of, cells_weight, strata_labellings}
 use Rattle.homogeneity.specs.SumSteps.{AreSized}

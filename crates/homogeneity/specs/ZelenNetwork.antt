@@ -3,9 +3,9 @@
 use Rattle.std.specs.Prelude.{ℕ, ◌+◌, ◌-◌, ◌*◌, ℤ, pos, List, [], ◌∷◌, length, drop, max, min}
 use Rattle.std.specs.List.{count_by, sum_by}
 use Rattle.weights.specs.declared.tails.Tail.{Tail}
-use Rattle.stage_network.specs.Judged.{judge_of}
-use Rattle.stage_network.specs.Network.{Network}
-use Rattle.stage_network.specs.declared.verdicts.Judge.{Judge}
+use Rattle.networks.specs.Judged.{judge_of}
+use Rattle.networks.specs.Network.{Network}
+use Rattle.networks.specs.declared.verdicts.Judge.{Judge}
 use Rattle.room_network.specs.Meanings.{Meaning}
 use Rattle.room_network.specs.Numbers.{Numbers, number_meaning}
 use Rattle.room_network.specs.Plans.{Floor, Plan, Weights}

@@ -4,9 +4,9 @@ use Rattle.std.specs.Prelude.{◌≡◌, ℕ, suc, ◌+◌, ◌-◌, ◌*◌, �
 use Rattle.std.specs.List.{range_with_len, sum_by}
 use Rattle.weights.specs.declared.TheConstants.{MAX}
 use Rattle.record_reader.specs.declared.TheConstants.{MOST_ROWS}
-use Rattle.stage_network.specs.Completions.{total_weight}
-use Rattle.stage_network.specs.Judged.{JudgeFits}
-use Rattle.stage_network.specs.declared.verdicts.Judge.{Judge}
+use Rattle.networks.specs.Completions.{total_weight}
+use Rattle.networks.specs.Judged.{JudgeFits}
+use Rattle.networks.specs.declared.verdicts.Judge.{Judge}
 use Rattle.room_network.specs.Plans.{alone}
 use Rattle.strata_cells.specs.declared.stratum.Stratum.{Stratum}
 use Rattle.strata_cells.specs.Strata.{cell_weight, greatest_cell, least_cell, stratum_at}

@@ -5,8 +5,8 @@ ghost use Rattle.homogeneity.specs.Homogeneities.{homogeneity_test};
 
 use crate::stratified_ranks::{StratifiedRanks, prepare};
 use crate::zelen::Zelen;
+use networks::OneOf;
 use sample_reader::StrataGroups;
-use stage_network::OneOf;
 use std::alloc::Global;
 use table_reader::Strata;
 use weights::PrepareFault;

@@ -4,8 +4,8 @@
 
 ghost use Rattle.std.specs.Prelude.{◌≡◌, ◌≤◌, IfOk};
 ghost use Rattle.weights.specs.Conditional.{distribution};
-ghost use Rattle.stage_network.specs.Follows.{HasTails, answer_of, open_keys};
-ghost use Rattle.stage_network.specs.Lines.{TailsFit, WeightsFit};
+ghost use Rattle.networks.specs.Follows.{HasTails, answer_of, open_keys};
+ghost use Rattle.networks.specs.Lines.{TailsFit, WeightsFit};
 ghost use Rattle.homogeneity.specs.Homogeneities.{homogeneity_network, homogeneity_test};
 
 mod cell_weights;
@@ -29,9 +29,9 @@ mod zelen_rooms;
 mod zelen_ways;
 
 pub use homogeneity_test::{Homogeneity, prepare_ranks, prepare_zelen};
+use networks::{Answer, Spread, Way};
 pub use rank_measure::RankMeasure;
 pub use rank_rooms::RankRooms;
-use stage_network::{Answer, Spread, Way};
 use std::alloc::Global;
 pub use strata_rank_sum::StrataRankSum;
 pub use stratified_ranks::StratifiedRanks;

@@ -9,8 +9,8 @@ use crate::one_count::count_in;
 use crate::rank_columns::Column;
 use crate::rank_rooms::{column_of, from_stage};
 use crate::rank_sums::{greatest_added, least_added, ranks_of};
+use networks::{Interval, Judge};
 use room_network::{NumberMeasure, Operation};
-use stage_network::{Interval, Judge};
 use weights::List;
 
 /// The sum of the second group's ranks. What can still be added is, for each stratum, at least the

@@ -3,7 +3,7 @@ ghost use Rattle.std.specs.Prelude.{◌≡◌, ◌≤◌, ◌<◌, ◌+◌, ◌-
 ghost use Rattle.std.specs.Prelude.{Contains, IfOk};
 ghost use Rattle.weights.specs.declared.TheConstants.{MAX};
 ghost use Rattle.midranks.specs.declared.TheConstants.{MOST_VALUES};
-ghost use Rattle.stage_network.specs.Network.{IsReached};
+ghost use Rattle.networks.specs.Network.{IsReached};
 ghost use Rattle.room_network.specs.Plans.{alone};
 ghost use Rattle.homogeneity.specs.RankRooms.{column_at, fewest_here, left, most_here};
 ghost use Rattle.homogeneity.specs.RankRooms.{rank_floor, rank_plan, remaining_after, second_of, ways_of};

@@ -1,7 +1,7 @@
 // Strata, a sum of their first cells, and how many labellings have what can be left of it.
 ghost use Rattle.std.specs.Prelude.{◌≡◌, ◌+◌, ◌<◌, ◌≤◌, length, drop, Contains, IfOk};
 ghost use Rattle.std.specs.Prelude.{MatchOption};
-ghost use Rattle.stage_network.specs.Network.{IsReached};
+ghost use Rattle.networks.specs.Network.{IsReached};
 ghost use Rattle.room_network.specs.Plans.{alone};
 ghost use Rattle.weights.specs.declared.TheConstants.{MAX};
 ghost use Rattle.strata_cells.specs.Strata.{cell_weight, greatest_cell, least_cell, stratum_at};

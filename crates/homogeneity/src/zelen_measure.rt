@@ -1,7 +1,7 @@
 // The weight of the tables of strata as a measure of their rooms.
 ghost use Rattle.std.specs.Prelude.{◌≡◌, ◌<◌, ◌≤◌, ℤ, length, drop, pos, IfOk};
 ghost use Rattle.weights.specs.declared.TheConstants.{MAX};
-ghost use Rattle.stage_network.specs.Judged.{JudgeFits};
+ghost use Rattle.networks.specs.Judged.{JudgeFits};
 ghost use Rattle.strata_cells.specs.Strata.{cell_weight, greatest_cell, least_cell};
 ghost use Rattle.strata_cells.specs.StrataLimits.{IsSmall};
 ghost use Rattle.homogeneity.specs.ZelenNetwork.{lesser_weight, lesser_weights};
@@ -9,8 +9,8 @@ ghost use Rattle.homogeneity.specs.ZelenSteps.{AreLesser, AreSumCounts, IsZelenM
 
 use crate::one_count::count_in;
 use crate::sum_counts::SumCounts;
+use networks::{Interval, Judge};
 use room_network::{NumberMeasure, Operation};
-use stage_network::{Interval, Judge};
 use std::alloc::Global;
 use strata_cells::{Stratum, cell_weight};
 use weights::{List, NoMemory};

@@ -7,7 +7,7 @@ use Rattle.std.proofs.lemmas.Int.{ints}
 use Rattle.std.proofs.lemmas.List.{length-replicate}
 use Rattle.std.proofs.lemmas.List.Elements.{recursion_from_All}
 use Rattle.std.proofs.lemmas.List.Sums.{sum_by-cons}
-use Rattle.stage_network.specs.declared.verdicts.Judge.{Judge}
+use Rattle.networks.specs.declared.verdicts.Judge.{Judge}
 use Rattle.weights.specs.Grouped.{minus}
 use Rattle.weights.proofs.ChoiceLists.{IsChoice}
 use Rattle.weights.proofs.Filters.{all_replicate}

@@ -7,13 +7,13 @@ use Rattle.weights.specs.Grouped.{choices, minus}
 use Rattle.weights.specs.Labellings.{number_of_labellings}
 use Rattle.weights.proofs.Sized.{length-minus}
 use Rattle.completion_bounds.specs.Boxes.{factored_squares, greatest_squares, least_squares}
-use Rattle.stage_network.specs.declared.verdicts.Judge.{Judge}
-use Rattle.stage_network.specs.Network.{Network, IsReached}
-use Rattle.stage_network.specs.Judged.{HasIntervals}
-use Rattle.stage_network.specs.Completions.{over_arcs}
-use Rattle.stage_network.proofs.Folding.{IsTurned, over_allowed}
-use Rattle.stage_network.proofs.Steps.{reached-next}
-use Rattle.stage_network.proofs.Swaps.{length-swap, map-swap, swap_at}
+use Rattle.networks.specs.declared.verdicts.Judge.{Judge}
+use Rattle.networks.specs.Network.{Network, IsReached}
+use Rattle.networks.specs.Judged.{HasIntervals}
+use Rattle.networks.specs.Completions.{over_arcs}
+use Rattle.networks.proofs.Folding.{IsTurned, over_allowed}
+use Rattle.networks.proofs.Steps.{reached-next}
+use Rattle.networks.proofs.Swaps.{length-swap, map-swap, swap_at}
 use Rattle.room_network.proofs.RoomLaws.{key_long}
 use Rattle.room_network.proofs.RoomKeys.{IsKey, choices_before, is_key, partial-next, room-next, weighed}
 use Rattle.label_network.specs.LabelNetwork.{label_network, over_rooms}

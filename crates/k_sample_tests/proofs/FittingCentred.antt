@@ -12,8 +12,8 @@ use Rattle.scores.specs.PlaceScores.{common_multiple}
 use Rattle.scores.specs.Scores.{scale_of}
 use Rattle.scores.proofs.MultipleLemmas.{common_multiple-all}
 use Rattle.sample_reader.specs.Groups.{group_sizes}
-use Rattle.stage_network.specs.Follows.{Follows}
-use Rattle.stage_network.proofs.Swaps.{swap_at}
+use Rattle.networks.specs.Follows.{Follows}
+use Rattle.networks.proofs.Swaps.{swap_at}
 use Rattle.label_network.specs.LabelNetwork.{label_network, over_rooms}
 use Rattle.label_network.specs.LaterSums.{subjects}
 use Rattle.label_network.specs.Meanings.{Meaning}

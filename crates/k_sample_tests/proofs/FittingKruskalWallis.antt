@@ -24,8 +24,8 @@ use Rattle.scores.proofs.Positive.{scale-some}
 use Rattle.sample_reader.specs.Data.{data_of}
 use Rattle.sample_reader.specs.Groups.{group_sizes}
 use Rattle.sample_reader.specs.declared.samples.Groups.{Groups}
-use Rattle.stage_network.specs.declared.verdicts.Judge.{Judge}
-use Rattle.stage_network.specs.Judged.{judge_of}
+use Rattle.networks.specs.declared.verdicts.Judge.{Judge}
+use Rattle.networks.specs.Judged.{judge_of}
 use Rattle.label_network.proofs.Endings.{labelling_value}
 use Rattle.label_network.specs.LabelRooms.{IsLabelled}
 use Rattle.label_network.specs.LabelNetwork.{IsMargin, label_network, over_rooms}

@@ -23,8 +23,8 @@ use Rattle.midranks.proofs.TieLemmas.{groups-ascend}
 use Rattle.sample_reader.specs.Groups.{GroupData, group_sizes}
 use Rattle.sample_reader.specs.PooledSample.{paired_subjects}
 use Rattle.sample_reader.specs.declared.subjects.Subject.{Subject}
-use Rattle.stage_network.specs.declared.verdicts.Judge.{Judge}
-use Rattle.stage_network.specs.Judged.{judge_of}
+use Rattle.networks.specs.declared.verdicts.Judge.{Judge}
+use Rattle.networks.specs.Judged.{judge_of}
 use Rattle.label_network.specs.LabelNetwork.{label_network}
 use Rattle.label_network.proofs.Narrowing.{fits-self}
 use Rattle.labelled.specs.LabelTests.{IsSound, IsWithin}

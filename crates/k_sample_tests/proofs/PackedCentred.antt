@@ -9,10 +9,10 @@ use Rattle.weights.specs.declared.tails.Tail.{Tail}
 use Rattle.weights.specs.Conditional.{ConditionalTest}
 use Rattle.weights.specs.Grouped.{columns_of, minus}
 use Rattle.weights.specs.Numbers.{absolute_sum}
-use Rattle.stage_network.specs.Follows.{Follows}
-use Rattle.stage_network.specs.Judged.{judge_of}
-use Rattle.stage_network.specs.Network.{Network, IsReached}
-use Rattle.stage_network.specs.declared.verdicts.Judge.{Judge}
+use Rattle.networks.specs.Follows.{Follows}
+use Rattle.networks.specs.Judged.{judge_of}
+use Rattle.networks.specs.Network.{Network, IsReached}
+use Rattle.networks.specs.declared.verdicts.Judge.{Judge}
 use Rattle.room_network.proofs.RoomKeys.{is_key}
 use Rattle.room_network.specs.Meanings.{IsMove}
 use Rattle.label_network.specs.LabelNetwork.{label_network, over_rooms}
@@ -28,7 +28,7 @@ use Rattle.label_network.proofs.OverRooms.{over_place}
 use Rattle.ordered_groups.specs.OrderedNetworks.{MayBeOrdered, ordered_network}
 use Rattle.ordered_groups.proofs.OrderedKeys.{AreTurned, may-be-ordered}
 use Rattle.ordered_groups.proofs.PlaceOrder.{same_at}
-use Rattle.stage_network.proofs.Swaps.{swap_at}
+use Rattle.networks.proofs.Swaps.{swap_at}
 use Rattle.packed_keys.specs.PackedGroups.{AddsSteps, AreHeld, plus_each}
 use Rattle.packed_keys.specs.PackedKeys.{IsDigit, MayBePacked}
 use Rattle.packed_keys.proofs.Widths.{bits-few, bits-fit}

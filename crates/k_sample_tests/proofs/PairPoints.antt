@@ -5,7 +5,7 @@ use Rattle.std.specs.List.{sum}
 use Rattle.std.proofs.Math.Seq.{drop-length}
 use Rattle.std.proofs.lemmas.Int.{ints}
 use Rattle.std.proofs.lemmas.List.Sums.{sum_by-cons}
-use Rattle.stage_network.specs.declared.verdicts.Judge.{Judge}
+use Rattle.networks.specs.declared.verdicts.Judge.{Judge}
 use Rattle.weights.specs.Grouped.{fits, minus}
 use Rattle.weights.proofs.Sums.{sum_by-plus, sum_by-scaled}
 use Rattle.room_network.specs.Numbers.{so_far}

@@ -9,7 +9,7 @@ use Rattle.std.proofs.lemmas.List.{get_or-map, length-drop, length-replicate, le
 use Rattle.std.proofs.lemmas.List.Elements.{filter-append, recursion_from_All}
 use Rattle.std.proofs.lemmas.List.FromFn.{get_or-range_with_len, length-range_with_len}
 use Rattle.std.proofs.lemmas.List.Sums.{sum_by-cons, sum_by-append}
-use Rattle.stage_network.specs.declared.verdicts.Judge.{Judge}
+use Rattle.networks.specs.declared.verdicts.Judge.{Judge}
 use Rattle.weights.specs.Grouped.{columns_of, fits, minus}
 use Rattle.weights.specs.Labellings.{counts_of, labels}
 use Rattle.weights.proofs.Filters.{all_append}

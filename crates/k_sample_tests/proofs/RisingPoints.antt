@@ -20,8 +20,8 @@ use Rattle.midranks.specs.declared.ties.Tie.{Tie}
 use Rattle.midranks.proofs.TieLemmas.{groups-ascend}
 use Rattle.sample_reader.specs.Groups.{group_sizes}
 use Rattle.sample_reader.specs.PooledSample.{paired_subjects}
-use Rattle.stage_network.specs.declared.verdicts.Judge.{Judge}
-use Rattle.stage_network.specs.Judged.{judge_of, rule_in}
+use Rattle.networks.specs.declared.verdicts.Judge.{Judge}
+use Rattle.networks.specs.Judged.{judge_of, rule_in}
 use Rattle.label_network.specs.LaterSums.{subjects}
 use Rattle.labelled.specs.LabelTests.{IsWithin}
 use Rattle.labelled.proofs.LabelLaws.{fit-by, numerator-by}

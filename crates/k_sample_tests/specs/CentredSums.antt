@@ -5,7 +5,7 @@
 use Rattle.std.specs.Prelude.{◌≡◌, ℕ, ◌+◌, ◌-◌, ◌*◌, ◌^◌, ◌<◌, ◌≤◌, ℤ, pos, nat_abs, ◌-ℤ◌, List, [], ◌∷◌, ◌++◌, length, min}
 use Rattle.std.specs.List.{All, sum}
 use Rattle.completion_bounds.specs.Boxes.{factored_squares, greatest_squares, least_squares}
-use Rattle.stage_network.specs.declared.verdicts.Judge.{Judge}
+use Rattle.networks.specs.declared.verdicts.Judge.{Judge}
 use Rattle.label_network.specs.LaterSums.{later_scores, subjects}
 use Rattle.label_network.specs.Meanings.{Meaning}
 use Rattle.weights.specs.Numbers.{absolute_sum}

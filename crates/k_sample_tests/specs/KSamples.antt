@@ -1,9 +1,9 @@
 -- The tests of several samples: whether they differ, or whether samples in an order rise and fall.
 use Rattle.weights.specs.Conditional.{ConditionalTest}
 use Rattle.weights.specs.declared.tails.Tail.{Tail}
-use Rattle.stage_network.specs.declared.one_of.OneOf.{OneOf}
-use Rattle.stage_network.specs.Network.{Network}
-use Rattle.stage_network.specs.OneOf.{of_either}
+use Rattle.networks.specs.declared.one_of.OneOf.{OneOf}
+use Rattle.networks.specs.Network.{Network}
+use Rattle.networks.specs.OneOf.{of_either}
 use Rattle.k_sample_tests.specs.KruskalWallis.{ScoredGroups, kruskal_wallis_test}
 use Rattle.k_sample_tests.specs.PairCounts.{umbrella_network}
 use Rattle.k_sample_tests.specs.RankSums.{kruskal_wallis_network}

@@ -2,9 +2,9 @@
 use Rattle.std.specs.Prelude.{◌≡◌, ℕ, ◌+◌, ◌-◌, ◌^◌, ◌<◌, ◌≤◌, ℤ, pos, ◌+ℤ◌, unsigned_abs, List, length, map, get_or, Result, Ok, Err}
 use Rattle.std.specs.List.{All, Contains, sum}
 use Rattle.weights.specs.Labellings.{labellings, number_of_labellings}
-use Rattle.stage_network.specs.Judged.{JudgeFits}
+use Rattle.networks.specs.Judged.{JudgeFits}
 use Rattle.weights.specs.declared.TheConstants.{MAX}
-use Rattle.stage_network.specs.declared.verdicts.Judge.{Judge}
+use Rattle.networks.specs.declared.verdicts.Judge.{Judge}
 use Rattle.weights.specs.declared.wide.PrepareFault.{PrepareFault}
 use Rattle.completion_bounds.specs.Boxes.{factored_squares}
 use Rattle.record_reader.specs.declared.TheConstants.{MOST_ROWS}

@@ -2,10 +2,10 @@
 use Rattle.std.specs.Prelude.{◌≡◌, ℕ, ◌+◌, ◌*◌, ◌<◌, ◌≤◌, pos, List, [], ◌∷◌, length, take, drop}
 use Rattle.std.specs.List.{sum, All, Contains}
 use Rattle.weights.specs.declared.TheConstants.{MAX}
-use Rattle.stage_network.specs.declared.verdicts.Judge.{Judge}
+use Rattle.networks.specs.declared.verdicts.Judge.{Judge}
 use Rattle.weights.specs.Grouped.{minus}
 use Rattle.weights.specs.Labellings.{counts_of, labellings, number_of_labellings}
-use Rattle.stage_network.specs.Judged.{JudgeFits}
+use Rattle.networks.specs.Judged.{JudgeFits}
 use Rattle.record_reader.specs.declared.TheConstants.{MOST_ROWS}
 use Rattle.sample_reader.specs.Groups.{group_sizes}
 use Rattle.sample_reader.specs.PooledSample.{labels_of, pooled}

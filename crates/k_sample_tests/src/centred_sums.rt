@@ -9,12 +9,12 @@ ghost use Rattle.label_network.specs.LabelNetwork.{over_rooms};
 ghost use Rattle.k_sample_tests.specs.CentredSums.{AreParts, HasNarrowBoxes, IsCentred, centred_meaning, middle_squares};
 ghost use Rattle.k_sample_tests.specs.RankSumSteps.{AreAddable, AreNarrow};
 ghost use Rattle.packed_keys.specs.PackedGroups.{AreHeld, plus_each};
-ghost use Rattle.stage_network.specs.Judged.{rule_in, verdict_of};
+ghost use Rattle.networks.specs.Judged.{rule_in, verdict_of};
 
 use crate::rank_sums::{RankSums, plus_each, score_parts};
 use completion_bounds::narrow_squares;
+use networks::{Interval, Verdict};
 use room_network::Measure;
-use stage_network::{Interval, Verdict};
 use weights::Tail;
 
 /// The measure of [`RankSums`], whose partials it has, with narrower intervals: the sum of each

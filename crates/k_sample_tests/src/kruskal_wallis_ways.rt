@@ -3,8 +3,8 @@ ghost use Rattle.std.specs.Prelude.{◌≡◌, ◌/◌, ◌^◌, ◌<◌, false,
 ghost use Rattle.weights.specs.Numbers.{absolute_sum};
 ghost use Rattle.weights.specs.declared.tails.Tail.{Tail};
 ghost use Rattle.sample_reader.specs.Groups.{group_sizes};
-ghost use Rattle.stage_network.specs.Follows.{Follows};
-ghost use Rattle.stage_network.specs.Judged.{judge_of};
+ghost use Rattle.networks.specs.Follows.{Follows};
+ghost use Rattle.networks.specs.Judged.{judge_of};
 ghost use Rattle.label_network.specs.LabelNetwork.{label_network};
 ghost use Rattle.ordered_groups.specs.OrderedNetworks.{ordered_network};
 ghost use Rattle.packed_keys.specs.PackedGroups.{AreHeld};
@@ -20,9 +20,9 @@ use crate::kruskal_wallis::SquaredSums;
 use crate::rank_sums::RankSums;
 use label_network::{LabelRooms, LabelStages, label_stages};
 use labelled::LabelStatistic;
+use networks::{Judge, OneOf};
 use ordered_groups::InOrder;
 use packed_keys::{PackedGroups, bits_for};
-use stage_network::{Judge, OneOf};
 use std::alloc::Global;
 use weights::{NoMemory, Tail};
 

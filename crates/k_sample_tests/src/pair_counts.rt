@@ -6,8 +6,8 @@ ghost use Rattle.k_sample_tests.specs.UmbrellaSteps.{IsCounting};
 use crate::pair_points::{column_points, signed, subject_pairs};
 use crate::used_pairs::UsedPair;
 use label_network::read_sizes;
+use networks::{Interval, Judge};
 use room_network::{NumberMeasure, Operation};
-use stage_network::{Interval, Judge};
 use std::alloc::Global;
 use weights::NoMemory;
 

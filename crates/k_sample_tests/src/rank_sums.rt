@@ -8,7 +8,7 @@ ghost use Rattle.label_network.specs.Linear.{score_of};
 ghost use Rattle.room_network.specs.Meanings.{IsRoom};
 ghost use Rattle.label_network.specs.LabelNetwork.{over_rooms};
 ghost use Rattle.label_network.specs.Meanings.{sizes_in};
-ghost use Rattle.stage_network.specs.Judged.{rule_in, verdict_of};
+ghost use Rattle.networks.specs.Judged.{rule_in, verdict_of};
 ghost use Rattle.packed_keys.specs.PackedGroups.{plus_each};
 ghost use Rattle.k_sample_tests.specs.RankSums.{greatest_parts, least_parts, score_parts, squares_meaning};
 ghost use Rattle.k_sample_tests.specs.RankSumSteps.{AreAddable, AreEnough, AreRankSums, AreTabled, IsSquaring, parts_of};
@@ -16,8 +16,8 @@ ghost use Rattle.k_sample_tests.specs.RankSumSteps.{AreAddable, AreEnough, AreRa
 use crate::group_sums::squares_of;
 use completion_bounds::box_bounds;
 use label_network::{End, LaterScores, read_sizes};
+use networks::{Interval, Judge, Verdict};
 use room_network::Measure;
-use stage_network::{Interval, Judge, Verdict};
 use std::alloc::Global;
 use weights::{NoMemory, Tail, count_times, plus};
 

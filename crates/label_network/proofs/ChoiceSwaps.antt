@@ -11,7 +11,7 @@ use Rattle.weights.specs.Grouped.{choices, minus}
 use Rattle.weights.specs.Labellings.{number_of_labellings}
 use Rattle.weights.proofs.Members.{Contains-cons, Contains-here, Contains-later, same_refl}
 use Rattle.weights.proofs.Sums.{sum_by-same, sum_by-cond, sum_by-swap, sum_by-fronts}
-use Rattle.stage_network.proofs.Swaps.{swap_at}
+use Rattle.networks.proofs.Swaps.{swap_at}
 use Rattle.completion_bounds.proofs.Factorials.{factorial, factorials, total, weight-falls}
 
 -- sums over a range that is cut short

@@ -7,9 +7,9 @@ use Rattle.weights.specs.Grouped.{columns_of}
 use Rattle.weights.specs.Labellings.{labellings}
 use Rattle.weights.specs.Rules.{passes}
 use Rattle.weights.proofs.Sums.{sum_by-one}
-use Rattle.stage_network.specs.Completions.{extreme_weight, value_weights}
-use Rattle.stage_network.specs.Judged.{rule_in}
-use Rattle.stage_network.specs.Network.{Network}
+use Rattle.networks.specs.Completions.{extreme_weight, value_weights}
+use Rattle.networks.specs.Judged.{rule_in}
+use Rattle.networks.specs.Network.{Network}
 use Rattle.room_network.specs.Meanings.{Meaning}
 use Rattle.room_network.specs.RoomNetworks.{EndsAtMembers, member_weights, room_network}
 use Rattle.label_network.specs.LabelNetwork.{labellings_passing}

@@ -7,8 +7,8 @@ use Rattle.weights.specs.Grouped.{columns_of}
 use Rattle.weights.specs.Labellings.{labellings}
 use Rattle.weights.specs.Rules.{measured}
 use Rattle.weights.proofs.Sums.{sum_by-same}
-use Rattle.stage_network.specs.Judged.{judge_of}
-use Rattle.stage_network.specs.Follows.{Follows}
+use Rattle.networks.specs.Judged.{judge_of}
+use Rattle.networks.specs.Follows.{Follows}
 use Rattle.room_network.specs.Meanings.{way_value}
 use Rattle.room_network.specs.Plans.{Gives}
 use Rattle.room_network.proofs.RoomFollows.{room_follows}

@@ -12,8 +12,8 @@ use Rattle.weights.proofs.FirstLabel.{number_of_labellings-positive}
 use Rattle.weights.proofs.GroupingLaw.{grouping}
 use Rattle.weights.proofs.Sized.{length-minus}
 use Rattle.weights.proofs.Sums.{sum_by-same, sum_by-one}
-use Rattle.stage_network.specs.Completions.{paths, path_weight, total_weight}
-use Rattle.stage_network.specs.Network.{IsReached}
+use Rattle.networks.specs.Completions.{paths, path_weight, total_weight}
+use Rattle.networks.specs.Network.{IsReached}
 use Rattle.room_network.specs.Plans.{Plan, IsPlan, alone, way_weight}
 use Rattle.room_network.proofs.RoomKeys.{KeepsWidth, is_allowed}
 use Rattle.label_network.specs.LabelRooms.{GivesLabellings, IsLabelled, label_floor, label_plan}

@@ -5,8 +5,8 @@ use Rattle.std.specs.Prelude.{ℤ, pos, ◌+ℤ◌, ◌*ℤ◌, ◌≤ℤ◌, in
 use Rattle.std.specs.List.{sum}
 use Rattle.std.proofs.Math.Nat.{mul-le-mul_left, le_refl}
 use Rattle.std.proofs.lemmas.Int.{ints, unsigned_abs-mul}
-use Rattle.stage_network.specs.declared.verdicts.Judge.{Judge}
-use Rattle.stage_network.specs.Judged.{JudgeFits}
+use Rattle.networks.specs.declared.verdicts.Judge.{Judge}
+use Rattle.networks.specs.Judged.{JudgeFits}
 use Rattle.weights.specs.Grouped.{minus}
 use Rattle.weights.specs.InOrder.{in_order}
 use Rattle.weights.proofs.ChoiceLists.{IsChoice}

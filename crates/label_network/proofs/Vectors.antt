@@ -3,9 +3,9 @@ use Rattle.std.proofs.Common.{◌≡◌, ℕ, List, [], ◌∷◌, map, refl}
 use Rattle.std.specs.Prelude.{ℤ, pos, negsuc}
 use Rattle.weights.specs.declared.rules.Rule.TheVariants.{AtMost, AtLeast, Far}
 use Rattle.weights.specs.declared.tails.Tail.TheVariants.{Greater, Two}
-use Rattle.stage_network.specs.declared.stages.Verdict.{Verdict}
-use Rattle.stage_network.specs.declared.stages.Verdict.TheVariants.{Inside, Outside, Undecided}
-use Rattle.stage_network.specs.Opened.{opened_below}
+use Rattle.networks.specs.declared.stages.Verdict.{Verdict}
+use Rattle.networks.specs.declared.stages.Verdict.TheVariants.{Inside, Outside, Undecided}
+use Rattle.networks.specs.Opened.{opened_below}
 use Rattle.room_network.specs.Meanings.{Meaning as RoomMeaning}
 use Rattle.room_network.specs.RoomNetworks.{partial_of, room_of}
 use Rattle.label_network.specs.LabelNetwork.{label_network, over_rooms}

@@ -3,7 +3,7 @@
 use Rattle.std.specs.Prelude.{◌≡◌, ℕ, ℤ, ◌+◌, ◌≤◌, Bool, List, length, filter}
 use Rattle.weights.specs.Grouped.{columns_of}
 use Rattle.weights.specs.Labellings.{labellings}
-use Rattle.stage_network.specs.Network.{Network}
+use Rattle.networks.specs.Network.{Network}
 use Rattle.room_network.specs.Meanings.{Meaning as RoomMeaning}
 use Rattle.room_network.specs.Meanings.{way_value}
 use Rattle.room_network.specs.Numbers.{Numbers}

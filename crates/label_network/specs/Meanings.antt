@@ -2,7 +2,7 @@
 -- of what it can come to.
 use Rattle.std.specs.Prelude.{◌≡◌, ℕ, zero, suc, ◌+◌, ◌<◌, ℤ, pos, ◌≤ℤ◌, nat_abs, List, [], ◌∷◌, length, map, slice_index}
 use Rattle.std.specs.List.{sum, Contains}
-use Rattle.stage_network.specs.declared.verdicts.Judge.{Judge}
+use Rattle.networks.specs.declared.verdicts.Judge.{Judge}
 use Rattle.room_network.specs.Numbers.{Numbers, put, so_far, start}
 use Rattle.weights.specs.Grouped.{choices, minus}
 

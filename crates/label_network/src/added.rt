@@ -7,7 +7,7 @@ ghost use Rattle.weights.specs.Numbers.{absolute_sum};
 ghost use Rattle.label_network.specs.LinearSteps.{picked, least_added, greatest_added, AreAddable, ArePlaces};
 
 use crate::later_scores::LaterScores;
-use stage_network::Interval;
+use networks::Interval;
 
 // Adds what one row's score more than the row before gives on a sum of later scores.
 #[inline(always)]

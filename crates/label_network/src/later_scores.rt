@@ -8,7 +8,7 @@ ghost use Rattle.label_network.specs.LaterTables.{IsLater, IsPartTable, IsTabled
 ghost use Rattle.label_network.specs.LaterSteps.{IsRow, better_of, other_end};
 
 use crate::ends::{End, chosen, other};
-use stage_network::Interval;
+use networks::Interval;
 use std::alloc::Global;
 use weights::{NoMemory, with_units};
 

@@ -2,8 +2,8 @@
 ghost use Rattle.std.specs.Prelude.{◌≡◌, ℤ, Bool, IfOk};
 ghost use Rattle.weights.specs.declared.tails.Tail.{Tail};
 ghost use Rattle.weights.specs.Rules.{passes};
-ghost use Rattle.stage_network.specs.Completions.{extreme_weight, value_weights};
-ghost use Rattle.stage_network.specs.Judged.{rule_in};
+ghost use Rattle.networks.specs.Completions.{extreme_weight, value_weights};
+ghost use Rattle.networks.specs.Judged.{rule_in};
 ghost use Rattle.room_network.specs.RoomNetworks.{room_network};
 ghost use Rattle.label_network.specs.LabelNetwork.{IsMargin, labellings_passing};
 ghost use Rattle.label_network.specs.LabelRooms.{label_weight};

@@ -1,6 +1,6 @@
 // The rooms of labels over columns.
 ghost use Rattle.std.specs.Prelude.{◌≡◌, ◌<◌, length, slice_index, Contains, IfOk};
-ghost use Rattle.stage_network.specs.Network.{IsReached};
+ghost use Rattle.networks.specs.Network.{IsReached};
 ghost use Rattle.room_network.specs.Plans.{alone};
 ghost use Rattle.label_network.specs.LabelRooms.{GivesLabellings, IsLabelled, label_plan};
 ghost use Rattle.label_network.specs.LabelSteps.{AreLabels, ChoiceSeat, RoomSeat};

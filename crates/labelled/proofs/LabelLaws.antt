@@ -20,11 +20,11 @@ use Rattle.weights.proofs.Chosen.{one_if}
 use Rattle.weights.proofs.Members.{IsLabelling, labelling_from}
 use Rattle.weights.proofs.Sums.{sum_by-filter, sum_by-one, sum_by-same_where}
 use Rattle.enumerate.proofs.JoinedMembers.{each-labelling}
-use Rattle.stage_network.specs.declared.verdicts.Judge.{Judge}
-use Rattle.stage_network.specs.Follows.{Follows}
-use Rattle.stage_network.specs.Judged.{JudgeFits, judge_of, rule_in}
-use Rattle.stage_network.specs.Network.{Network}
-use Rattle.stage_network.proofs.Following.{judge-fits}
+use Rattle.networks.specs.declared.verdicts.Judge.{Judge}
+use Rattle.networks.specs.Follows.{Follows}
+use Rattle.networks.specs.Judged.{JudgeFits, judge_of, rule_in}
+use Rattle.networks.specs.Network.{Network}
+use Rattle.networks.proofs.Following.{judge-fits}
 use Rattle.label_network.proofs.Endings.{labelling_value}
 use Rattle.label_network.specs.LabelNetwork.{label_network}
 use Rattle.label_network.specs.Meanings.{Meaning, IsMeasure}

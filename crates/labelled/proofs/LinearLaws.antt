@@ -13,8 +13,8 @@ use Rattle.weights.specs.declared.rules.Rule.TheVariants.{Far}
 use Rattle.weights.proofs.Centred.{far-fits}
 use Rattle.weights.proofs.Members.{labelling_from}
 use Rattle.completion_bounds.specs.Pairings.{greatest_score}
-use Rattle.stage_network.specs.declared.verdicts.Judge.{Judge}
-use Rattle.stage_network.specs.Judged.{judge_of}
+use Rattle.networks.specs.declared.verdicts.Judge.{Judge}
+use Rattle.networks.specs.Judged.{judge_of}
 use Rattle.label_network.specs.LabelNetwork.{label_network}
 use Rattle.label_network.specs.LaterSums.{subjects, total_score}
 use Rattle.label_network.specs.Linear.{IsLinear, linear_statistic, row_sum}

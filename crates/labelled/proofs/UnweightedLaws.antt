@@ -7,9 +7,9 @@ use Rattle.weights.specs.Frames.{first_tail}
 use Rattle.weights.specs.declared.TheConstants.{MAX}
 use Rattle.weights.specs.declared.tails.Tail.{Tail}
 use Rattle.weights.proofs.Centred.{IsCentred, measured-is, rules-fit, shown}
-use Rattle.stage_network.specs.Follows.{Follows}
-use Rattle.stage_network.specs.Network.{Network}
-use Rattle.stage_network.specs.Written.{RunsFor}
+use Rattle.networks.specs.Follows.{Follows}
+use Rattle.networks.specs.Network.{Network}
+use Rattle.networks.specs.Written.{RunsFor}
 use Rattle.labelled.specs.UnweightedTests.{CanBeAnswered}
 
 all-weighty : (weight : List ℕ → ℕ) → ((r : List ℕ) → weight r ≡ 1) → (rs : List (List ℕ)) → AllByRecursion (λ r. 1 ≤ weight r) rs

@@ -11,9 +11,9 @@ use Rattle.weights.specs.Conditional.{ConditionalTest, by_distance, unit_weight}
 use Rattle.weights.specs.Frames.{first_tail}
 use Rattle.weights.specs.Labellings.{labellings, number_of_labellings}
 use Rattle.weights.specs.Rules.{RuleFits}
-use Rattle.stage_network.specs.Follows.{Follows}
-use Rattle.stage_network.specs.Network.{Network}
-use Rattle.stage_network.specs.Written.{RunsFor}
+use Rattle.networks.specs.Follows.{Follows}
+use Rattle.networks.specs.Network.{Network}
+use Rattle.networks.specs.Written.{RunsFor}
 
 -- How many subjects get each label, what is measured of a labelling, and the observed one. Both
 -- sides go by how far the factor times the statistic is from the centre.

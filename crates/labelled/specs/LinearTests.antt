@@ -9,8 +9,8 @@ use Rattle.weights.specs.declared.TheConstants.{MAX}
 use Rattle.weights.specs.declared.tails.Tail.{Tail}
 use Rattle.weights.specs.declared.wide.PrepareFault.{PrepareFault}
 use Rattle.completion_bounds.specs.Pairings.{greatest_score}
-use Rattle.stage_network.specs.Judged.{judge_of}
-use Rattle.stage_network.specs.Network.{Network}
+use Rattle.networks.specs.Judged.{judge_of}
+use Rattle.networks.specs.Network.{Network}
 use Rattle.label_network.specs.LabelNetwork.{label_network}
 use Rattle.label_network.specs.LaterSums.{subjects, total_score}
 use Rattle.label_network.specs.Linear.{linear_meaning, linear_statistic, row_sum}

@@ -5,9 +5,9 @@ use Rattle.weights.specs.Frames.{IsShown, RulesFit}
 use Rattle.weights.specs.Rules.{measured}
 use Rattle.weights.specs.declared.TheConstants.{MAX}
 use Rattle.weights.specs.declared.tails.Tail.{Tail}
-use Rattle.stage_network.specs.Follows.{Follows}
-use Rattle.stage_network.specs.Network.{Network}
-use Rattle.stage_network.specs.Written.{RunsFor}
+use Rattle.networks.specs.Follows.{Follows}
+use Rattle.networks.specs.Network.{Network}
+use Rattle.networks.specs.Written.{RunsFor}
 
 -- What is known of one that can be answered: no number of it passes a limit, and for each tail a
 -- network n follows it and runs for q, the one that is written down.

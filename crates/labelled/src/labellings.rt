@@ -8,7 +8,7 @@ use crate::problem::Unweighted;
 use crate::statistic::LabelStatistic;
 use crate::unweighted::UnweightedTest;
 use enumerate::{first_labelling, next_labelling};
-use stage_network::{Judge, TailSums};
+use networks::{Judge, TailSums};
 use std::alloc::Global;
 use std::marker::Model;
 use weights::{Bytes, Frame, NoMemory, Rule, Tail, Tails};

@@ -11,8 +11,8 @@ ghost use Rattle.labelled.specs.LinearTests.{AreFittingLabels, AreScoredLabels, 
 
 use crate::statistic::LabelStatistic;
 use label_network::{LabelStages, LinearMeasure, label_stages, score_choice};
+use networks::Judge;
 use room_network::Numbered;
-use stage_network::Judge;
 use std::alloc::Global;
 use std::marker::Model;
 use weights::{

@@ -4,7 +4,8 @@ ghost use Rattle.weights.specs.Frames.{IsFrameOf};
 
 use crate::unweighted::UnweightedTest;
 use enumerate::Plain;
-use stage_network::{Judge, Prepared, TailSums};
+use networks::{Judge, TailSums};
+use stage_network::Prepared;
 use std::alloc::Global;
 use std::marker::Model;
 use weights::{Bytes, Frame, NoMemory, Tail, Tails};

@@ -3,12 +3,13 @@ ghost use Rattle.std.specs.Prelude.{◌≡◌, Contains, IfOk};
 ghost use Rattle.weights.specs.Conditional.{ConditionalTest};
 ghost use Rattle.weights.specs.declared.tails.Tail.{Tail};
 ghost use Rattle.enumerate.specs.Walk.{BeginsWith, StepsThrough};
-ghost use Rattle.stage_network.specs.Judged.{judge_of};
-ghost use Rattle.stage_network.specs.Network.{Network};
-ghost use Rattle.stage_network.specs.Follows.{AreNumerators, Follows, HasTails};
+ghost use Rattle.networks.specs.Judged.{judge_of};
+ghost use Rattle.networks.specs.Network.{Network};
+ghost use Rattle.networks.specs.Follows.{AreNumerators, Follows, HasTails};
 ghost use Rattle.labelled.specs.UnweightedTests.{CanBeAnswered};
 
-use stage_network::{Judge, Roomed, TailSums, tail_sums_by_rooms};
+use networks::{Judge, Roomed, TailSums};
+use stage_network::tail_sums_by_rooms;
 use std::alloc::Global;
 use weights::{Bytes, NoMemory, Tail, Tails};
 

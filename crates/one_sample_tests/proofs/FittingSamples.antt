@@ -30,11 +30,11 @@ use Rattle.scores.specs.RawScores.{decimals, raw_score}
 use Rattle.scores.specs.Scores.{labelled_sum}
 use Rattle.weights.specs.Numbers.{absolute_sum}
 use Rattle.scores.proofs.LabelledSums.{labelled-least, labelled-most}
-use Rattle.stage_network.specs.Follows.{Follows}
-use Rattle.stage_network.specs.Judged.{JudgeFits, judge_of}
-use Rattle.stage_network.specs.declared.verdicts.Judge.{Judge}
-use Rattle.stage_network.proofs.AdditiveLaws.{additive_intervals}
-use Rattle.stage_network.proofs.Following.{judge-fits}
+use Rattle.networks.specs.Follows.{Follows}
+use Rattle.networks.specs.Judged.{JudgeFits, judge_of}
+use Rattle.networks.specs.declared.verdicts.Judge.{Judge}
+use Rattle.networks.proofs.AdditiveLaws.{additive_intervals}
+use Rattle.networks.proofs.Following.{judge-fits}
 use Rattle.labelled.specs.UnweightedTests.{CanBeAnswered}
 use Rattle.labelled.proofs.UnweightedLaws.{can-be-answered}
 use Rattle.table_reader.specs.TableLayout.{TableData}

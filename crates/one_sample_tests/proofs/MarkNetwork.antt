@@ -17,13 +17,13 @@ use Rattle.weights.proofs.Members.{range-below}
 use Rattle.weights.proofs.Sums.{sum_by-map, sum_by-same}
 use Rattle.midranks.specs.Ties.{values_in}
 use Rattle.midranks.specs.declared.ties.Tie.{Tie}
-use Rattle.stage_network.specs.Judged.{JudgeFits}
-use Rattle.stage_network.specs.declared.verdicts.Judge.{Judge}
-use Rattle.stage_network.specs.Completions.{ending_weight, path_weight, value_weights}
-use Rattle.stage_network.specs.Addends.{Addends, additive_network, high, low, over_earlier, over_stages, reach, stage_total, stride, totals, zeros}
-use Rattle.stage_network.specs.SoundAddends.{AddsBetween, IsAdditive}
-use Rattle.stage_network.proofs.Bridge.{choices-before}
-use Rattle.stage_network.proofs.Steps.{passing, passing-step}
+use Rattle.networks.specs.Judged.{JudgeFits}
+use Rattle.networks.specs.declared.verdicts.Judge.{Judge}
+use Rattle.networks.specs.Completions.{ending_weight, path_weight, value_weights}
+use Rattle.networks.specs.Addends.{Addends, additive_network, high, low, over_earlier, over_stages, reach, stage_total, stride, totals, zeros}
+use Rattle.networks.specs.SoundAddends.{AddsBetween, IsAdditive}
+use Rattle.networks.proofs.Bridge.{choices-before}
+use Rattle.networks.proofs.Steps.{passing, passing-step}
 use Rattle.one_sample_tests.specs.SignNetwork.{choices_from, group_at, mark_addends}
 use Rattle.one_sample_tests.specs.SampleSteps.{AreStages, sizes_in}
 use Rattle.weights.proofs.Ranges.{range-different}

@@ -3,9 +3,9 @@ use Rattle.std.specs.Prelude.{◌≡◌, ⊤, ℕ, ℤ, pos, ◌*◌, ◌^◌, �
 use Rattle.std.specs.List.{sum_by}
 use Rattle.weights.specs.Frames.{IsFrameOf}
 use Rattle.weights.specs.declared.frames.Frame.{Frame}
-use Rattle.stage_network.specs.Judged.{JudgeFits}
+use Rattle.networks.specs.Judged.{JudgeFits}
 use Rattle.weights.specs.declared.TheConstants.{MAX}
-use Rattle.stage_network.specs.declared.verdicts.Judge.{Judge}
+use Rattle.networks.specs.declared.verdicts.Judge.{Judge}
 use Rattle.weights.specs.declared.wide.WideOf.TheVariants.{Total, Statistic}
 use Rattle.weights.specs.declared.wide.PrepareFault.{PrepareFault}
 use Rattle.weights.specs.declared.wide.PrepareFault.TheVariants.{TooWide, NoMemory}

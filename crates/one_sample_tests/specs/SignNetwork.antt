@@ -4,14 +4,14 @@
 use Rattle.std.specs.Prelude.{ℕ, pos, ◌+◌, ◌-◌, ◌*ℤ◌, List, [], ◌∷◌, length, map, slice_index, slice_index_or, false}
 use Rattle.std.specs.List.{range_with_len}
 use Rattle.weights.specs.Numbers.{binomial}
-use Rattle.stage_network.specs.Judged.{judge_of}
-use Rattle.stage_network.specs.declared.verdicts.Judge.{Judge}
+use Rattle.networks.specs.Judged.{judge_of}
+use Rattle.networks.specs.declared.verdicts.Judge.{Judge}
 use Rattle.weights.specs.declared.tails.Tail.{Tail}
 use Rattle.midranks.specs.Ties.{tie_groups}
 use Rattle.midranks.specs.declared.ties.Tie.{Tie}
-use Rattle.stage_network.specs.declared.additive.SumValue.TheVariants.{First}
-use Rattle.stage_network.specs.Addends.{Addends, additive_network}
-use Rattle.stage_network.specs.Network.{Network}
+use Rattle.networks.specs.declared.additive.SumValue.TheVariants.{First}
+use Rattle.networks.specs.Addends.{Addends, additive_network}
+use Rattle.networks.specs.Network.{Network}
 use Rattle.one_sample_tests.specs.SignedSamples.{SignedSample, one_sample_test, used_scores}
 
 -- a stage's score, and how many subjects have it

@@ -4,8 +4,8 @@
 
 ghost use Rattle.std.specs.Prelude.{◌≡◌, ◌≤◌, IfOk};
 ghost use Rattle.weights.specs.Conditional.{distribution};
-ghost use Rattle.stage_network.specs.Follows.{answer_of, open_keys};
-ghost use Rattle.stage_network.specs.Lines.{TailsFit, WeightsFit};
+ghost use Rattle.networks.specs.Follows.{answer_of, open_keys};
+ghost use Rattle.networks.specs.Lines.{TailsFit, WeightsFit};
 ghost use Rattle.one_sample_tests.specs.SignedSamples.{one_sample_test};
 ghost use Rattle.one_sample_tests.specs.SignNetwork.{one_sample_network};
 
@@ -18,8 +18,8 @@ mod scored_marks;
 
 pub use kinds::SignKind;
 pub use mark_sum::MarkSum;
+use networks::{Answer, Spread, Way};
 pub use one_sample::{OneSample, prepare_mcnemar, prepare_pairs, used_pairs};
-use stage_network::{Answer, Spread, Way};
 use std::alloc::Global;
 use weights::{NoMemory, Tails};
 

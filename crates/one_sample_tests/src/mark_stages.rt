@@ -5,7 +5,7 @@ ghost use Rattle.weights.specs.declared.TheConstants.{MAX};
 ghost use Rattle.one_sample_tests.specs.SampleSteps.{AreStages};
 
 use midranks::Ties;
-use stage_network::{Additive, Interval, Judge, SumValue};
+use networks::{Additive, Interval, Judge, SumValue};
 use weights::binomial;
 
 /// Subjects who share a score are a stage, and a choice says how many of them are plus.

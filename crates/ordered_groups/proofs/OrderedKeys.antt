@@ -6,11 +6,11 @@ use Rattle.weights.specs.Conditional.{ConditionalTest}
 use Rattle.weights.specs.InOrder.{in_order}
 use Rattle.weights.specs.declared.tails.Tail.{Tail}
 use Rattle.weights.proofs.OneOrder.{length-in_order}
-use Rattle.stage_network.specs.Follows.{Follows}
-use Rattle.stage_network.specs.Judged.{HasIntervals, judge_of}
-use Rattle.stage_network.specs.Network.{Network, IsReached}
-use Rattle.stage_network.specs.declared.verdicts.Judge.{Judge}
-use Rattle.stage_network.proofs.Folding.{IsTurned, folded-follows, folded-intervals, folded-lawful, folded-roomed, folded_total, reached-folded}
+use Rattle.networks.specs.Follows.{Follows}
+use Rattle.networks.specs.Judged.{HasIntervals, judge_of}
+use Rattle.networks.specs.Network.{Network, IsReached}
+use Rattle.networks.specs.declared.verdicts.Judge.{Judge}
+use Rattle.networks.proofs.Folding.{IsTurned, folded-follows, folded-intervals, folded-lawful, folded-roomed, folded_total, reached-folded}
 use Rattle.ordered_groups.specs.OrderedGroups.{groups_in_order, lefts, may_precede, places_of, sums}
 use Rattle.ordered_groups.specs.OrderedNetworks.{MayBeOrdered, ordered_network}
 use Rattle.ordered_groups.specs.declared.places.Place.{Place}

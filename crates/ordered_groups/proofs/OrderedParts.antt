@@ -2,8 +2,8 @@
 use Rattle.std.proofs.Common.{◌≡◌, ℕ, ◌<◌, ◌≤◌, List, ◌++◌, length, take, drop, sym, ◌∙◌, ap, subst, arith, length-append}
 use Rattle.std.specs.Prelude.{ℤ, Bool}
 use Rattle.std.specs.List.{Contains}
-use Rattle.stage_network.specs.Network.{Network, IsReached}
-use Rattle.stage_network.specs.Rooms.{IsArc, IsPlace}
+use Rattle.networks.specs.Network.{Network, IsReached}
+use Rattle.networks.specs.Rooms.{IsArc, IsPlace}
 use Rattle.room_network.specs.Meanings.{Meaning}
 use Rattle.room_network.specs.Plans.{Floor, Plan, alone}
 use Rattle.room_network.specs.RoomNetworks.{room_network, room_of}

@@ -1,10 +1,10 @@
 -- Networks in whose keys groups of equal size are in order.
 use Rattle.std.specs.Prelude.{◌≡◌, ℕ, ◌+◌, ◌≤◌, ℤ, Bool, List, length}
-use Rattle.stage_network.specs.Completions.{total_weight}
-use Rattle.stage_network.specs.Folded.{folded}
-use Rattle.stage_network.specs.Laws.{IsLawful}
-use Rattle.stage_network.specs.Network.{Network, IsReached}
-use Rattle.stage_network.specs.Rooms.{IsRoomed}
+use Rattle.networks.specs.Completions.{total_weight}
+use Rattle.networks.specs.Folded.{folded}
+use Rattle.networks.specs.Laws.{IsLawful}
+use Rattle.networks.specs.Network.{Network, IsReached}
+use Rattle.networks.specs.Rooms.{IsRoomed}
 use Rattle.room_network.specs.Meanings.{Meaning}
 use Rattle.room_network.specs.Plans.{Plan}
 use Rattle.room_network.specs.RoomNetworks.{IsHoused}

@@ -6,8 +6,8 @@ ghost use Rattle.ordered_groups.specs.OrderSteps.{IsInOrder};
 ghost use Rattle.ordered_groups.specs.OrderedNetworks.{AreItsRooms, MayBeOrdered};
 
 use crate::keys::{put_groups_in_order, put_sums_in_order};
+use networks::{Roomed, Stages, Verdict, behind, front};
 use room_network::{Measure, RoomNetwork, Rooms};
-use stage_network::{Roomed, Stages, Verdict, behind, front};
 use std::marker::Model;
 use weights::Tail;
 

@@ -3,9 +3,9 @@ use Rattle.std.proofs.Common.{◌≡◌, ℕ, ◌+◌, ◌-◌, ◌^◌, ◌<◌
 use Rattle.std.specs.Prelude.{ℤ, pos, ◌+ℤ◌, nat_abs, unsigned_abs}
 use Rattle.std.specs.List.{AllByRecursion, Contains}
 use Rattle.weights.specs.declared.TheConstants.{MAX}
-use Rattle.stage_network.specs.Network.{Network, IsReached}
-use Rattle.stage_network.specs.Rooms.{IsArc}
-use Rattle.stage_network.proofs.Steps.{reached-next}
+use Rattle.networks.specs.Network.{Network, IsReached}
+use Rattle.networks.specs.Rooms.{IsArc}
+use Rattle.networks.proofs.Steps.{reached-next}
 use Rattle.room_network.specs.Meanings.{AreReached, IsMove, Meaning}
 use Rattle.room_network.specs.Plans.{Plan}
 use Rattle.room_network.specs.RoomNetworks.{room_network}

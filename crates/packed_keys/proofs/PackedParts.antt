@@ -6,12 +6,12 @@ use Rattle.std.proofs.lemmas.List.{length-take, take-append-drop}
 use Rattle.weights.specs.Conditional.{ConditionalTest}
 use Rattle.weights.specs.declared.TheConstants.{MAX}
 use Rattle.weights.specs.declared.tails.Tail.{Tail}
-use Rattle.stage_network.specs.Completions.{total_weight}
-use Rattle.stage_network.specs.Follows.{Follows}
-use Rattle.stage_network.specs.Laws.{IsLawful}
-use Rattle.stage_network.specs.Network.{Network, IsReached}
-use Rattle.stage_network.specs.Rooms.{IsArc, IsPlace, IsRoomed}
-use Rattle.stage_network.proofs.Steps.{reached-next}
+use Rattle.networks.specs.Completions.{total_weight}
+use Rattle.networks.specs.Follows.{Follows}
+use Rattle.networks.specs.Laws.{IsLawful}
+use Rattle.networks.specs.Network.{Network, IsReached}
+use Rattle.networks.specs.Rooms.{IsArc, IsPlace, IsRoomed}
+use Rattle.networks.proofs.Steps.{reached-next}
 use Rattle.room_network.proofs.RoomKeys.{back_is, front_is}
 use Rattle.packed_keys.specs.PackedKeys.{MayBePacked, packed, packed_key, packed_network, unpacked, unpacked_key}
 use Rattle.packed_keys.specs.PackedSteps.{AreDigits}

@@ -6,16 +6,16 @@ use Rattle.std.proofs.lemmas.Bool.{cases_lt}
 use Rattle.weights.specs.declared.tails.Tail.{Tail}
 use Rattle.weights.specs.declared.TheConstants.{MAX}
 use Rattle.weights.specs.Conditional.{ConditionalTest}
-use Rattle.stage_network.specs.Completions.{ending_weight, path_weight, total_weight, value_weights}
-use Rattle.stage_network.specs.Follows.{Follows}
-use Rattle.stage_network.specs.Judged.{HasIntervals, judge_of}
-use Rattle.stage_network.specs.Laws.{IsLawful}
-use Rattle.stage_network.specs.Network.{Network, IsReached}
-use Rattle.stage_network.specs.Rooms.{AreRoommates, IsRoomed}
-use Rattle.stage_network.specs.declared.verdicts.Judge.{Judge}
-use Rattle.stage_network.proofs.Folding.{over_allowed}
-use Rattle.stage_network.proofs.Judging.{intervals-decided, intervals-inside, intervals-outside}
-use Rattle.stage_network.proofs.Steps.{all_paths, passing, passing-step, all-step, reached-next}
+use Rattle.networks.specs.Completions.{ending_weight, path_weight, total_weight, value_weights}
+use Rattle.networks.specs.Follows.{Follows}
+use Rattle.networks.specs.Judged.{HasIntervals, judge_of}
+use Rattle.networks.specs.Laws.{IsLawful}
+use Rattle.networks.specs.Network.{Network, IsReached}
+use Rattle.networks.specs.Rooms.{AreRoommates, IsRoomed}
+use Rattle.networks.specs.declared.verdicts.Judge.{Judge}
+use Rattle.networks.proofs.Folding.{over_allowed}
+use Rattle.networks.proofs.Judging.{intervals-decided, intervals-inside, intervals-outside}
+use Rattle.networks.proofs.Steps.{all_paths, passing, passing-step, all-step, reached-next}
 use Rattle.packed_keys.specs.PackedKeys.{rewritten}
 
 passing-last : (n : Network) (q : List ℤ → Bool) (g : ℕ) (k : List ℤ) → passing n q zero g k ≡ cond (q k) 1 0

@@ -2,8 +2,8 @@
 use Rattle.std.specs.Prelude.{◌≡◌, ℕ, zero, suc, ◌+◌, ◌-◌, ◌*◌, ◌/◌, ◌%◌, ◌^◌, ◌<◌, ◌≤◌, ℤ, pos, nat_abs, List, [], ◌∷◌, ◌++◌, take, drop, length, map, get_or}
 use Rattle.std.specs.List.{AllByRecursion}
 use Rattle.weights.specs.declared.TheConstants.{MAX}
-use Rattle.stage_network.specs.Judged.{IsJudged}
-use Rattle.stage_network.specs.Network.{Network, IsReached}
+use Rattle.networks.specs.Judged.{IsJudged}
+use Rattle.networks.specs.Network.{Network, IsReached}
 
 -- the number that has these digits, the least first
 abbrev pub numeral : ℕ → List ℕ → ℕ

@@ -2,7 +2,7 @@
 use Rattle.std.specs.Prelude.{◌≡◌, ℕ, ◌+◌, ◌-◌, ◌^◌, ◌≤◌, ℤ, Bool, false, List, length}
 use Rattle.std.specs.List.{AllByRecursion}
 use Rattle.weights.specs.declared.TheConstants.{MAX}
-use Rattle.stage_network.specs.Network.{Network}
+use Rattle.networks.specs.Network.{Network}
 use Rattle.room_network.specs.Meanings.{Meaning}
 use Rattle.room_network.specs.Plans.{Plan}
 use Rattle.room_network.specs.RoomNetworks.{room_network}

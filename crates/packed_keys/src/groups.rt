@@ -11,9 +11,9 @@ ghost use Rattle.packed_keys.specs.PackedSteps.{AreDigits};
 
 use crate::digits::packed_number;
 use crate::network::Packed;
+use networks::{Roomed, Stages, Verdict, behind, front};
 use ordered_groups::{InOrder, are_in_order};
 use room_network::{Measure, Rooms};
-use stage_network::{Roomed, Stages, Verdict, behind, front};
 use std::marker::Model;
 use weights::{Tail, plus};
 

@@ -1,12 +1,12 @@
 // Networks whose partials stand in one number.
 ghost use Rattle.std.specs.Prelude.{◌≡◌, ◌+◌, ◌-◌, ◌^◌, ◌≤◌, ◌++◌, drop, length};
-ghost use Rattle.stage_network.specs.Network.{IsReached};
+ghost use Rattle.networks.specs.Network.{IsReached};
 ghost use Rattle.packed_keys.specs.PackedKeys.{MayBePacked, packed_key, packed_network};
 ghost use Rattle.packed_keys.specs.PackedKeys.{unpacked, unpacked_key};
 ghost use Rattle.packed_keys.specs.PackedSteps.{AreDigits};
 
 use crate::digits::{packed_number, unpack};
-use stage_network::{Roomed, Stages, Verdict, behind, front, write_key};
+use networks::{Roomed, Stages, Verdict, behind, front, write_key};
 use std::marker::Model;
 use weights::{Tail, only};
 

@@ -9,18 +9,19 @@ use Rattle.weights.specs.declared.tails.Tail.TheVariants.{Less, Greater, Two}
 use Rattle.weights.specs.declared.tails.Tails.{Tails}
 use Rattle.node_pool.specs.Nodes.{Node, key_eq, keys, is_held, weighted}
 use Rattle.node_pool.proofs.Puts.{same_key, key_equiv}
-use Rattle.stage_network.specs.declared.tail_sums.Kept.TheVariants.{Open}
-use Rattle.stage_network.specs.declared.tail_sums.TailSums.{TailSums}
-use Rattle.stage_network.specs.Asked.{asked, asks}
-use Rattle.stage_network.specs.Completions.{extreme_weight}
-use Rattle.stage_network.specs.Laws.{IsLawful}
-use Rattle.stage_network.specs.Network.{Network}
-use Rattle.stage_network.specs.Opened.{is_open, is_open_for_some, is_undecided, reached_through, reached_openly}
-use Rattle.stage_network.specs.SweepSteps.{Course, HasSwept, IsCourse, arriving, first_course, stays, staying, sum_for}
+use Rattle.networks.specs.declared.tail_sums.Kept.TheVariants.{Open}
+use Rattle.networks.specs.declared.tail_sums.TailSums.{TailSums}
+use Rattle.networks.specs.Asked.{asked, asks}
+use Rattle.networks.specs.Completions.{extreme_weight}
+use Rattle.networks.specs.Laws.{IsLawful}
+use Rattle.networks.specs.Network.{Network}
+use Rattle.networks.specs.Opened.{is_open, is_open_for_some, is_undecided, reached_through, reached_openly}
+use Rattle.networks.specs.EachTail.{sum_for}
+use Rattle.stage_network.specs.SweepSteps.{Course, HasSwept, IsCourse, arriving, first_course, stays, staying}
 use Rattle.stage_network.proofs.Asked.{asked-own, asked-else, asked-extreme_at}
 use Rattle.stage_network.proofs.Carried.{carried}
 use Rattle.stage_network.proofs.Courses.{arriving-heavy, keys-first, swept-kept}
-use Rattle.stage_network.proofs.Steps.{sum_by-same}
+use Rattle.networks.proofs.Steps.{sum_by-same}
 use Rattle.stage_network.proofs.Sweeps.{weighted-filter, stay-members, one}
 use Rattle.pieces.specs.Cuts.{closed_sum, met_sum, keys_open_at}
 use Rattle.pieces.proofs.ByPaths.{met-openly, closed-and_open}

@@ -5,13 +5,13 @@ use Rattle.std.specs.List.{sum_by, filter, Contains}
 use Rattle.std.proofs.lemmas.List.Sums.{sum_by-cons}
 use Rattle.std.proofs.Math.Nat.{mul_assoc}
 use Rattle.weights.specs.declared.tails.Tail.{Tail}
-use Rattle.stage_network.specs.declared.stages.Verdict.{Verdict}
-use Rattle.stage_network.specs.declared.stages.Verdict.TheVariants.{Inside, Outside, Undecided}
-use Rattle.stage_network.specs.Network.{Network, IsReached}
-use Rattle.stage_network.specs.Completions.{completions, paths, path_weight, is_extreme, is_inside, total_weight, extreme_weight}
-use Rattle.stage_network.specs.Laws.{IsLawful}
-use Rattle.stage_network.specs.Opened.{is_open}
-use Rattle.stage_network.proofs.Steps.{sum_by-same, sum_by-scaled, sum_by-map, sum_by-flat_map, filter-map, filter-flat_map, reached-next}
+use Rattle.networks.specs.declared.stages.Verdict.{Verdict}
+use Rattle.networks.specs.declared.stages.Verdict.TheVariants.{Inside, Outside, Undecided}
+use Rattle.networks.specs.Network.{Network, IsReached}
+use Rattle.networks.specs.Completions.{completions, paths, path_weight, is_extreme, is_inside, total_weight, extreme_weight}
+use Rattle.networks.specs.Laws.{IsLawful}
+use Rattle.networks.specs.Opened.{is_open}
+use Rattle.networks.proofs.Steps.{sum_by-same, sum_by-scaled, sum_by-map, sum_by-flat_map, filter-map, filter-flat_map, reached-next}
 use Rattle.pieces.specs.Cuts.{stays_open, meets_inside, met, closed_sum, open_sum, met_sum}
 use Rattle.pieces.proofs.Conserving.{openly, closing, over-choices, conserved}
 use Rattle.stage_network.proofs.Conserved.{inside-sum, outside-sum}

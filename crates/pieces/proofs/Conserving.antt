@@ -5,13 +5,13 @@ use Rattle.std.specs.List.{sum_by, Contains}
 use Rattle.std.proofs.lemmas.List.Elements.{recursion_from_All, All-contains_itself}
 use Rattle.weights.specs.declared.tails.Tail.{Tail}
 use Rattle.weights.proofs.Sums.{sum_by-plus, sum_by-same_where}
-use Rattle.stage_network.specs.declared.stages.Verdict.{Verdict}
-use Rattle.stage_network.specs.declared.stages.Verdict.TheVariants.{Inside, Outside, Undecided}
-use Rattle.stage_network.specs.Network.{Network, IsReached}
-use Rattle.stage_network.specs.Completions.{is_inside, total_weight, extreme_weight}
-use Rattle.stage_network.specs.Laws.{IsLawful}
-use Rattle.stage_network.specs.Opened.{is_open, is_undecided}
-use Rattle.stage_network.proofs.Steps.{reached-next, extreme_weight-step}
+use Rattle.networks.specs.declared.stages.Verdict.{Verdict}
+use Rattle.networks.specs.declared.stages.Verdict.TheVariants.{Inside, Outside, Undecided}
+use Rattle.networks.specs.Network.{Network, IsReached}
+use Rattle.networks.specs.Completions.{is_inside, total_weight, extreme_weight}
+use Rattle.networks.specs.Laws.{IsLawful}
+use Rattle.networks.specs.Opened.{is_open, is_undecided}
+use Rattle.networks.proofs.Steps.{reached-next, extreme_weight-step}
 use Rattle.stage_network.proofs.Conserved.{inside-sum, outside-sum}
 
 -- what f says of the keys that are reached m stages on through open keys alone

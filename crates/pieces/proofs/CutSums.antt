@@ -6,10 +6,10 @@ use Rattle.std.proofs.lemmas.List.{length-map}
 use Rattle.std.proofs.lemmas.List.Sums.{sum_by-cons}
 use Rattle.weights.specs.declared.tails.Tail.{Tail}
 use Rattle.node_pool.specs.Nodes.{Node, key_eq, keys, weighted}
-use Rattle.stage_network.specs.Completions.{extreme_weight, path_weight, paths}
-use Rattle.stage_network.specs.Laws.{IsLawful}
-use Rattle.stage_network.specs.Network.{Network}
-use Rattle.stage_network.proofs.Steps.{extreme-le-total, sum_by-same}
+use Rattle.networks.specs.Completions.{extreme_weight, path_weight, paths}
+use Rattle.networks.specs.Laws.{IsLawful}
+use Rattle.networks.specs.Network.{Network}
+use Rattle.networks.proofs.Steps.{extreme-le-total, sum_by-same}
 use Rattle.piece_texts.specs.Merges.{over_parts}
 use Rattle.piece_texts.specs.PieceTexts.{SumFits}
 use Rattle.pieces.specs.declared.cuts.Cut.{Cut}

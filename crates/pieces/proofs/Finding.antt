@@ -5,12 +5,13 @@ use Rattle.weights.specs.declared.tails.Tails.{Tails}
 use Rattle.weights.specs.declared.TheConstants.{MAX}
 use Rattle.node_pool.specs.Nodes.{weighted}
 use Rattle.stage_network.specs.declared.sweep.Sweep.{Sweep}
-use Rattle.stage_network.specs.declared.tail_sums.Kept.TheVariants.{Open}
-use Rattle.stage_network.specs.Asked.{asks}
-use Rattle.stage_network.specs.Completions.{total_weight}
-use Rattle.stage_network.specs.Network.{Network}
+use Rattle.networks.specs.declared.tail_sums.Kept.TheVariants.{Open}
+use Rattle.networks.specs.Asked.{asks}
+use Rattle.networks.specs.Completions.{total_weight}
+use Rattle.networks.specs.Network.{Network}
 use Rattle.stage_network.specs.NodeSteps.{AllReached}
-use Rattle.stage_network.specs.SweepSteps.{HasSwept, IsSweeping, first_course, sum_for}
+use Rattle.networks.specs.EachTail.{sum_for}
+use Rattle.stage_network.specs.SweepSteps.{HasSwept, IsSweeping, first_course}
 use Rattle.stage_network.proofs.Courses.{sweeping-nodes, swept-light}
 use Rattle.pieces.specs.Cuts.{closed_sum}
 use Rattle.pieces.proofs.Arriving.{cut-told, cut-closed, cut-members}

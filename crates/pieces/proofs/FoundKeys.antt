@@ -9,9 +9,9 @@ use Rattle.weights.specs.declared.tails.Tail.{Tail}
 use Rattle.weights.specs.declared.TheConstants.{MAX}
 use Rattle.node_pool.specs.Nodes.{Node, key_eq, keys, is_held, weighted}
 use Rattle.node_pool.specs.PoolSteps.{nodes_of}
-use Rattle.stage_network.specs.Completions.{total_weight}
-use Rattle.stage_network.specs.Laws.{IsLawful}
-use Rattle.stage_network.specs.Network.{Network, IsReached}
+use Rattle.networks.specs.Completions.{total_weight}
+use Rattle.networks.specs.Laws.{IsLawful}
+use Rattle.networks.specs.Network.{Network, IsReached}
 use Rattle.stage_network.specs.NodeSteps.{AllHeavy, AllReached}
 use Rattle.pieces.specs.declared.cuts.Cut.{Cut}
 use Rattle.pieces.specs.declared.ordering.Entry.{Entry}

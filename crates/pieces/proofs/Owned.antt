@@ -10,9 +10,9 @@ use Rattle.node_pool.specs.PoolSteps.{IsRow, nodes_of}
 use Rattle.node_pool.specs.TableSteps.{key_at}
 use Rattle.node_pool.proofs.NodeLists.{nodes-at, nodes-more, row-more, length-nodes, key-wide}
 use Rattle.node_pool.proofs.Puts.{alike, unlike, key_equiv, none_distinct}
-use Rattle.stage_network.specs.Completions.{total_weight}
+use Rattle.networks.specs.Completions.{total_weight}
 use Rattle.stage_network.specs.FromKeys.{AreStarts}
-use Rattle.stage_network.specs.Network.{Network, IsReached}
+use Rattle.networks.specs.Network.{Network, IsReached}
 use Rattle.stage_network.specs.NodeSteps.{AllHeavy, AllReached}
 use Rattle.piece_texts.specs.Merges.{over_parts}
 use Rattle.pieces.specs.Cuts.{is_owned, owned_nodes}

@@ -6,17 +6,17 @@ use Rattle.std.specs.Ordering.{is_lt}
 use Rattle.weights.specs.declared.tails.Tail.{Tail}
 use Rattle.weights.proofs.Members.{Contains-filter}
 use Rattle.node_pool.specs.Nodes.{key_cmp}
-use Rattle.stage_network.specs.declared.stages.Verdict.{Verdict}
-use Rattle.stage_network.specs.declared.stages.Verdict.TheVariants.{Inside, Outside, Undecided}
-use Rattle.stage_network.specs.Completions.{extreme_weight, is_extreme, is_inside, over_arcs, path_weight, paths}
-use Rattle.stage_network.specs.Laws.{IsLawful}
-use Rattle.stage_network.specs.Network.{Network, IsReached}
-use Rattle.stage_network.specs.Opened.{is_open, is_undecided, reached_openly}
-use Rattle.stage_network.specs.Written.{RunsFor, StandsFor}
-use Rattle.stage_network.proofs.Folding.{over_allowed}
-use Rattle.stage_network.proofs.Images.{filtered_from, images_counted, of_images, openly_reached, to_images}
-use Rattle.stage_network.proofs.Steps.{extreme_weight-step, reached-next}
-use Rattle.stage_network.proofs.Writing.{as-images, one_to_one}
+use Rattle.networks.specs.declared.stages.Verdict.{Verdict}
+use Rattle.networks.specs.declared.stages.Verdict.TheVariants.{Inside, Outside, Undecided}
+use Rattle.networks.specs.Completions.{extreme_weight, is_extreme, is_inside, over_arcs, path_weight, paths}
+use Rattle.networks.specs.Laws.{IsLawful}
+use Rattle.networks.specs.Network.{Network, IsReached}
+use Rattle.networks.specs.Opened.{is_open, is_undecided, reached_openly}
+use Rattle.networks.specs.Written.{RunsFor, StandsFor}
+use Rattle.networks.proofs.Folding.{over_allowed}
+use Rattle.networks.proofs.Images.{filtered_from, images_counted, of_images, openly_reached, to_images}
+use Rattle.networks.proofs.Steps.{extreme_weight-step, reached-next}
+use Rattle.networks.proofs.Writing.{as-images, one_to_one}
 use Rattle.piece_texts.specs.declared.piece.PieceSum.{PieceSum}
 use Rattle.piece_texts.specs.PieceTexts.{SumFits}
 use Rattle.pieces.specs.Cuts.{PiecesAddUp, belongs, closed_sum, cut_stage, keys_open_at, open_sum, piece_sum, place_of}

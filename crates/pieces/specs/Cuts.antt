@@ -8,10 +8,10 @@ use Rattle.std.specs.Set.{distinct_count, is_member}
 use Rattle.weights.specs.declared.tails.Tail.{Tail}
 use Rattle.node_pool.specs.Nodes.{Node, key_cmp, key_eq, keys, is_held, weighted}
 use Rattle.node_pool.specs.PoolSteps.{nodes_of}
-use Rattle.stage_network.specs.Network.{Network}
-use Rattle.stage_network.specs.Completions.{paths, completions, path_weight, is_inside, is_extreme, extreme_weight}
+use Rattle.networks.specs.Network.{Network}
+use Rattle.networks.specs.Completions.{paths, completions, path_weight, is_inside, is_extreme, extreme_weight}
 use Rattle.stage_network.specs.FromKeys.{AreStarts}
-use Rattle.stage_network.specs.Opened.{is_open, reached_openly}
+use Rattle.networks.specs.Opened.{is_open, reached_openly}
 use Rattle.piece_texts.specs.declared.piece.PieceSum.{PieceSum}
 use Rattle.piece_texts.specs.Merges.{over_parts}
 use Rattle.pieces.specs.declared.cuts.Cut.{Cut}

@@ -2,8 +2,8 @@
 use Rattle.std.specs.Prelude.{⊤, ◌≡◌, ℕ, ◌≤◌, List, length, Option, Some, None, Result, Ok, Err, ◌⊎◌}
 use Rattle.std.specs.List.{AllByRecursion}
 use Rattle.weights.specs.declared.tails.Tail.{Tail}
-use Rattle.stage_network.specs.Network.{Network}
-use Rattle.stage_network.specs.Completions.{extreme_weight}
+use Rattle.networks.specs.Network.{Network}
+use Rattle.networks.specs.Completions.{extreme_weight}
 use Rattle.piece_texts.specs.declared.piece.Piece.{Piece}
 use Rattle.piece_texts.specs.declared.piece.PieceSum.{PieceSum}
 use Rattle.piece_texts.specs.declared.merging.Merged.{Merged}

@@ -5,14 +5,15 @@ ghost use Rattle.std.specs.List.Sorted.{IsSortedBy};
 ghost use Rattle.std.specs.Ordering.{is_lt};
 ghost use Rattle.node_pool.specs.Nodes.{Node, keys};
 ghost use Rattle.node_pool.specs.PoolSteps.{nodes_of};
-ghost use Rattle.stage_network.specs.Completions.{total_weight};
+ghost use Rattle.networks.specs.Completions.{total_weight};
 ghost use Rattle.pieces.specs.Cuts.{IsCut, PartsAddUp, cut_nodes};
 ghost use Rattle.pieces.specs.Ordering.{entry_cmp, entry_node};
 
 use crate::cuts::Cut;
 use crate::ordering::{Entry, entries_of, sort_entries};
 use crate::rows::Rows;
-use stage_network::{Kept, Roomed, Stages, Sweep, Width, only, total_of, width_of};
+use networks::{Kept, Roomed, Stages, only};
+use stage_network::{Sweep, Width, total_of, width_of};
 use std::alloc::Global;
 use weights::{Count, Narrow, NoMemory, Tail, Wide};
 

@@ -10,9 +10,10 @@ ghost use Rattle.pieces.specs.Parting.{dealt};
 use crate::cuts::Cut;
 use crate::cutting::cut;
 use crate::rows::Rows;
+use networks::{Roomed, Stages};
 use node_pool::key_at;
 use piece_texts::PieceSum;
-use stage_network::{Roomed, Stages, tail_sum_from};
+use stage_network::tail_sum_from;
 use std::alloc::Global;
 use weights::{NoMemory, Tail};
 

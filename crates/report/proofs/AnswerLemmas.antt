@@ -6,10 +6,10 @@ use Rattle.weights.specs.declared.tails.Tail.TheVariants.{Less, Greater, Two}
 use Rattle.weights.specs.declared.tails.Tails.{Tails}
 use Rattle.weights.specs.Conditional.{ConditionalTest, is_extreme, numerator, observed_statistic, total}
 use Rattle.weights.proofs.Sums.{sum_by-filter-≤}
-use Rattle.stage_network.specs.Follows.{answer_of, asked_tail, tail_of}
-use Rattle.stage_network.specs.declared.answers.Answer.{Answer}
-use Rattle.stage_network.specs.declared.answers.Way.{Way}
-use Rattle.stage_network.specs.declared.tail_sums.TailSum.{TailSum}
+use Rattle.networks.specs.Follows.{answer_of, asked_tail, tail_of}
+use Rattle.networks.specs.declared.answers.Answer.{Answer}
+use Rattle.networks.specs.declared.answers.Way.{Way}
+use Rattle.networks.specs.declared.tail_sums.TailSum.{TailSum}
 use Rattle.report.specs.declared.headings.Extra.{Extra}
 use Rattle.report.specs.declared.headings.Sizes.{Sizes}
 use Rattle.report.specs.declared.headings.Title.{Title}

@@ -7,8 +7,8 @@ use Rattle.weights.specs.declared.TheConstants.{MAX}
 use Rattle.weights.specs.declared.tails.Tail.{Tail}
 use Rattle.weights.specs.declared.tails.Tail.TheVariants.{Less, Greater, Two}
 use Rattle.weights.specs.declared.lines.Line.{Line}
-use Rattle.stage_network.specs.declared.tail_sums.TailSum.{TailSum}
-use Rattle.stage_network.specs.declared.answers.Answer.{Answer}
+use Rattle.networks.specs.declared.tail_sums.TailSum.{TailSum}
+use Rattle.networks.specs.declared.answers.Answer.{Answer}
 use Rattle.settings.specs.Names.{score_word, test_word}
 use Rattle.report.specs.Decimals.{six_decimals}
 use Rattle.report.specs.declared.headings.Title.{Title}

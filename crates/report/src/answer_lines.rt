@@ -6,7 +6,7 @@ ghost use Rattle.report.specs.Report.{AreQuotients, HasQuotients, IsPart, answer
 
 use crate::decimals::six_decimals;
 use crate::pieces::{end_line, push_number};
-use stage_network::{Answer, Spread, TailSum};
+use networks::{Answer, Spread, TailSum};
 use weights::{Bytes, Line, NoMemory, Tail};
 
 // Adds the line of the observed statistic.

@@ -8,7 +8,7 @@ use crate::answer_lines::{
 };
 use crate::heading_lines::{push_dropped, push_extra, push_sizes, push_title};
 use crate::headings::{Extra, Sizes, Title};
-use stage_network::{Answer, Spread};
+use networks::{Answer, Spread};
 use std::alloc::Global;
 use weights::{Bytes, NoMemory};
 

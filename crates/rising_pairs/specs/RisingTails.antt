@@ -4,8 +4,8 @@ use Rattle.std.specs.List.{Contains, count_by}
 use Rattle.weights.specs.Labellings.{labellings}
 use Rattle.weights.specs.Rules.{passes}
 use Rattle.weights.specs.declared.rules.Rule.{Rule}
-use Rattle.stage_network.specs.declared.verdicts.Judge.{Judge}
-use Rattle.stage_network.specs.Judged.{JudgeFits}
+use Rattle.networks.specs.declared.verdicts.Judge.{Judge}
+use Rattle.networks.specs.Judged.{JudgeFits}
 use Rattle.rising_pairs.specs.RisingPairs.{rising_pairs}
 
 -- from a base on, a step for each pair

@@ -6,13 +6,13 @@ ghost use Rattle.weights.specs.Labellings.{labellings, labels, number_of_labelli
 ghost use Rattle.weights.specs.Rules.{RuleFits, passes};
 ghost use Rattle.weights.specs.declared.TheConstants.{MAX};
 ghost use Rattle.weights.specs.declared.tails.Tail.{Tail};
-ghost use Rattle.stage_network.specs.Judged.{rule_in};
-ghost use Rattle.stage_network.specs.SweepSteps.{sum_for};
+ghost use Rattle.networks.specs.Judged.{rule_in};
+ghost use Rattle.networks.specs.EachTail.{sum_for};
 ghost use Rattle.rising_pairs.specs.RisingPairs.{SumsAlike, rising_count, rising_pairs};
 ghost use Rattle.rising_pairs.specs.RisingTails.{FitLabellings, even_value, passing_labellings};
 
 use crate::counts::rising_counts;
-use stage_network::{Judge, TailSum, TailSums};
+use networks::{Judge, TailSum, TailSums};
 use std::alloc::Global;
 use weights::{NoMemory, Rule};
 

@@ -3,9 +3,9 @@ use Rattle.std.proofs.Common.{◌≡◌, ℕ, ◌+◌, ◌<◌, ◌≤◌, List,
 use Rattle.std.specs.Prelude.{ℤ, pos, ◌+ℤ◌}
 use Rattle.std.specs.List.{Contains}
 use Rattle.weights.specs.declared.tails.Tail.{Tail}
-use Rattle.stage_network.specs.Completions.{total_weight}
-use Rattle.stage_network.specs.Network.{IsReached}
-use Rattle.stage_network.specs.Shifts.{IsShifting}
+use Rattle.networks.specs.Completions.{total_weight}
+use Rattle.networks.specs.Network.{IsReached}
+use Rattle.networks.specs.Shifts.{IsShifting}
 use Rattle.room_network.specs.Meanings.{AreReached, IsMove, IsShift, Meaning, verdict_at}
 use Rattle.room_network.specs.Plans.{Floor, Plan, Weights, alone}
 use Rattle.room_network.specs.RoomNetworks.{room_network, room_of}

@@ -3,7 +3,7 @@ use Rattle.std.proofs.Common.{◌≡◌, ℕ, ◌∙◌, ap, arith}
 use Rattle.std.specs.Prelude.{ℤ, pos, ◌+ℤ◌}
 use Rattle.std.proofs.lemmas.Int.{ints}
 use Rattle.weights.specs.declared.rules.Rule.{Rule}
-use Rattle.stage_network.specs.Judged.{verdict_of}
+use Rattle.networks.specs.Judged.{verdict_of}
 
 sum-raised : (p s : ℤ) (d : ℕ) → (p +ℤ pos d) +ℤ s ≡ (p +ℤ s) +ℤ pos d
 sum-raised p s d = omega (arith, ints)

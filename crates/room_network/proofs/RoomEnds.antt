@@ -6,10 +6,10 @@ use Rattle.weights.specs.Rules.{passes}
 use Rattle.weights.proofs.Chosen.{one_if}
 use Rattle.weights.proofs.GroupingLaw.{one-times}
 use Rattle.weights.proofs.Sums.{sum_by-filter, sum_by-same}
-use Rattle.stage_network.specs.Completions.{extreme_weight, value_weights}
-use Rattle.stage_network.specs.Judged.{rule_in}
-use Rattle.stage_network.specs.Network.{Network}
-use Rattle.stage_network.proofs.Judging.{extreme-passes}
+use Rattle.networks.specs.Completions.{extreme_weight, value_weights}
+use Rattle.networks.specs.Judged.{rule_in}
+use Rattle.networks.specs.Network.{Network}
+use Rattle.networks.proofs.Judging.{extreme-passes}
 use Rattle.room_network.specs.Meanings.{Meaning, IsMeasure, way_value}
 use Rattle.room_network.specs.Plans.{Gives, IsPlan, Plan, Weights}
 use Rattle.room_network.specs.RoomNetworks.{EndsAtMembers, IsHoused, member_weights, room_network}

@@ -10,9 +10,9 @@ use Rattle.weights.specs.Rules.{measured}
 use Rattle.weights.proofs.Chosen.{one_if}
 use Rattle.weights.proofs.GroupingLaw.{one-times}
 use Rattle.weights.proofs.Sums.{sum_by-filter, sum_by-same_where}
-use Rattle.stage_network.specs.Completions.{value_weights}
-use Rattle.stage_network.specs.Follows.{Follows, measured_weight}
-use Rattle.stage_network.specs.Judged.{HasIntervals, judge_of}
+use Rattle.networks.specs.Completions.{value_weights}
+use Rattle.networks.specs.Follows.{Follows, measured_weight}
+use Rattle.networks.specs.Judged.{HasIntervals, judge_of}
 use Rattle.room_network.specs.Meanings.{Meaning, IsMeasure, way_value}
 use Rattle.room_network.specs.Plans.{Gives, Weights}
 use Rattle.room_network.specs.RoomNetworks.{room_network}

@@ -4,8 +4,8 @@ use Rattle.std.specs.Prelude.{ℤ}
 use Rattle.std.specs.List.{sum_by, filter, Contains}
 use Rattle.std.proofs.lemmas.Bool.{lt-ltb, le-ltb}
 use Rattle.std.proofs.Math.Seq.{take-append_seam, drop-append_seam}
-use Rattle.stage_network.specs.Network.{IsReached}
-use Rattle.stage_network.specs.Completions.{paths, completions, path_weight, path_end, total_weight, ending_weight, value_weights}
+use Rattle.networks.specs.Network.{IsReached}
+use Rattle.networks.specs.Completions.{paths, completions, path_weight, path_end, total_weight, ending_weight, value_weights}
 use Rattle.weights.proofs.Chosen.{one_if}
 use Rattle.weights.proofs.Filters.{flat_map-same, filter-same}
 use Rattle.weights.proofs.GroupingLaw.{one-times}

@@ -3,10 +3,10 @@ use Rattle.std.proofs.Common.{◌≡◌, ◌≢◌, ℕ, zero, suc, ◌+◌, ◌
 use Rattle.std.specs.Prelude.{ℤ, ◌≤ℤ◌}
 use Rattle.std.specs.List.{Contains}
 use Rattle.std.proofs.lemmas.Bool.{cases_lt}
-use Rattle.stage_network.specs.Network.{IsReached}
-use Rattle.stage_network.specs.Laws.{IsLawful}
-use Rattle.stage_network.specs.Judged.{HasIntervals}
-use Rattle.stage_network.proofs.Judging.{intervals-inside, intervals-outside, intervals-decided}
+use Rattle.networks.specs.Network.{IsReached}
+use Rattle.networks.specs.Laws.{IsLawful}
+use Rattle.networks.specs.Judged.{HasIntervals}
+use Rattle.networks.proofs.Judging.{intervals-inside, intervals-outside, intervals-decided}
 use Rattle.room_network.specs.Meanings.{Meaning, IsMeasure}
 use Rattle.room_network.specs.Plans.{Plan, IsPlan, Weights}
 use Rattle.room_network.specs.RoomNetworks.{IsHoused, room_network, room_of, partial_of}

@@ -5,9 +5,9 @@ use Rattle.std.proofs.Common.{◌≡◌, ℕ, zero, suc, ◌+◌, ◌-◌, List,
 use Rattle.std.specs.Prelude.{ℤ, pos, min}
 use Rattle.weights.specs.declared.tails.Tail.TheVariants.{Less, Greater}
 use Rattle.weights.specs.declared.rules.Rule.TheVariants.{AtMost, AtLeast}
-use Rattle.stage_network.specs.Completions.{completions, path_end, path_weight}
-use Rattle.stage_network.specs.declared.stages.Verdict.TheVariants.{Inside, Outside, Undecided}
-use Rattle.stage_network.specs.Network.{Network}
+use Rattle.networks.specs.Completions.{completions, path_end, path_weight}
+use Rattle.networks.specs.declared.stages.Verdict.TheVariants.{Inside, Outside, Undecided}
+use Rattle.networks.specs.Network.{Network}
 use Rattle.room_network.specs.Meanings.{Meaning, way_value}
 use Rattle.room_network.specs.Plans.{Gives, Plan, ways, way_weight}
 use Rattle.room_network.specs.RoomNetworks.{room_network}

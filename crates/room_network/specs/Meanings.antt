@@ -2,9 +2,9 @@
 use Rattle.std.specs.Prelude.{◌≡◌, ℕ, zero, suc, ◌+◌, ◌<◌, ℤ, pos, ◌+ℤ◌, ◌≤ℤ◌, List, [], ◌∷◌, get_or, length}
 use Rattle.std.specs.List.{Contains}
 use Rattle.weights.specs.declared.tails.Tail.{Tail}
-use Rattle.stage_network.specs.declared.stages.Verdict.{Verdict}
-use Rattle.stage_network.specs.declared.verdicts.Judge.{Judge}
-use Rattle.stage_network.specs.Judged.{rule_in, verdict_of}
+use Rattle.networks.specs.declared.stages.Verdict.{Verdict}
+use Rattle.networks.specs.declared.verdicts.Judge.{Judge}
+use Rattle.networks.specs.Judged.{rule_in, verdict_of}
 use Rattle.room_network.specs.Plans.{Floor}
 
 pub record Meaning : Type 0 where

@@ -2,8 +2,8 @@
 -- between a least and a greatest.
 use Rattle.std.specs.Prelude.{◌≡◌, ℕ, ◌+◌, ◌*◌, ◌≤◌, ℤ, pos, ◌+ℤ◌, nat_abs, unsigned_abs, List, [], ◌∷◌, slice_index_or}
 use Rattle.weights.specs.declared.TheConstants.{MAX}
-use Rattle.stage_network.specs.declared.verdicts.Judge.{Judge}
-use Rattle.stage_network.specs.Judged.{JudgeFits}
+use Rattle.networks.specs.declared.verdicts.Judge.{Judge}
+use Rattle.networks.specs.Judged.{JudgeFits}
 use Rattle.room_network.specs.declared.numbers.Operation.{Operation}
 use Rattle.room_network.specs.declared.numbers.Operation.TheVariants.{Sum, Product}
 use Rattle.room_network.specs.Meanings.{AreReached, IsMeasure, IsMove, Meaning}

@@ -2,9 +2,9 @@
 use Rattle.std.specs.Prelude.{◌≡◌, ◌≢◌, ℕ, ◌*◌, ◌<◌, ◌≤◌, ℤ, pos, AllPairs, List, [], length, nat_lt, if◌then◌else◌}
 use Rattle.std.specs.List.{Contains, sum_by}
 use Rattle.weights.specs.declared.TheConstants.{MAX}
-use Rattle.stage_network.specs.declared.stages.Verdict.TheVariants.{Outside}
-use Rattle.stage_network.specs.Network.{Network, IsReached}
-use Rattle.stage_network.specs.Completions.{completions, path_weight, total_weight}
+use Rattle.networks.specs.declared.stages.Verdict.TheVariants.{Outside}
+use Rattle.networks.specs.Network.{Network, IsReached}
+use Rattle.networks.specs.Completions.{completions, path_weight, total_weight}
 
 -- The rooms and where their choices lead.
 pub record Floor : Type 0 where

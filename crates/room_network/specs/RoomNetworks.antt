@@ -3,9 +3,9 @@ use Rattle.std.specs.Prelude.{◌≡◌, ◌+◌, ◌≤◌, ℕ, ℤ, Bool, Lis
 use Rattle.std.specs.List.{sum_by}
 use Rattle.weights.specs.declared.tails.Tail.{Tail}
 use Rattle.weights.specs.Rules.{passes}
-use Rattle.stage_network.specs.Completions.{extreme_weight, value_weights}
-use Rattle.stage_network.specs.Network.{Network}
-use Rattle.stage_network.specs.Judged.{rule_in, verdict_of}
+use Rattle.networks.specs.Completions.{extreme_weight, value_weights}
+use Rattle.networks.specs.Network.{Network}
+use Rattle.networks.specs.Judged.{rule_in, verdict_of}
 use Rattle.room_network.specs.Meanings.{Meaning, way_value}
 use Rattle.room_network.specs.Plans.{Gives, Plan, Weights}
 

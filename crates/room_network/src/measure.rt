@@ -1,10 +1,10 @@
 // What a statistic offers to the network of its rooms.
 ghost use Rattle.std.specs.Prelude.{◌≡◌, ℕ, ◌≤◌, ◌+ℤ◌, [], ◌∷◌, length, pos, true};
-ghost use Rattle.stage_network.specs.Judged.{rule_in, verdict_of};
+ghost use Rattle.networks.specs.Judged.{rule_in, verdict_of};
 ghost use Rattle.room_network.specs.Meanings.{AreReached, IsEnd, IsMeasure, IsMove, IsRoom};
 ghost use Rattle.room_network.specs.Meanings.{IsShift, IsStep, Meaning, verdict_at};
 
-use stage_network::Verdict;
+use networks::Verdict;
 use weights::Tail;
 
 /// What is measured of the ways through rooms. Before each stage there is a partial, of a fixed

@@ -4,7 +4,7 @@ ghost use Rattle.room_network.specs.RoomNetworks.{EndsAtMembers, IsHoused, room_
 
 use crate::measure::Measure;
 use crate::rooms::Rooms;
-use stage_network::{Roomed, Stages, Verdict, behind, front};
+use networks::{Roomed, Stages, Verdict, behind, front};
 use std::marker::Model;
 use weights::Tail;
 

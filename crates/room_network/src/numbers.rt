@@ -5,7 +5,7 @@ ghost use Rattle.room_network.specs.Numbers.{Fits, IsNumber, Numbers, number_mea
 ghost use Rattle.room_network.specs.Plans.{Floor};
 
 use crate::measure::Measure;
-use stage_network::{Interval, Judge, Verdict};
+use networks::{Interval, Judge, Verdict};
 use std::marker::Model;
 use weights::{Tail, only, plus, times};
 

@@ -1,8 +1,8 @@
 // What is rearranged, stage by stage.
 ghost use Rattle.std.specs.Prelude.{◌≡◌, ◌<◌, [], ◌∷◌, length, if◌then◌else◌};
 ghost use Rattle.std.specs.List.{Contains};
-ghost use Rattle.stage_network.specs.Completions.{total_weight};
-ghost use Rattle.stage_network.specs.Network.{IsReached};
+ghost use Rattle.networks.specs.Completions.{total_weight};
+ghost use Rattle.networks.specs.Network.{IsReached};
 ghost use Rattle.room_network.specs.Plans.{Plan, IsPlan, alone};
 
 /// What is rearranged, stage by stage. A room says what is left; it has the choices of a stage,

@@ -22,9 +22,9 @@ use Rattle.sample_reader.specs.Groups.{GroupData}
 use Rattle.sample_reader.specs.PooledSample.{labels_of, values_of}
 use Rattle.sample_reader.specs.declared.samples.BivariateSample.{BivariateSample}
 use Rattle.sample_reader.specs.declared.subjects.Subject.{Subject}
-use Rattle.stage_network.specs.Follows.{Follows}
-use Rattle.stage_network.specs.Judged.{judge_of}
-use Rattle.stage_network.specs.declared.verdicts.Judge.{Judge}
+use Rattle.networks.specs.Follows.{Follows}
+use Rattle.networks.specs.Judged.{judge_of}
+use Rattle.networks.specs.declared.verdicts.Judge.{Judge}
 use Rattle.room_network.proofs.RoomFollows.{room_follows}
 use Rattle.label_network.specs.LabelRooms.{label_weight}
 use Rattle.labelled.specs.LabelTests.{IsSound, IsWithin}

@@ -12,9 +12,9 @@ use Rattle.weights.proofs.FirstLabel.{number_of_labellings-positive}
 use Rattle.weights.proofs.GroupingLaw.{grouping}
 use Rattle.weights.proofs.Sized.{length-minus, sum-minus}
 use Rattle.weights.proofs.Sums.{sum_by-flat_map, sum_by-map, sum_by-one, sum_by-same, sum_by-same_where}
-use Rattle.stage_network.specs.Completions.{paths, path_weight, total_weight}
-use Rattle.stage_network.specs.Network.{IsReached}
-use Rattle.stage_network.proofs.Images.{mapped_from}
+use Rattle.networks.specs.Completions.{paths, path_weight, total_weight}
+use Rattle.networks.specs.Network.{IsReached}
+use Rattle.networks.proofs.Images.{mapped_from}
 use Rattle.room_network.specs.Plans.{Gives, Plan, IsPlan, alone}
 use Rattle.room_network.proofs.RoomKeys.{is_allowed}
 use Rattle.label_network.specs.LabelSteps.{least}

@@ -5,7 +5,7 @@ use Rattle.std.specs.List.{Contains}
 use Rattle.weights.specs.Grouped.{minus}
 use Rattle.weights.proofs.ChoiceLists.{IsChoice}
 use Rattle.weights.proofs.Sized.{length-minus, sum-minus}
-use Rattle.stage_network.specs.Network.{IsReached}
+use Rattle.networks.specs.Network.{IsReached}
 use Rattle.room_network.specs.Plans.{alone}
 use Rattle.label_network.specs.LabelSteps.{IsHeld}
 use Rattle.label_network.proofs.Narrowing.{chosen, fits-self, minus-within}

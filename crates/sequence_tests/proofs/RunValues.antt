@@ -5,7 +5,7 @@ use Rattle.std.specs.List.{AllByRecursion}
 use Rattle.std.proofs.lemmas.Int.{ints}
 use Rattle.weights.specs.Grouped.{columns_of, minus}
 use Rattle.weights.specs.Labellings.{counts_of}
-use Rattle.stage_network.specs.declared.verdicts.Judge.{Judge}
+use Rattle.networks.specs.declared.verdicts.Judge.{Judge}
 use Rattle.label_network.proofs.Endings.{labelling_value, partial_after}
 use Rattle.label_network.specs.Meanings.{Meaning}
 use Rattle.sequence_tests.specs.RunNetwork.{begins_run, label_in, runs_meaning, runs_so_far}

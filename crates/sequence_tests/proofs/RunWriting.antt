@@ -14,11 +14,11 @@ use Rattle.weights.specs.Grouped.{choices}
 use Rattle.weights.specs.Labellings.{number_of_labellings}
 use Rattle.weights.proofs.FirstLabel.{number_of_labellings-positive}
 use Rattle.sample_reader.specs.Sequences.{SequenceData}
-use Rattle.stage_network.specs.declared.verdicts.Judge.{Judge}
-use Rattle.stage_network.specs.Completions.{over_arcs}
-use Rattle.stage_network.specs.Judged.{judge_of}
-use Rattle.stage_network.specs.Network.{Network, IsReached}
-use Rattle.stage_network.specs.Written.{RunsFor, StandsFor}
+use Rattle.networks.specs.declared.verdicts.Judge.{Judge}
+use Rattle.networks.specs.Completions.{over_arcs}
+use Rattle.networks.specs.Judged.{judge_of}
+use Rattle.networks.specs.Network.{Network, IsReached}
+use Rattle.networks.specs.Written.{RunsFor, StandsFor}
 use Rattle.label_network.specs.LabelNetwork.{label_network}
 use Rattle.label_network.proofs.Narrowing.{chosen}
 use Rattle.sequence_tests.specs.RunNetwork.{begins_run, labels_for, runs_meaning, sequence_meaning, written_network, written_runs}

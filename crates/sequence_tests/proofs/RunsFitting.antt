@@ -14,8 +14,8 @@ use Rattle.weights.proofs.Sized.{sum-counts_of}
 use Rattle.sample_reader.specs.Data.{sequence_data_of}
 use Rattle.sample_reader.specs.Sequences.{SequenceData}
 use Rattle.sample_reader.specs.declared.samples.Sequence.{Sequence}
-use Rattle.stage_network.specs.declared.verdicts.Judge.{Judge}
-use Rattle.stage_network.specs.Judged.{judge_of}
+use Rattle.networks.specs.declared.verdicts.Judge.{Judge}
+use Rattle.networks.specs.Judged.{judge_of}
 use Rattle.label_network.specs.LabelNetwork.{label_network}
 use Rattle.labelled.specs.LabelTests.{IsSound, IsWithin}
 use Rattle.labelled.proofs.LabelLaws.{label-follows, label-judge}

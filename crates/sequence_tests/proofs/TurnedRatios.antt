@@ -13,12 +13,12 @@ use Rattle.weights.specs.Rules.{measured, passes, rule_of}
 use Rattle.weights.proofs.Centred.{all-weigh, measured-is}
 use Rattle.weights.proofs.Filters.{all_map, filter-same}
 use Rattle.weights.proofs.Sums.{sum_by-filter-≤, sum_by-map, sum_by-same_where, sum_by-times}
-use Rattle.stage_network.specs.Follows.{statistic_sums}
-use Rattle.stage_network.specs.Judged.{judge_of, rule_in}
-use Rattle.stage_network.specs.Lines.{IsAscending, line_sum}
-use Rattle.stage_network.specs.declared.verdicts.Judge.{Judge}
+use Rattle.networks.specs.Follows.{statistic_sums}
+use Rattle.networks.specs.Judged.{judge_of, rule_in}
+use Rattle.networks.specs.Lines.{IsAscending, line_sum}
+use Rattle.networks.specs.declared.verdicts.Judge.{Judge}
 use Rattle.stage_network.proofs.DistributionLines.{distribution-is, spread-is}
-use Rattle.stage_network.proofs.Following.{numerator-by_rule, rule-of}
+use Rattle.networks.proofs.Following.{numerator-by_rule, rule-of}
 use Rattle.labelled.proofs.LabelLaws.{total-some}
 use Rattle.sample_reader.specs.Bivariate.{BivariateData}
 use Rattle.pooled_columns.specs.PooledColumns.{column_sizes}

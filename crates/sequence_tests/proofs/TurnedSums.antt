@@ -21,7 +21,7 @@ use Rattle.sample_reader.specs.Bivariate.{BivariateData}
 use Rattle.sample_reader.specs.Groups.{GroupData}
 use Rattle.sample_reader.specs.PooledSample.{may_precede, paired_subjects, values_of}
 use Rattle.sample_reader.specs.declared.subjects.Subject.{Subject}
-use Rattle.stage_network.specs.Follows.{statistic_sums}
+use Rattle.networks.specs.Follows.{statistic_sums}
 use Rattle.labelled.proofs.LabelLaws.{total-of}
 use Rattle.pooled_columns.specs.PooledColumns.{column_sizes}
 use Rattle.pooled_columns.proofs.PooledValues.{pooled-rises}

@@ -5,9 +5,9 @@ use Rattle.weights.specs.declared.tails.Tail.{Tail}
 use Rattle.weights.specs.Grouped.{minus}
 use Rattle.sample_reader.specs.Bivariate.{BivariateData}
 use Rattle.sample_reader.specs.PooledSample.{values_of}
-use Rattle.stage_network.specs.Judged.{judge_of}
-use Rattle.stage_network.specs.Network.{Network}
-use Rattle.stage_network.specs.declared.verdicts.Judge.{Judge}
+use Rattle.networks.specs.Judged.{judge_of}
+use Rattle.networks.specs.Network.{Network}
+use Rattle.networks.specs.declared.verdicts.Judge.{Judge}
 use Rattle.room_network.specs.Meanings.{Meaning}
 use Rattle.room_network.specs.Numbers.{Numbers, number_meaning}
 use Rattle.room_network.specs.RoomNetworks.{room_network}

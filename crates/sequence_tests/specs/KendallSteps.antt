@@ -5,9 +5,9 @@ use Rattle.weights.specs.declared.TheConstants.{MAX}
 use Rattle.weights.specs.Grouped.{fits, minus}
 use Rattle.weights.specs.Labellings.{number_of_labellings}
 use Rattle.sample_reader.specs.declared.subjects.Subject.{Subject}
-use Rattle.stage_network.specs.Completions.{total_weight}
-use Rattle.stage_network.specs.Judged.{JudgeFits}
-use Rattle.stage_network.specs.declared.verdicts.Judge.{Judge}
+use Rattle.networks.specs.Completions.{total_weight}
+use Rattle.networks.specs.Judged.{JudgeFits}
+use Rattle.networks.specs.declared.verdicts.Judge.{Judge}
 use Rattle.room_network.specs.Plans.{alone}
 use Rattle.label_network.specs.LabelSteps.{IsHeld, least}
 use Rattle.sequence_tests.specs.Kendall.{one_where_greater, one_where_less}

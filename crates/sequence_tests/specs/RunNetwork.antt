@@ -3,11 +3,11 @@
 -- label, the label of the row before, or 2 before the first row, and the runs so far. What runs
 -- keeps beside these how many are left to get the second label.
 use Rattle.std.specs.Prelude.{ℕ, zero, suc, ◌+◌, ◌-◌, ◌*◌, ℤ, pos, ◌+ℤ◌, nat_abs, List, [], ◌∷◌, drop, get_or, min, replicate, nat_eq, nat_lt, if◌then◌else◌}
-use Rattle.stage_network.specs.declared.verdicts.Judge.{Judge}
+use Rattle.networks.specs.declared.verdicts.Judge.{Judge}
 use Rattle.weights.specs.declared.tails.Tail.{Tail}
 use Rattle.sample_reader.specs.Sequences.{SequenceData}
-use Rattle.stage_network.specs.Judged.{judge_of, rule_in, verdict_of}
-use Rattle.stage_network.specs.Network.{Network}
+use Rattle.networks.specs.Judged.{judge_of, rule_in, verdict_of}
+use Rattle.networks.specs.Network.{Network}
 use Rattle.label_network.specs.LabelNetwork.{label_network}
 use Rattle.label_network.specs.Meanings.{Meaning}
 use Rattle.sequence_tests.specs.Runs.{rows_with, runs_test}

@@ -1,8 +1,8 @@
 -- Words for the bodies of the runs test.
 use Rattle.std.specs.Prelude.{◌≡◌, ℕ, ◌+◌, ◌*◌, ◌<◌, ◌≤◌, ℤ, pos, ◌+ℤ◌, nat_abs, List, length, get_or}
 use Rattle.std.specs.List.{All}
-use Rattle.stage_network.specs.declared.verdicts.Judge.{Judge}
-use Rattle.stage_network.specs.Judged.{JudgeFits}
+use Rattle.networks.specs.declared.verdicts.Judge.{Judge}
+use Rattle.networks.specs.Judged.{JudgeFits}
 use Rattle.weights.specs.declared.TheConstants.{MAX}
 use Rattle.weights.specs.Labellings.{number_of_labellings}
 use Rattle.record_reader.specs.declared.TheConstants.{MOST_ROWS}

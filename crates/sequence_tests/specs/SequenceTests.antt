@@ -3,9 +3,9 @@ use Rattle.weights.specs.Conditional.{ConditionalTest}
 use Rattle.weights.specs.declared.tails.Tail.{Tail}
 use Rattle.sample_reader.specs.Bivariate.{BivariateData}
 use Rattle.sample_reader.specs.Sequences.{SequenceData}
-use Rattle.stage_network.specs.declared.one_of.OneOf.{OneOf}
-use Rattle.stage_network.specs.Network.{Network}
-use Rattle.stage_network.specs.OneOf.{of_either}
+use Rattle.networks.specs.declared.one_of.OneOf.{OneOf}
+use Rattle.networks.specs.Network.{Network}
+use Rattle.networks.specs.OneOf.{of_either}
 use Rattle.sequence_tests.specs.Kendall.{kendall_test}
 use Rattle.sequence_tests.specs.KendallNetwork.{kendall_network}
 use Rattle.sequence_tests.specs.RunNetwork.{running_runs, runs_network}

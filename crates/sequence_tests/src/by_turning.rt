@@ -1,15 +1,16 @@
 // Kendall's test by the test as it stands or by the test turned, where no key is to be counted.
 ghost use Rattle.std.specs.Prelude.{◌≡◌, true, IfOk};
 ghost use Rattle.weights.specs.Conditional.{numerator};
-ghost use Rattle.stage_network.specs.Follows.{AreNumerators};
-ghost use Rattle.stage_network.specs.Judged.{judge_of};
+ghost use Rattle.networks.specs.Follows.{AreNumerators};
+ghost use Rattle.networks.specs.Judged.{judge_of};
 ghost use Rattle.sequence_tests.specs.Kendall.{kendall_test};
 ghost use Rattle.sequence_tests.specs.TurnedKendall.{turned_bivariate};
 
 use crate::pair_order::PairOrder;
 use crate::turned::turned_of;
 use labelled::LabelStatistic;
-use stage_network::{Judge, TailSum, TailSums, tail_sums_by_rooms};
+use networks::{Judge, TailSum, TailSums};
+use stage_network::tail_sums_by_rooms;
 use std::alloc::Global;
 use turned_tables::in_ratio;
 use weights::{NoMemory, Tail, Tails};

@@ -10,10 +10,10 @@ use crate::kendall_rooms::KendallRooms;
 use crate::kendall_sums::kendall_sum;
 use crate::pair_order::PairOrder;
 use labelled::{LabelStatistic, Labelled};
+use networks::{Judge, TailSums};
 use pooled_columns::labels_in;
 use room_network::{Numbered, RoomNetwork};
 use sample_reader::BivariateSample;
-use stage_network::{Judge, TailSums};
 use std::alloc::Global;
 use weights::{NoMemory, PrepareFault, Tail, Tails};
 

@@ -2,7 +2,7 @@
 ghost use Rattle.std.specs.Prelude.{◌≡◌, ◌<◌, ◌≤◌, length, slice_index, IfOk};
 ghost use Rattle.std.specs.List.{Contains};
 ghost use Rattle.weights.specs.Grouped.{minus};
-ghost use Rattle.stage_network.specs.Network.{IsReached};
+ghost use Rattle.networks.specs.Network.{IsReached};
 ghost use Rattle.room_network.specs.Plans.{alone};
 ghost use Rattle.sequence_tests.specs.KendallRooms.{code_in, counts_left, kendall_floor, kendall_plan};
 ghost use Rattle.sequence_tests.specs.KendallSteps.{AreKendallCounts, AreSome, IsCode, IsCoded, KendallChoice, KendallSeat};

@@ -5,8 +5,8 @@ ghost use Rattle.sequence_tests.specs.KendallSteps.{IsKendall};
 
 use crate::kendall_counts::KendallCounts;
 use crate::pairs::{concordance, open_pairs};
+use networks::{Interval, Judge};
 use room_network::{NumberMeasure, Operation};
-use stage_network::{Interval, Judge};
 use std::alloc::Global;
 use weights::NoMemory;
 

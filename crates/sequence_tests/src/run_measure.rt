@@ -12,8 +12,8 @@ ghost use Rattle.sequence_tests.specs.RunSteps.{AreRunNumbers, AreTwoSizes, IsRu
 ghost use Rattle.sequence_tests.specs.RunSteps.{least_left, most_left};
 
 use label_network::read_sizes;
+use networks::{Interval, Judge, Verdict};
 use room_network::Measure;
-use stage_network::{Interval, Judge, Verdict};
 use weights::{Tail, plus};
 
 /// The runs of labellings of single rows, so many of the first label and so many of the second. A

@@ -25,7 +25,7 @@ use Rattle.scores.specs.declared.kinds.ScoreKind.TheVariants.{Wilcoxon}
 use Rattle.sample_reader.specs.Data.{data_of}
 use Rattle.sample_reader.specs.Groups.{GroupData, group_sizes}
 use Rattle.sample_reader.specs.declared.samples.Groups.{Groups}
-use Rattle.stage_network.specs.Lines.{WeightsFit, line_sum}
+use Rattle.networks.specs.Lines.{WeightsFit, line_sum}
 use Rattle.pooled_columns.specs.PooledColumns.{pooled_values}
 use Rattle.two_sample_tests.specs.TwoSamples.{TwoSamples, pooled_scores, two_sample_test}
 use Rattle.distribution.proofs.TailLaw.{distribution-sum}

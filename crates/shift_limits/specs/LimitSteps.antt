@@ -5,7 +5,7 @@ use Rattle.weights.specs.declared.lines.Line.{Line}
 use Rattle.record_reader.specs.declared.TheConstants.{MOST_ROWS}
 use Rattle.sample_reader.specs.Groups.{GroupData}
 use Rattle.sample_reader.specs.Kept.{AreDifferences}
-use Rattle.stage_network.specs.Lines.{WeightsFit, line_sum}
+use Rattle.networks.specs.Lines.{WeightsFit, line_sum}
 use Rattle.shift_limits.specs.Differences.{differences, places_of}
 use Rattle.shift_limits.specs.LaterPairs.{labellings_below}
 use Rattle.shift_limits.specs.declared.differences.Differences.{Differences}

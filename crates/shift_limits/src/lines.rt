@@ -8,9 +8,9 @@ ghost use Rattle.sample_reader.specs.Data.{data_of};
 ghost use Rattle.sample_reader.specs.Kept.{AreInRange};
 ghost use Rattle.shift_limits.specs.LimitSteps.{AreRankLines, untied};
 
+use networks::{Spread, Way};
 use sample_reader::Groups;
 use scores::ScoreKind;
-use stage_network::{Spread, Way};
 use std::alloc::Global;
 use two_sample_tests::{distribution, prepare};
 use weights::{Ints, NoMemory, PrepareFault};

@@ -8,7 +8,7 @@ ghost use Rattle.weights.specs.Odds.{IsMiss};
 ghost use Rattle.shift_limits.specs.LimitSteps.{AreRankLines, is_within, rank_sum};
 
 use distribution::below;
-use stage_network::Spread;
+use networks::Spread;
 use weights::Odds;
 
 // The doubled rank sum of so many subjects of the second sample, where the later place of so many

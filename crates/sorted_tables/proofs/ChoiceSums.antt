@@ -20,8 +20,8 @@ use Rattle.weights.proofs.Sized.{first_and, length-minus, sum-minus}
 use Rattle.weights.proofs.Sums.{sum_by-map, sum_by-one, sum_by-same, sum_by-same_where, sum_by-scaled}
 use Rattle.completion_bounds.specs.Fillings.{falling, is_at_least}
 use Rattle.completion_bounds.proofs.TableWeights.{labellings-parts, sum-falling, within}
-use Rattle.stage_network.proofs.Bounds.{term-le-sum_by}
-use Rattle.stage_network.proofs.OpenKeys.{all_filter}
+use Rattle.networks.proofs.Elements.{term-le-sum_by}
+use Rattle.networks.proofs.Elements.{all_filter}
 use Rattle.label_network.specs.ChoiceOrder.{later_choices}
 use Rattle.label_network.specs.LabelSteps.{least}
 use Rattle.label_network.specs.Meanings.{sizes_in}

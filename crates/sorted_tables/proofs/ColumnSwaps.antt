@@ -5,7 +5,7 @@ use Rattle.weights.specs.Grouped.{choices, minus}
 use Rattle.weights.specs.Labellings.{number_of_labellings}
 use Rattle.weights.proofs.GroupingLaw.{by_columns, by_columns-step}
 use Rattle.weights.proofs.Sums.{sum_by-fronts, sum_by-same, sum_by-scaled, sum_by-swap}
-use Rattle.stage_network.proofs.Swaps.{swap_at}
+use Rattle.networks.proofs.Swaps.{swap_at}
 use Rattle.label_network.proofs.ChoiceSwaps.{pairs, pairs-turned}
 
 -- the choices for two columns, one after the other

@@ -10,7 +10,7 @@ use Rattle.weights.proofs.ChoiceLists.{IsChoice, choices-each}
 use Rattle.weights.proofs.Filters.{all_append, all_map, all_weaker}
 use Rattle.weights.proofs.Members.{Contains-filter, all_fronts, range-below}
 use Rattle.weights.proofs.Sized.{first_and}
-use Rattle.stage_network.proofs.Bounds.{term-le-sum_by}
+use Rattle.networks.proofs.Elements.{term-le-sum_by}
 use Rattle.label_network.specs.ChoiceOrder.{later_choices}
 use Rattle.label_network.specs.LabelSteps.{least}
 use Rattle.label_network.proofs.LaterChoices.{least-first}

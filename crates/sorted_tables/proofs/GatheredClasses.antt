@@ -16,7 +16,7 @@ use Rattle.sorted_tables.specs.GatheredChoices.{gathered, gets_less, is_gathered
 use Rattle.sorted_tables.specs.SortedSteps.{run}
 use Rattle.sorted_tables.proofs.GatheredForms.{Rise, at-least, gathered-swap, length-gathered, less-parts}
 use Rattle.label_network.proofs.ChoiceSwaps.{swapped_choices}
-use Rattle.stage_network.proofs.Swaps.{swap_at}
+use Rattle.networks.proofs.Swaps.{swap_at}
 
 -- how many choices of a column are gathered into one
 abbrev pub number_gathered : ℕ → List ℕ → List ℕ → ℕ

@@ -4,7 +4,7 @@ use Rattle.std.specs.Cmp.Lexicographic.{pointwise, same_text}
 use Rattle.std.proofs.lemmas.Bool.{and_parts, both_ways, cases_lt, cases_order, eqb-true, ltb-true}
 use Rattle.weights.proofs.Members.{same_refl}
 use Rattle.sorted_tables.specs.GatheredChoices.{gathered, gets_less, is_gathered, put_among}
-use Rattle.stage_network.proofs.Swaps.{length-swap, swap_at}
+use Rattle.networks.proofs.Swaps.{length-swap, swap_at}
 
 pub less-parts : (s b q a : ℕ) → gets_less s b q a ≡ true → (s ≡ q) × (b < a)
 less-parts s b q a e =

@@ -11,7 +11,7 @@ use Rattle.weights.proofs.GroupingLaw.{by_columns}
 use Rattle.weights.proofs.OneOrder.{IsInOrder, IsOrder, order-is}
 use Rattle.weights.proofs.Sums.{sum_by-same}
 use Rattle.completion_bounds.proofs.FallingSizes.{Rises, rises}
-use Rattle.stage_network.proofs.Swaps.{length-swap, swap_at}
+use Rattle.networks.proofs.Swaps.{length-swap, swap_at}
 use Rattle.sorted_tables.proofs.ColumnSwaps.{factors, column_swap}
 use Rattle.sorted_tables.specs.SortedRooms.{rising}
 use Rattle.label_network.proofs.ChoiceSwaps.{labellings-swap}

@@ -5,7 +5,7 @@ use Rattle.weights.specs.Labellings.{number_of_labellings}
 use Rattle.weights.proofs.ChoiceLists.{IsChoice, choices-each}
 use Rattle.weights.proofs.GroupingLaw.{by_columns, by_columns-step}
 use Rattle.weights.proofs.Sums.{sum_by-same_where}
-use Rattle.stage_network.proofs.Swaps.{swap_at}
+use Rattle.networks.proofs.Swaps.{swap_at}
 use Rattle.label_network.proofs.ChoiceSwaps.{labellings-swap, minus-swap, swapped_choices}
 
 -- two neighbouring rows change places in each column

@@ -14,9 +14,9 @@ use Rattle.weights.proofs.Sums.{sum_by-same, sum_by-one}
 use Rattle.completion_bounds.specs.Fillings.{falling, is_at_least}
 use Rattle.completion_bounds.proofs.FallingSizes.{within-falling}
 use Rattle.completion_bounds.proofs.TableWeights.{fits-within, sum-falling, within-fits}
-use Rattle.stage_network.specs.Completions.{paths, path_weight, total_weight}
-use Rattle.stage_network.specs.Network.{IsReached}
-use Rattle.stage_network.proofs.Images.{filtered_from}
+use Rattle.networks.specs.Completions.{paths, path_weight, total_weight}
+use Rattle.networks.specs.Network.{IsReached}
+use Rattle.networks.proofs.Images.{filtered_from}
 use Rattle.room_network.specs.Plans.{IsPlan, alone}
 use Rattle.room_network.proofs.RoomKeys.{KeepsWidth, is_allowed}
 use Rattle.label_network.specs.LabelSteps.{least}

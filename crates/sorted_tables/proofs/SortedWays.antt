@@ -9,7 +9,7 @@ use Rattle.weights.proofs.GroupingLaw.{by_columns, by_columns-step, grouping}
 use Rattle.weights.proofs.Sums.{sum_by-fronts, sum_by-same, sum_by-same_where, sum_by-scaled}
 use Rattle.weights.proofs.ChoiceLists.{IsChoice, choices-each}
 use Rattle.completion_bounds.specs.Fillings.{falling, is_at_least}
-use Rattle.stage_network.specs.Completions.{paths, path_weight}
+use Rattle.networks.specs.Completions.{paths, path_weight}
 use Rattle.room_network.specs.Plans.{Plan, alone, way_weight}
 use Rattle.label_network.proofs.LabelPlans.{sizes-back}
 use Rattle.sorted_tables.specs.GatheredChoices.{gathered, gathered_weight, is_gathered}

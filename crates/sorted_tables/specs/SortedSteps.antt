@@ -5,7 +5,7 @@ use Rattle.weights.specs.declared.TheConstants.{MAX}
 use Rattle.weights.specs.Grouped.{choices, fits, minus}
 use Rattle.weights.specs.Labellings.{number_of_labellings}
 use Rattle.completion_bounds.specs.Fillings.{falling}
-use Rattle.stage_network.specs.Completions.{total_weight}
+use Rattle.networks.specs.Completions.{total_weight}
 use Rattle.room_network.specs.Plans.{alone}
 use Rattle.label_network.specs.LabelRooms.{IsLabelled}
 use Rattle.label_network.specs.LabelSteps.{AreSizes, IsHeld, least}

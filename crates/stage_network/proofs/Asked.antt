@@ -5,15 +5,15 @@ use Rattle.std.specs.List.{AllByRecursion}
 use Rattle.weights.specs.declared.tails.Tail.{Tail}
 use Rattle.weights.specs.declared.tails.Tails.{Tails}
 use Rattle.node_pool.specs.Nodes.{Node, NodeRow, weighted}
-use Rattle.stage_network.specs.declared.stages.Verdict.{Verdict}
-use Rattle.stage_network.specs.declared.stages.Verdict.TheVariants.{Inside, Outside, Undecided}
-use Rattle.stage_network.specs.declared.tail_sums.TailSums.{TailSums}
-use Rattle.stage_network.specs.Asked.{asked, asks, with_verdicts}
-use Rattle.stage_network.specs.Completions.{completions, path_end, is_inside, total_weight, extreme_weight}
-use Rattle.stage_network.specs.Laws.{IsLawful, IsSound}
-use Rattle.stage_network.specs.Network.{Network, IsReached}
-use Rattle.stage_network.specs.Opened.{opened_below}
-use Rattle.stage_network.specs.Rooms.{AreRoommates, IsRoomed}
+use Rattle.networks.specs.declared.stages.Verdict.{Verdict}
+use Rattle.networks.specs.declared.stages.Verdict.TheVariants.{Inside, Outside, Undecided}
+use Rattle.networks.specs.declared.tail_sums.TailSums.{TailSums}
+use Rattle.networks.specs.Asked.{asked, asks, with_verdicts}
+use Rattle.networks.specs.Completions.{completions, path_end, is_inside, total_weight, extreme_weight}
+use Rattle.networks.specs.Laws.{IsLawful, IsSound}
+use Rattle.networks.specs.Network.{Network, IsReached}
+use Rattle.networks.specs.Opened.{opened_below}
+use Rattle.networks.specs.Rooms.{AreRoommates, IsRoomed}
 use Rattle.stage_network.specs.StageSteps.{Housed}
 use Rattle.stage_network.specs.ArcSteps.{lift}
 use Rattle.stage_network.specs.SweepSteps.{IsRoomful}

@@ -6,11 +6,11 @@ use Rattle.std.proofs.lemmas.List.Elements.{recursion_from_All, All-contains_its
 use Rattle.weights.specs.declared.tails.Tail.{Tail}
 use Rattle.weights.specs.declared.tails.Tail.TheVariants.{Less, Greater, Two}
 use Rattle.node_pool.specs.Nodes.{Node, key_eq, keys, weighted}
-use Rattle.stage_network.specs.Laws.{IsLawful}
-use Rattle.stage_network.specs.Network.{Network, IsReached}
+use Rattle.networks.specs.Laws.{IsLawful}
+use Rattle.networks.specs.Network.{Network, IsReached}
 use Rattle.stage_network.specs.NodeSteps.{successor, successors, AllReached, AllHeavy}
-use Rattle.stage_network.specs.Opened.{is_open, is_open_for_some}
-use Rattle.stage_network.proofs.Steps.{sum_by-flat_map, sum_by-same}
+use Rattle.networks.specs.Opened.{is_open, is_open_for_some}
+use Rattle.networks.proofs.Steps.{sum_by-flat_map, sum_by-same}
 use Rattle.stage_network.proofs.Conserved.{weighted-successors, all_append, all_map, all_weaker, not_undecided}
 use Rattle.stage_network.proofs.OpenKeys.{distinct_filter, keys-filter}
 use Rattle.weights.proofs.Products.{product-some}

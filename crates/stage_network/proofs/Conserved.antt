@@ -6,16 +6,16 @@ use Rattle.std.proofs.lemmas.List.Sums.{sum_by-cons}
 use Rattle.std.proofs.lemmas.List.Elements.{recursion_from_All, All-contains_itself}
 use Rattle.std.proofs.Math.Nat.{mul_assoc}
 use Rattle.weights.specs.declared.tails.Tail.{Tail}
-use Rattle.stage_network.specs.declared.stages.Verdict.{Verdict}
-use Rattle.stage_network.specs.declared.stages.Verdict.TheVariants.{Inside, Outside, Undecided}
+use Rattle.networks.specs.declared.stages.Verdict.{Verdict}
+use Rattle.networks.specs.declared.stages.Verdict.TheVariants.{Inside, Outside, Undecided}
 use Rattle.node_pool.specs.Nodes.{Node, weighted}
-use Rattle.stage_network.specs.Completions.{is_inside, is_extreme, total_weight, extreme_weight, completions, path_weight}
-use Rattle.stage_network.specs.Laws.{IsLawful}
-use Rattle.stage_network.specs.Network.{Network, IsReached}
+use Rattle.networks.specs.Completions.{is_inside, is_extreme, total_weight, extreme_weight, completions, path_weight}
+use Rattle.networks.specs.Laws.{IsLawful}
+use Rattle.networks.specs.Network.{Network, IsReached}
 use Rattle.stage_network.specs.NodeSteps.{successor, successors, closed_part, closed_weight, AllReached}
-use Rattle.stage_network.specs.Opened.{is_open_for_some, is_undecided}
+use Rattle.networks.specs.Opened.{is_open_for_some, is_undecided}
 use Rattle.stage_network.proofs.NodeSums.{open-for}
-use Rattle.stage_network.proofs.Steps.{sum_by-same, sum_by-scaled, sum_by-map, filter_all, filter_none, reached-next}
+use Rattle.networks.proofs.Steps.{sum_by-same, sum_by-scaled, sum_by-map, filter_all, filter_none, reached-next}
 pub use Rattle.weights.proofs.Sums.{sum_by-filter}
 pub use Rattle.weights.proofs.Filters.{all_append, all_map, all_weaker}
 

@@ -9,22 +9,24 @@ use Rattle.weights.specs.declared.tails.Tail.TheVariants.{Less}
 use Rattle.weights.specs.declared.tails.Tails.{Tails}
 use Rattle.weights.specs.declared.TheConstants.{MAX}
 use Rattle.node_pool.specs.Nodes.{Node, node, key_eq, keys, weighted}
-use Rattle.stage_network.specs.declared.tail_sums.TailSums.{TailSums}
-use Rattle.stage_network.specs.declared.tail_sums.Kept.{Kept}
-use Rattle.stage_network.specs.declared.tail_sums.Kept.TheVariants.{Open, All}
+use Rattle.networks.specs.declared.tail_sums.TailSums.{TailSums}
+use Rattle.networks.specs.declared.tail_sums.Kept.{Kept}
+use Rattle.networks.specs.declared.tail_sums.Kept.TheVariants.{Open, All}
 use Rattle.stage_network.specs.declared.sweep.Sweep.{Sweep}
-use Rattle.stage_network.specs.Asked.{asked}
-use Rattle.stage_network.specs.Network.{Network, IsReached}
-use Rattle.stage_network.specs.Completions.{total_weight, extreme_weight}
-use Rattle.stage_network.specs.Laws.{IsLawful}
-use Rattle.stage_network.specs.Opened.{is_open, is_open_for_some, reached_by_some, opened_by_some}
+use Rattle.networks.specs.Asked.{asked}
+use Rattle.networks.specs.Network.{Network, IsReached}
+use Rattle.networks.specs.Completions.{total_weight, extreme_weight}
+use Rattle.networks.specs.Laws.{IsLawful}
+use Rattle.networks.specs.Opened.{is_open, is_open_for_some, reached_by_some, opened_by_some}
 use Rattle.stage_network.specs.NodeSteps.{all_successors, AllReached, AllHeavy}
-use Rattle.stage_network.specs.SweepSteps.{sum_for, stays, staying, closed_at, counted, counted_keys, Course, first_course, arriving, on_the_way, HasSwept, IsCourse, IsSweeping, IsSwept, AreHere}
+use Rattle.networks.specs.EachTail.{sum_for}
+use Rattle.stage_network.specs.SweepSteps.{stays, staying, closed_at, counted, counted_keys, Course, first_course, arriving, on_the_way, HasSwept, IsCourse, IsSweeping, IsSwept, AreHere}
 use Rattle.stage_network.proofs.Asked.{asked-lawful}
-use Rattle.stage_network.proofs.Steps.{filter_none, total_weight-step, extreme_weight-step}
+use Rattle.networks.proofs.Steps.{filter_none, total_weight-step, extreme_weight-step}
 use Rattle.stage_network.proofs.Bounds.{weights-le-weighted}
 use Rattle.stage_network.proofs.NodeSums.{open-for}
-use Rattle.stage_network.proofs.OpenKeys.{all_filter, counted-once, keys-opened_to}
+use Rattle.networks.proofs.Elements.{all_filter}
+use Rattle.stage_network.proofs.OpenKeys.{counted-once, keys-opened_to}
 use Rattle.stage_network.proofs.Conserved.{all_weaker, not_undecided, split-extreme, sum_by-filter}
 use Rattle.stage_network.proofs.Carried.{carried, successors-heavy, shut}
 use Rattle.stage_network.proofs.ToCome.{to_come, to_come-last, to_come-first, to_come-step, all-reached}

@@ -10,9 +10,9 @@ use Rattle.weights.specs.declared.lines.Line.{Line}
 use Rattle.weights.specs.Conditional.{ConditionalTest, insert_value, ascending_values, value_weight, distribution}
 use Rattle.weights.proofs.Filters.{all_weaker, all_map}
 use Rattle.weights.proofs.Sums.{sum_by-same, sum_by-zero, sum_by-plus, sum_by-map}
-use Rattle.stage_network.specs.Lines.{IsAscending, IsSpreadOf}
-use Rattle.stage_network.specs.Follows.{statistic_sums}
-use Rattle.stage_network.proofs.LineSums.{lines-same, equal, same-eq, unequal, less-known, not_less-known, compared}
+use Rattle.networks.specs.Lines.{IsAscending, IsSpreadOf}
+use Rattle.networks.specs.Follows.{statistic_sums}
+use Rattle.networks.proofs.LineSums.{lines-same, equal, same-eq, unequal, less-known, not_less-known, compared}
 
 -- the distribution of a test is such a list
 

@@ -12,12 +12,12 @@ use Rattle.weights.specs.Frames.{RulesFit}
 use Rattle.weights.specs.Rules.{RuleFits, measured_on_both, rule_on_both}
 use Rattle.weights.proofs.Centred.{at_least-fits, at_most-fits}
 use Rattle.weights.proofs.Filters.{all_map, all_weaker}
-use Rattle.stage_network.specs.Network.{Network}
-use Rattle.stage_network.specs.Completions.{completions, ending_weight, path_weight, total_weight, value_weights}
-use Rattle.stage_network.specs.Lines.{IsSpreadOf, RuleFitsLines, TailsFit, WeightsFit, every}
-use Rattle.stage_network.specs.Follows.{statistic_sums}
+use Rattle.networks.specs.Network.{Network}
+use Rattle.networks.specs.Completions.{completions, ending_weight, path_weight, total_weight, value_weights}
+use Rattle.networks.specs.Lines.{IsSpreadOf, RuleFitsLines, TailsFit, WeightsFit, every}
+use Rattle.networks.specs.Follows.{statistic_sums}
 use Rattle.stage_network.proofs.DistributionLines.{values-each}
-use Rattle.stage_network.proofs.Flat.{filter-every}
+use Rattle.networks.proofs.Flat.{filter-every}
 
 -- all lines weigh as much as all completions, or as all rearrangements
 

@@ -6,15 +6,16 @@ use Rattle.std.specs.Set.{is_member}
 use Rattle.std.proofs.lemmas.List.Sums.{sum_by-cons}
 use Rattle.std.proofs.lemmas.Map.Keys.{IsDistinct-head, IsDistinct-tail, IsDistinct-cons}
 use Rattle.node_pool.specs.Nodes.{Node, key_eq, keys, weighted}
-use Rattle.stage_network.specs.Completions.{total_weight}
-use Rattle.stage_network.specs.Network.{Network, IsReached}
+use Rattle.networks.specs.Completions.{total_weight}
+use Rattle.networks.specs.Network.{Network, IsReached}
 use Rattle.stage_network.specs.NodeSteps.{successor, AllReached, AllHeavy, AreNodes}
-use Rattle.stage_network.proofs.Steps.{sum_by-flat_map, sum_by-same, reached-next}
+use Rattle.networks.proofs.Steps.{sum_by-flat_map, sum_by-same, reached-next}
 use Rattle.stage_network.specs.ArcSteps.{Arc, segment, arc_nodes, spread_out, bucket, firsts, IsFine, AllFine}
 use Rattle.node_pool.proofs.Puts.{unlike, alike}
 use Rattle.weights.proofs.Sums.{sum_by-filter, sum_by-plus}
 use Rattle.weights.proofs.Filters.{all_append, all_map}
-use Rattle.stage_network.proofs.OpenKeys.{map-append, distinct_filter, keys-filter, all_filter, same-holds}
+use Rattle.networks.proofs.Elements.{all_filter}
+use Rattle.stage_network.proofs.OpenKeys.{map-append, distinct_filter, keys-filter, same-holds}
 use Rattle.stage_network.proofs.Bounds.{weights-le-weighted}
 use Rattle.stage_network.proofs.Stepping.{reached_at}
 use Rattle.stage_network.proofs.Roomwise.{all_segment, heavy_at}

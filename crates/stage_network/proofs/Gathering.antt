@@ -5,12 +5,13 @@ use Rattle.std.specs.List.{IsDistinct}
 use Rattle.weights.specs.declared.tails.Tail.{Tail}
 use Rattle.node_pool.specs.Nodes.{Node, node, key_eq, keys, weighted}
 use Rattle.node_pool.proofs.Puts.{none_distinct}
-use Rattle.stage_network.specs.declared.tail_sums.TailSums.{TailSums}
-use Rattle.stage_network.specs.declared.tail_sums.Kept.{Kept}
-use Rattle.stage_network.specs.Network.{Network}
+use Rattle.networks.specs.declared.tail_sums.TailSums.{TailSums}
+use Rattle.networks.specs.declared.tail_sums.Kept.{Kept}
+use Rattle.networks.specs.Network.{Network}
 use Rattle.stage_network.specs.NodeSteps.{AllHeavy, AreNodes}
 use Rattle.stage_network.specs.ArcSteps.{Arc, AllFine, spread_out, bucket, firsts}
-use Rattle.stage_network.specs.SweepSteps.{sum_for, stays, closed_at, counted, staying}
+use Rattle.networks.specs.EachTail.{sum_for}
+use Rattle.stage_network.specs.SweepSteps.{stays, closed_at, counted, staying}
 use Rattle.stage_network.proofs.Gathered.{firsts-none, firsts-more, firsts-all, spread-heavy, spread-before, filled-here, kept-apart, kept-heavy, clash}
 use Rattle.stage_network.proofs.Sweeps.{told-more, kept-holds, counted-more, counted-nothing}
 

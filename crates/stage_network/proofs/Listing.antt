@@ -7,8 +7,8 @@ use Rattle.std.proofs.lemmas.List.Sums.{sum_by-cons}
 use Rattle.node_pool.specs.Nodes.{Node, node, weighted}
 use Rattle.node_pool.specs.Pool.{Pool}
 use Rattle.stage_network.specs.declared.stage_arcs.StageArcs.{StageArcs}
-use Rattle.stage_network.specs.Network.{Network, IsReached, pending}
-use Rattle.stage_network.specs.Rooms.{IsRoomed}
+use Rattle.networks.specs.Network.{Network, IsReached, pending}
+use Rattle.networks.specs.Rooms.{IsRoomed}
 use Rattle.stage_network.specs.NodeSteps.{AreNodes, all_successors}
 use Rattle.stage_network.specs.ArcSteps.{Arc, ArcList, AreArcs, IsRun, segment, chosen, arc_nodes, spread_out}
 use Rattle.stage_network.specs.SweepSteps.{AreListed, HasBuffers}

@@ -6,9 +6,9 @@ use Rattle.std.proofs.lemmas.List.Sums.{sum_by-cons, sum_by-append, sum_by_more}
 use Rattle.std.proofs.lemmas.List.Sorted.{sum_by-IsPermutation}
 use Rattle.weights.specs.declared.lines.Line.{Line}
 use Rattle.node_pool.specs.Nodes.{Node, node, weighted}
-use Rattle.stage_network.specs.Network.{Network}
-use Rattle.stage_network.specs.Lines.{IsAscending, IsSpreadOf, every, line_sum, with_weight}
-use Rattle.stage_network.proofs.LineSums.{line_sum-cons, with-sum, with-ascending, with-positive}
+use Rattle.networks.specs.Network.{Network}
+use Rattle.networks.specs.Lines.{IsAscending, IsSpreadOf, every, line_sum, with_weight}
+use Rattle.networks.proofs.LineSums.{line_sum-cons, with-sum, with-ascending, with-positive}
 
 -- the weight of the nodes whose values pass
 abbrev pub value_sums : Network → (ℤ → Bool) → List Node → ℕ

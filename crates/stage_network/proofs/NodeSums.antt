@@ -6,10 +6,10 @@ use Rattle.std.specs.Prelude.{ℤ}
 use Rattle.weights.specs.declared.tails.Tail.{Tail}
 use Rattle.weights.specs.declared.tails.Tail.TheVariants.{Less, Greater, Two}
 use Rattle.node_pool.specs.Nodes.{Node, weighted}
-use Rattle.stage_network.specs.Completions.{total_weight}
-use Rattle.stage_network.specs.Network.{Network}
+use Rattle.networks.specs.Completions.{total_weight}
+use Rattle.networks.specs.Network.{Network}
 use Rattle.stage_network.specs.NodeSteps.{successors, closes_inside, closed_part, closed_weight}
-use Rattle.stage_network.specs.Opened.{is_open, is_open_for_some}
+use Rattle.networks.specs.Opened.{is_open, is_open_for_some}
 
 pub or_true : (b : Bool) → (b || true) ≡ true
 or_true true = refl

@@ -3,9 +3,9 @@ use Rattle.std.proofs.Common.{◌≡◌, ◌≢◌, ℕ, zero, suc, ◌+◌, ◌
 use Rattle.std.specs.Prelude.{ℤ}
 use Rattle.std.specs.List.{Contains}
 use Rattle.node_pool.specs.Nodes.{Node, node, weighted}
-use Rattle.stage_network.specs.Network.{Network, IsReached}
+use Rattle.networks.specs.Network.{Network, IsReached}
 use Rattle.stage_network.specs.NodeSteps.{AllReached, AreNodes}
-use Rattle.stage_network.specs.Rooms.{IsArc}
+use Rattle.networks.specs.Rooms.{IsArc}
 use Rattle.stage_network.specs.ArcSteps.{Arc, AllFine, IsChoiceOf, IsFine, IsRun, chosen, segment, arc_nodes}
 use Rattle.stage_network.proofs.Roomwise.{all_at, heavy_at, pour-fits, pour-more, whole-key}
 use Rattle.stage_network.proofs.Stepping.{reached_at}

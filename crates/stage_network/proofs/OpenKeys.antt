@@ -7,17 +7,14 @@ use Rattle.std.proofs.lemmas.List.{length-map}
 use Rattle.std.proofs.lemmas.Map.Made.{is_member-filter, length-from_keys}
 use Rattle.std.proofs.lemmas.Map.Keys.{IsDistinct-head, IsDistinct-tail, IsDistinct-cons}
 use Rattle.node_pool.specs.Nodes.{Node, key_eq, keys}
-use Rattle.stage_network.specs.Network.{Network}
+use Rattle.networks.specs.Network.{Network}
 use Rattle.stage_network.specs.NodeSteps.{successor, successors}
+use Rattle.networks.proofs.Elements.{all_filter}
 use Rattle.stage_network.proofs.NodeSums.{opened_to, or_true}
 use Rattle.node_pool.proofs.Puts.{same_key, key_equiv}
 pub use Rattle.std.proofs.lemmas.List.{map-append}
 
 -- a filter keeps keys apart
-pub all_filter : {X : Type 0} (P : X → Type 0) (p : X → Bool) (xs : List X) → AllByRecursion P xs → AllByRecursion P (filter p xs)
-all_filter P p [] a = tt
-all_filter P p (x ∷ xs) a = elim (p x) as (λ b. AllByRecursion P (cond b (x ∷ filter p xs) (filter p xs))) [ true ↦ (a.0, all_filter P p xs a.1) | false ↦ all_filter P p xs a.1 ]
-
 pub distinct_filter : (p : List ℤ → Bool) (ks : List (List ℤ)) → IsDistinct key_eq ks → IsDistinct key_eq (filter p ks)
 distinct_filter p [] d = d
 distinct_filter p (k ∷ ks) d =

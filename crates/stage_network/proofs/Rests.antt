@@ -6,11 +6,11 @@ use Rattle.std.proofs.lemmas.List.Elements.{recursion_from_All, All-contains_its
 use Rattle.weights.specs.declared.tails.Tail.{Tail}
 use Rattle.weights.proofs.Sums.{sum_by-same_where}
 use Rattle.node_pool.specs.Nodes.{Node}
-use Rattle.stage_network.specs.Network.{Network, IsReached}
-use Rattle.stage_network.specs.Completions.{total_weight}
-use Rattle.stage_network.specs.Rooms.{AreRoommates, IsRoomed}
+use Rattle.networks.specs.Network.{Network, IsReached}
+use Rattle.networks.specs.Completions.{total_weight}
+use Rattle.networks.specs.Rooms.{AreRoommates, IsRoomed}
 use Rattle.stage_network.specs.NodeSteps.{AllReached, closed_weight}
-use Rattle.stage_network.proofs.Steps.{all_paths, all-step, reached-next}
+use Rattle.networks.proofs.Steps.{all_paths, all-step, reached-next}
 use Rattle.stage_network.proofs.NodeSums.{closed-together, inside_weight}
 
 all_paths-same : (n : Network) (width : ℕ) → IsRoomed n width → (m g : ℕ) (j k : List ℤ) → g + m ≡ n.count → AreRoommates n width g j k → all_paths n m g j ≡ all_paths n m g k

@@ -6,11 +6,11 @@ use Rattle.std.proofs.lemmas.List.Filters.{length-filter_more}
 use Rattle.weights.specs.declared.TheConstants.{MAX}
 use Rattle.weights.specs.declared.tails.Tail.{Tail}
 use Rattle.node_pool.specs.Nodes.{Node, node, weighted}
-use Rattle.stage_network.specs.Network.{Network, IsReached}
-use Rattle.stage_network.specs.Completions.{total_weight}
-use Rattle.stage_network.specs.Laws.{IsLawful}
-use Rattle.stage_network.specs.Opened.{is_open, is_open_for_some}
-use Rattle.stage_network.specs.Rooms.{IsPlace, IsRoomed}
+use Rattle.networks.specs.Network.{Network, IsReached}
+use Rattle.networks.specs.Completions.{total_weight}
+use Rattle.networks.specs.Laws.{IsLawful}
+use Rattle.networks.specs.Opened.{is_open, is_open_for_some}
+use Rattle.networks.specs.Rooms.{IsPlace, IsRoomed}
 use Rattle.stage_network.specs.NodeSteps.{AllReached, closes_inside, closed_weight, open_nodes, opened_in}
 use Rattle.stage_network.specs.ArcSteps.{lift}
 use Rattle.stage_network.proofs.Bounds.{weights-le-weighted}

@@ -6,9 +6,9 @@ use Rattle.node_pool.specs.Pool.{IsPlaced}
 use Rattle.node_pool.proofs.Puts.{alike, unlike}
 use Rattle.std.proofs.lemmas.List.{take-append-drop, take-append-le, length-drop, length-take-le, take_all, get_or-take, get_or-drop}
 use Rattle.node_pool.specs.Nodes.{Node, node, key_eq, keys, weighted}
-use Rattle.stage_network.specs.Network.{Network, IsReached}
+use Rattle.networks.specs.Network.{Network, IsReached}
 use Rattle.stage_network.specs.NodeSteps.{AllReached, AllHeavy, successor, successors}
-use Rattle.stage_network.specs.Rooms.{AreRoommates, IsRoomed}
+use Rattle.networks.specs.Rooms.{AreRoommates, IsRoomed}
 use Rattle.weights.proofs.Sums.{sum_by-map, sum_by-same, sum_by-plus, sum_by-zero}
 use Rattle.stage_network.specs.ArcSteps.{IsRun, Arc, segment, arc_nodes, spread_out, bucket, lift, IsFine, AllFine}
 use Rattle.std.proofs.lemmas.Map.Keys.{IsDistinct-head, IsDistinct-tail, IsDistinct-cons}

@@ -6,19 +6,21 @@ use Rattle.weights.specs.declared.tails.Tail.{Tail}
 use Rattle.weights.specs.declared.tails.Tail.TheVariants.{Less}
 use Rattle.weights.specs.declared.TheConstants.{MAX}
 use Rattle.node_pool.specs.Nodes.{Node, node, key_eq, keys, weighted}
-use Rattle.stage_network.specs.declared.tail_sums.TailSums.{TailSums}
-use Rattle.stage_network.specs.declared.tail_sums.Kept.{Kept}
-use Rattle.stage_network.specs.Network.{Network}
-use Rattle.stage_network.specs.Completions.{total_weight}
-use Rattle.stage_network.specs.Laws.{IsLawful}
+use Rattle.networks.specs.declared.tail_sums.TailSums.{TailSums}
+use Rattle.networks.specs.declared.tail_sums.Kept.{Kept}
+use Rattle.networks.specs.Network.{Network}
+use Rattle.networks.specs.Completions.{total_weight}
+use Rattle.networks.specs.Laws.{IsLawful}
 use Rattle.stage_network.specs.NodeSteps.{all_successors, AllReached, AllHeavy, AreNodes}
-use Rattle.stage_network.specs.SweepSteps.{sum_for, stays, staying, closed_at, counted, Course, first_course, HasSwept, IsCourse, IsSwept}
+use Rattle.networks.specs.EachTail.{sum_for}
+use Rattle.stage_network.specs.SweepSteps.{stays, staying, closed_at, counted, Course, first_course, HasSwept, IsCourse, IsSwept}
 use Rattle.stage_network.specs.declared.row_sweeps.RowSweep.{RowSweep}
-use Rattle.stage_network.specs.Shifts.{IsShifting}
+use Rattle.networks.specs.Shifts.{IsShifting}
 use Rattle.stage_network.specs.RowSteps.{all_nodes}
 use Rattle.stage_network.specs.RowSweeps.{AreRowsHere, IsRowSweeping}
 use Rattle.stage_network.proofs.Bounds.{weights-le-weighted}
-use Rattle.stage_network.proofs.OpenKeys.{all_filter, one_distinct}
+use Rattle.networks.proofs.Elements.{all_filter}
+use Rattle.stage_network.proofs.OpenKeys.{one_distinct}
 use Rattle.stage_network.proofs.Carried.{open-distinct}
 use Rattle.stage_network.proofs.Sweeps.{one, counted-staying}
 use Rattle.stage_network.proofs.Courses.{swept-first, swept-reached, swept-light, swept-next, swept-last, next-light}

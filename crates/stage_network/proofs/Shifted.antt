@@ -7,7 +7,7 @@ use Rattle.std.proofs.lemmas.List.Sums.{sum_by-cons}
 use Rattle.node_pool.specs.Nodes.{Node, node, weighted}
 use Rattle.dense_rows.specs.Rows.{row_nodes}
 use Rattle.dense_rows.proofs.RowSums.{positive, weighted-row, row_sum-one}
-use Rattle.stage_network.specs.Network.{Network, IsReached}
+use Rattle.networks.specs.Network.{Network, IsReached}
 use Rattle.stage_network.specs.NodeSteps.{AreNodes}
 use Rattle.stage_network.specs.ArcSteps.{Arc, AllFine, IsFine, bucket, chosen, lift, segment, spread_out}
 use Rattle.stage_network.proofs.Roomwise.{all_at, all_segment, fill-step}

@@ -6,9 +6,9 @@ use Rattle.std.proofs.lemmas.List.{length-append, get_or_append_left, get_or_pus
 use Rattle.node_pool.specs.Nodes.{Node, node}
 use Rattle.dense_rows.specs.Rows.{row_nodes, stepped}
 use Rattle.dense_rows.proofs.RowSums.{positive}
-use Rattle.stage_network.specs.Network.{Network, IsReached}
-use Rattle.stage_network.specs.Rooms.{IsArc}
-use Rattle.stage_network.specs.Shifts.{IsShifting}
+use Rattle.networks.specs.Network.{Network, IsReached}
+use Rattle.networks.specs.Rooms.{IsArc}
+use Rattle.networks.specs.Shifts.{IsShifting}
 use Rattle.stage_network.specs.ArcSteps.{Arc, lift, segment}
 use Rattle.stage_network.proofs.Roomwise.{lift-length, segment-at, lift-rooms, all_at, whole-key}
 use Rattle.stage_network.specs.declared.row_heads.Shift.{Shift}

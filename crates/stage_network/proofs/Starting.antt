@@ -11,20 +11,21 @@ use Rattle.node_pool.specs.Nodes.{Node, NodeRow, node, weighted}
 use Rattle.node_pool.specs.PoolSteps.{nodes_of}
 use Rattle.node_pool.specs.TableSteps.{key_at}
 use Rattle.node_pool.proofs.NodeLists.{nodes-at, length-nodes}
-use Rattle.stage_network.specs.declared.tail_sums.Kept.{Kept}
-use Rattle.stage_network.specs.declared.tail_sums.Kept.TheVariants.{Open, All}
-use Rattle.stage_network.specs.declared.tail_sums.TailSums.{TailSums}
-use Rattle.stage_network.specs.Asked.{asked}
-use Rattle.stage_network.specs.Completions.{total_weight}
+use Rattle.networks.specs.declared.tail_sums.Kept.{Kept}
+use Rattle.networks.specs.declared.tail_sums.Kept.TheVariants.{Open, All}
+use Rattle.networks.specs.declared.tail_sums.TailSums.{TailSums}
+use Rattle.networks.specs.Asked.{asked}
+use Rattle.networks.specs.Completions.{total_weight}
 use Rattle.stage_network.specs.FromKeys.{AreStarts}
-use Rattle.stage_network.specs.Laws.{IsLawful}
-use Rattle.stage_network.specs.Network.{Network, IsReached}
-use Rattle.stage_network.specs.Opened.{is_open}
+use Rattle.networks.specs.Laws.{IsLawful}
+use Rattle.networks.specs.Network.{Network, IsReached}
+use Rattle.networks.specs.Opened.{is_open}
 use Rattle.stage_network.specs.StageSteps.{Housed}
 use Rattle.stage_network.specs.ArcSteps.{lift}
-use Rattle.stage_network.specs.SweepSteps.{IsRoomful, sum_for, stays, staying, closed_at, counted}
+use Rattle.networks.specs.EachTail.{sum_for}
+use Rattle.stage_network.specs.SweepSteps.{IsRoomful, stays, staying, closed_at, counted}
 use Rattle.stage_network.proofs.ArcLists.{choice-fits}
-use Rattle.stage_network.proofs.Bounds.{total_weight-least}
+use Rattle.networks.proofs.Bounds.{total_weight-least}
 use Rattle.stage_network.proofs.Roomwise.{all_at, lift-whole}
 use Rattle.stage_network.proofs.Sweeps.{closed-le, counted-le}
 

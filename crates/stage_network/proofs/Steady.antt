@@ -12,17 +12,17 @@ use Rattle.weights.specs.declared.rules.Rule.{Rule}
 use Rattle.weights.specs.declared.rules.Rule.TheVariants.{AtMost, AtLeast, Far}
 use Rattle.weights.proofs.Filters.{all_append, all_map, all_weaker}
 use Rattle.node_pool.specs.Nodes.{key_eq}
-use Rattle.stage_network.specs.declared.stages.Verdict.{Verdict}
-use Rattle.stage_network.specs.declared.stages.Verdict.TheVariants.{Outside}
-use Rattle.stage_network.specs.declared.verdicts.Judge.{Judge}
-use Rattle.stage_network.specs.Network.{Network, IsReached}
-use Rattle.stage_network.specs.Opened.{is_undecided, is_open, reached_openly, opened_below, is_open_for_some, reached_by_some, opened_by_some}
-use Rattle.stage_network.specs.Judged.{offset, far_verdict, rule_in, verdict_of, HasIntervals, IsJudged}
-use Rattle.stage_network.specs.Asked.{asked, asks}
+use Rattle.networks.specs.declared.stages.Verdict.{Verdict}
+use Rattle.networks.specs.declared.stages.Verdict.TheVariants.{Outside}
+use Rattle.networks.specs.declared.verdicts.Judge.{Judge}
+use Rattle.networks.specs.Network.{Network, IsReached}
+use Rattle.networks.specs.Opened.{is_undecided, is_open, reached_openly, opened_below, is_open_for_some, reached_by_some, opened_by_some}
+use Rattle.networks.specs.Judged.{offset, far_verdict, rule_in, verdict_of, HasIntervals, IsJudged}
+use Rattle.networks.specs.Asked.{asked, asks}
 use Rattle.stage_network.proofs.Asked.{asked-below, asked-else, asked-own}
-use Rattle.stage_network.proofs.Steps.{filter_none, filter-map, filter-flat_map, reached-next}
-use Rattle.stage_network.proofs.OpenKeys.{all_filter}
-use Rattle.stage_network.proofs.Judging.{offset-≤, same_tail}
+use Rattle.networks.proofs.Steps.{filter_none, filter-map, filter-flat_map, reached-next}
+use Rattle.networks.proofs.Elements.{all_filter}
+use Rattle.networks.proofs.Judging.{offset-≤, same_tail}
 use Rattle.stage_network.proofs.NodeSums.{open-for}
 
 -- lists

@@ -3,7 +3,7 @@ use Rattle.std.proofs.Common.{◌≡◌, ℕ, zero, suc, ◌<◌, List, [], ◌�
 use Rattle.std.specs.Prelude.{ℤ}
 use Rattle.std.proofs.lemmas.List.{get_or_default}
 use Rattle.node_pool.specs.Nodes.{Node, node}
-use Rattle.stage_network.specs.Network.{Network, IsReached}
+use Rattle.networks.specs.Network.{Network, IsReached}
 use Rattle.stage_network.specs.NodeSteps.{AllReached}
 
 -- a node's key is reached

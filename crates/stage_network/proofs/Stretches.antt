@@ -12,13 +12,13 @@ use Rattle.node_pool.specs.Nodes.{Node, node, weighted}
 use Rattle.dense_rows.specs.Rows.{row_nodes, stepped}
 use Rattle.dense_rows.proofs.RowSums.{positive, sum-take}
 use Rattle.dense_rows.proofs.RowNodes.{row-parts}
-use Rattle.stage_network.specs.declared.tail_sums.Verdicts.{Verdicts}
-use Rattle.stage_network.specs.Network.{Network, IsReached}
-use Rattle.stage_network.specs.Completions.{is_inside}
-use Rattle.stage_network.specs.Opened.{is_undecided, is_open, is_open_for_some}
+use Rattle.networks.specs.declared.tail_sums.Verdicts.{Verdicts}
+use Rattle.networks.specs.Network.{Network, IsReached}
+use Rattle.networks.specs.Completions.{is_inside}
+use Rattle.networks.specs.Opened.{is_undecided, is_open, is_open_for_some}
 use Rattle.stage_network.specs.NodeSteps.{AllReached, closes_inside, open_nodes, opened_in}
 use Rattle.stage_network.specs.ArcSteps.{lift}
-use Rattle.stage_network.specs.SweepSteps.{some_undecided, verdict_for}
+use Rattle.networks.specs.EachTail.{some_undecided, verdict_for}
 use Rattle.stage_network.proofs.NodeSums.{inside_weight}
 use Rattle.stage_network.proofs.OpenKeys.{map-append}
 use Rattle.std.proofs.Math.Seq.{drop-nil, take-nil}

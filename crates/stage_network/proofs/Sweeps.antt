@@ -11,20 +11,21 @@ use Rattle.weights.specs.declared.tails.Tail.{Tail}
 use Rattle.weights.specs.declared.tails.Tails.{Tails}
 use Rattle.node_pool.specs.Nodes.{Node, node, key_eq, keys, is_held, weighted}
 use Rattle.node_pool.proofs.Puts.{same_key, key_equiv}
-use Rattle.stage_network.specs.Network.{Network}
-use Rattle.stage_network.specs.declared.stages.Verdict.{Verdict}
-use Rattle.stage_network.specs.declared.stages.Verdict.TheVariants.{Inside, Outside, Undecided}
-use Rattle.stage_network.specs.declared.tail_sums.Kept.{Kept}
-use Rattle.stage_network.specs.declared.tail_sums.Kept.TheVariants.{Open, All}
-use Rattle.stage_network.specs.Asked.{asked}
-use Rattle.stage_network.specs.Completions.{is_inside, total_weight}
-use Rattle.stage_network.specs.Opened.{is_open, is_open_for_some}
+use Rattle.networks.specs.Network.{Network}
+use Rattle.networks.specs.declared.stages.Verdict.{Verdict}
+use Rattle.networks.specs.declared.stages.Verdict.TheVariants.{Inside, Outside, Undecided}
+use Rattle.networks.specs.declared.tail_sums.Kept.{Kept}
+use Rattle.networks.specs.declared.tail_sums.Kept.TheVariants.{Open, All}
+use Rattle.networks.specs.Asked.{asked}
+use Rattle.networks.specs.Completions.{is_inside, total_weight}
+use Rattle.networks.specs.Opened.{is_open, is_open_for_some}
 use Rattle.stage_network.specs.NodeSteps.{all_successors, closes_inside, closed_part, closed_weight, AllHeavy}
 use Rattle.stage_network.specs.SweepSteps.{stays, staying, closed_at, counted}
 use Rattle.stage_network.proofs.NodeSums.{open-for, length-filter-le, filter-both}
-use Rattle.stage_network.proofs.Steps.{sum_by-same, total_weight-step}
+use Rattle.networks.proofs.Steps.{sum_by-same, total_weight-step}
 use Rattle.stage_network.proofs.Conserved.{sum_by-filter}
-use Rattle.stage_network.proofs.OpenKeys.{all_filter, keys-filter, same-holds}
+use Rattle.networks.proofs.Elements.{all_filter}
+use Rattle.stage_network.proofs.OpenKeys.{keys-filter, same-holds}
 use Rattle.stage_network.proofs.Gathered.{same-members}
 use Rattle.stage_network.proofs.Carried.{carried}
 

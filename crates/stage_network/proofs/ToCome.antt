@@ -3,10 +3,10 @@ use Rattle.std.proofs.Common.{◌≡◌, ℕ, ◌+◌, ◌-◌, ◌*◌, ◌<◌
 use Rattle.std.specs.Prelude.{ℤ}
 use Rattle.std.specs.List.{sum_by, flat_map}
 use Rattle.node_pool.specs.Nodes.{Node, weighted}
-use Rattle.stage_network.specs.Network.{Network}
-use Rattle.stage_network.specs.Completions.{ending_weight, path_weight}
+use Rattle.networks.specs.Network.{Network}
+use Rattle.networks.specs.Completions.{ending_weight, path_weight}
 use Rattle.stage_network.specs.NodeSteps.{successors, AllReached}
-use Rattle.stage_network.proofs.Steps.{sum_by-same, passing, passing-step, left}
+use Rattle.networks.proofs.Steps.{sum_by-same, passing, passing-step, left}
 use Rattle.stage_network.proofs.Conserved.{successors-reached, all_append}
 
 -- what is still to come, for keys that pass at the end

@@ -7,9 +7,9 @@ use Rattle.weights.specs.Conditional.{ConditionalTest, total}
 use Rattle.weights.proofs.Sums.{sum_by-filter-≤}
 use Rattle.enumerate.specs.Walk.{members_after, BeginsWith}
 use Rattle.enumerate.proofs.Walking.{Contains-first, Contains-next}
-use Rattle.stage_network.specs.Lines.{with_weight, line_sum, every, IsAscending, IsSpreadOf}
-use Rattle.stage_network.specs.Follows.{statistic_sums}
-use Rattle.stage_network.proofs.LineSums.{with-sum, with-ascending, with-positive}
+use Rattle.networks.specs.Lines.{with_weight, line_sum, every, IsAscending, IsSpreadOf}
+use Rattle.networks.specs.Follows.{statistic_sums}
+use Rattle.networks.proofs.LineSums.{with-sum, with-ascending, with-positive}
 use Rattle.stage_network.proofs.DistributionLines.{filter-cons}
 
 -- the summed weight of some members whose statistics pass

@@ -4,7 +4,7 @@ use Rattle.std.specs.Prelude.{◌≡◌, ℕ, suc, ℤ, ◌≤◌, ◌<◌, ◌-
 use Rattle.std.specs.List.{Contains, flat_map, AllByRecursion}
 use Rattle.node_pool.specs.Nodes.{Node, node}
 use Rattle.stage_network.specs.declared.links.Link.{Link}
-use Rattle.stage_network.specs.Network.{Network}
+use Rattle.networks.specs.Network.{Network}
 use Rattle.stage_network.specs.NodeSteps.{successor}
 
 -- an arc from the nodes of one room, from a place to before another, to one room of the next stage

@@ -4,9 +4,9 @@ use Rattle.std.specs.List.{IsDistinct}
 use Rattle.weights.specs.declared.TheConstants.{MAX}
 use Rattle.node_pool.specs.Nodes.{key_eq, keys, weighted}
 use Rattle.node_pool.specs.PoolSteps.{nodes_of}
-use Rattle.stage_network.specs.declared.tail_sums.Kept.{Kept}
-use Rattle.stage_network.specs.Network.{Network}
-use Rattle.stage_network.specs.Completions.{total_weight}
+use Rattle.networks.specs.declared.tail_sums.Kept.{Kept}
+use Rattle.networks.specs.Network.{Network}
+use Rattle.networks.specs.Completions.{total_weight}
 use Rattle.stage_network.specs.NodeSteps.{AllHeavy, AllReached}
 use Rattle.stage_network.specs.SweepSteps.{Course}
 

@@ -3,7 +3,7 @@ use Rattle.std.specs.Prelude.{◌≡◌, ℕ, ◌+◌, [], ◌∷◌, ◌++◌, 
 use Rattle.node_pool.specs.Nodes.{weighted}
 use Rattle.node_pool.specs.Pool.{IsPlaced}
 use Rattle.stage_network.specs.declared.stage_arcs.StageArcs.{StageArcs}
-use Rattle.stage_network.specs.Network.{Network}
+use Rattle.networks.specs.Network.{Network}
 use Rattle.stage_network.specs.ArcSteps.{Arc}
 use Rattle.stage_network.specs.SweepSteps.{HasBuffers}
 

@@ -3,10 +3,10 @@ use Rattle.std.specs.Prelude.{ℕ, ℤ, ◌*◌, ◌≤◌, ◌<◌, List, lengt
 use Rattle.std.specs.List.{flat_map, sum_by, AllByRecursion}
 use Rattle.weights.specs.declared.tails.Tail.{Tail}
 use Rattle.node_pool.specs.Nodes.{Node}
-use Rattle.stage_network.specs.Network.{Network, IsReached}
-use Rattle.stage_network.specs.Completions.{is_inside, total_weight}
-use Rattle.stage_network.specs.Laws.{IsLawful}
-use Rattle.stage_network.specs.Opened.{is_open, is_open_for_some}
+use Rattle.networks.specs.Network.{Network, IsReached}
+use Rattle.networks.specs.Completions.{is_inside, total_weight}
+use Rattle.networks.specs.Laws.{IsLawful}
+use Rattle.networks.specs.Opened.{is_open, is_open_for_some}
 
 -- the node that a choice reaches from a node of stage g
 abbrev pub successor : Network → ℕ → Node → List ℕ → Node

@@ -6,12 +6,13 @@ use Rattle.weights.specs.declared.TheConstants.{MAX}
 use Rattle.node_pool.specs.Nodes.{Node, weighted}
 use Rattle.dense_rows.specs.Rows.{row_nodes}
 use Rattle.weights.specs.declared.tails.Tail.{Tail}
-use Rattle.stage_network.specs.declared.tail_sums.TailSums.{TailSums}
-use Rattle.stage_network.specs.declared.tail_sums.Kept.{Kept}
-use Rattle.stage_network.specs.Network.{Network, IsReached}
-use Rattle.stage_network.specs.Laws.{IsLawful}
+use Rattle.networks.specs.declared.tail_sums.TailSums.{TailSums}
+use Rattle.networks.specs.declared.tail_sums.Kept.{Kept}
+use Rattle.networks.specs.Network.{Network, IsReached}
+use Rattle.networks.specs.Laws.{IsLawful}
 use Rattle.stage_network.specs.NodeSteps.{AllReached}
-use Rattle.stage_network.specs.SweepSteps.{sum_for, closed_at, counted, staying}
+use Rattle.networks.specs.EachTail.{sum_for}
+use Rattle.stage_network.specs.SweepSteps.{closed_at, counted, staying}
 use Rattle.stage_network.specs.ArcSteps.{Arc, IsRun, lift, segment}
 use Rattle.stage_network.specs.declared.row_heads.Head.{Head}
 use Rattle.stage_network.specs.declared.row_heads.Shift.{Shift}

@@ -5,11 +5,11 @@ use Rattle.dense_rows.specs.Rows.{row_nodes}
 use Rattle.stage_network.specs.declared.row_arcs.RowArcs.{RowArcs}
 use Rattle.stage_network.specs.declared.row_filling.RoomRow.{RoomRow}
 use Rattle.stage_network.specs.declared.row_sweeps.RowSweep.{RowSweep}
-use Rattle.stage_network.specs.Network.{Network}
-use Rattle.stage_network.specs.Completions.{total_weight}
-use Rattle.stage_network.specs.Laws.{IsLawful}
-use Rattle.stage_network.specs.Rooms.{IsRoomed}
-use Rattle.stage_network.specs.Shifts.{IsShifting}
+use Rattle.networks.specs.Network.{Network}
+use Rattle.networks.specs.Completions.{total_weight}
+use Rattle.networks.specs.Laws.{IsLawful}
+use Rattle.networks.specs.Rooms.{IsRoomed}
+use Rattle.networks.specs.Shifts.{IsShifting}
 use Rattle.stage_network.specs.NodeSteps.{AreNodes}
 use Rattle.stage_network.specs.SweepSteps.{AreListed, HasBuffers, HasSwept, first_course}
 use Rattle.stage_network.specs.RowSteps.{Row, RowList, AreShifts, all_nodes}

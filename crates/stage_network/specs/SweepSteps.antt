@@ -1,46 +1,27 @@
 -- A sweep through the stages for the asked tails at once: of the keys those stay that are open for
 -- some of these, or every key does.
-use Rattle.std.specs.Prelude.{◌≡◌, ℕ, zero, suc, ℤ, ◌+◌, ◌*◌, ◌≤◌, ◌^◌, List, [], ◌∷◌, length, take, Bool, true, cond, ◌||◌}
+use Rattle.std.specs.Prelude.{◌≡◌, ℕ, zero, suc, ℤ, ◌+◌, ◌*◌, ◌≤◌, ◌^◌, List, [], ◌∷◌, length, take, Bool, true, cond}
 use Rattle.std.specs.List.{filter, IsDistinct}
 use Rattle.std.specs.Set.{distinct_count}
 use Rattle.weights.specs.declared.tails.Tail.{Tail}
-use Rattle.weights.specs.declared.tails.Tail.TheVariants.{Less, Greater, Two}
 use Rattle.weights.specs.declared.TheConstants.{MAX}
 use Rattle.node_pool.specs.Nodes.{Node, NodeRow, key_eq, keys, node, weighted}
-use Rattle.stage_network.specs.declared.stages.Verdict.{Verdict}
-use Rattle.stage_network.specs.declared.tail_sums.TailSum.{TailSum}
-use Rattle.stage_network.specs.declared.tail_sums.TailSums.{TailSums}
-use Rattle.stage_network.specs.declared.tail_sums.Verdicts.{Verdicts}
-use Rattle.stage_network.specs.declared.tail_sums.Kept.{Kept}
-use Rattle.stage_network.specs.declared.tail_sums.Kept.TheVariants.{Open, All}
+use Rattle.networks.specs.declared.tail_sums.TailSums.{TailSums}
+use Rattle.networks.specs.declared.tail_sums.Kept.{Kept}
+use Rattle.networks.specs.declared.tail_sums.Kept.TheVariants.{Open, All}
 use Rattle.stage_network.specs.declared.stage_arcs.StageArcs.{StageArcs}
 use Rattle.stage_network.specs.declared.rooms.RoomPool.{RoomPool}
 use Rattle.stage_network.specs.declared.sweep.Sweep.{Sweep}
-use Rattle.stage_network.specs.Network.{Network}
-use Rattle.stage_network.specs.Completions.{total_weight, extreme_weight, ending_weight}
-use Rattle.stage_network.specs.Laws.{IsLawful}
-use Rattle.stage_network.specs.Asked.{asked}
-use Rattle.stage_network.specs.Opened.{is_open, is_undecided, is_open_for_some, opened_by_some}
-use Rattle.stage_network.specs.Rooms.{IsRoomed}
+use Rattle.networks.specs.Network.{Network}
+use Rattle.networks.specs.Completions.{total_weight, extreme_weight, ending_weight}
+use Rattle.networks.specs.Laws.{IsLawful}
+use Rattle.networks.specs.Asked.{asked}
+use Rattle.networks.specs.Opened.{is_open, is_open_for_some, opened_by_some}
+use Rattle.networks.specs.EachTail.{sum_for}
+use Rattle.networks.specs.Rooms.{IsRoomed}
 use Rattle.stage_network.specs.NodeSteps.{AllHeavy, AllReached, AreNodes, all_successors, closes_inside, opened_in}
 use Rattle.stage_network.specs.StageSteps.{Housed}
 use Rattle.stage_network.specs.ArcSteps.{AreArcs, lift, spread_out}
-
--- the sum of one tail, and the verdict for it
-abbrev pub sum_for : TailSums → Tail → TailSum
-sum_for sums Less = sums.less
-sum_for sums Greater = sums.greater
-sum_for sums Two = sums.two
-
-abbrev pub verdict_for : Verdicts → Tail → Verdict
-verdict_for verdicts Less = verdicts.less
-verdict_for verdicts Greater = verdicts.greater
-verdict_for verdicts Two = verdicts.two
-
--- whether some verdict is open
-abbrev pub some_undecided : Verdicts → Bool
-some_undecided verdicts =
-    is_undecided verdicts.less || (is_undecided verdicts.greater || is_undecided verdicts.two)
 
 -- whether a key of stage g stays
 abbrev pub stays : Network → Kept → ℕ → List ℤ → Bool

@@ -3,20 +3,18 @@ ghost use Rattle.std.specs.Prelude.{◌≡◌, ◌≤◌, true, IfOk};
 ghost use Rattle.weights.specs.Conditional.{distribution};
 ghost use Rattle.weights.specs.Frames.{IsShown, first_tail};
 ghost use Rattle.weights.specs.declared.tails.Tail.{Tail};
-ghost use Rattle.stage_network.specs.Asked.{asks};
-ghost use Rattle.stage_network.specs.Follows.{AreShared, HasTails};
-ghost use Rattle.stage_network.specs.Follows.{answer_of, asked_tail, open_keys, tail_of};
-ghost use Rattle.stage_network.specs.Lines.{TailsFit, WeightsFit};
-ghost use Rattle.stage_network.specs.SweepSteps.{sum_for};
+ghost use Rattle.networks.specs.Asked.{asks};
+ghost use Rattle.networks.specs.Follows.{AreShared, HasTails};
+ghost use Rattle.networks.specs.Follows.{answer_of, asked_tail, open_keys, tail_of};
+ghost use Rattle.networks.specs.Lines.{TailsFit, WeightsFit};
+ghost use Rattle.networks.specs.EachTail.{sum_for};
 
-use crate::answers::{Answer, Way};
 use crate::first_tails::{first_among, first_asked};
-use crate::lines::Spread;
 use crate::prepared::{Prepared, network_of};
 use crate::sums::{tail_sum_by_rooms, tail_sums_by_rooms};
-use crate::tail_sums::{TailSum, TailSums};
 use crate::walks::plain_spread;
 use enumerate::plain_tail;
+use networks::{Answer, Spread, TailSum, TailSums, Way};
 use std::alloc::Global;
 use weights::{NoMemory, Tail, Tails};
 

@@ -1,13 +1,12 @@
 // The sums of a room, added to those of the rooms before it.
 ghost use Rattle.std.specs.Prelude.{◌≡◌, ◌+◌, ◌*◌, IfOk, cond, false};
 ghost use Rattle.weights.specs.declared.tails.Tail.{Tail};
-ghost use Rattle.stage_network.specs.Completions.{is_inside};
-ghost use Rattle.stage_network.specs.Opened.{is_undecided};
-ghost use Rattle.stage_network.specs.SweepSteps.{some_undecided, sum_for, verdict_for};
+ghost use Rattle.networks.specs.Completions.{is_inside};
+ghost use Rattle.networks.specs.Opened.{is_undecided};
+ghost use Rattle.networks.specs.EachTail.{some_undecided, sum_for, verdict_for};
 
-use crate::stages::Verdict;
 use crate::stops::Stop;
-use crate::tail_sums::{TailSum, TailSums, Verdicts};
+use networks::{TailSum, TailSums, Verdict, Verdicts};
 
 fn added(a: u128, b: u128) -> Result<u128, Stop>
     ensures { IfOk result (λ sum. sum ≡ a + b) }

@@ -3,19 +3,18 @@ ghost use Rattle.std.specs.Prelude.{◌≡◌, ◌+◌, ◌≤◌, List, [], ◌
 ghost use Rattle.weights.specs.declared.tails.Tail.{Tail};
 ghost use Rattle.node_pool.specs.Nodes.{Node, node, weighted};
 ghost use Rattle.node_pool.specs.PoolSteps.{nodes_of};
-ghost use Rattle.stage_network.specs.Completions.{extreme_weight, total_weight};
+ghost use Rattle.networks.specs.Completions.{extreme_weight, total_weight};
 ghost use Rattle.stage_network.specs.FromKeys.{AreStarts, course_from};
-ghost use Rattle.stage_network.specs.SweepSteps.{IsSweeping, closed_at, counted, staying, sum_for};
+ghost use Rattle.networks.specs.EachTail.{sum_for};
+ghost use Rattle.stage_network.specs.SweepSteps.{IsSweeping, closed_at, counted, staying};
 
-use crate::keys::{behind, front};
 use crate::nodes::StageNodes;
 use crate::rooms::RoomPool;
 use crate::settling::settle;
 use crate::stage_arcs::StageArcs;
-use crate::stages::{Roomed, Stages};
 use crate::sweep::Sweep;
-use crate::tail_sums::{Kept, TailSums, only};
 use crate::widths::{Width, width_of};
+use networks::{Kept, Roomed, Stages, TailSums, behind, front, only};
 use node_pool::key_at;
 use node_runs::RunPool;
 use std::alloc::Global;

@@ -1,17 +1,11 @@
 //! Sums over the completions of a network of stages, and the answer of a test by it.
 #![tactic(auto)]
 
-mod additive;
-mod additive_stages;
 mod answering;
-mod answers;
 mod arcs;
 mod checked_sums;
 mod first_tails;
 mod from_keys;
-mod keys;
-mod lasting;
-mod lines;
 mod links;
 mod nodes;
 mod one_of;
@@ -30,35 +24,25 @@ mod row_sweeps;
 mod settling;
 mod spreads;
 mod stage_arcs;
-mod stages;
 mod stops;
 mod sums;
 mod sweep;
-mod tail_sums;
-mod verdicts;
 mod walks;
-mod whole;
 mod widths;
 
-pub use additive::{Additive, SumValue};
-pub use additive_stages::AdditiveStages;
 pub use answering::{answer, distribution};
-pub use answers::{Answer, Way};
 pub use from_keys::tail_sum_from;
-pub use keys::{behind, front, write_key};
-pub use lines::Spread;
+pub use networks::{
+    Additive, AdditiveStages, Answer, Interval, Judge, Kept, OneOf, Roomed, Spread, Stages,
+    SumValue, TailSum, TailSums, Verdict, Way, Whole, behind, front, only, write_key,
+};
 pub use nodes::StageNodes;
-pub use one_of::OneOf;
 pub use prepared::{Prepared, network_of};
 pub use quick::quick_answer;
 pub use row_sweeps::row_sums;
 pub use spreads::{spread, spread_by_rooms};
-pub use stages::{Roomed, Stages, Verdict};
 pub use sums::{tail_sum, tail_sum_by_rooms, tail_sums_by_rooms, total_of};
 pub use sweep::Sweep;
-pub use tail_sums::{Kept, TailSum, TailSums, only};
-pub use verdicts::{Interval, Judge};
 pub use walks::plain_spread;
 pub use weights::{Line, PrepareFault, WideOf};
-pub use whole::Whole;
 pub use widths::{Width, width_of};

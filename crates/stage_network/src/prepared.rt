@@ -3,20 +3,18 @@ ghost use Rattle.std.specs.Prelude.{◌≡◌, true, IfOk};
 ghost use Rattle.weights.specs.Conditional.{distribution, numerator, total};
 ghost use Rattle.weights.specs.Frames.{IsShown};
 ghost use Rattle.weights.specs.declared.tails.Tail.{Tail};
-ghost use Rattle.stage_network.specs.Network.{Network};
-ghost use Rattle.stage_network.specs.Completions.{extreme_weight, total_weight};
-ghost use Rattle.stage_network.specs.Follows.{AllFollow, AreNumerators, AreShared};
-ghost use Rattle.stage_network.specs.Follows.{FollowsAlong, HasTails, OpenAlike};
-ghost use Rattle.stage_network.specs.Lines.{TailsFit, WeightsFit};
-ghost use Rattle.stage_network.specs.Written.{AreWritten};
+ghost use Rattle.networks.specs.Network.{Network};
+ghost use Rattle.networks.specs.Completions.{extreme_weight, total_weight};
+ghost use Rattle.networks.specs.Follows.{AllFollow, AreNumerators, AreShared};
+ghost use Rattle.networks.specs.Follows.{FollowsAlong, HasTails, OpenAlike};
+ghost use Rattle.networks.specs.Lines.{TailsFit, WeightsFit};
+ghost use Rattle.networks.specs.Written.{AreWritten};
 
 use crate::first_tails::{first_among, first_asked};
-use crate::lines::Spread;
 use crate::spreads::spread_by_rooms;
-use crate::stages::{Roomed, Stages};
 use crate::sums::{tail_sum_by_rooms, tail_sums_by_rooms};
-use crate::tail_sums::{TailSum, TailSums};
 use enumerate::Plain;
+use networks::{Roomed, Spread, Stages, TailSum, TailSums};
 use std::alloc::Global;
 use weights::{NoMemory, Tail, Tails};
 

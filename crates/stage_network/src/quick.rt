@@ -2,15 +2,14 @@
 // down, so none is counted.
 ghost use Rattle.std.specs.Prelude.{◌≡◌, ◌≤◌, true, IfOk};
 ghost use Rattle.weights.specs.declared.tails.Tail.{Tail};
-ghost use Rattle.stage_network.specs.Asked.{asks};
-ghost use Rattle.stage_network.specs.declared.answers.Way.TheVariants as way;
-ghost use Rattle.stage_network.specs.Follows.{HasTails, answer_of, tail_of, uncounted};
-ghost use Rattle.stage_network.specs.SweepSteps.{sum_for};
+ghost use Rattle.networks.specs.Asked.{asks};
+ghost use Rattle.networks.specs.declared.answers.Way.TheVariants as way;
+ghost use Rattle.networks.specs.Follows.{HasTails, answer_of, tail_of, uncounted};
+ghost use Rattle.networks.specs.EachTail.{sum_for};
 
 use crate::answering::where_asked;
-use crate::answers::Answer;
 use crate::prepared::Prepared;
-use crate::tail_sums::{TailSum, TailSums};
+use networks::{Answer, TailSum, TailSums};
 use std::alloc::Global;
 use weights::{NoMemory, Tails};
 

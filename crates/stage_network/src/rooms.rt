@@ -12,7 +12,7 @@ use crate::arcs::Arcs;
 use crate::links::Link;
 use crate::nodes::StageNodes;
 use crate::stage_arcs::StageArcs;
-use crate::stages::{Roomed, Stages};
+use networks::{Roomed, Stages};
 use node_runs::{Lead, RunPool, add_loose, add_or_keep};
 use std::alloc::Global;
 use weights::{Count, NoMemory};

@@ -7,14 +7,13 @@ ghost use Rattle.dense_rows.specs.Rows.{stepped};
 ghost use Rattle.stage_network.specs.RowSteps.{IsSpan, all_nodes};
 ghost use Rattle.stage_network.specs.RowSweeps.{AreRowsHere, AreRowsListed, HasRowBuffers};
 
-use crate::keys::write_key;
 use crate::row_heads::Shift;
 use crate::row_plans::{Plan, are_thick, note, plan_of};
 use crate::row_rooms::RoomRows;
 use crate::stage_arcs::StageArcs;
-use crate::stages::{Roomed, Stages};
 use crate::stops::Stop;
 use dense_rows::{count_keys, first_full};
+use networks::{Roomed, Stages, write_key};
 use std::alloc::Global;
 use weights::{Count, NoMemory};
 

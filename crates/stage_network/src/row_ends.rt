@@ -4,19 +4,18 @@ ghost use Rattle.std.specs.Prelude.{length, map, OnOk, IfOk, IfSome};
 ghost use Rattle.weights.specs.declared.TheConstants.{MAX};
 ghost use Rattle.node_pool.specs.Nodes.{weighted};
 ghost use Rattle.dense_rows.specs.Rows.{row_nodes, stepped};
-ghost use Rattle.stage_network.specs.Completions.{total_weight, ending_weight};
+ghost use Rattle.networks.specs.Completions.{total_weight, ending_weight};
 ghost use Rattle.stage_network.specs.NodeSteps.{AllReached};
 ghost use Rattle.stage_network.specs.ArcSteps.{lift};
-ghost use Rattle.stage_network.specs.Shifts.{IsShifting};
+ghost use Rattle.networks.specs.Shifts.{IsShifting};
 ghost use Rattle.stage_network.specs.RowSteps.{all_nodes};
 
 use crate::nodes::StageNodes;
 use crate::row_arcs::number_at;
 use crate::row_rooms::RoomRows;
 use crate::row_sweeps::sweep_rows;
-use crate::stages::{Roomed, Stages};
 use crate::stops::Stop;
-use crate::tail_sums::Kept;
+use networks::{Kept, Roomed, Stages};
 use std::alloc::Global;
 use weights::{Count, NoMemory};
 

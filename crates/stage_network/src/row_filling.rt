@@ -13,9 +13,9 @@ use crate::row_arcs::{RowArcs, sum_of};
 use crate::row_heads::Shift;
 use crate::row_plans::room_plan;
 use crate::row_rooms::RoomRows;
-use crate::stages::{Roomed, Stages};
 use crate::stops::Stop;
 use dense_rows::{cells_apart, place_of, pour};
+use networks::{Roomed, Stages};
 use std::alloc::Global;
 use weights::Count;
 

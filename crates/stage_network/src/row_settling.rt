@@ -6,13 +6,13 @@ ghost use Rattle.weights.specs.declared.tails.Tail.{Tail};
 ghost use Rattle.weights.specs.declared.TheConstants.{MAX};
 ghost use Rattle.node_pool.specs.Nodes.{weighted};
 ghost use Rattle.dense_rows.specs.Rows.{row_nodes};
-ghost use Rattle.stage_network.specs.Network.{IsReached};
-ghost use Rattle.stage_network.specs.Completions.{is_inside};
-ghost use Rattle.stage_network.specs.Opened.{is_undecided};
+ghost use Rattle.networks.specs.Network.{IsReached};
+ghost use Rattle.networks.specs.Completions.{is_inside};
+ghost use Rattle.networks.specs.Opened.{is_undecided};
 ghost use Rattle.stage_network.specs.ArcSteps.{lift};
-ghost use Rattle.stage_network.specs.Asked.{asked};
-ghost use Rattle.stage_network.specs.declared.stages.Verdict.TheVariants.{Outside};
-ghost use Rattle.stage_network.specs.SweepSteps.{some_undecided, sum_for, verdict_for};
+ghost use Rattle.networks.specs.Asked.{asked};
+ghost use Rattle.networks.specs.declared.stages.Verdict.TheVariants.{Outside};
+ghost use Rattle.networks.specs.EachTail.{some_undecided, sum_for, verdict_for};
 ghost use Rattle.stage_network.specs.RowSteps.{IsRowful, IsRowSettled};
 ghost use Rattle.stage_network.specs.RowSweeps.{IsRoomRow, row_partials};
 
@@ -20,10 +20,9 @@ use crate::checked_sums::{joined, raised};
 use crate::row_arcs::number_at;
 use crate::row_filling::RoomRow;
 use crate::settling::{rest_of, verdicts_of};
-use crate::stages::{Roomed, Stages};
 use crate::stops::Stop;
-use crate::tail_sums::{Kept, TailSums, Verdicts};
 use dense_rows::{count_keys, first_full, forget, total};
+use networks::{Kept, Roomed, Stages, TailSums, Verdicts};
 use weights::{Count, Tail, Tails};
 
 // The place of the first key from a place on, or the row's end.

@@ -4,20 +4,18 @@ ghost use Rattle.std.specs.Prelude.{OnOk, IfOk, if◌then◌else◌};
 ghost use Rattle.weights.specs.declared.tails.Tail.{Tail};
 ghost use Rattle.weights.specs.declared.TheConstants.{MAX};
 ghost use Rattle.node_pool.specs.Nodes.{node, weighted};
-ghost use Rattle.stage_network.specs.declared.stages.Verdict.TheVariants.{Outside};
-ghost use Rattle.stage_network.specs.Asked.{asked};
-ghost use Rattle.stage_network.specs.Network.{IsReached};
-ghost use Rattle.stage_network.specs.Completions.{is_inside, total_weight};
-ghost use Rattle.stage_network.specs.Opened.{is_undecided};
+ghost use Rattle.networks.specs.declared.stages.Verdict.TheVariants.{Outside};
+ghost use Rattle.networks.specs.Asked.{asked};
+ghost use Rattle.networks.specs.Network.{IsReached};
+ghost use Rattle.networks.specs.Completions.{is_inside, total_weight};
+ghost use Rattle.networks.specs.Opened.{is_undecided};
 ghost use Rattle.stage_network.specs.NodeSteps.{closed_weight, open_nodes, opened_in};
 ghost use Rattle.stage_network.specs.ArcSteps.{lift};
 ghost use Rattle.stage_network.specs.SweepSteps.{IsRoomful, closed_at, counted, staying};
-ghost use Rattle.stage_network.specs.SweepSteps.{some_undecided, sum_for, verdict_for};
+ghost use Rattle.networks.specs.EachTail.{some_undecided, sum_for, verdict_for};
 
-use crate::keys::write_key;
 use crate::nodes::StageNodes;
-use crate::stages::{Roomed, Stages, Verdict};
-use crate::tail_sums::{Kept, TailSums, Verdicts};
+use networks::{Kept, Roomed, Stages, TailSums, Verdict, Verdicts, write_key};
 use node_runs::RunPool;
 use weights::{Count, NoMemory, Tail, Tails};
 

@@ -2,21 +2,17 @@
 ghost use Rattle.std.specs.Prelude.{◌≡◌, ℤ, ◌≤◌, Bool, cond, IfOk, IfSome};
 ghost use Rattle.weights.specs.declared.TheConstants.{MAX};
 ghost use Rattle.node_pool.specs.Nodes.{weighted};
-ghost use Rattle.stage_network.specs.Completions.{total_weight, value_weights};
-ghost use Rattle.stage_network.specs.Lines.{IsSpreadOf, every, line_sum};
+ghost use Rattle.networks.specs.Completions.{total_weight, value_weights};
+ghost use Rattle.networks.specs.Lines.{IsSpreadOf, every, line_sum};
 ghost use Rattle.stage_network.specs.NodeSteps.{AllReached};
-ghost use Rattle.stage_network.specs.Shifts.{IsShifting};
+ghost use Rattle.networks.specs.Shifts.{IsShifting};
 
-use crate::keys::write_key;
-use crate::lines::Spread;
 use crate::nodes::StageNodes;
 use crate::row_ends::row_ends;
-use crate::stages::{Roomed, Stages};
 use crate::sums::total_of;
 use crate::sweep::sweep_through;
-use crate::tail_sums::Kept;
-use crate::whole::Whole;
 use crate::widths::{Width, width_of};
+use networks::{Kept, Roomed, Spread, Stages, Whole, write_key};
 use std::alloc::Global;
 use weights::{Count, Line, Narrow, NoMemory, Wide};
 

@@ -3,15 +3,14 @@ ghost use Rattle.std.specs.Prelude.{◌≡◌, ◌<◌, ◌≤◌, length, OnOk,
 ghost use Rattle.std.specs.List.{Contains};
 ghost use Rattle.node_pool.specs.Nodes.{weighted};
 ghost use Rattle.node_pool.specs.Pool.{IsPlaced};
-ghost use Rattle.stage_network.specs.Network.{IsReached};
+ghost use Rattle.networks.specs.Network.{IsReached};
 ghost use Rattle.stage_network.specs.ArcSteps.{IsRun};
 ghost use Rattle.stage_network.specs.SweepSteps.{AreHere, HasBuffers, AreListed};
 ghost use Rattle.stage_network.specs.Listed.{HasArc};
 
 use crate::arcs::Arcs;
-use crate::keys::write_key;
 use crate::nodes::StageNodes;
-use crate::stages::{Roomed, Stages};
+use networks::{Roomed, Stages, write_key};
 use node_pool::NodePool;
 use std::alloc::Global;
 use weights::{Count, Narrow, NoMemory};

@@ -1,18 +1,16 @@
 // The sums over the extreme completions, and the counts of the open keys.
 ghost use Rattle.std.specs.Prelude.{◌≡◌, ◌≤◌, true, IfOk};
-ghost use Rattle.stage_network.specs.Asked.{asked, asks};
-ghost use Rattle.stage_network.specs.Completions.{total_weight, extreme_weight};
-ghost use Rattle.stage_network.specs.Judged.{IsJudged};
-ghost use Rattle.stage_network.specs.Opened.{opened_below, opened_by_some};
-ghost use Rattle.stage_network.specs.SweepSteps.{sum_for};
+ghost use Rattle.networks.specs.Asked.{asked, asks};
+ghost use Rattle.networks.specs.Completions.{total_weight, extreme_weight};
+ghost use Rattle.networks.specs.Judged.{IsJudged};
+ghost use Rattle.networks.specs.Opened.{opened_below, opened_by_some};
+ghost use Rattle.networks.specs.EachTail.{sum_for};
 ghost use Rattle.weights.specs.declared.tails.Tail.{Tail};
 
 use crate::row_sweeps::row_sums;
-use crate::stages::{Roomed, Stages};
 use crate::sweep::sweep_through;
-use crate::tail_sums::{Kept, TailSum, TailSums, only};
-use crate::whole::Whole;
 use crate::widths::{Width, width_of};
+use networks::{Kept, Roomed, Stages, TailSum, TailSums, Whole, only};
 use std::alloc::Global;
 use weights::{Count, Narrow, NoMemory, Tail, Tails, Wide};
 

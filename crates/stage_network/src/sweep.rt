@@ -3,7 +3,7 @@
 ghost use Rattle.std.specs.Prelude.{◌≡◌, ◌+◌, ◌<◌, ◌≤◌, OnOk, IfOk};
 ghost use Rattle.weights.specs.declared.TheConstants.{MAX};
 ghost use Rattle.node_pool.specs.Nodes.{weighted};
-ghost use Rattle.stage_network.specs.Completions.{total_weight};
+ghost use Rattle.networks.specs.Completions.{total_weight};
 ghost use Rattle.stage_network.specs.NodeSteps.{AllReached};
 ghost use Rattle.stage_network.specs.SweepSteps.{Course, IsSweeping, IsSwept, first_course};
 
@@ -11,8 +11,7 @@ use crate::nodes::StageNodes;
 use crate::rooms::RoomPool;
 use crate::settling::settle;
 use crate::stage_arcs::StageArcs;
-use crate::stages::{Roomed, Stages};
-use crate::tail_sums::{Kept, TailSums};
+use networks::{Kept, Roomed, Stages, TailSums};
 use std::alloc::Global;
 use std::mem;
 use weights::{Count, NoMemory};

@@ -1,10 +1,10 @@
 // The distribution of a test by a walk through its reference set, member by member.
 ghost use Rattle.std.specs.Prelude.{IfOk};
-ghost use Rattle.stage_network.specs.Lines.{IsSpreadOf, WeightsFit};
-ghost use Rattle.stage_network.specs.Follows.{statistic_sums};
+ghost use Rattle.networks.specs.Lines.{IsSpreadOf, WeightsFit};
+ghost use Rattle.networks.specs.Follows.{statistic_sums};
 
-use crate::lines::Spread;
 use enumerate::Plain;
+use networks::Spread;
 use std::alloc::Global;
 use weights::NoMemory;
 

@@ -13,10 +13,10 @@ use Rattle.weights.specs.Conditional.{distance, observed_statistic, total}
 use Rattle.weights.specs.Frames.{IsFrameOf, IsShown}
 use Rattle.weights.specs.Rules.{RuleFits}
 use Rattle.weights.proofs.Centred.{IsCentred, far_natural-fits, framed, rule-fits, shown as shown-by}
-use Rattle.stage_network.specs.Follows.{Follows}
-use Rattle.stage_network.specs.Judged.{JudgeFits, judge_of}
-use Rattle.stage_network.proofs.Bounds.{term-le-sum_by}
-use Rattle.stage_network.proofs.Following.{judge-fits}
+use Rattle.networks.specs.Follows.{Follows}
+use Rattle.networks.specs.Judged.{JudgeFits, judge_of}
+use Rattle.networks.proofs.Elements.{term-le-sum_by}
+use Rattle.networks.proofs.Following.{judge-fits}
 use Rattle.strata_cells.specs.declared.stratum.Stratum.{Stratum}
 use Rattle.strata_cells.specs.Strata.{first_cells, first_column, first_row, greatest_cell, least_cell, own_labels, size, strata_labellings}
 use Rattle.strata_cells.specs.StrataLimits.{IsSmall}

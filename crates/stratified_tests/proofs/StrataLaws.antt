@@ -18,14 +18,14 @@ use Rattle.weights.proofs.Filters.{all_map, all_weaker}
 use Rattle.weights.proofs.Members.{range-below}
 use Rattle.weights.proofs.Sums.{sum_by-filter, sum_by-map, sum_by-same, sum_by-same_where}
 use Rattle.enumerate.proofs.JoinedMembers.{own}
-use Rattle.stage_network.specs.Addends.{Addends, first_sum, high, low, over_earlier, over_stages, reach, stage_total, stride, totals, zeros}
-use Rattle.stage_network.specs.Follows.{Follows}
-use Rattle.stage_network.specs.Judged.{JudgeFits, judge_of}
-use Rattle.stage_network.specs.SoundAddends.{AddsBetween, IsAdditive}
-use Rattle.stage_network.specs.declared.verdicts.Judge.{Judge}
-use Rattle.stage_network.proofs.AdditiveLaws.{additive_intervals, value_even}
-use Rattle.stage_network.proofs.Flat.{AllAt, AllParts, IsJoined, ends_flat, total_flat}
-use Rattle.stage_network.proofs.Parts.{AreStages as AreParts, IsStage, Pieces, product_weight, summed}
+use Rattle.networks.specs.Addends.{Addends, first_sum, high, low, over_earlier, over_stages, reach, stage_total, stride, totals, zeros}
+use Rattle.networks.specs.Follows.{Follows}
+use Rattle.networks.specs.Judged.{JudgeFits, judge_of}
+use Rattle.networks.specs.SoundAddends.{AddsBetween, IsAdditive}
+use Rattle.networks.specs.declared.verdicts.Judge.{Judge}
+use Rattle.networks.proofs.AdditiveLaws.{additive_intervals, value_even}
+use Rattle.networks.proofs.Flat.{AllAt, AllParts, IsJoined, ends_flat, total_flat}
+use Rattle.networks.proofs.Parts.{AreStages as AreParts, IsStage, Pieces, product_weight, summed}
 use Rattle.strata_cells.specs.declared.stratum.Stratum.{Stratum}
 use Rattle.strata_cells.specs.Strata.{cell_weight, cells_in, stratum_cell, first_cells, first_row, greatest_cell, least_cell, row_counts, size, strata_labellings, stratum_at}
 use Rattle.strata_cells.proofs.FirstCells.{IsRowed, cell-zeros, cells-joined, cells-meet, cells-same, cells-total, each-rowed, left-within, member-zeros, no-labels, right-within, term-within, weight-some, zeros-joined, row_labellings}

@@ -6,11 +6,11 @@ use Rattle.std.specs.List.{range_with_len}
 use Rattle.weights.specs.Odds.{odds_weight}
 use Rattle.weights.specs.declared.odds.Odds.{Odds}
 use Rattle.weights.specs.declared.tails.Tail.{Tail}
-use Rattle.stage_network.specs.declared.additive.SumValue.TheVariants.{First}
-use Rattle.stage_network.specs.Addends.{Addends, additive_network}
-use Rattle.stage_network.specs.Judged.{judge_of}
-use Rattle.stage_network.specs.Network.{Network}
-use Rattle.stage_network.specs.declared.verdicts.Judge.{Judge}
+use Rattle.networks.specs.declared.additive.SumValue.TheVariants.{First}
+use Rattle.networks.specs.Addends.{Addends, additive_network}
+use Rattle.networks.specs.Judged.{judge_of}
+use Rattle.networks.specs.Network.{Network}
+use Rattle.networks.specs.declared.verdicts.Judge.{Judge}
 use Rattle.strata_cells.specs.declared.stratum.Stratum.{Stratum}
 use Rattle.strata_cells.specs.Strata.{cell_weight, first_row, greatest_cell, least_cell, strata_of}
 use Rattle.strata_cells.specs.Strata.{stratum_at}

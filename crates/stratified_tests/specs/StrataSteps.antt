@@ -5,8 +5,8 @@ use Rattle.weights.specs.Frames.{IsFrameOf}
 use Rattle.weights.specs.Odds.{IsOdds}
 use Rattle.weights.specs.declared.TheConstants.{MAX}
 use Rattle.weights.specs.declared.odds.Odds.{Odds}
-use Rattle.stage_network.specs.Judged.{JudgeFits}
-use Rattle.stage_network.specs.declared.verdicts.Judge.{Judge}
+use Rattle.networks.specs.Judged.{JudgeFits}
+use Rattle.networks.specs.declared.verdicts.Judge.{Judge}
 use Rattle.record_reader.specs.declared.TheConstants.{MOST_ROWS}
 use Rattle.strata_cells.specs.declared.stratum.Stratum.{Stratum}
 use Rattle.strata_cells.specs.Strata.{cells_in, greatest_cell, least_cell, row_counts}

@@ -4,8 +4,8 @@
 
 ghost use Rattle.std.specs.Prelude.{◌≡◌, ◌≤◌, IfOk};
 ghost use Rattle.weights.specs.Conditional.{distribution};
-ghost use Rattle.stage_network.specs.Follows.{HasTails, answer_of, open_keys};
-ghost use Rattle.stage_network.specs.Lines.{TailsFit, WeightsFit};
+ghost use Rattle.networks.specs.Follows.{HasTails, answer_of, open_keys};
+ghost use Rattle.networks.specs.Lines.{TailsFit, WeightsFit};
 ghost use Rattle.stratified_tests.specs.StrataTests.{strata_test};
 ghost use Rattle.stratified_tests.specs.StrataNetwork.{strata_network};
 
@@ -16,7 +16,7 @@ mod sums;
 mod totals;
 mod ways;
 
-use stage_network::{Answer, Spread, Way};
+use networks::{Answer, Spread, Way};
 use std::alloc::Global;
 pub use strata_test::{StrataTest, prepare, prepare_odds};
 use weights::{NoMemory, Tails};

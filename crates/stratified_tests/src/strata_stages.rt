@@ -8,7 +8,7 @@ ghost use Rattle.stratified_tests.specs.StrataSteps.{AreOdds, AreStages};
 
 use crate::odds::weighed_cell;
 use crate::totals::stratum_total;
-use stage_network::{Additive, Interval, Judge, SumValue};
+use networks::{Additive, Interval, Judge, SumValue};
 use strata_cells::Stratum;
 use weights::{List, Odds};
 

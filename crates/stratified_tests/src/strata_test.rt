@@ -6,7 +6,7 @@ ghost use Rattle.weights.specs.Wide.{Prepares};
 ghost use Rattle.weights.specs.declared.TheConstants.{MAX};
 ghost use Rattle.record_reader.specs.declared.TheConstants.{MOST_ROWS};
 ghost use Rattle.weights.specs.Odds.{IsOdds};
-ghost use Rattle.stage_network.specs.Judged.{judge_of};
+ghost use Rattle.networks.specs.Judged.{judge_of};
 ghost use Rattle.strata_cells.specs.Strata.{size, strata_of};
 ghost use Rattle.strata_cells.specs.StrataLimits.{AreSmall};
 ghost use Rattle.stratified_tests.specs.StrataTests.{centre_by, data_of, multiple_of, strata_test};
@@ -14,7 +14,7 @@ ghost use Rattle.stratified_tests.specs.StrataSteps.{AreMade, AreOdds};
 
 use crate::sums::{centre_by, multiple_of};
 use crate::totals::strata_total;
-use stage_network::Judge;
+use networks::Judge;
 use std::alloc::Global;
 use std::marker::Model;
 use strata_cells::{Stratum, own_sum, sizes, strata_of, subjects};

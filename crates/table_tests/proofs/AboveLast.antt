@@ -2,7 +2,7 @@
 use Rattle.std.proofs.Common.{◌≡◌, ℕ, zero, suc, ◌<◌, List, [], ◌∷◌, length, map, take, get_or, ◌∙◌, ap, subst, arith}
 use Rattle.std.proofs.lemmas.List.{get_or-map, length-map, take-map}
 use Rattle.weights.specs.declared.lines.Line.{Line}
-use Rattle.stage_network.specs.Lines.{IsAboveLast, IsAscending}
+use Rattle.networks.specs.Lines.{IsAboveLast, IsAscending}
 use Rattle.table_tests.specs.Turned.{scaled_line}
 
 pub above-last : (lines : List Line) (i : ℕ) (d : Line) → IsAscending lines → i < length lines → IsAboveLast (get_or lines i d).value (take i lines)

@@ -25,11 +25,11 @@ use Rattle.weights.proofs.Sized.{first_and}
 use Rattle.weights.proofs.Sums.{sum_by-one}
 use Rattle.weights.proofs.Tables as tables
 use Rattle.completion_bounds.proofs.TableWeights.{table-all}
-use Rattle.stage_network.specs.declared.verdicts.Judge.{Judge}
-use Rattle.stage_network.specs.Judged.{JudgeFits, judge_of}
-use Rattle.stage_network.proofs.Following.{judge-fits}
+use Rattle.networks.specs.declared.verdicts.Judge.{Judge}
+use Rattle.networks.specs.Judged.{JudgeFits, judge_of}
+use Rattle.networks.proofs.Following.{judge-fits}
 use Rattle.label_network.specs.LabelNetwork.{label_network}
-use Rattle.stage_network.specs.Follows.{Follows}
+use Rattle.networks.specs.Follows.{Follows}
 use Rattle.label_network.proofs.Endings.{labelling_value, partial_after}
 use Rattle.label_network.specs.Linear.{IsLinear, linear_meaning, row_sum, table_sum}
 use Rattle.room_network.specs.Numbers.{so_far}

@@ -21,13 +21,13 @@ use Rattle.weights.proofs.Sized.{length-minus}
 use Rattle.weights.proofs.Sums.{sum_by-same, sum_by-same_where}
 use Rattle.node_pool.specs.Nodes.{Node, weighted}
 use Rattle.completion_bounds.specs.Fillings.{falling, is_at_least}
-use Rattle.stage_network.specs.declared.verdicts.Judge.{Judge}
-use Rattle.stage_network.specs.Network.{IsReached, Network}
+use Rattle.networks.specs.declared.verdicts.Judge.{Judge}
+use Rattle.networks.specs.Network.{IsReached, Network}
 use Rattle.stage_network.specs.ArcSteps.{IsRun, segment}
 use Rattle.stage_network.specs.StageSteps.{Housed}
-use Rattle.stage_network.specs.Completions.{extreme_weight, total_weight}
+use Rattle.networks.specs.Completions.{extreme_weight, total_weight}
 use Rattle.stage_network.proofs.Stepping.{reached_at}
-use Rattle.stage_network.proofs.Steps.{extreme-le-total}
+use Rattle.networks.proofs.Steps.{extreme-le-total}
 use Rattle.halves.specs.Pairs.{once, valued, weight_of}
 use Rattle.halves.specs.Summed.{value_sum}
 use Rattle.halves.proofs.Counting.{valued-le}

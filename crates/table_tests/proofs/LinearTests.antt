@@ -13,8 +13,8 @@ use Rattle.weights.specs.Rules.{RuleFits}
 use Rattle.weights.proofs.Centred.{far-fits}
 use Rattle.weights.proofs.Members.{Contains-labellings}
 use Rattle.completion_bounds.specs.Pairings.{greatest_score}
-use Rattle.stage_network.specs.declared.verdicts.Judge.{Judge}
-use Rattle.stage_network.specs.Judged.{judge_of}
+use Rattle.networks.specs.declared.verdicts.Judge.{Judge}
+use Rattle.networks.specs.Judged.{judge_of}
 use Rattle.label_network.specs.LabelNetwork.{IsMargin, label_network, over_rooms}
 use Rattle.label_network.specs.LaterSums.{subjects}
 use Rattle.label_network.specs.Linear.{IsLinear, greatest_sizes, row_sum, table_sum}

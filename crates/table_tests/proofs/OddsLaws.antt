@@ -19,10 +19,10 @@ use Rattle.weights.proofs.FirstLabel.{number_of_labellings-positive}
 use Rattle.weights.proofs.Members.{IsLabelling, labelling_from}
 use Rattle.weights.proofs.Sized.{first_and, sum-minus}
 use Rattle.weights.proofs.Sums.{sum_by-same, sum_by-same_where, sum_by-scaled}
-use Rattle.stage_network.specs.Completions.{paths, path_weight, total_weight}
-use Rattle.stage_network.specs.Network.{IsReached}
-use Rattle.stage_network.proofs.Bounds.{term-le-sum_by}
-use Rattle.stage_network.proofs.Steps.{total_weight-last, total_weight-step}
+use Rattle.networks.specs.Completions.{paths, path_weight, total_weight}
+use Rattle.networks.specs.Network.{IsReached}
+use Rattle.networks.proofs.Elements.{term-le-sum_by}
+use Rattle.networks.proofs.Steps.{total_weight-last, total_weight-step}
 use Rattle.room_network.specs.Plans.{Gives, IsPlan, Plan, alone, ways, way_weight}
 use Rattle.room_network.proofs.RoomKeys.{choices_before, is_allowed}
 use Rattle.label_network.specs.LabelRooms.{label_plan}

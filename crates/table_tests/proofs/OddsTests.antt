@@ -21,10 +21,10 @@ use Rattle.weights.specs.Rules.{RuleFits, measured, rule_of}
 use Rattle.weights.specs.Wide.{Prepares, too_wide}
 use Rattle.weights.proofs.Centred.{at_least-fits, at_most-fits, no-distance, no-times, total-wide as wide-total}
 use Rattle.weights.proofs.FirstLabel.{number_of_labellings-positive}
-use Rattle.stage_network.specs.Judged.{judge_of}
-use Rattle.stage_network.proofs.Following.{judge-fits}
-use Rattle.stage_network.specs.Follows.{Follows}
-use Rattle.stage_network.proofs.Bounds.{term-le-sum_by}
+use Rattle.networks.specs.Judged.{judge_of}
+use Rattle.networks.proofs.Following.{judge-fits}
+use Rattle.networks.specs.Follows.{Follows}
+use Rattle.networks.proofs.Elements.{term-le-sum_by}
 use Rattle.room_network.specs.Meanings.{way_value}
 use Rattle.room_network.proofs.RoomFollows.{room_follows}
 use Rattle.label_network.specs.LabelNetwork.{over_rooms}

@@ -12,9 +12,9 @@ use Rattle.weights.proofs.Sums.{sum_by-same}
 use Rattle.completion_bounds.specs.Fillings.{falling, is_at_least}
 use Rattle.completion_bounds.proofs.FallingSizes.{falling-twice}
 use Rattle.completion_bounds.proofs.TableWeights.{sum-falling}
-use Rattle.stage_network.specs.declared.verdicts.Judge.{Judge}
-use Rattle.stage_network.specs.Follows.{Follows}
-use Rattle.stage_network.specs.Judged.{judge_of}
+use Rattle.networks.specs.declared.verdicts.Judge.{Judge}
+use Rattle.networks.specs.Follows.{Follows}
+use Rattle.networks.specs.Judged.{judge_of}
 use Rattle.room_network.specs.Meanings.{way_value}
 use Rattle.room_network.specs.Plans.{Gives}
 use Rattle.room_network.specs.RoomNetworks.{room_network}

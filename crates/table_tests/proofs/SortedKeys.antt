@@ -1,7 +1,7 @@
 -- What a table's weight over sorted rooms is multiplied by passes no limit.
 use Rattle.std.proofs.Common.{◌≡◌, ℕ, List, drop, sym}
 use Rattle.std.specs.Prelude.{ℤ, pos}
-use Rattle.stage_network.specs.declared.verdicts.Judge.{Judge}
+use Rattle.networks.specs.declared.verdicts.Judge.{Judge}
 use Rattle.room_network.specs.Meanings.{AreReached}
 use Rattle.room_network.specs.Numbers.{IsNumber, IsOutcome, so_far}
 use Rattle.room_network.specs.declared.numbers.Operation.TheVariants.{Product}

@@ -4,7 +4,7 @@ use Rattle.std.specs.Int.{div_ceil}
 use Rattle.std.specs.Prelude.{ℤ, pos, ◌≤ℤ◌, slice_index}
 use Rattle.std.specs.List.{sum, Contains}
 use Rattle.std.proofs.Math.Nat.{mul-le-mul_left}
-use Rattle.stage_network.specs.declared.verdicts.Judge.{Judge}
+use Rattle.networks.specs.declared.verdicts.Judge.{Judge}
 use Rattle.weights.specs.declared.TheConstants.{MAX}
 use Rattle.weights.specs.Grouped.{choices, minus, table_weight}
 use Rattle.weights.specs.Labellings.{number_of_labellings}

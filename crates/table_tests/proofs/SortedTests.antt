@@ -8,8 +8,8 @@ use Rattle.weights.specs.Labellings.{labellings}
 use Rattle.weights.proofs.OneOrder.{length-in_order}
 use Rattle.completion_bounds.proofs.FallingSizes.{falling-twice}
 use Rattle.row_products.proofs.Orders.{rising-twice}
-use Rattle.stage_network.specs.Follows.{Follows, FollowsAlong}
-use Rattle.stage_network.specs.Judged.{judge_of}
+use Rattle.networks.specs.Follows.{Follows, FollowsAlong}
+use Rattle.networks.specs.Judged.{judge_of}
 use Rattle.table_reader.specs.TableLayout.{TableData}
 use Rattle.table_tests.specs.FisherExact.{fisher_test, has_fisher_tail}
 use Rattle.table_tests.specs.FisherSteps.{FisherFacts, FisherLabels}

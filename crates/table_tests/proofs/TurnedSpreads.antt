@@ -17,8 +17,8 @@ use Rattle.weights.proofs.Filters.{all_map, all_weaker}
 use Rattle.weights.proofs.Sums.{sum_by-filter-≤, sum_by-map, sum_by-same_where, sum_by-times}
 use Rattle.weights.proofs.Centred.{all-weigh}
 use Rattle.completion_bounds.proofs.TableWeights.{table-all}
-use Rattle.stage_network.specs.Follows.{statistic_sums}
-use Rattle.stage_network.specs.Lines.{IsAscending, TailsFit, WeightsFit, line_sum}
+use Rattle.networks.specs.Follows.{statistic_sums}
+use Rattle.networks.specs.Lines.{IsAscending, TailsFit, WeightsFit, line_sum}
 use Rattle.stage_network.proofs.DistributionLines.{distribution-is, spread-is, values-each}
 use Rattle.stage_network.proofs.FittingLines.{tails-fit, test-weighs}
 use Rattle.table_reader.specs.TableLayout.{TableData}

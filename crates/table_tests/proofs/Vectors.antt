@@ -4,7 +4,7 @@ use Rattle.std.specs.Prelude.{pos, negsuc}
 use Rattle.weights.specs.Conditional.{distribution, numerator, observed_statistic, total}
 use Rattle.weights.specs.Numbers.{binomial}
 use Rattle.weights.specs.declared.tails.Tail.TheVariants.{Less, Greater, Two}
-use Rattle.stage_network.specs.Opened.{opened_below}
+use Rattle.networks.specs.Opened.{opened_below}
 use Rattle.table_reader.specs.TableLayout.{TableData}
 use Rattle.table_tests.specs.declared.TheConstants.{MOST_SCORE}
 use Rattle.table_tests.specs.FisherExact.{fisher_test}

@@ -6,8 +6,8 @@ use Rattle.weights.specs.Conditional.{total}
 use Rattle.weights.specs.Frames.{IsShown, RulesFit}
 use Rattle.weights.specs.Grouped.{columns_of, table_weight}
 use Rattle.completion_bounds.specs.Fillings.{falling}
-use Rattle.stage_network.specs.Follows.{AllFollow, Follows}
-use Rattle.stage_network.specs.Judged.{judge_of}
+use Rattle.networks.specs.Follows.{AllFollow, Follows}
+use Rattle.networks.specs.Judged.{judge_of}
 use Rattle.label_network.specs.LabelNetwork.{IsMargin, over_rooms}
 use Rattle.label_network.specs.Linear.{IsLinear}
 use Rattle.sorted_tables.specs.SortedRooms.{rising}

@@ -4,8 +4,8 @@ use Rattle.std.specs.Prelude.{ℕ, ◌*◌, ◌^◌, List, nat_eq, slice_index, 
 use Rattle.weights.specs.declared.odds.Odds.{Odds}
 use Rattle.weights.specs.declared.tails.Tail.{Tail}
 use Rattle.weights.specs.Labellings.{number_of_labellings}
-use Rattle.stage_network.specs.Judged.{judge_of}
-use Rattle.stage_network.specs.Network.{Network}
+use Rattle.networks.specs.Judged.{judge_of}
+use Rattle.networks.specs.Network.{Network}
 use Rattle.room_network.specs.Plans.{Plan, Weights}
 use Rattle.room_network.specs.RoomNetworks.{room_network}
 use Rattle.label_network.specs.LabelNetwork.{over_rooms}

@@ -7,7 +7,7 @@ use Rattle.weights.specs.Conditional.{total}
 use Rattle.weights.specs.Frames.{IsShown}
 use Rattle.weights.specs.Labellings.{labellings}
 use Rattle.weights.specs.Numbers.{binomial}
-use Rattle.stage_network.specs.Judged.{judge_of}
+use Rattle.networks.specs.Judged.{judge_of}
 use Rattle.label_network.specs.LabelRooms.{IsLabelled}
 use Rattle.label_network.specs.Linear.{IsLinear}
 use Rattle.table_reader.specs.TableLayout.{TableData}

@@ -3,8 +3,8 @@
 use Rattle.std.specs.Prelude.{ℤ, pos, List, [], ◌∷◌, length, replicate}
 use Rattle.weights.specs.declared.tails.Tail.{Tail}
 use Rattle.weights.specs.declared.tails.Tail.TheVariants.{Less, Greater, Two}
-use Rattle.stage_network.specs.Judged.{judge_of}
-use Rattle.stage_network.specs.Network.{Network}
+use Rattle.networks.specs.Judged.{judge_of}
+use Rattle.networks.specs.Network.{Network}
 use Rattle.label_network.specs.LabelNetwork.{label_network}
 use Rattle.label_network.specs.LaterSums.{subjects}
 use Rattle.label_network.specs.Linear.{linear_meaning}

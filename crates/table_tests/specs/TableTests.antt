@@ -1,9 +1,9 @@
 -- The tests of a table: Fisher's exact test, the linear-by-linear test, and Fisher's with odds.
 use Rattle.weights.specs.Conditional.{ConditionalTest}
 use Rattle.weights.specs.declared.tails.Tail.{Tail}
-use Rattle.stage_network.specs.declared.one_of.OneOf.{OneOf}
-use Rattle.stage_network.specs.Network.{Network}
-use Rattle.stage_network.specs.OneOf.{of_either}
+use Rattle.networks.specs.declared.one_of.OneOf.{OneOf}
+use Rattle.networks.specs.Network.{Network}
+use Rattle.networks.specs.OneOf.{of_either}
 use Rattle.table_reader.specs.TableLayout.{TableData}
 use Rattle.table_tests.specs.FisherExact.{fisher_test}
 use Rattle.table_tests.specs.FisherOdds.{WeightedTable, odds_test}

@@ -2,7 +2,7 @@
 -- JASA 78, 1983): the product of the columns' weights so far, times least and greatest weights of
 -- the later columns.
 use Rattle.std.specs.Prelude.{ℕ, pos, List, drop, length, min}
-use Rattle.stage_network.specs.declared.verdicts.Judge.{Judge}
+use Rattle.networks.specs.declared.verdicts.Judge.{Judge}
 use Rattle.weights.specs.Labellings.{number_of_labellings}
 use Rattle.completion_bounds.specs.Fillings.{greatest_weight, least_weight, product_by}
 use Rattle.room_network.specs.Numbers.{Numbers}

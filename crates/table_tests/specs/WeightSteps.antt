@@ -2,10 +2,10 @@
 use Rattle.std.specs.Prelude.{◌≡◌, ℕ, suc, ◌-◌, ◌*◌, ◌^◌, ◌<◌, ◌≤◌, ℤ, pos, List, length, map, drop, get_or, min, nat_abs, slice_index, unsigned_abs, true}
 use Rattle.std.specs.List.{sum, Contains}
 use Rattle.weights.specs.declared.TheConstants.{MAX}
-use Rattle.stage_network.specs.declared.verdicts.Judge.{Judge}
+use Rattle.networks.specs.declared.verdicts.Judge.{Judge}
 use Rattle.weights.specs.Grouped.{choices, fits}
 use Rattle.weights.specs.Labellings.{number_of_labellings}
-use Rattle.stage_network.specs.Judged.{JudgeFits}
+use Rattle.networks.specs.Judged.{JudgeFits}
 use Rattle.completion_bounds.specs.Fillings.{falling, greatest_weight, product_by}
 use Rattle.label_network.specs.LabelSteps.{AreSizes, IsHeld}
 use Rattle.room_network.specs.Numbers.{so_far}

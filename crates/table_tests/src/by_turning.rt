@@ -3,7 +3,7 @@ ghost use Rattle.std.specs.Prelude.{◌≡◌, true, IfOk};
 ghost use Rattle.weights.specs.declared.tails.Tail.TheVariants.{Two};
 ghost use Rattle.weights.specs.Conditional.{distribution, numerator};
 ghost use Rattle.weights.specs.Frames.{first_tail};
-ghost use Rattle.stage_network.specs.Lines.{TailsFit, WeightsFit};
+ghost use Rattle.networks.specs.Lines.{TailsFit, WeightsFit};
 ghost use Rattle.table_tests.specs.FisherExact.{fisher_test};
 ghost use Rattle.table_tests.specs.Turned.{IsServedBy};
 
@@ -12,7 +12,8 @@ use crate::scaled::scaled_spread;
 use crate::sorted_sums::sorted_sum;
 use crate::turned::turned_of;
 use enumerate::Plain;
-use stage_network::{Prepared, Spread, TailSum, spread_by_rooms, tail_sum_by_rooms};
+use networks::{Spread, TailSum};
+use stage_network::{Prepared, spread_by_rooms, tail_sum_by_rooms};
 use std::alloc::Global;
 use turned_tables::in_ratio;
 use weights::{NoMemory, Tail};

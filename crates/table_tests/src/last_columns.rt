@@ -7,8 +7,8 @@ ghost use Rattle.weights.specs.declared.tails.Tail.TheVariants.{Two};
 ghost use Rattle.weights.specs.declared.TheConstants.{MAX};
 ghost use Rattle.node_pool.specs.Nodes.{weighted};
 ghost use Rattle.stage_network.specs.ArcSteps.{IsRun, segment};
-ghost use Rattle.stage_network.specs.Completions.{extreme_weight};
-ghost use Rattle.stage_network.specs.SweepSteps.{sum_for};
+ghost use Rattle.networks.specs.Completions.{extreme_weight};
+ghost use Rattle.networks.specs.EachTail.{sum_for};
 ghost use Rattle.completion_bounds.specs.Fillings.{falling};
 ghost use Rattle.halves.specs.Pairs.{once, valued, weight_of};
 ghost use Rattle.sorted_tables.specs.SortedRooms.{rising};
@@ -17,8 +17,9 @@ ghost use Rattle.table_tests.specs.WeightSteps.{IsWeighing, past_of};
 
 use crate::fisher_table::held;
 use halves::FirstHalf;
+use networks::Judge;
 use sorted_tables::SortedRooms;
-use stage_network::{Judge, StageNodes};
+use stage_network::StageNodes;
 use std::alloc::Global;
 use weights::{Count, Line, NoMemory, Rule, Tail, only};
 

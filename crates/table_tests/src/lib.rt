@@ -5,8 +5,8 @@
 
 ghost use Rattle.std.specs.Prelude.{◌≡◌, ◌≤◌, IfOk};
 ghost use Rattle.weights.specs.Conditional.{distribution};
-ghost use Rattle.stage_network.specs.Follows.{HasTails, answer_of, open_keys};
-ghost use Rattle.stage_network.specs.Lines.{TailsFit, WeightsFit};
+ghost use Rattle.networks.specs.Follows.{HasTails, answer_of, open_keys};
+ghost use Rattle.networks.specs.Lines.{TailsFit, WeightsFit};
 ghost use Rattle.table_tests.specs.TableTests.{table_network, table_test};
 
 mod by_turning;
@@ -33,11 +33,11 @@ mod weight_measure;
 
 pub use fisher_table::{FisherTable, fisher_tails, is_two_by_two};
 pub use linear_table::{LinearTable, ProductSum};
+use networks::{Answer, Spread, Way};
 pub use odds_rooms::OddsRooms;
 pub use odds_table::OddsTable;
 pub use product_stages::ProductStages;
 pub use sorted_weights::{SortedStages, SortedWeights};
-use stage_network::{Answer, Spread, Way};
 use std::alloc::Global;
 pub use table_test::{TableTest, prepare_fisher, prepare_linear, prepare_odds};
 pub use turned::turned_tests;

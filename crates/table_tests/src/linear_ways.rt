@@ -1,6 +1,6 @@
 // The sum of products as the statistic of the linear-by-linear test, and its networks.
 ghost use Rattle.std.specs.Prelude.{◌≡◌, IfOk};
-ghost use Rattle.stage_network.specs.Judged.{judge_of};
+ghost use Rattle.networks.specs.Judged.{judge_of};
 ghost use Rattle.label_network.specs.Linear.{linear_meaning};
 ghost use Rattle.table_tests.specs.LinearByLinear.{linear_test};
 ghost use Rattle.table_tests.specs.TableNetworks.{subject_meaning};
@@ -10,7 +10,7 @@ use crate::product_stages::{ProductStages, product_stages};
 use crate::single_subjects::{single_columns, subject_scores};
 use crate::sums::labelled_sum;
 use labelled::LabelStatistic;
-use stage_network::Judge;
+use networks::Judge;
 use std::alloc::Global;
 use weights::{NoMemory, Tail};
 

@@ -9,8 +9,9 @@ use crate::odds_table::OddsTable;
 use crate::odds_weights::odds_weight;
 use enumerate::Plain;
 use label_network::LinearMeasure;
+use networks::{Judge, Stages};
 use room_network::{Numbered, RoomNetwork};
-use stage_network::{Judge, Prepared, Stages};
+use stage_network::Prepared;
 use std::alloc::Global;
 use weights::{Bytes, Frame, NoMemory, Rule, Tail};
 

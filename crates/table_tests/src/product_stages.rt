@@ -4,8 +4,8 @@ ghost use Rattle.label_network.specs.LabelNetwork.{IsMargin, over_rooms};
 ghost use Rattle.label_network.specs.Linear.{IsLinear, linear_meaning};
 
 use label_network::{LabelStages, LinearMeasure, label_stages};
+use networks::Judge;
 use room_network::Numbered;
-use stage_network::Judge;
 use std::alloc::Global;
 use weights::NoMemory;
 

@@ -1,11 +1,11 @@
 // A distribution, by that of the table turned.
 ghost use Rattle.std.specs.Prelude.{◌≡◌, ◌*◌, ◌/◌, ◌%◌, ◌<◌, ◌≤◌, map, pos, All, IfOk};
 ghost use Rattle.weights.specs.declared.TheConstants.{MAX};
-ghost use Rattle.stage_network.specs.Lines.{IsAscending};
+ghost use Rattle.networks.specs.Lines.{IsAscending};
 ghost use Rattle.table_tests.specs.Turned.{IsScalable, scaled_line};
 
 use crate::fisher_table::held;
-use stage_network::Spread;
+use networks::Spread;
 use std::alloc::Global;
 use turned_tables::in_ratio;
 use weights::{Line, NoMemory};

@@ -11,10 +11,10 @@ ghost use Rattle.table_tests.specs.WeightSteps.{AreOrdered, IsWeighing, IsWeight
 use crate::fisher_table::held;
 use crate::weight_measure::{WeightMeasure, later_columns};
 use label_network::read_sizes;
+use networks::{Interval, Judge};
 use room_network::{NumberMeasure, Numbered, Operation, RoomNetwork};
 use row_products::{RowBounds, RowProducts};
 use sorted_tables::SortedRooms;
-use stage_network::{Interval, Judge};
 use std::alloc::Global;
 use weights::NoMemory;
 

@@ -11,7 +11,7 @@ ghost use Rattle.table_tests.specs.TableSteps.{AreScores, scored_of};
 use crate::fisher_table::FisherTable;
 use crate::linear_table::{LinearTable, prepare};
 use crate::odds_table::OddsTable;
-use stage_network::OneOf;
+use networks::OneOf;
 use std::alloc::Global;
 use table_reader::Table;
 use weights::{Odds, PrepareFault};

@@ -14,8 +14,8 @@ use crate::fillings::{later_highs, least_over};
 use crate::fisher_table::held;
 use completion_bounds::fall;
 use label_network::{Binomials, LabelStages, read_sizes};
+use networks::{Interval, Judge};
 use room_network::{NumberMeasure, Numbered, Operation};
-use stage_network::{Interval, Judge};
 use std::alloc::Global;
 use weights::{NoMemory, total_of};
 

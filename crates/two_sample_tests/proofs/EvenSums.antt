@@ -14,8 +14,8 @@ use Rattle.weights.proofs.Counted.{count_of}
 use Rattle.weights.proofs.Members.{IsLabelling}
 use Rattle.scores.specs.Scores.{labelled_sum}
 use Rattle.sample_reader.specs.Groups.{group_sizes}
-use Rattle.stage_network.specs.declared.verdicts.Judge.{Judge}
-use Rattle.stage_network.specs.Judged.{judge_of, rule_in}
+use Rattle.networks.specs.declared.verdicts.Judge.{Judge}
+use Rattle.networks.specs.Judged.{judge_of, rule_in}
 use Rattle.labelled.proofs.LabelLaws.{fit-by, numerator-by}
 use Rattle.rising_pairs.specs.RisingPairs.{rising_pairs}
 use Rattle.rising_pairs.specs.RisingTails.{FitLabellings, even_value, passing_labellings}

@@ -13,8 +13,8 @@ use Rattle.scores.specs.declared.kinds.ScoreKind.{ScoreKind}
 use Rattle.sample_reader.specs.Groups.{group_sizes}
 use Rattle.sample_reader.specs.Data.{data_of}
 use Rattle.sample_reader.specs.declared.samples.Groups.{Groups}
-use Rattle.stage_network.specs.Judged.{judge_of}
-use Rattle.stage_network.specs.Network.{Network}
+use Rattle.networks.specs.Judged.{judge_of}
+use Rattle.networks.specs.Network.{Network}
 use Rattle.label_network.specs.LabelNetwork.{label_network}
 use Rattle.label_network.specs.Linear.{linear_meaning}
 use Rattle.labelled.specs.LabelTests.{IsSound, IsWithin, LabelTest, label_test}

@@ -3,8 +3,8 @@
 use Rattle.std.specs.Prelude.{ℤ, pos, List, [], ◌∷◌}
 use Rattle.weights.specs.declared.tails.Tail.{Tail}
 use Rattle.sample_reader.specs.Groups.{group_sizes}
-use Rattle.stage_network.specs.Judged.{judge_of}
-use Rattle.stage_network.specs.Network.{Network}
+use Rattle.networks.specs.Judged.{judge_of}
+use Rattle.networks.specs.Network.{Network}
 use Rattle.label_network.specs.LabelNetwork.{label_network}
 use Rattle.label_network.specs.Linear.{linear_meaning}
 use Rattle.label_network.specs.Meanings.{Meaning}

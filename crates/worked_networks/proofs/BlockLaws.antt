@@ -7,9 +7,9 @@ use Rattle.std.proofs.lemmas.List.Elements.{All-contains, All-from_recursion}
 use Rattle.weights.specs.declared.tails.Tail.{Tail}
 use Rattle.weights.specs.declared.tails.Tail.TheVariants.{Less, Greater, Two}
 use Rattle.weights.specs.Rules.{RuleFits}
-use Rattle.stage_network.specs.Judged.{rule_in}
-use Rattle.stage_network.specs.SoundAddends.{IsAdditive}
-use Rattle.stage_network.proofs.Apart.{two_apart}
+use Rattle.networks.specs.Judged.{rule_in}
+use Rattle.networks.specs.SoundAddends.{IsAdditive}
+use Rattle.networks.proofs.Apart.{two_apart}
 use Rattle.worked_networks.specs.Blocks.{block_choices, worked_blocks}
 
 -- the rules fit the first interval

@@ -4,16 +4,16 @@ use Rattle.std.specs.Prelude.{ℤ, pos, ◌+ℤ◌, ◌-ℤ◌, ◌≤ℤ◌, Al
 use Rattle.std.specs.List.{AllByRecursion, Contains}
 use Rattle.std.proofs.lemmas.Int.{ints}
 use Rattle.std.proofs.lemmas.List.Elements.{All-contains, All-from_recursion}
-use Rattle.stage_network.specs.Network.{IsReached}
-use Rattle.stage_network.specs.Completions.{total_weight}
+use Rattle.networks.specs.Network.{IsReached}
+use Rattle.networks.specs.Completions.{total_weight}
 use Rattle.weights.specs.declared.TheConstants.{MAX}
 use Rattle.weights.specs.declared.tails.Tail.{Tail}
 use Rattle.weights.specs.declared.tails.Tail.TheVariants.{Less, Greater, Two}
 use Rattle.weights.specs.Rules.{RuleFits}
-use Rattle.stage_network.specs.Judged.{rule_in}
-use Rattle.stage_network.specs.declared.verdicts.Judge.{Judge}
-use Rattle.stage_network.proofs.Apart.{one_apart, two_apart}
-use Rattle.stage_network.proofs.Judging.{fits-between}
+use Rattle.networks.specs.Judged.{rule_in}
+use Rattle.networks.specs.declared.verdicts.Judge.{Judge}
+use Rattle.networks.proofs.Apart.{one_apart, two_apart}
+use Rattle.networks.proofs.Judging.{fits-between}
 use Rattle.room_network.specs.Meanings.{AreReached, IsMeasure, IsMove, Meaning}
 use Rattle.room_network.specs.Numbers.{Fits, IsNumber, IsOutcome, number_meaning, so_far}
 use Rattle.room_network.specs.Plans.{IsPlan, alone}

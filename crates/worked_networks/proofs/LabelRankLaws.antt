@@ -13,10 +13,10 @@ use Rattle.weights.specs.Grouped.{fits, minus}
 use Rattle.weights.specs.Rules.{RuleFits, rule_of}
 use Rattle.weights.proofs.ChoiceLists.{IsChoice}
 use Rattle.weights.proofs.Sized.{first_and}
-use Rattle.stage_network.specs.declared.verdicts.Judge.{Judge}
-use Rattle.stage_network.specs.Judged.{JudgeFits, judge_of}
-use Rattle.stage_network.proofs.Following.{judge-fits}
-use Rattle.stage_network.proofs.Judging.{fits-between}
+use Rattle.networks.specs.declared.verdicts.Judge.{Judge}
+use Rattle.networks.specs.Judged.{JudgeFits, judge_of}
+use Rattle.networks.proofs.Following.{judge-fits}
+use Rattle.networks.proofs.Judging.{fits-between}
 use Rattle.room_network.specs.Meanings.{AreReached, IsMove}
 use Rattle.room_network.specs.Numbers.{Fits, IsNumber, IsOutcome, so_far}
 use Rattle.room_network.specs.declared.numbers.Operation.TheVariants.{Sum}

@@ -7,14 +7,14 @@ use Rattle.std.proofs.lemmas.Bool.Decides.{nat_tests}
 use Rattle.std.proofs.lemmas.Int.{ints}
 use Rattle.std.proofs.Math.Nat.{pow-suc, mul-le-mul_left}
 use Rattle.std.proofs.Math.Pow.{pow_mono}
-use Rattle.stage_network.specs.declared.stages.Verdict.{Verdict}
-use Rattle.stage_network.specs.declared.stages.Verdict.TheVariants.{Inside, Outside, Undecided}
-use Rattle.stage_network.specs.Network.{IsReached}
-use Rattle.stage_network.specs.Completions.{total_weight}
-use Rattle.stage_network.specs.Laws.{IsLawful}
+use Rattle.networks.specs.declared.stages.Verdict.{Verdict}
+use Rattle.networks.specs.declared.stages.Verdict.TheVariants.{Inside, Outside, Undecided}
+use Rattle.networks.specs.Network.{IsReached}
+use Rattle.networks.specs.Completions.{total_weight}
+use Rattle.networks.specs.Laws.{IsLawful}
 use Rattle.weights.specs.declared.tails.Tail.TheVariants.{Less}
-use Rattle.stage_network.proofs.Apart.{none_apart, one_apart, two_apart}
-use Rattle.stage_network.proofs.Steps.{all_paths, all-step, IsKept, inside_from_arcs, outside_from_arcs}
+use Rattle.networks.proofs.Apart.{none_apart, one_apart, two_apart}
+use Rattle.networks.proofs.Steps.{all_paths, all-step, IsKept, inside_from_arcs, outside_from_arcs}
 use Rattle.weights.specs.Numbers.{binomial}
 use Rattle.weights.proofs.Binomials.{binomial-zero, binomial-pascal, binomial-all}
 use Rattle.worked_networks.specs.SampleRanks.{at, both_choices, sum_verdict, rank_network}

@@ -2,7 +2,7 @@
 use Rattle.std.proofs.Common.{◌≡◌, ℕ, ◌+◌, ◌*◌, ◌≤◌, List, [], ◌∷◌, length, take, drop, ◌++◌, Bool, true, false, cond, eqb, refl, ◌∙◌, sym, ap, arith}
 use Rattle.std.specs.Prelude.{ℤ, pos, ◌+ℤ◌, ◌-ℤ◌, slice_index}
 use Rattle.std.proofs.lemmas.Int.{ints}
-use Rattle.stage_network.specs.Rooms.{IsRoomed}
+use Rattle.networks.specs.Rooms.{IsRoomed}
 use Rattle.worked_networks.specs.SampleRanks.{at, rank_network, rank_step}
 use Rattle.worked_networks.proofs.RankLaws.{Ranked, ranked}
 

@@ -9,18 +9,18 @@ use Rattle.weights.specs.declared.tails.Tail.TheVariants.{Less, Greater, Two}
 use Rattle.weights.specs.Frames.{IsShown, RulesFit}
 use Rattle.weights.specs.Labellings.{sign_lists}
 use Rattle.weights.specs.Rules.{RuleFits, measured, rule_of}
-use Rattle.stage_network.specs.Addends.{value_of}
-use Rattle.stage_network.specs.SoundAddends.{IsAdditive}
-use Rattle.stage_network.specs.declared.verdicts.Judge.{Judge}
-use Rattle.stage_network.specs.Follows.{Follows}
-use Rattle.stage_network.specs.Judged.{JudgeFits, judge_of}
-use Rattle.stage_network.proofs.Following.{judge-fits}
+use Rattle.networks.specs.Addends.{value_of}
+use Rattle.networks.specs.SoundAddends.{IsAdditive}
+use Rattle.networks.specs.declared.verdicts.Judge.{Judge}
+use Rattle.networks.specs.Follows.{Follows}
+use Rattle.networks.specs.Judged.{JudgeFits, judge_of}
+use Rattle.networks.proofs.Following.{judge-fits}
 use Rattle.worked_networks.specs.SignedRanks.{rank_sum, worked_addends, worked_network, worked_test}
-use Rattle.stage_network.proofs.Apart.{two_apart}
-use Rattle.stage_network.proofs.Judging.{fits-between}
-use Rattle.stage_network.proofs.Parts.{IsStage, Pieces, product_weight, summed}
-use Rattle.stage_network.proofs.Flat.{AllAt}
-use Rattle.stage_network.proofs.AdditiveFollows.{additive_follows}
+use Rattle.networks.proofs.Apart.{two_apart}
+use Rattle.networks.proofs.Judging.{fits-between}
+use Rattle.networks.proofs.Parts.{IsStage, Pieces, product_weight, summed}
+use Rattle.networks.proofs.Flat.{AllAt}
+use Rattle.networks.proofs.AdditiveFollows.{additive_follows}
 
 pub worked_additive : (judge : Judge) → JudgeFits judge (pos 0) → JudgeFits judge (pos 12) → IsAdditive (worked_addends judge)
 worked_additive judge low high = record {

@@ -2,8 +2,8 @@
 -- ranks are kept ascending, and their squares are added.
 use Rattle.std.specs.Prelude.{ℕ, ◌+◌, ◌*◌, pos, List, [], ◌∷◌, true, nat_eq, slice_index, if◌then◌else◌}
 use Rattle.weights.specs.declared.rules.Rule.TheVariants.{AtMost, AtLeast, Far}
-use Rattle.stage_network.specs.declared.additive.SumValue.TheVariants.{Squares}
-use Rattle.stage_network.specs.Addends.{Addends}
+use Rattle.networks.specs.declared.additive.SumValue.TheVariants.{Squares}
+use Rattle.networks.specs.Addends.{Addends}
 
 -- a choice gives each treatment its rank less 1
 abbrev pub block_choices : List (List ℕ)

@@ -5,7 +5,7 @@ use Rattle.std.specs.Prelude.{ℕ, ◌-◌, ℤ, pos, nat_abs, int_lt, List, [],
 use Rattle.std.specs.List.{count_by}
 use Rattle.weights.specs.Conditional.{unit_weight}
 use Rattle.weights.specs.declared.rules.Rule.TheVariants.{AtMost, AtLeast}
-use Rattle.stage_network.specs.declared.verdicts.Judge.{Judge}
+use Rattle.networks.specs.declared.verdicts.Judge.{Judge}
 use Rattle.room_network.specs.Numbers.{Numbers}
 use Rattle.room_network.specs.Plans.{Gives, Plan}
 use Rattle.room_network.specs.declared.numbers.Operation.TheVariants.{Sum}

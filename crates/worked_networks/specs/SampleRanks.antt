@@ -1,9 +1,9 @@
 -- The network of the tests: two samples without ties, subject by subject, by how many of each
 -- sample are left and the sum of the second sample's doubled ranks.
 use Rattle.std.specs.Prelude.{ℕ, ℤ, pos, ◌+ℤ◌, ◌-ℤ◌, ◌+◌, ◌*◌, List, [], ◌∷◌, nat_lt, ◌==◌, int_le, int_lt, slice_index, slice_index_or, if◌then◌else◌}
-use Rattle.stage_network.specs.declared.stages.Verdict.{Verdict}
-use Rattle.stage_network.specs.declared.stages.Verdict.TheVariants.{Inside, Outside, Undecided}
-use Rattle.stage_network.specs.Network.{Network}
+use Rattle.networks.specs.declared.stages.Verdict.{Verdict}
+use Rattle.networks.specs.declared.stages.Verdict.TheVariants.{Inside, Outside, Undecided}
+use Rattle.networks.specs.Network.{Network}
 
 abbrev pub at : List ℤ → ℕ → ℤ
 at k i = slice_index_or k i (pos 0)

@@ -4,11 +4,11 @@ use Rattle.std.specs.Prelude.{ℕ, ◌+◌, ◌*◌, pos, List, [], ◌∷◌, f
 use Rattle.weights.specs.declared.tails.Tail.{Tail}
 use Rattle.weights.specs.Conditional.{ConditionalTest, by_distance, every_tail, unit_weight}
 use Rattle.weights.specs.Labellings.{sign_lists}
-use Rattle.stage_network.specs.declared.additive.SumValue.TheVariants.{First}
-use Rattle.stage_network.specs.declared.verdicts.Judge.{Judge}
-use Rattle.stage_network.specs.Judged.{judge_of}
-use Rattle.stage_network.specs.Network.{Network}
-use Rattle.stage_network.specs.Addends.{Addends, additive_network}
+use Rattle.networks.specs.declared.additive.SumValue.TheVariants.{First}
+use Rattle.networks.specs.declared.verdicts.Judge.{Judge}
+use Rattle.networks.specs.Judged.{judge_of}
+use Rattle.networks.specs.Network.{Network}
+use Rattle.networks.specs.Addends.{Addends, additive_network}
 
 -- the doubled ranks of the positive differences
 abbrev pub rank_sum : List ℕ → ℕ

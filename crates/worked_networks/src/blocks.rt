@@ -1,7 +1,7 @@
 // Two worked blocks, by a network whose sums are kept ascending.
 ghost use Rattle.std.specs.Prelude.{◌≡◌, ◌+◌, ◌*◌, ◌<◌, pos};
 
-use stage_network::{Additive, Interval, Judge, SumValue};
+use networks::{Additive, Interval, Judge, SumValue};
 use weights::Rule;
 
 /// Each block is a stage, and its ranks the choice.

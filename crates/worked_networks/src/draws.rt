@@ -1,11 +1,12 @@
 // Two draws from a box of two black balls and a white one, by rooms of their own.
 ghost use Rattle.std.specs.Prelude.{◌≡◌, IfOk, filter, length};
 ghost use Rattle.weights.specs.Rules.{passes};
-ghost use Rattle.stage_network.specs.Judged.{rule_in};
+ghost use Rattle.networks.specs.Judged.{rule_in};
 ghost use Rattle.worked_networks.specs.Draws.{GivesDraws, draws, first_colour, some_white, whites};
 
+use networks::{Interval, Judge, TailSum};
 use room_network::{NumberMeasure, Numbered, Operation, RoomNetwork, Rooms};
-use stage_network::{Interval, Judge, TailSum, tail_sum};
+use stage_network::tail_sum;
 use std::alloc::Global;
 use weights::{NoMemory, Rule, Tail};
 

@@ -4,7 +4,8 @@ ghost use Rattle.weights.specs.Conditional.{numerator};
 ghost use Rattle.weights.specs.declared.tails.Tail.TheVariants.{Less, Greater};
 
 use distribution::{above, below};
-use stage_network::{Prepared, Way, distribution};
+use networks::Way;
+use stage_network::{Prepared, distribution};
 use std::alloc::Global;
 use weights::NoMemory;
 

@@ -2,7 +2,8 @@
 use crate::{RankStages, SignedRanks};
 use enumerate::Plain;
 use halves::{completion_values, first_half, meeting_sums, tail_sums};
-use stage_network::{AdditiveStages, Judge, Prepared, Roomed, Stages, plain_spread};
+use networks::{AdditiveStages, Judge, Roomed, Stages};
+use stage_network::{Prepared, plain_spread};
 use std::test::Fail;
 use weights::{Tail, Tails, Wide};
 

@@ -2,12 +2,13 @@
 // whoever has a statistic of labellings.
 ghost use Rattle.std.specs.Prelude.{◌≡◌, ◌+◌, ◌*◌, ◌<◌, ◌≤◌, pos, IfOk};
 ghost use Rattle.weights.specs.Conditional.{numerator};
-ghost use Rattle.stage_network.specs.Judged.{judge_of};
+ghost use Rattle.networks.specs.Judged.{judge_of};
 ghost use Rattle.worked_networks.specs.LabelRanks.{first_ranks, last_ranks, rank_test};
 
 use label_network::{label_stages, read_sizes};
+use networks::{Interval, Judge, TailSum};
 use room_network::{NumberMeasure, Numbered, Operation};
-use stage_network::{Interval, Judge, TailSum, tail_sum};
+use stage_network::tail_sum;
 use std::alloc::Global;
 use weights::{NoMemory, Rule, Tail};
 

@@ -3,7 +3,7 @@ ghost use Rattle.std.specs.Prelude.{◌≡◌, ◌+◌, ◌≤◌, []};
 ghost use Rattle.weights.specs.Numbers.{binomial};
 ghost use Rattle.worked_networks.specs.SampleRanks.{rank_network, rank_step};
 
-use stage_network::{Roomed, Stages, Verdict, write_key};
+use networks::{Roomed, Stages, Verdict, write_key};
 use weights::{Tail, binomial};
 
 /// The sizes of the two samples, at most 126 in all, and the greatest sum that is extreme.

@@ -1,10 +1,11 @@
 // A signed rank test from end to end.
 ghost use Rattle.std.specs.Prelude.{◌≡◌, ◌+◌, ◌*◌, ◌<◌, pos, length, All};
-ghost use Rattle.stage_network.specs.Judged.{JudgeFits};
+ghost use Rattle.networks.specs.Judged.{JudgeFits};
 ghost use Rattle.worked_networks.specs.SignedRanks.{rank_sum};
 
 use enumerate::{Plain, next_signs};
-use stage_network::{Additive, AdditiveStages, Interval, Judge, Prepared, SumValue};
+use networks::{Additive, AdditiveStages, Interval, Judge, SumValue};
+use stage_network::Prepared;
 use std::alloc::Global;
 use weights::{Bytes, Frame, NoMemory, Rule, Tail};
 

@@ -3,9 +3,10 @@ use crate::{
     Blocks, OneSided, RankStages, Ranks, SignedRanks, one_sided, tail_by_labels, white_draws,
 };
 use distribution::{above, below, far};
+use networks::{AdditiveStages, OneOf, Roomed, Spread, Stages, TailSum, TailSums, Way};
 use stage_network::{
-    AdditiveStages, Line, OneOf, Prepared, Roomed, Spread, Stages, TailSum, TailSums, Way, answer,
-    distribution, plain_spread, row_sums, spread, spread_by_rooms, tail_sum, tail_sum_by_rooms,
+    Line, Prepared, answer, distribution, plain_spread, row_sums, spread, spread_by_rooms,
+    tail_sum, tail_sum_by_rooms,
 };
 use std::test::Fail;
 use weights::{Tail, Tails, Wide};

@@ -1,5 +1,5 @@
 use Rattle.std.proofs.Common.{◌≡◌, ◌<◌, ◌∙◌, ℕ, Bool, List, ap, subst, sym, true}
-use Rattle.stage_network.specs.declared.verdicts.Judge.{Judge}
+use Rattle.networks.specs.declared.verdicts.Judge.{Judge}
 use Rattle.ordered_groups.specs.OrderedNetworks.{AreItsRooms, MayBeOrdered}
 use Rattle.ordered_groups.proofs.OrderedKeys.{may-be-ordered}
 use Rattle.block_tests.specs.Mirrors.{AreMirrors}

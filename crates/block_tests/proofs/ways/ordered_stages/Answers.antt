@@ -2,8 +2,8 @@ use Rattle.std.proofs.Common.{◌≡◌, ◌<◌, ◌∙◌, ◌⊎◌, ℕ, Lis
 use Rattle.std.specs.Prelude.{All}
 use Rattle.weights.specs.declared.tails.Tail.{Tail}
 use Rattle.weights.specs.declared.tails.Tail.TheVariants.{Greater}
-use Rattle.stage_network.specs.Follows.{Follows}
-use Rattle.stage_network.specs.Judged.{judge_of}
+use Rattle.networks.specs.Follows.{Follows}
+use Rattle.networks.specs.Judged.{judge_of}
 use Rattle.block_tests.specs.BlockTests.{BlockTests, block_counts, block_test}
 use Rattle.block_tests.specs.Mirrors.{AreEven, AreMirrors}
 use Rattle.block_tests.specs.Servings.{alike, all_servings, served_network}

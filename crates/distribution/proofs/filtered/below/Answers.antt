@@ -2,7 +2,7 @@ use Rattle.std.proofs.Common.{◌≡◌, ◌∙◌, ap, to_z, of_z}
 use Rattle.std.specs.Prelude.{int_le}
 use Rattle.std.proofs.lemmas.Int.{to_z-of_z}
 use mir.Syntax.{w128}
-use Rattle.stage_network.specs.Lines.{line_sum}
+use Rattle.networks.specs.Lines.{line_sum}
 use Rattle.distribution.proofs.TailLaw.{less-law}
 use Rattle.distribution.proofs.filtered.below.Goals as goal
 

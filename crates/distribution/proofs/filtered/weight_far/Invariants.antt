@@ -1,7 +1,7 @@
 use Rattle.std.proofs.Common.{◌≡◌, take}
 use Rattle.std.specs.Prelude.{nat_le}
 use Rattle.weights.specs.Conditional.{distance}
-use Rattle.stage_network.specs.Lines.{line_sum}
+use Rattle.networks.specs.Lines.{line_sum}
 use Rattle.distribution.proofs.filtered.weight_far.Given as goal
 
 -- the weight is that of the lines so far

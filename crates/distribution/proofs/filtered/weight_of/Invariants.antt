@@ -1,6 +1,6 @@
 use Rattle.std.proofs.Common.{◌≡◌, take}
 use Rattle.weights.specs.Rules.{passes}
-use Rattle.stage_network.specs.Lines.{line_sum}
+use Rattle.networks.specs.Lines.{line_sum}
 use Rattle.distribution.proofs.filtered.weight_of.Given as goal
 
 -- the sum is that of the lines so far

@@ -1,6 +1,6 @@
 use Rattle.std.proofs.Common.{◌≡◌, ◌+◌, ℕ, List, Bool, true, false, cond, get_or, take, ap, ◌∙◌, arith}
 use Rattle.std.specs.Prelude.{ℤ}
-use Rattle.stage_network.specs.Asked.{asks}
+use Rattle.networks.specs.Asked.{asks}
 use Rattle.halves.specs.Sides.{is_in, sides_for}
 use Rattle.drawn_sums.specs.DrawRows.{row_draws, rows_draws}
 use Rattle.drawn_sums.specs.Meetings.{met}

@@ -1,7 +1,7 @@
 use Rattle.std.proofs.Common.{◌≡◌, cond, take}
 use Rattle.weights.specs.declared.tails.Tail.{Tail}
-use Rattle.stage_network.specs.Asked.{asks}
-use Rattle.stage_network.specs.SweepSteps.{sum_for}
+use Rattle.networks.specs.Asked.{asks}
+use Rattle.networks.specs.EachTail.{sum_for}
 use Rattle.halves.specs.Sides.{is_in, sides_for}
 use Rattle.drawn_sums.specs.DrawRows.{rows_draws}
 use Rattle.drawn_sums.specs.Meetings.{met}

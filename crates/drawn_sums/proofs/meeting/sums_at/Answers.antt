@@ -1,7 +1,7 @@
 use Rattle.std.proofs.Common.{◌≡◌, ◌-◌, ◌<◌, ℕ, Bool, true, false, cond, get_or, length, map, ap, sym, ◌∙◌, arith}
 use Rattle.std.specs.Prelude.{ℤ, ◌+ℤ◌}
-use Rattle.stage_network.specs.Asked.{asks}
-use Rattle.stage_network.specs.declared.tail_sums.TailSum.{TailSum}
+use Rattle.networks.specs.Asked.{asks}
+use Rattle.networks.specs.declared.tail_sums.TailSum.{TailSum}
 use Rattle.halves.specs.Pairs.{once}
 use Rattle.halves.specs.Sides.{is_in, sides_for}
 use Rattle.drawn_sums.specs.DrawRows.{row_draws}

@@ -1,6 +1,6 @@
 use Rattle.std.proofs.Common.{ap, ◌∙◌}
 use Rattle.std.specs.Prelude.{pos}
-use Rattle.stage_network.specs.Judged.{rule_in}
+use Rattle.networks.specs.Judged.{rule_in}
 use Rattle.halves.specs.Pairs.{once}
 use Rattle.halves.specs.Sides.{is_in, sides_for}
 use Rattle.drawn_sums.specs.Draws.{draw_sum}

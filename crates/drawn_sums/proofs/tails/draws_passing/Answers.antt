@@ -2,7 +2,7 @@ use Rattle.std.proofs.Common.{ℕ, ◌-◌, length, ap, ◌∙◌, rules, FitsSi
 use Rattle.std.specs.Prelude.{pos, ◌-ℤ◌}
 use Rattle.std.proofs.lemmas.Int.{to_z-of_z}
 use mir.Syntax.{w128}
-use Rattle.stage_network.specs.Judged.{rule_in}
+use Rattle.networks.specs.Judged.{rule_in}
 use Rattle.halves.specs.Sides.{is_in, sides_for}
 use Rattle.drawn_sums.specs.Draws.{draw_sum}
 use Rattle.drawn_sums.specs.Meetings.{drawn_at}

@@ -2,7 +2,7 @@ use Rattle.std.proofs.Common.{length, ◌∙◌}
 use Rattle.sample_reader.specs.Data.{data_of}
 use Rattle.report.specs.declared.headings.Extra.TheVariants as extra
 use Rattle.k_sample_tests.specs.KSamples.{k_sample_network, k_sample_test}
-use Rattle.stage_network.specs.declared.one_of.OneOf.TheVariants.{Second}
+use Rattle.networks.specs.declared.one_of.OneOf.TheVariants.{Second}
 use Rattle.exact_run.specs.GroupQuestions.{group_rows, groups_dropped}
 use Rattle.exact_run.proofs.Asking.{asked_outcome}
 use Rattle.exact_run.proofs.group_reports.ordered_report.Goals as goal

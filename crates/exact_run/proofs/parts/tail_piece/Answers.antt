@@ -1,6 +1,6 @@
 use Rattle.std.proofs.Common.{◌≡◌, ◌∙◌, true, rules, ap}
 use Rattle.std.specs.Prelude.{Some}
-use Rattle.stage_network.specs.Network.{Network}
+use Rattle.networks.specs.Network.{Network}
 use Rattle.pieces.specs.Cuts.{piece_sum}
 use Rattle.pieces.proofs.WrittenPieces.{piece-written}
 use Rattle.exact_run.proofs.parts.tail_piece.Goals as goal

@@ -1,4 +1,4 @@
-use Rattle.stage_network.specs.Follows.{open_keys}
+use Rattle.networks.specs.Follows.{open_keys}
 use Rattle.exact_run.specs.Outcome.{way_of}
 use Rattle.exact_run.proofs.Showable.{quotients}
 use Rattle.exact_run.proofs.reports.report_for.Goals as goal

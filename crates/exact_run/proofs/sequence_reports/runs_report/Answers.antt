@@ -1,7 +1,7 @@
 use Rattle.std.proofs.Common.{◌∙◌}
 use Rattle.sample_reader.specs.Data.{sequence_data_of}
 use Rattle.sample_reader.specs.declared.layout.Layout.TheVariants as layout
-use Rattle.stage_network.specs.declared.one_of.OneOf.TheVariants.{Second}
+use Rattle.networks.specs.declared.one_of.OneOf.TheVariants.{Second}
 use Rattle.report.specs.declared.headings.Extra.TheVariants as extra
 use Rattle.sequence_tests.specs.SequenceTests.{running_network, sequence_network, sequence_test}
 use Rattle.exact_run.specs.Question.{dropped_told}

@@ -1,5 +1,5 @@
 use Rattle.std.proofs.Common.{None}
-use Rattle.stage_network.specs.declared.one_of.OneOf.TheVariants.{First}
+use Rattle.networks.specs.declared.one_of.OneOf.TheVariants.{First}
 use Rattle.report.specs.declared.headings.Extra.TheVariants as extra
 use Rattle.homogeneity.specs.Homogeneities.{homogeneity_network, homogeneity_test}
 use Rattle.exact_run.specs.StrataQuestions.{strata_sizes}

@@ -3,7 +3,7 @@ use Rattle.table_reader.specs.Data.{table_data_of}
 use Rattle.report.specs.declared.headings.Extra.TheVariants as extra
 use Rattle.table_tests.specs.FisherExact.{fisher_test}
 use Rattle.table_tests.specs.TableTests.{table_network, table_test}
-use Rattle.stage_network.specs.declared.one_of.OneOf.TheVariants.{First}
+use Rattle.networks.specs.declared.one_of.OneOf.TheVariants.{First}
 use Rattle.exact_run.specs.TableQuestions.{table_sizes}
 use Rattle.exact_run.proofs.Asking.{asked_outcome, prepared-tails, same-tails}
 use Rattle.exact_run.proofs.table_reports.central_report.Goals as goal

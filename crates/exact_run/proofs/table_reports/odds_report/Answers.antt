@@ -4,7 +4,7 @@ use Rattle.report.specs.declared.headings.Extra.TheVariants as extra
 use Rattle.table_tests.specs.OddsSteps.{weighted_of}
 use Rattle.table_tests.specs.Tables.{is_two_by_two}
 use Rattle.table_tests.specs.TableTests.{table_network, table_test}
-use Rattle.stage_network.specs.declared.one_of.OneOf.TheVariants.{Second}
+use Rattle.networks.specs.declared.one_of.OneOf.TheVariants.{Second}
 use Rattle.exact_run.specs.TableQuestions.{table_sizes}
 use Rattle.exact_run.proofs.Asking.{asked_outcome, prepared-tails}
 use Rattle.exact_run.proofs.table_reports.odds_report.Goals as goal

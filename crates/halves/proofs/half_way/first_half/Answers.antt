@@ -1,5 +1,5 @@
 use Rattle.std.proofs.Common.{arith}
-use Rattle.stage_network.specs.Network.{Network}
+use Rattle.networks.specs.Network.{Network}
 use Rattle.stage_network.proofs.Courses.{sweeping-nodes}
 use Rattle.halves.proofs.Halving.{first-extreme, first-light}
 use Rattle.halves.proofs.half_way.first_half.Goals as goal

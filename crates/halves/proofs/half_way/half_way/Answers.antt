@@ -1,7 +1,7 @@
 use Rattle.std.proofs.Common.{◌≡◌, sym, subst, arith}
-use Rattle.stage_network.specs.declared.tail_sums.Kept.{Kept}
-use Rattle.stage_network.specs.declared.tail_sums.Kept.TheVariants.{Open}
-use Rattle.stage_network.specs.Network.{Network}
+use Rattle.networks.specs.declared.tail_sums.Kept.{Kept}
+use Rattle.networks.specs.declared.tail_sums.Kept.TheVariants.{Open}
+use Rattle.networks.specs.Network.{Network}
 use Rattle.stage_network.specs.SweepSteps.{IsSweeping, first_course}
 use Rattle.halves.proofs.half_way.half_way.Goals as goal
 

@@ -1,6 +1,6 @@
 use Rattle.std.proofs.Common.{◌-◌}
 use Rattle.stage_network.specs.SweepSteps.{IsSweeping, first_course}
-use Rattle.stage_network.specs.declared.tail_sums.Kept.TheVariants.{Open}
+use Rattle.networks.specs.declared.tail_sums.Kept.TheVariants.{Open}
 use Rattle.halves.proofs.half_way.half_way.Given as goal
 
 abbrev pub ghost-advance : goal.ghost-advance

@@ -1,6 +1,6 @@
 use Rattle.std.proofs.Common.{◌≡◌, ap, ◌∙◌, arith}
 use Rattle.std.specs.Prelude.{ℕ, ℤ}
-use Rattle.stage_network.specs.Network.{Network}
+use Rattle.networks.specs.Network.{Network}
 use Rattle.halves.specs.Pairs.{valued}
 use Rattle.halves.specs.Summed.{value_sum}
 use Rattle.halves.proofs.Halving.{value_sum-total}

@@ -2,10 +2,10 @@ use Rattle.std.proofs.Common.{◌≡◌, ◌+◌, List, [], ◌∷◌, sym, subs
 use Rattle.std.specs.Prelude.{ℤ}
 use Rattle.node_pool.specs.Nodes.{Node, node}
 use Rattle.stage_network.specs.FromKeys.{course_from}
-use Rattle.stage_network.specs.Network.{Network}
+use Rattle.networks.specs.Network.{Network}
 use Rattle.stage_network.specs.NodeSteps.{AllReached}
 use Rattle.stage_network.specs.SweepSteps.{Course, IsSweeping}
-use Rattle.stage_network.specs.declared.tail_sums.Kept.TheVariants.{All}
+use Rattle.networks.specs.declared.tail_sums.Kept.TheVariants.{All}
 use Rattle.stage_network.proofs.Courses.{sweeping-nodes, sweeping-light}
 use Rattle.halves.proofs.Halving.{last-told, whole_course}
 use Rattle.halves.proofs.RoomPairs.{laid-one, starts-one}

@@ -2,7 +2,7 @@ use Rattle.std.proofs.Common.{ap, ◌∙◌}
 use Rattle.std.specs.Prelude.{pos, ◌-ℤ◌}
 use Rattle.node_pool.specs.Nodes.{weighted}
 use Rattle.stage_network.specs.ArcSteps.{segment}
-use Rattle.stage_network.specs.Network.{Network}
+use Rattle.networks.specs.Network.{Network}
 use Rattle.halves.specs.MeetingSteps.{number_behind}
 use Rattle.halves.proofs.RoomPairs.{if_some, last-numbers, whole-segment}
 use Rattle.halves.proofs.later.later_lines.Goals as goal

@@ -1,7 +1,7 @@
 use Rattle.std.proofs.Common.{◌≡◌, ◌<◌, ◌+◌, ◌∷◌, ℕ, List, length, get_or, drop, ◌∙◌, arith, refl, add-one, drop-cons}
 use Rattle.std.proofs.lemmas.List.{drop_all}
 use Rattle.weights.specs.declared.lines.Line.{Line}
-use Rattle.stage_network.specs.Lines.{with_weight}
+use Rattle.networks.specs.Lines.{with_weight}
 use Rattle.halves.proofs.Merging.{all-left, line-room, line-added, lines-done, no_line, sorted-sum}
 use Rattle.halves.proofs.lines.merged.Goals as goal
 

@@ -1,4 +1,4 @@
-use Rattle.stage_network.specs.Network.{Network}
+use Rattle.networks.specs.Network.{Network}
 use Rattle.halves.proofs.RoomPairs.{if_some, of_some}
 use Rattle.halves.proofs.Whole.{all-extreme}
 use Rattle.halves.proofs.meeting.meeting_sums.Goals as goal

@@ -5,8 +5,8 @@ use mir.Syntax.{w128}
 use mir.Val.{to_z, of_z}
 use Rattle.node_pool.specs.Nodes.{Node, node, weighted}
 use Rattle.stage_network.specs.ArcSteps.{segment}
-use Rattle.stage_network.specs.Completions.{total_weight}
-use Rattle.stage_network.specs.Network.{Network}
+use Rattle.networks.specs.Completions.{total_weight}
+use Rattle.networks.specs.Network.{Network}
 use Rattle.stage_network.proofs.Bounds.{weights-le-weighted}
 use Rattle.stage_network.proofs.OneArc.{key_is, reached-key}
 use Rattle.halves.specs.MeetingSteps.{number_behind}

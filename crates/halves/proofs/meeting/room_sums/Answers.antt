@@ -1,6 +1,6 @@
 use Rattle.std.proofs.Common.{◌≡◌, ap, cond, ◌∙◌, refl}
 use Rattle.weights.specs.declared.tails.Tail.{Tail}
-use Rattle.stage_network.specs.Asked.{asks}
+use Rattle.networks.specs.Asked.{asks}
 use Rattle.halves.specs.Pairs.{paired}
 use Rattle.halves.specs.Sides.{is_in, sides_for}
 use Rattle.halves.proofs.meeting.room_sums.Goals as goal

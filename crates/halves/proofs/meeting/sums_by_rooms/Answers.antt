@@ -1,5 +1,5 @@
 use Rattle.std.proofs.Common.{arith}
-use Rattle.stage_network.specs.Network.{Network}
+use Rattle.networks.specs.Network.{Network}
 use Rattle.halves.proofs.RoomPairs.{of_some, sums-fit, sums-next, sums-none}
 use Rattle.halves.proofs.meeting.sums_by_rooms.Goals as goal
 

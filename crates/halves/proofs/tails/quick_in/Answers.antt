@@ -1,5 +1,5 @@
 use Rattle.std.proofs.Common.{◌∙◌}
-use Rattle.stage_network.specs.Network.{Network}
+use Rattle.networks.specs.Network.{Network}
 use Rattle.halves.proofs.RoomPairs.{if_some}
 use Rattle.halves.proofs.Whole.{rows-extreme}
 use Rattle.halves.proofs.tails.quick_in.Goals as goal

@@ -1,6 +1,6 @@
 use Rattle.std.proofs.Common.{◌≡◌, ◌∙◌, ℕ, List, ap, arith, length, refl, subst, sym, true}
 use Rattle.sample_reader.specs.Groups.{group_sizes}
-use Rattle.stage_network.specs.Follows.{Follows}
+use Rattle.networks.specs.Follows.{Follows}
 use Rattle.label_network.specs.LabelNetwork.{IsMargin, label_network, over_rooms}
 use Rattle.label_network.specs.Meanings.{Meaning}
 use Rattle.ordered_groups.proofs.OrderedKeys.{AreTurned, may-be-ordered, ordered-follows}

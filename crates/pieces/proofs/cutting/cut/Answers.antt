@@ -1,6 +1,6 @@
 use Rattle.std.proofs.Common.{ℕ, subst}
 use Rattle.node_pool.specs.Nodes.{keys}
-use Rattle.stage_network.specs.Network.{Network}
+use Rattle.networks.specs.Network.{Network}
 use Rattle.pieces.specs.Cuts.{PartsAddUp, cut_nodes}
 use Rattle.pieces.proofs.CutSums.{cut-parts}
 use Rattle.pieces.proofs.cutting.cut.Goals as goal

@@ -1,10 +1,10 @@
 use Rattle.std.proofs.Common.{◌≡◌, ℕ, List, length, map, ap, sym, subst, ◌∙◌, arith, refl}
 use Rattle.std.specs.List.{AllByRecursion}
 use Rattle.node_pool.specs.Nodes.{Node}
-use Rattle.stage_network.specs.declared.tail_sums.Kept.{Kept}
-use Rattle.stage_network.specs.declared.tail_sums.Kept.TheVariants.{Open}
-use Rattle.stage_network.specs.declared.tail_sums.TailSum.{TailSum}
-use Rattle.stage_network.specs.Network.{Network, IsReached}
+use Rattle.networks.specs.declared.tail_sums.Kept.{Kept}
+use Rattle.networks.specs.declared.tail_sums.Kept.TheVariants.{Open}
+use Rattle.networks.specs.declared.tail_sums.TailSum.{TailSum}
+use Rattle.networks.specs.Network.{Network, IsReached}
 use Rattle.stage_network.specs.SweepSteps.{IsSweeping, first_course}
 use Rattle.stage_network.proofs.Conserved.{all_weaker}
 use Rattle.pieces.specs.declared.ordering.Entry.{Entry}

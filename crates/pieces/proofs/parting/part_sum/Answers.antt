@@ -2,7 +2,7 @@ use Rattle.std.proofs.Common.{◌≡◌, ℕ, length, ap, sym, ◌∙◌, refl, 
 use Rattle.std.specs.Prelude.{min}
 use Rattle.node_pool.specs.Nodes.{keys}
 use Rattle.node_pool.proofs.NodeLists.{length-nodes}
-use Rattle.stage_network.specs.Network.{Network}
+use Rattle.networks.specs.Network.{Network}
 use Rattle.piece_texts.specs.PieceTexts.{SumFits}
 use Rattle.pieces.specs.Cuts.{belongs, closed_sum, cut_nodes, cut_stage, open_sum, owned_sum}
 use Rattle.pieces.specs.Parting.{dealt}

@@ -1,8 +1,8 @@
 use Rattle.std.proofs.Common.{◌≡◌, ap, ◌∙◌}
 use Rattle.node_pool.specs.Nodes.{weighted}
 use Rattle.node_pool.specs.PoolSteps.{nodes_of}
-use Rattle.stage_network.specs.Network.{Network}
-use Rattle.stage_network.specs.Completions.{extreme_weight}
+use Rattle.networks.specs.Network.{Network}
+use Rattle.networks.specs.Completions.{extreme_weight}
 use Rattle.pieces.specs.Cuts.{cut_nodes, owned_nodes}
 use Rattle.pieces.proofs.CutSums.{owned-part}
 use Rattle.pieces.proofs.Owned.{owned-starts}

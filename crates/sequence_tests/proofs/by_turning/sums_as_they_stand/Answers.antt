@@ -1,7 +1,7 @@
 use Rattle.std.proofs.Common.{◌∙◌}
 use Rattle.weights.specs.declared.tails.Tail.TheVariants.{Less}
-use Rattle.stage_network.specs.Judged.{judge_of}
-use Rattle.stage_network.proofs.Following.{extreme-is}
+use Rattle.networks.specs.Judged.{judge_of}
+use Rattle.networks.proofs.Following.{extreme-is}
 use Rattle.sequence_tests.specs.Kendall.{kendall_test}
 use Rattle.sequence_tests.proofs.by_turning.sums_as_they_stand.Goals as goal
 

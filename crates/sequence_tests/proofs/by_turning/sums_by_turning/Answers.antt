@@ -1,6 +1,6 @@
 use Rattle.std.proofs.Common.{◌∙◌, ap, sym}
 use Rattle.weights.specs.declared.tails.Tail.TheVariants.{Less, Greater, Two}
-use Rattle.stage_network.specs.Judged.{judge_of}
+use Rattle.networks.specs.Judged.{judge_of}
 use Rattle.sequence_tests.specs.Kendall.{kendall_test}
 use Rattle.sequence_tests.proofs.TurnedRatios.{judge-turned}
 use Rattle.sequence_tests.proofs.by_turning.sums_by_turning.Goals as goal

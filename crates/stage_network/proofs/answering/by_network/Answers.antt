@@ -1,7 +1,7 @@
 use Rattle.std.proofs.Common.{◌∙◌}
 use Rattle.weights.specs.Conditional.{numerator}
-use Rattle.stage_network.specs.Follows.{open_keys}
-use Rattle.stage_network.proofs.Following.{extreme-is, tail_sum_is}
+use Rattle.networks.specs.Follows.{open_keys}
+use Rattle.networks.proofs.Following.{extreme-is, tail_sum_is}
 use Rattle.stage_network.proofs.answering.by_network.Goals as goal
 
 pub returns : goal.returns

@@ -1,11 +1,11 @@
 use Rattle.std.proofs.Common.{◌≡◌, true, ◌∙◌, ap}
 use Rattle.weights.specs.Conditional.{numerator}
-use Rattle.stage_network.specs.Network.{Network}
-use Rattle.stage_network.specs.Completions.{extreme_weight}
-use Rattle.stage_network.specs.Opened.{opened_below}
-use Rattle.stage_network.specs.Follows.{open_keys}
-use Rattle.stage_network.specs.SweepSteps.{sum_for}
-use Rattle.stage_network.proofs.Following.{extreme-is, tail_sum_is}
+use Rattle.networks.specs.Network.{Network}
+use Rattle.networks.specs.Completions.{extreme_weight}
+use Rattle.networks.specs.Opened.{opened_below}
+use Rattle.networks.specs.Follows.{open_keys}
+use Rattle.networks.specs.EachTail.{sum_for}
+use Rattle.networks.proofs.Following.{extreme-is, tail_sum_is}
 use Rattle.stage_network.proofs.answering.by_one_sweep.Goals as goal
 
 pub returns : goal.returns

@@ -1,5 +1,5 @@
 use Rattle.std.proofs.Common.{subst, sym}
-use Rattle.stage_network.specs.Lines.{TailsFit}
+use Rattle.networks.specs.Lines.{TailsFit}
 use Rattle.stage_network.proofs.DistributionLines.{spread-is}
 use Rattle.stage_network.proofs.FittingLines.{tails-fit}
 use Rattle.stage_network.proofs.answering.spread_by_walk.Goals as goal

@@ -6,11 +6,12 @@ use Rattle.node_pool.specs.Nodes.{Node, weighted}
 use Rattle.node_pool.specs.PoolSteps.{nodes_of}
 use Rattle.node_pool.specs.TableSteps.{key_at}
 use Rattle.node_pool.proofs.NodeLists.{length-nodes}
-use Rattle.stage_network.specs.declared.tail_sums.TailSum.{TailSum}
-use Rattle.stage_network.specs.declared.tail_sums.Kept.{Kept}
-use Rattle.stage_network.specs.declared.tail_sums.Kept.TheVariants.{Open, All}
-use Rattle.stage_network.specs.Network.{Network}
-use Rattle.stage_network.specs.SweepSteps.{closed_at, counted, staying, sum_for}
+use Rattle.networks.specs.declared.tail_sums.TailSum.{TailSum}
+use Rattle.networks.specs.declared.tail_sums.Kept.{Kept}
+use Rattle.networks.specs.declared.tail_sums.Kept.TheVariants.{Open, All}
+use Rattle.networks.specs.Network.{Network}
+use Rattle.networks.specs.EachTail.{sum_for}
+use Rattle.stage_network.specs.SweepSteps.{closed_at, counted, staying}
 use Rattle.stage_network.proofs.Starting.{roomful, nodes-next, sum-next, opened-next, light-at, row-fits}
 use Rattle.stage_network.proofs.from_keys.settle_keys.Goals as goal
 

@@ -2,7 +2,8 @@ use Rattle.std.proofs.Common.{◌≡◌, take}
 use Rattle.weights.specs.declared.tails.Tail.{Tail}
 use Rattle.node_pool.specs.Nodes.{weighted}
 use Rattle.node_pool.specs.PoolSteps.{nodes_of}
-use Rattle.stage_network.specs.SweepSteps.{sum_for, staying, closed_at, counted}
+use Rattle.networks.specs.EachTail.{sum_for}
+use Rattle.stage_network.specs.SweepSteps.{staying, closed_at, counted}
 use Rattle.stage_network.proofs.from_keys.settle_keys.Given as goal
 
 -- the keys before this one are settled

@@ -1,11 +1,11 @@
 use Rattle.std.proofs.Common.{◌≡◌, ◌+◌, ◌*◌, ap, subst, ◌∙◌, arith, refl}
-use Rattle.stage_network.specs.declared.tail_sums.Kept.TheVariants.{Open}
+use Rattle.networks.specs.declared.tail_sums.Kept.TheVariants.{Open}
 use Rattle.stage_network.specs.SweepSteps.{Course, IsSweeping}
 use Rattle.node_pool.specs.Nodes.{Node}
-use Rattle.stage_network.specs.declared.tail_sums.TailSum.{TailSum}
+use Rattle.networks.specs.declared.tail_sums.TailSum.{TailSum}
 use Rattle.stage_network.proofs.Asked.{asked-extreme_at}
 use Rattle.stage_network.proofs.Courses.{swept-sum}
-use Rattle.stage_network.proofs.Steps.{sum_by-same}
+use Rattle.networks.proofs.Steps.{sum_by-same}
 use Rattle.stage_network.proofs.from_keys.sum_in.Goals as goal
 
 pub returns : goal.returns

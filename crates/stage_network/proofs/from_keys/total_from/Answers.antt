@@ -6,7 +6,7 @@ use Rattle.node_pool.specs.Nodes.{weighted}
 use Rattle.node_pool.specs.PoolSteps.{nodes_of}
 use Rattle.node_pool.specs.TableSteps.{key_at}
 use Rattle.node_pool.proofs.NodeLists.{length-nodes}
-use Rattle.stage_network.specs.Completions.{total_weight}
+use Rattle.networks.specs.Completions.{total_weight}
 use Rattle.stage_network.proofs.Starting.{row-fits, key-reached, total-more, total-fits}
 use Rattle.stage_network.proofs.from_keys.total_from.Given.{Over}
 use Rattle.stage_network.proofs.from_keys.total_from.Goals as goal

@@ -1,7 +1,7 @@
 use Rattle.std.proofs.Common.{◌≡◌, take}
 use Rattle.node_pool.specs.Nodes.{weighted}
 use Rattle.node_pool.specs.PoolSteps.{nodes_of}
-use Rattle.stage_network.specs.Completions.{total_weight}
+use Rattle.networks.specs.Completions.{total_weight}
 use Rattle.stage_network.proofs.from_keys.total_from.Given as goal
 
 -- the total of the keys before this one

@@ -1,5 +1,5 @@
-use Rattle.stage_network.proofs.Following.{extreme-is, whole-is}
-use Rattle.stage_network.proofs.Writing.{opened-alike}
+use Rattle.networks.proofs.Following.{extreme-is, whole-is}
+use Rattle.networks.proofs.Writing.{opened-alike}
 use Rattle.stage_network.proofs.prepared.network_of.Goals as goal
 
 pub returns-clause-whole : goal.returns-clause-whole

@@ -2,9 +2,9 @@ use Rattle.std.proofs.Common.{◌≡◌, ◌∙◌, Bool, true, false, refl, rul
 use mir.Syntax.{w128}
 use Rattle.std.proofs.lemmas.Int.{to_z-of_z}
 use Rattle.weights.specs.declared.tails.Tail.TheVariants.{Less, Greater, Two}
-use Rattle.stage_network.specs.declared.answers.Way.TheVariants as way
-use Rattle.stage_network.specs.declared.tail_sums.TailSum.{TailSum}
-use Rattle.stage_network.specs.Follows.{asked_tail, tail_of, uncounted}
+use Rattle.networks.specs.declared.answers.Way.TheVariants as way
+use Rattle.networks.specs.declared.tail_sums.TailSum.{TailSum}
+use Rattle.networks.specs.Follows.{asked_tail, tail_of, uncounted}
 use Rattle.stage_network.proofs.quick.quick_answer.Goals as goal
 
 same-asked : (asked : Bool) (x y : TailSum) → (asked ≡ true → x ≡ y) → asked_tail asked x ≡ asked_tail asked y

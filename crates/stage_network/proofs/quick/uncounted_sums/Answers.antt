@@ -1,5 +1,5 @@
 use Rattle.std.proofs.Common.{ℕ}
-use Rattle.stage_network.specs.declared.tail_sums.TailSum.{TailSum}
+use Rattle.networks.specs.declared.tail_sums.TailSum.{TailSum}
 
 abbrev told : ℕ → TailSum
 told sum = record { sum = sum; opened = 0 }

@@ -7,10 +7,10 @@ use borrow.Rule.Slice.PartMut.{put_mid}
 use mir.Syntax.{w128}
 use Rattle.node_pool.specs.Nodes.{weighted}
 use Rattle.dense_rows.specs.Rows.{row_nodes, stepped}
-use Rattle.stage_network.specs.Asked.{asked}
-use Rattle.stage_network.specs.Network.{Network, IsReached}
+use Rattle.networks.specs.Asked.{asked}
+use Rattle.networks.specs.Network.{Network, IsReached}
 use Rattle.stage_network.specs.NodeSteps.{AllReached}
-use Rattle.stage_network.specs.SweepSteps.{sum_for, some_undecided}
+use Rattle.networks.specs.EachTail.{sum_for, some_undecided}
 use Rattle.stage_network.specs.ArcSteps.{lift}
 use Rattle.stage_network.proofs.Asked.{asked-roomed, asked-total}
 use Rattle.stage_network.proofs.Rests.{settled}

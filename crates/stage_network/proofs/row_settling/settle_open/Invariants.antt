@@ -2,9 +2,9 @@ use Rattle.std.proofs.Common.{◌≡◌, ◌-◌, ◌<◌, ◌≤◌, length, ma
 use Rattle.std.specs.Prelude.{pos}
 use Rattle.weights.specs.declared.tails.Tail.{Tail}
 use Rattle.dense_rows.specs.Rows.{row_nodes}
-use Rattle.stage_network.specs.Asked.{asked}
+use Rattle.networks.specs.Asked.{asked}
 use Rattle.stage_network.specs.NodeSteps.{open_nodes, opened_in}
-use Rattle.stage_network.specs.SweepSteps.{sum_for}
+use Rattle.networks.specs.EachTail.{sum_for}
 use Rattle.stage_network.specs.ArcSteps.{lift}
 use Rattle.stage_network.proofs.NodeSums.{inside_weight}
 use Rattle.stage_network.proofs.row_settling.settle_open.Given as goal

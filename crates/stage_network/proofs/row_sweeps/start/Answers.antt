@@ -3,12 +3,12 @@ use Rattle.std.specs.Prelude.{ℤ}
 use Rattle.std.proofs.lemmas.Int.{to_z-of_z}
 use mir.Syntax.{w128}
 use Rattle.node_pool.specs.Nodes.{Node, node, weighted}
-use Rattle.stage_network.specs.declared.tail_sums.TailSum.{TailSum}
+use Rattle.networks.specs.declared.tail_sums.TailSum.{TailSum}
 use Rattle.stage_network.specs.SweepSteps.{closed_at, counted, staying}
 use Rattle.stage_network.specs.ArcSteps.{lift}
 use Rattle.stage_network.specs.RowSteps.{all_nodes}
 use Rattle.stage_network.specs.RowSweeps.{row_partials}
-use Rattle.stage_network.proofs.Bounds.{total_weight-least}
+use Rattle.networks.proofs.Bounds.{total_weight-least}
 use Rattle.stage_network.proofs.Sweeps.{one}
 use Rattle.stage_network.proofs.RowCourses.{stands-first}
 use Rattle.stage_network.proofs.row_sweeps.start.Goals as goal

@@ -1,5 +1,5 @@
 use Rattle.std.proofs.Common.{◌≡◌, arith, subst}
-use Rattle.stage_network.specs.declared.tail_sums.Kept.{Kept}
+use Rattle.networks.specs.declared.tail_sums.Kept.{Kept}
 use Rattle.stage_network.specs.SweepSteps.{IsSwept}
 use Rattle.stage_network.specs.RowSteps.{all_nodes}
 use Rattle.stage_network.proofs.RowCourses.{stands-reached, stands-light, stands-last}

@@ -1,7 +1,7 @@
 use Rattle.std.proofs.Common.{◌+◌, ◌++◌, ap, sym, ◌∙◌, arith}
 use Rattle.std.proofs.lemmas.Result.{IfOk-weaker}
 use Rattle.stage_network.specs.ArcSteps.{lift}
-use Rattle.stage_network.specs.SweepSteps.{sum_for}
+use Rattle.networks.specs.EachTail.{sum_for}
 use Rattle.stage_network.proofs.Asked.{asked-roomful}
 use Rattle.stage_network.proofs.Sweeps.{closed-weighted, closed-none, staying-none}
 use Rattle.stage_network.proofs.settling.settle.Goals as goal

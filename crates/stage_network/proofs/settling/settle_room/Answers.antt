@@ -2,15 +2,15 @@ use Rattle.std.proofs.Common.{◌≡◌, ◌<◌, ◌+◌, ◌*◌, ◌++◌, �
 use Rattle.std.specs.Prelude.{ℤ}
 use Rattle.std.proofs.lemmas.List.{length-append}
 use Rattle.node_pool.specs.Nodes.{node}
-use Rattle.stage_network.specs.Asked.{asked}
-use Rattle.stage_network.specs.Network.{Network}
-use Rattle.stage_network.specs.Completions.{is_inside}
+use Rattle.networks.specs.Asked.{asked}
+use Rattle.networks.specs.Network.{Network}
+use Rattle.networks.specs.Completions.{is_inside}
 use Rattle.weights.specs.declared.tails.Tail.{Tail}
 use Rattle.weights.specs.declared.tails.Tail.TheVariants.{Less, Greater, Two}
-use Rattle.stage_network.specs.declared.tail_sums.Verdicts.{Verdicts}
-use Rattle.stage_network.specs.Opened.{is_open_for_some, is_undecided}
+use Rattle.networks.specs.declared.tail_sums.Verdicts.{Verdicts}
+use Rattle.networks.specs.Opened.{is_open_for_some, is_undecided}
 use Rattle.stage_network.specs.NodeSteps.{closed_weight, open_nodes, opened_in}
-use Rattle.stage_network.specs.SweepSteps.{some_undecided, sum_for, verdict_for}
+use Rattle.networks.specs.EachTail.{some_undecided, sum_for, verdict_for}
 use Rattle.stage_network.specs.ArcSteps.{lift}
 use Rattle.stage_network.proofs.Asked.{asked-roomed, asked-total}
 use Rattle.stage_network.proofs.RoomNodes.{opened-le, next-open, next-inside, next-opened, opened-few, next-fits, in_room, first-place, all-nodes, closed_is, closed-fits}

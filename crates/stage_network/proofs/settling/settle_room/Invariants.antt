@@ -1,7 +1,7 @@
 use Rattle.std.proofs.Common.{◌≡◌, ◌≤◌, ◌++◌, length, take}
-use Rattle.stage_network.specs.Asked.{asked}
+use Rattle.networks.specs.Asked.{asked}
 use Rattle.stage_network.specs.NodeSteps.{open_nodes, opened_in}
-use Rattle.stage_network.specs.SweepSteps.{sum_for}
+use Rattle.networks.specs.EachTail.{sum_for}
 use Rattle.weights.specs.declared.tails.Tail.{Tail}
 use Rattle.stage_network.specs.ArcSteps.{lift}
 use Rattle.stage_network.proofs.NodeSums.{inside_weight}

@@ -4,7 +4,7 @@ use Rattle.std.proofs.lemmas.Int.{to_z-of_z}
 use Rattle.std.proofs.lemmas.List.{drop_all}
 use mir.Syntax.{w128}
 use Rattle.weights.specs.declared.lines.Line.{Line}
-use Rattle.stage_network.specs.Lines.{every, with_weight}
+use Rattle.networks.specs.Lines.{every, with_weight}
 use Rattle.stage_network.proofs.NodeLines.{all-left, line-room, line-added, lines-done, sorted-sum}
 use Rattle.stage_network.proofs.spreads.merge_lines.Goals as goal
 

@@ -2,7 +2,7 @@ use Rattle.std.proofs.Common.{◌≡◌, ◌<◌, ◌++◌, ◌∷◌, [], lengt
 use Rattle.std.proofs.lemmas.Int.{to_z-of_z}
 use mir.Syntax.{w128}
 use Rattle.node_pool.specs.Nodes.{node}
-use Rattle.stage_network.specs.Lines.{line_sum}
+use Rattle.networks.specs.Lines.{line_sum}
 use Rattle.stage_network.proofs.NodeLines.{line-more}
 use Rattle.stage_network.proofs.OneArc.{key_is, reached-key}
 use Rattle.stage_network.proofs.Stepping.{is_node}

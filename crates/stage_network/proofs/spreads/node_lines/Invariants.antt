@@ -1,6 +1,6 @@
 use Rattle.std.proofs.Common.{◌≡◌, Bool, take, length}
 use Rattle.std.specs.Prelude.{ℤ}
-use Rattle.stage_network.specs.Lines.{line_sum}
+use Rattle.networks.specs.Lines.{line_sum}
 use Rattle.stage_network.proofs.NodeLines.{value_sums}
 use Rattle.stage_network.proofs.spreads.node_lines.Given as goal
 

@@ -1,5 +1,5 @@
 use Rattle.std.proofs.Common.{◌∙◌, ap}
-use Rattle.stage_network.specs.Lines.{line_sum}
+use Rattle.networks.specs.Lines.{line_sum}
 use Rattle.stage_network.proofs.NodeLines.{spread-same}
 use Rattle.stage_network.proofs.spreads.node_values.Goals as goal
 

@@ -1,5 +1,5 @@
 use Rattle.std.proofs.Common.{ap, ◌∙◌}
-use Rattle.stage_network.specs.declared.tail_sums.TailSum.{TailSum}
+use Rattle.networks.specs.declared.tail_sums.TailSum.{TailSum}
 use Rattle.stage_network.proofs.Asked.{asked-extreme}
 use Rattle.stage_network.proofs.Steady.{opened-alone}
 use Rattle.stage_network.proofs.sums.tail_sum_by_rooms.Goals as goal

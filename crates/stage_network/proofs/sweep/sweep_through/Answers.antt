@@ -1,5 +1,5 @@
 use Rattle.std.proofs.Common.{◌≡◌, subst, arith}
-use Rattle.stage_network.specs.declared.tail_sums.Kept.{Kept}
+use Rattle.networks.specs.declared.tail_sums.Kept.{Kept}
 use Rattle.stage_network.specs.NodeSteps.{AllReached}
 use Rattle.stage_network.specs.SweepSteps.{HasSwept, IsSweeping, first_course}
 use Rattle.stage_network.proofs.Courses.{sweeping-nodes, sweeping-light, swept-last}

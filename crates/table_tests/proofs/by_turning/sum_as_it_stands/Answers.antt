@@ -1,5 +1,5 @@
 use Rattle.std.proofs.Common.{refl, ◌∙◌}
-use Rattle.stage_network.proofs.Following.{extreme-is}
+use Rattle.networks.proofs.Following.{extreme-is}
 use Rattle.table_tests.specs.FisherExact.{fisher_test}
 use Rattle.table_tests.proofs.by_turning.sum_as_it_stands.Goals as goal
 

@@ -1,8 +1,8 @@
 use Rattle.std.proofs.Common.{◌≡◌, sym, subst, arith}
-use Rattle.stage_network.specs.Network.{Network}
+use Rattle.networks.specs.Network.{Network}
 use Rattle.stage_network.specs.SweepSteps.{IsSweeping, first_course}
-use Rattle.stage_network.specs.declared.tail_sums.Kept.{Kept}
-use Rattle.stage_network.specs.declared.tail_sums.Kept.TheVariants.{Open}
+use Rattle.networks.specs.declared.tail_sums.Kept.{Kept}
+use Rattle.networks.specs.declared.tail_sums.Kept.TheVariants.{Open}
 use Rattle.stage_network.proofs.Courses.{sweeping-nodes}
 use Rattle.halves.proofs.Halving.{first-extreme, first-light}
 use Rattle.table_tests.proofs.sorted_sums.half_to.Goals as goal

@@ -1,7 +1,7 @@
 use Rattle.std.proofs.Common.{sym, ◌∙◌, ap}
 use Rattle.weights.specs.declared.tails.Tail.TheVariants.{Two}
-use Rattle.stage_network.specs.Completions.{extreme_weight, total_weight}
-use Rattle.stage_network.proofs.Following.{extreme-is, whole-is}
+use Rattle.networks.specs.Completions.{extreme_weight, total_weight}
+use Rattle.networks.proofs.Following.{extreme-is, whole-is}
 use Rattle.room_network.specs.Meanings.{Meaning}
 use Rattle.room_network.specs.RoomNetworks.{room_network}
 use Rattle.sorted_tables.specs.SortedRooms.{sorted_weight}

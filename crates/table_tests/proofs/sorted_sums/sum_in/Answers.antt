@@ -1,8 +1,8 @@
 use Rattle.std.proofs.Common.{◌≡◌, ◌+◌, ◌≤◌, ap, sym, subst, ◌∙◌, arith}
 use Rattle.weights.specs.declared.tails.Tail.TheVariants.{Two}
 use Rattle.node_pool.specs.Nodes.{weighted}
-use Rattle.stage_network.specs.Completions.{extreme_weight, total_weight}
-use Rattle.stage_network.specs.SweepSteps.{sum_for}
+use Rattle.networks.specs.Completions.{extreme_weight, total_weight}
+use Rattle.networks.specs.EachTail.{sum_for}
 use Rattle.halves.specs.MeetingSteps.{IsFirstHalf}
 use Rattle.room_network.specs.Meanings.{Meaning}
 use Rattle.room_network.specs.RoomNetworks.{room_network}

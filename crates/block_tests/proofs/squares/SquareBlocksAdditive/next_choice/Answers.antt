@@ -2,7 +2,7 @@ use Rattle.std.proofs.Common.{◌≡◌, ◌∷◌, ◌∙◌, Bool, true, false
 use Rattle.std.specs.Prelude.{Contains}
 use Rattle.weights.specs.Labellings.{labellings}
 use Rattle.enumerate.specs.Walk.{StepsThrough, left_to_visit, members_after}
-use Rattle.stage_network.specs.Addends.{Addends, choices_left}
+use Rattle.networks.specs.Addends.{Addends, choices_left}
 use Rattle.block_tests.specs.BlockNetworks.{block_at, square_addends}
 use Rattle.block_tests.proofs.Steps.{choice-small}
 use Rattle.block_tests.proofs.squares.SquareBlocksAdditive.next_choice.Goals as goal

@@ -1,6 +1,6 @@
 use Rattle.std.proofs.Common.{sym, subst}
 use Rattle.std.proofs.lemmas.Result.{IfOk-weaker}
-use Rattle.stage_network.specs.Follows.{Follows}
+use Rattle.networks.specs.Follows.{Follows}
 use Rattle.block_tests.specs.BlockTests.{block_test}
 use Rattle.block_tests.proofs.ways.BlockStatisticUnweightedTest.quick_stages_of.Goals as goal
 

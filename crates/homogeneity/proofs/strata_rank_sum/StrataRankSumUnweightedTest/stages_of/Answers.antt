@@ -1,6 +1,6 @@
 use Rattle.std.proofs.Common.{◌∙◌, List, ap}
 use Rattle.sample_reader.specs.declared.subjects.Subject.{Subject}
-use Rattle.stage_network.specs.Network.{Network}
+use Rattle.networks.specs.Network.{Network}
 use Rattle.room_network.specs.RoomNetworks.{room_network}
 use Rattle.homogeneity.specs.RankRooms.{rank_meaning, rank_weight}
 use Rattle.homogeneity.specs.StratifiedRanks.{strata_subjects}

@@ -5,10 +5,10 @@ use Rattle.std.proofs.lemmas.Result.{IfOk-weaker}
 use Rattle.weights.specs.declared.tails.Tail.{Tail}
 use Rattle.weights.specs.declared.tails.Tail.TheVariants.{Less}
 use Rattle.sample_reader.specs.Groups.{group_sizes}
-use Rattle.stage_network.specs.Follows.{AreNumerators}
-use Rattle.stage_network.specs.Judged.{judge_of, rule_in}
-use Rattle.stage_network.specs.SweepSteps.{sum_for}
-use Rattle.stage_network.proofs.Following.{extreme-is}
+use Rattle.networks.specs.Follows.{AreNumerators}
+use Rattle.networks.specs.Judged.{judge_of, rule_in}
+use Rattle.networks.specs.EachTail.{sum_for}
+use Rattle.networks.proofs.Following.{extreme-is}
 use Rattle.pooled_columns.specs.PooledColumns.{column_sizes, pooled_values}
 use Rattle.rising_pairs.specs.RisingTails.{passing_labellings}
 use Rattle.k_sample_tests.specs.Umbrella.{PeakedGroups, umbrella_test}

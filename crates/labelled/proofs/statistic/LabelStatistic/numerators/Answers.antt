@@ -1,7 +1,7 @@
 use Rattle.std.proofs.Common.{◌∙◌}
 use Rattle.weights.specs.declared.tails.Tail.TheVariants.{Less}
-use Rattle.stage_network.specs.Judged.{judge_of}
-use Rattle.stage_network.proofs.Following.{extreme-is}
+use Rattle.networks.specs.Judged.{judge_of}
+use Rattle.networks.proofs.Following.{extreme-is}
 use Rattle.labelled.specs.LabelTests.{label_test}
 use Rattle.labelled.proofs.statistic.LabelStatistic.numerators.Goals as goal
 

@@ -1,6 +1,6 @@
 use Rattle.std.proofs.Common.{sym, subst}
 use Rattle.std.proofs.lemmas.Result.{IfOk-weaker}
-use Rattle.stage_network.specs.Follows.{Follows}
+use Rattle.networks.specs.Follows.{Follows}
 use Rattle.labelled.proofs.unweighted.UnweightedTest.quick_stages_of.Goals as goal
 
 pub returns : goal.returns

@@ -1,8 +1,8 @@
 use Rattle.std.proofs.Common.{refl, ap, sym, ◌∙◌}
 use Rattle.weights.specs.Conditional.{ConditionalTest}
 use Rattle.weights.specs.declared.tails.Tail.TheVariants.{Less}
-use Rattle.stage_network.specs.Judged.{rule_in}
-use Rattle.stage_network.proofs.Following.{numerator-counted}
+use Rattle.networks.specs.Judged.{rule_in}
+use Rattle.networks.proofs.Following.{numerator-counted}
 use Rattle.halves.proofs.Numerators.{judged, numerator-is}
 use Rattle.drawn_sums.specs.DrawnSums.{passing_signs}
 use Rattle.one_sample_tests.specs.SignNetwork.{mark_network}

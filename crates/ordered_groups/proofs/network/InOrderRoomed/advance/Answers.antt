@@ -1,6 +1,6 @@
 use Rattle.std.proofs.Common.{◌≡◌, ◌∙◌, ◌++◌, ◌+◌, List, ap, drop, length, sym, take, arith}
 use Rattle.std.specs.Prelude.{ℤ}
-use Rattle.stage_network.specs.Network.{Network}
+use Rattle.networks.specs.Network.{Network}
 use Rattle.room_network.specs.Meanings.{Meaning}
 use Rattle.room_network.specs.RoomNetworks.{room_network}
 use Rattle.ordered_groups.specs.OrderedGroups.{groups_in_order}

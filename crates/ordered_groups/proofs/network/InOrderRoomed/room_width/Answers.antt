@@ -1,6 +1,6 @@
 use Rattle.std.proofs.Common.{subst, sym}
-use Rattle.stage_network.specs.Network.{Network}
-use Rattle.stage_network.specs.Rooms.{IsRoomed}
+use Rattle.networks.specs.Network.{Network}
+use Rattle.networks.specs.Rooms.{IsRoomed}
 use Rattle.room_network.specs.RoomNetworks.{room_network}
 use Rattle.ordered_groups.specs.OrderedNetworks.{ordered_network}
 use Rattle.ordered_groups.proofs.network.InOrderRoomed.room_width.Goals as goal

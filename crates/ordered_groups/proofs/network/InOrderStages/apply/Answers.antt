@@ -1,6 +1,6 @@
 use Rattle.std.proofs.Common.{◌∙◌, ◌+◌, ap, length}
-use Rattle.stage_network.specs.Network.{Network}
-use Rattle.stage_network.proofs.Steps.{reached-next}
+use Rattle.networks.specs.Network.{Network}
+use Rattle.networks.proofs.Steps.{reached-next}
 use Rattle.room_network.specs.RoomNetworks.{room_network}
 use Rattle.ordered_groups.specs.OrderedGroups.{groups_in_order}
 use Rattle.ordered_groups.proofs.network.InOrderStages.apply.Goals as goal

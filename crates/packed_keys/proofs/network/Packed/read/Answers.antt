@@ -1,5 +1,5 @@
 use Rattle.std.proofs.Common.{◌≡◌, ◌-◌, ◌^◌, ◌+◌, ◌∙◌, ap, rules, subst, sym}
-use Rattle.stage_network.specs.Network.{IsReached, Network}
+use Rattle.networks.specs.Network.{IsReached, Network}
 use Rattle.packed_keys.specs.PackedKeys.{unpacked_key}
 use Rattle.packed_keys.proofs.PackedParts.{packed-long, read-reached}
 use Rattle.packed_keys.proofs.network.Packed.read.Goals as goal

@@ -1,5 +1,5 @@
 use Rattle.std.proofs.Common.{◌≡◌, ◌-◌, ◌^◌, ◌++◌, rules, subst, sym}
-use Rattle.stage_network.specs.Network.{IsReached, Network}
+use Rattle.networks.specs.Network.{IsReached, Network}
 use Rattle.packed_keys.specs.PackedKeys.{unpacked}
 use Rattle.packed_keys.proofs.PackedParts.{one-number, parts-reached}
 use Rattle.packed_keys.proofs.network.Packed.read_partial.Goals as goal

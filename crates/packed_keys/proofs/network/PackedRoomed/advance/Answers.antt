@@ -2,7 +2,7 @@ use Rattle.std.proofs.Common.{◌≡◌, ◌-◌, ◌+◌, ◌^◌, ◌++◌, �
 use Rattle.std.specs.List.{Contains}
 use mir.Syntax.{w128}
 use Rattle.std.proofs.lemmas.Int.{to_z-of_z}
-use Rattle.stage_network.specs.Network.{Network, IsReached}
+use Rattle.networks.specs.Network.{Network, IsReached}
 use Rattle.packed_keys.specs.PackedKeys.{packed, unpacked}
 use Rattle.packed_keys.proofs.DigitLists.{set-only}
 use Rattle.packed_keys.proofs.PackedParts.{next-digits, next-packed, read-parts}

@@ -1,6 +1,6 @@
 use Rattle.std.proofs.Common.{List, ℤ, subst, sym}
 use Rattle.std.specs.List.{Contains}
-use Rattle.stage_network.specs.Network.{Network, IsReached}
+use Rattle.networks.specs.Network.{Network, IsReached}
 use Rattle.packed_keys.proofs.PackedParts.{next-digits}
 use Rattle.packed_keys.proofs.network.PackedStages.apply.Goals as goal
 

@@ -1,6 +1,6 @@
 use Rattle.std.proofs.Common.{◌∙◌, ap, sym}
-use Rattle.stage_network.specs.Completions.{total_weight}
-use Rattle.stage_network.specs.Network.{Network}
+use Rattle.networks.specs.Completions.{total_weight}
+use Rattle.networks.specs.Network.{Network}
 use Rattle.packed_keys.proofs.PackedParts.{packed-total}
 use Rattle.packed_keys.proofs.network.PackedStages.rest.Goals as goal
 

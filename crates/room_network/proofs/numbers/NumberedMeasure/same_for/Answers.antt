@@ -2,7 +2,7 @@ use Rattle.std.proofs.Common.{◌≡◌, [], ◌∷◌, ◌∙◌, ap, sym}
 use Rattle.std.specs.Prelude.{pos, ◌+ℤ◌}
 use mir.Syntax.{w128}
 use Rattle.std.proofs.lemmas.Int.{to_z-of_z}
-use Rattle.stage_network.specs.Judged.{rule_in, verdict_of}
+use Rattle.networks.specs.Judged.{rule_in, verdict_of}
 use Rattle.room_network.specs.declared.numbers.Operation.TheVariants.{Sum}
 use Rattle.room_network.proofs.Raising.{sums-raised}
 use Rattle.room_network.proofs.numbers.NumberedMeasure.same_for.Goals as goal

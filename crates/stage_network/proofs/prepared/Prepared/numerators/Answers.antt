@@ -1,6 +1,6 @@
 use Rattle.std.proofs.Common.{◌≡◌, true, ◌∙◌}
 use Rattle.weights.specs.declared.tails.Tail.TheVariants.{Less, Greater, Two}
-use Rattle.stage_network.proofs.Following.{extreme-is}
+use Rattle.networks.proofs.Following.{extreme-is}
 use Rattle.stage_network.proofs.prepared.Prepared.numerators.Goals as goal
 
 pub returns-in_ok-sums-in-Some : goal.returns-in_ok-sums-in-Some

@@ -1,7 +1,7 @@
 use Rattle.std.proofs.Common.{refl, subst, sym}
 use Rattle.weights.specs.Frames.{first_tail}
-use Rattle.stage_network.specs.Follows.{Follows}
-use Rattle.stage_network.specs.Lines.{TailsFit}
+use Rattle.networks.specs.Follows.{Follows}
+use Rattle.networks.specs.Lines.{TailsFit}
 use Rattle.stage_network.proofs.FittingLines.{network-weighs, tails-fit}
 use Rattle.stage_network.proofs.Following.{spread-follows}
 use Rattle.stage_network.proofs.prepared.Prepared.quick_distribution.Goals as goal

@@ -1,5 +1,5 @@
 use Rattle.std.proofs.Common.{refl, ◌∙◌}
-use Rattle.stage_network.proofs.Following.{extreme-is}
+use Rattle.networks.proofs.Following.{extreme-is}
 use Rattle.stage_network.proofs.prepared.Prepared.quick_sum.Goals as goal
 
 pub returns : goal.returns

@@ -4,8 +4,8 @@ use Rattle.std.specs.Vec.{with_items}
 use Rattle.std.proofs.lemmas.Int.{to_z-of_z}
 use Rattle.std.proofs.lemmas.List.{with_items_is}
 use mir.Syntax.{w128}
-use Rattle.stage_network.specs.Network.{IsReached, pending}
-use Rattle.stage_network.specs.Rooms.{IsArc}
+use Rattle.networks.specs.Network.{IsReached, pending}
+use Rattle.networks.specs.Rooms.{IsArc}
 use Rattle.stage_network.proofs.Listing.{buffers-same, listing-reached, listing-first, listing-next, listing-done}
 use Rattle.stage_network.specs.RowSteps.{all_nodes}
 use Rattle.stage_network.proofs.Spans.{row-arc, row-shift, shifts-push}

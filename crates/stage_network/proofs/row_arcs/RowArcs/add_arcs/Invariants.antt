@@ -1,5 +1,5 @@
 use Rattle.std.proofs.Common.{◌≡◌, length}
-use Rattle.stage_network.specs.Network.{pending}
+use Rattle.networks.specs.Network.{pending}
 use Rattle.stage_network.specs.RowSteps.{AreShifts, all_nodes}
 use Rattle.stage_network.proofs.Listing.{IsListing}
 use Rattle.stage_network.proofs.row_arcs.RowArcs.add_arcs.Given as goal

@@ -5,10 +5,11 @@ use Rattle.std.proofs.lemmas.Int.{ints}
 use Rattle.weights.specs.declared.TheConstants.{MAX}
 use Rattle.node_pool.specs.Nodes.{Node, node, key_eq, keys, weighted}
 use Rattle.dense_rows.proofs.RowNodes.{row-heavy, row-distinct}
-use Rattle.stage_network.specs.Completions.{total_weight}
+use Rattle.networks.specs.Completions.{total_weight}
 use Rattle.stage_network.specs.NodeSteps.{AllHeavy}
 use Rattle.stage_network.specs.ArcSteps.{spread_out, bucket, lift}
-use Rattle.stage_network.specs.SweepSteps.{sum_for, closed_at, staying, HasSwept, first_course}
+use Rattle.networks.specs.EachTail.{sum_for}
+use Rattle.stage_network.specs.SweepSteps.{closed_at, staying, HasSwept, first_course}
 use Rattle.stage_network.specs.RowSteps.{RowList, all_nodes}
 use Rattle.stage_network.specs.RowSweeps.{row_partials}
 use Rattle.stage_network.proofs.Roomwise.{lift-heavy, lift-distinct}

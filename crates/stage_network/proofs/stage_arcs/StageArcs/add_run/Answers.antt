@@ -1,7 +1,7 @@
 use Rattle.std.proofs.Common.{◌≡◌, length, get_or, refl, ap, sym, subst, ◌∙◌}
 use Rattle.std.proofs.lemmas.List.{with_items_is}
 use Rattle.node_pool.specs.Nodes.{Node}
-use Rattle.stage_network.specs.Network.{IsReached, pending}
+use Rattle.networks.specs.Network.{IsReached, pending}
 use Rattle.stage_network.proofs.OneArc.{key_is}
 use Rattle.stage_network.proofs.Listing.{buffers-same, listing-reached, listing-first, listing-next, listing-done}
 use Rattle.stage_network.proofs.stage_arcs.StageArcs.add_run.Goals as goal

@@ -1,5 +1,5 @@
 use Rattle.std.proofs.Common.{length}
-use Rattle.stage_network.specs.Network.{pending}
+use Rattle.networks.specs.Network.{pending}
 use Rattle.stage_network.proofs.Listing.{IsListing}
 use Rattle.stage_network.proofs.stage_arcs.StageArcs.add_run.Given as goal
 

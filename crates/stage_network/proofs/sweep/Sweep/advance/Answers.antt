@@ -3,10 +3,11 @@ use Rattle.std.specs.Prelude.{ℤ}
 use Rattle.node_pool.specs.Nodes.{node, weighted}
 use Rattle.weights.specs.declared.tails.Tail.{Tail}
 use Rattle.weights.specs.declared.tails.Tail.TheVariants.{Less}
-use Rattle.stage_network.specs.Completions.{total_weight}
+use Rattle.networks.specs.Completions.{total_weight}
 use Rattle.stage_network.specs.StageSteps.{Housed}
 use Rattle.stage_network.specs.ArcSteps.{spread_out, bucket, firsts, lift}
-use Rattle.stage_network.specs.SweepSteps.{sum_for, closed_at, staying, HasSwept, IsShaped}
+use Rattle.networks.specs.EachTail.{sum_for}
+use Rattle.stage_network.specs.SweepSteps.{closed_at, staying, HasSwept, IsShaped}
 use Rattle.stage_network.proofs.Roomwise.{lift-heavy, lift-distinct}
 use Rattle.stage_network.proofs.Gathered.{filled-reached, bucket-fits, bucket-light}
 use Rattle.stage_network.proofs.Sweeps.{closed-le, counted-le}

@@ -5,8 +5,9 @@ use Rattle.node_pool.proofs.NodeLists.{length-nodes}
 use Rattle.weights.specs.declared.tails.Tail.{Tail}
 use Rattle.stage_network.specs.FromKeys.{course_from}
 use Rattle.stage_network.specs.NodeSteps.{AllHeavy}
-use Rattle.stage_network.specs.SweepSteps.{sum_for, counted, stays, staying}
-use Rattle.stage_network.proofs.OpenKeys.{all_filter}
+use Rattle.networks.specs.EachTail.{sum_for}
+use Rattle.stage_network.specs.SweepSteps.{counted, stays, staying}
+use Rattle.networks.proofs.Elements.{all_filter}
 use Rattle.stage_network.proofs.Carried.{open-distinct}
 use Rattle.stage_network.proofs.Sweeps.{counted-le, counted-staying}
 use Rattle.stage_network.proofs.Courses.{swept-first}

@@ -1,8 +1,8 @@
 use Rattle.std.proofs.Common.{◌≡◌, true, ◌∙◌, subst, sym, rules}
 use Rattle.weights.specs.declared.tails.Tail.TheVariants.{Less, Greater, Two}
-use Rattle.stage_network.specs.Follows.{Follows}
-use Rattle.stage_network.specs.Judged.{judge_of}
-use Rattle.stage_network.proofs.Following.{extreme-is}
+use Rattle.networks.specs.Follows.{Follows}
+use Rattle.networks.specs.Judged.{judge_of}
+use Rattle.networks.proofs.Following.{extreme-is}
 use Rattle.label_network.specs.LabelNetwork.{label_network}
 use Rattle.label_network.specs.Meanings.{Meaning}
 use Rattle.table_reader.specs.TableLayout.{TableData}

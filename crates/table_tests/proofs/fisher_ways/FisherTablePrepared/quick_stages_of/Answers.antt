@@ -1,6 +1,6 @@
 use Rattle.std.proofs.Common.{◌≡◌, ◌∙◌, false, rules, subst, sym}
 use Rattle.std.proofs.lemmas.Result.{IfOk-weaker}
-use Rattle.stage_network.specs.Follows.{Follows}
+use Rattle.networks.specs.Follows.{Follows}
 use Rattle.room_network.specs.Meanings.{Meaning}
 use Rattle.room_network.specs.RoomNetworks.{room_network}
 use Rattle.sorted_tables.specs.SortedRooms.{sorted_weight}

@@ -3,7 +3,7 @@ use Rattle.std.specs.Prelude.{slice_index}
 use Rattle.weights.specs.declared.tails.Tail.TheVariants.{Two}
 use Rattle.node_pool.specs.Nodes.{Node, node, weighted}
 use Rattle.stage_network.specs.ArcSteps.{segment}
-use Rattle.stage_network.specs.Completions.{extreme_weight}
+use Rattle.networks.specs.Completions.{extreme_weight}
 use Rattle.label_network.specs.Meanings.{sizes_in}
 use Rattle.table_tests.specs.LastSteps.{weight_network}
 use Rattle.table_tests.proofs.LastColumns.{natural-lines, node-behind, node-fits, node-next, room-reached}

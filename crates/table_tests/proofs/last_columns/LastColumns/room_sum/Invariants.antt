@@ -2,7 +2,7 @@ use Rattle.std.proofs.Common.{◌≡◌}
 use Rattle.weights.specs.declared.tails.Tail.TheVariants.{Two}
 use Rattle.node_pool.specs.Nodes.{weighted}
 use Rattle.stage_network.specs.ArcSteps.{segment}
-use Rattle.stage_network.specs.Completions.{extreme_weight}
+use Rattle.networks.specs.Completions.{extreme_weight}
 use Rattle.table_tests.specs.LastSteps.{weight_network}
 use Rattle.table_tests.proofs.last_columns.LastColumns.room_sum.Given as goal
 

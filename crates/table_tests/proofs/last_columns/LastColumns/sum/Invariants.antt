@@ -1,8 +1,8 @@
 use Rattle.std.proofs.Common.{◌≡◌, ◌+◌, ◌-◌, ◌≤◌, length, take}
 use Rattle.weights.specs.declared.tails.Tail.TheVariants.{Two}
 use Rattle.node_pool.specs.Nodes.{weighted}
-use Rattle.stage_network.specs.Completions.{extreme_weight}
-use Rattle.stage_network.specs.SweepSteps.{sum_for}
+use Rattle.networks.specs.Completions.{extreme_weight}
+use Rattle.networks.specs.EachTail.{sum_for}
 use Rattle.table_tests.specs.LastSteps.{weight_network}
 use Rattle.table_tests.proofs.last_columns.LastColumns.sum.Given as goal
 

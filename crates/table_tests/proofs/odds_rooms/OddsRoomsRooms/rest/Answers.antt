@@ -1,7 +1,7 @@
 use Rattle.std.proofs.Common.{◌≡◌, sym, ◌∙◌, ap, subst, arith}
 use Rattle.weights.specs.Labellings.{number_of_labellings}
-use Rattle.stage_network.specs.Completions.{total_weight}
-use Rattle.stage_network.specs.Network.{IsReached}
+use Rattle.networks.specs.Completions.{total_weight}
+use Rattle.networks.specs.Network.{IsReached}
 use Rattle.label_network.specs.Meanings.{sizes_in}
 use Rattle.label_network.proofs.LabelPlans.{rest_is, room_parts}
 use Rattle.room_network.specs.Plans.{alone}

@@ -5,9 +5,9 @@ use Rattle.std.proofs.lemmas.Result.{IfOk-weaker}
 use mir.Syntax.{w128}
 use Rattle.weights.specs.declared.tails.Tail.{Tail}
 use Rattle.sample_reader.specs.Groups.{group_sizes}
-use Rattle.stage_network.specs.Follows.{AreNumerators}
-use Rattle.stage_network.specs.Judged.{judge_of, rule_in}
-use Rattle.stage_network.specs.SweepSteps.{sum_for}
+use Rattle.networks.specs.Follows.{AreNumerators}
+use Rattle.networks.specs.Judged.{judge_of, rule_in}
+use Rattle.networks.specs.EachTail.{sum_for}
 use Rattle.rising_pairs.specs.RisingTails.{passing_labellings}
 use Rattle.two_sample_tests.specs.EvenSteps.{AreEven, least_sum}
 use Rattle.drawn_sums.specs.DrawnSums.{passing_draws}

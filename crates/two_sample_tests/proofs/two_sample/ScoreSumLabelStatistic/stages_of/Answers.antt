@@ -3,7 +3,7 @@ use Rattle.std.proofs.lemmas.Result.{IfOk-weaker}
 use Rattle.label_network.specs.LabelNetwork.{label_network}
 use Rattle.labelled.specs.LabelTests.{label_test}
 use Rattle.labelled.specs.LinearTests.{linear_label_meaning, linear_label_test}
-use Rattle.stage_network.specs.Judged.{judge_of}
+use Rattle.networks.specs.Judged.{judge_of}
 use Rattle.two_sample_tests.proofs.FittingTests.{is-same, same-network}
 use Rattle.two_sample_tests.proofs.two_sample.ScoreSumLabelStatistic.stages_of.Goals as goal
 

@@ -2,7 +2,7 @@ use Rattle.std.proofs.Common.{◌≡◌, ◌∙◌, ◌≤◌, ◌+◌, ◌++◌
 use Rattle.std.specs.Prelude.{ℤ, pos, ◌+ℤ◌}
 use Rattle.std.proofs.lemmas.Int.{ints}
 use Rattle.std.proofs.lemmas.List.{length-append}
-use Rattle.stage_network.specs.Network.{IsReached}
+use Rattle.networks.specs.Network.{IsReached}
 use Rattle.worked_networks.specs.SampleRanks.{at, rank_network, rank_step}
 use Rattle.worked_networks.proofs.RankLaws.{RankedKey, ranked_key}
 use Rattle.weights.proofs.Items.{one_item}

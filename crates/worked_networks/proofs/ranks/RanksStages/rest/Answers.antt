@@ -1,6 +1,6 @@
 use Rattle.std.proofs.Common.{◌≡◌, ◌∙◌, ◌+◌, ap, ap₂, sym, arith}
 use Rattle.std.proofs.lemmas.Int.{ints}
-use Rattle.stage_network.specs.Completions.{total_weight}
+use Rattle.networks.specs.Completions.{total_weight}
 use Rattle.weights.specs.Numbers.{binomial}
 use Rattle.worked_networks.specs.SampleRanks.{rank_network}
 use Rattle.worked_networks.proofs.RankLaws.{rank_total, ranked_key, ways, ways-binomial}

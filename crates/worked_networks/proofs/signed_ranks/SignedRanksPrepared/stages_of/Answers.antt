@@ -1,7 +1,7 @@
 use Rattle.std.proofs.Common.{◌≡◌, ◌∙◌, ap}
 use Rattle.std.proofs.lemmas.Result.{IfOk-weaker}
-use Rattle.stage_network.specs.Addends.{additive_network}
-use Rattle.stage_network.specs.Judged.{judge_of}
+use Rattle.networks.specs.Addends.{additive_network}
+use Rattle.networks.specs.Judged.{judge_of}
 use Rattle.worked_networks.specs.SignedRanks.{worked_addends, worked_test}
 use Rattle.worked_networks.specs.declared.signed_ranks.RankStages.{RankStages}
 use Rattle.worked_networks.proofs.SignLaws.{least, most, worked_follows}

@@ -1,0 +1,116 @@
+-- Networks whose choices do not depend on the key: each choice adds numbers to the sums of the
+-- key, of which the first, or the sum of all squares, is the value. The intervals of the squares
+-- are those of boxes: each sum ends between two numbers.
+use Rattle.std.specs.Prelude.{ℕ, zero, suc, ◌+◌, ◌-◌, ◌*◌, min, max, ℤ, pos, ◌+ℤ◌, nat_abs, List, [], ◌∷◌, Bool, true, false, replicate, nat_lt, slice_index_or, if◌then◌else◌}
+use Rattle.std.specs.List.{sum_by}
+use Rattle.networks.specs.declared.additive.SumValue.{SumValue}
+use Rattle.networks.specs.declared.additive.SumValue.TheVariants.{First, Squares}
+use Rattle.networks.specs.declared.verdicts.Judge.{Judge}
+use Rattle.networks.specs.Network.{Network}
+use Rattle.networks.specs.Judged.{rule_in, verdict_of}
+use Rattle.networks.specs.PartialSums.{plus, kept}
+
+pub record Addends : Type 0 where
+  -- how many stages there are, how many sums, and how many numbers a choice has
+  pub count : ℕ
+  pub slots : ℕ
+  pub choice_width : ℕ
+  -- the choices of a stage in the order of the visit, and those after a choice
+  pub choices : ℕ → List (List ℕ)
+  pub later : ℕ → List ℕ → List (List ℕ)
+  -- the weight of a choice, and what it adds to each sum
+  pub weight : ℕ → List ℕ → ℕ
+  pub adds : ℕ → List ℕ → List ℤ
+  -- the least and the greatest that a choice of a stage adds to a sum
+  pub least : ℕ → ℤ
+  pub most : ℕ → ℤ
+  -- whether the sums are kept ascending, and what is measured of the last ones
+  pub sorted : Bool
+  pub value : SumValue
+  -- the rules that the verdicts go by
+  pub judge : Judge
+
+-- the sum over m stages from g on
+abbrev pub over_stages : (ℕ → ℤ) → ℕ → ℕ → ℤ
+over_stages f zero g = pos 0
+over_stages f (suc m) g = f g +ℤ over_stages f m (g + 1)
+
+-- what the stages from g on add to a sum, at least and at most
+abbrev pub least_to_come : Addends → ℕ → ℤ
+least_to_come a g = over_stages a.least (a.count - g) g
+
+abbrev pub most_to_come : Addends → ℕ → ℤ
+most_to_come a g = over_stages a.most (a.count - g) g
+
+abbrev pub first_sum : List ℤ → ℤ
+first_sum k = slice_index_or k 0 (pos 0)
+
+abbrev pub square : ℤ → ℕ
+square z = nat_abs z * nat_abs z
+
+-- the squares of the sums, each raised by s
+abbrev pub raised_squares : ℤ → List ℤ → ℕ
+raised_squares s k = sum_by (λ z. square (z +ℤ s)) k
+
+-- what is measured of the last sums
+abbrev pub value_of : SumValue → List ℤ → ℤ
+value_of First k = first_sum k
+value_of (Squares bound) k = pos (sum_by square k)
+
+-- the least value that sums end at where each is still raised by s at least
+abbrev pub low_end : SumValue → ℤ → List ℤ → ℤ
+low_end First s k = first_sum k +ℤ s
+low_end (Squares bound) s k = pos (raised_squares s k)
+
+-- and the greatest where each is raised by s at most
+abbrev pub high_end : SumValue → ℤ → List ℤ → ℤ
+high_end First s k = first_sum k +ℤ s
+high_end (Squares bound) s k = pos (min bound (raised_squares s k))
+
+abbrev pub low : Addends → ℕ → List ℤ → ℤ
+low a g k = low_end a.value (least_to_come a g) k
+
+abbrev pub high : Addends → ℕ → List ℤ → ℤ
+high a g k = high_end a.value (most_to_come a g) k
+
+abbrev pub zeros : Addends → List ℤ
+zeros a = replicate a.slots (pos 0)
+
+abbrev pub additive_network : Addends → Network
+additive_network a = record {
+  count = a.count;
+  width = a.slots;
+  choice_width = a.choice_width;
+  first = zeros a;
+  choices = λ g k. if nat_lt g a.count then a.choices g else [];
+  later = λ g k c. a.later g c;
+  weight = λ g k c. a.weight g c;
+  next = λ g k c. kept a.sorted (plus k (a.adds g c));
+  verdict = λ t g k. verdict_of (rule_in a.judge t) (low a g k) (high a g k);
+  value = value_of a.value;
+}
+
+-- the choices that are still to come at a stage: from c on, or none
+abbrev pub choices_left : Addends → ℕ → Bool → List ℕ → List (List ℕ)
+choices_left a g true c = c ∷ a.later g c
+choices_left a g false c = []
+
+-- the summed weight of a stage's choices, and its product over m stages from g on
+abbrev pub stage_total : Addends → ℕ → ℕ
+stage_total a g = sum_by (a.weight g) (a.choices g)
+
+abbrev pub totals : Addends → ℕ → ℕ → ℕ
+totals a zero g = 1
+totals a (suc m) g = stage_total a g * totals a m (g + 1)
+
+-- the sum over the stages before g
+abbrev pub over_earlier : (ℕ → ℕ) → ℕ → ℕ
+over_earlier f zero = 0
+over_earlier f (suc g) = over_earlier f g + f g
+
+-- how far a stage moves a sum at most, and how far all of them do
+abbrev pub stride : Addends → ℕ → ℕ
+stride a g = max (nat_abs (a.least g)) (nat_abs (a.most g))
+
+abbrev pub reach : Addends → ℕ
+reach a = over_earlier (stride a) a.count
