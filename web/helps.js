@@ -37,10 +37,11 @@ const HELPS = {
   'ends too early': 'There are too few groups, pairs, blocks, strata or rows. Is the first row a header?',
   'too many rows': 'The test takes at most 10,000 rows, kendall 120, a table of counts 8, mcnemar 2.',
   'file longer than bytes': 'The program reads at most 1,048,576 bytes: leave out the columns that the test does not read.',
-  total: 'There are more rearrangements than 127 bits hold. So many data are enough for an approximation, which is not '
-    + 'given here.',
+  total: 'There are more rearrangements than 127 bits hold. That does not make the data enough for an approximation. A '
+    + 'table may fit when it is turned round. Else take the same distribution by simulation, as R does: coin with '
+    + 'approximate(), fisher.test with simulate.p.value = TRUE.',
   statistic: 'The statistic needs more than 127 bits. For raw, rawsigned and kw with raw scores: round the values. With '
-    + 'other scores there is no exact answer within 128 bits.',
+    + 'other scores take the same distribution by simulation, as R does: coin with approximate().',
   'no memory': 'Memory ran out: the program on the command line has more. Fewer different values need less memory.',
 };
 // what only the words of a command line can come to

@@ -78,18 +78,18 @@ const TESTS = {
     greater: it => `more values of ${it.second} above the common median`,
   },
   ansari: {
-    like: 'ranksum', question: 'Is one sample spread more than the other, about a common median?',
+    like: 'ranksum', question: 'Is one sample more widely spread than the other, about a common median?',
     title: 'Test of Ansari and Bradley',
     statistic: it => `the sum of the scores of ${it.second}, which are small at both ends`,
-    less: it => `values of ${it.second} that are spread more than those of ${it.first}`,
-    greater: it => `values of ${it.second} that are spread less than those of ${it.first}`,
+    less: it => `values of ${it.second} that are more widely spread than those of ${it.first}`,
+    greater: it => `values of ${it.second} that are less widely spread than those of ${it.first}`,
   },
   mood: {
-    like: 'ranksum', question: 'Is one sample spread more, by squared distances of ranks?',
+    like: 'ranksum', question: 'Is one sample more widely spread, by squared distances of ranks?',
     title: 'Mood’s test of spread',
     statistic: it => `the sum of the scores of ${it.second}, which are great at both ends`,
-    less: it => `values of ${it.second} that are spread less than those of ${it.first}`,
-    greater: it => `values of ${it.second} that are spread more than those of ${it.first}`,
+    less: it => `values of ${it.second} that are less widely spread than those of ${it.first}`,
+    greater: it => `values of ${it.second} that are more widely spread than those of ${it.first}`,
   },
   savage: {
     like: 'ranksum', question: 'Are one sample’s waiting times longer by a factor?',
@@ -161,7 +161,7 @@ const TESTS = {
   },
   strata: {
     group: 'Strata', layout: 'strata', tails: ONE_SIDE_OR_TWO, options: ['odds'],
-    question: 'Are two factors independent in each of several tables of two by two?',
+    question: 'Are two factors independent in each of several tables of two by two? (Zelen’s test comes first.)',
     title: 'Exact test of the hypothesis of Mantel and Haenszel',
     rearrangements: `${ROW_LABELLINGS} of each stratum`,
     statistic: () => 'the sum of the first cells',
@@ -177,7 +177,7 @@ const TESTS = {
   stratranksum: {
     group: 'Strata', layout: 'stratified', tails: ONE_SIDE_OR_TWO, options: ['tested'],
     question: 'Has one sample greater values than the other, within strata?',
-    title: 'Rank sum test within strata (van Elteren)',
+    title: 'Rank sum test within strata, unweighted',
     rearrangements: 'ways to give the labels to the subjects of each stratum',
     statistic: it => `the sum of the ranks of ${it.second} within the strata`,
     less: it => `lesser values in ${it.second} than in ${it.first}`,
@@ -196,7 +196,7 @@ const TESTS = {
   runs: {
     group: 'Two values of each subject, and sequences', layout: 'sequence', tails: ONE_SIDE_OR_TWO,
     question: 'Are two kinds mixed by chance in a sequence?', title: 'Runs test of Wald and Wolfowitz',
-    rearrangements: 'orders of the labels', statistic: () => 'the number of runs, blocks of equal neighbours',
+    rearrangements: 'orders of the labels', statistic: () => 'the number of runs, stretches of equal labels',
     less: () => 'labels that keep together', greater: () => 'labels that take turns', two: () => 'either',
   },
 };
