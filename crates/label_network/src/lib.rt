@@ -9,6 +9,7 @@ mod ends;
 mod keys;
 mod later_scores;
 mod linear;
+mod linear_network;
 mod network;
 mod rooms;
 
@@ -18,5 +19,6 @@ pub use ends::End;
 pub use keys::{read_sizes, rest_in, take_away, weight_in, write_sizes};
 pub use later_scores::LaterScores;
 pub use linear::{LinearMeasure, score_choice};
+pub use linear_network::{LinearStages, linear_stages};
 pub use network::{LabelStages, label_stages};
 pub use rooms::LabelRooms;

@@ -10,9 +10,8 @@ ghost use Rattle.weights.specs.Frames.{IsFrameOf};
 ghost use Rattle.labelled.specs.LinearTests.{AreFittingLabels, AreScoredLabels, IsFittedTo, linear_label_test, linear_says};
 
 use crate::statistic::LabelStatistic;
-use label_network::{LabelStages, LinearMeasure, label_stages, score_choice};
+use label_network::{LinearStages, linear_stages, score_choice};
 use networks::Judge;
-use room_network::Numbered;
 use std::alloc::Global;
 use std::marker::Model;
 use weights::{
@@ -139,7 +138,7 @@ impl LabelStatistic for LinearSum {
     ghost use Rattle.label_network.specs.LabelNetwork.{label_network};
     ghost use Rattle.labelled.specs.LinearTests.{linear_label_meaning, linear_says};
 
-    type Built = LabelStages<Numbered<LinearMeasure>>;
+    type Built = LinearStages;
 
     ghost says = { linear_says };
 
@@ -174,7 +173,6 @@ impl LabelStatistic for LinearSum {
         let rows = scored.sizes.as_slice();
         let scores = scored.column_scores.as_slice();
         let columns = scored.columns.as_slice();
-        let measure = LinearMeasure::new(alloc, us, rows, scores, columns, judge)?;
-        label_stages(alloc, columns, rows, Numbered::new(measure))
+        linear_stages(alloc, us, rows, scores, columns, judge)
     }
 }
