@@ -1,5 +1,5 @@
 // Words that are taken, as `clap` reads them.
-ghost use Rattle.std.specs.Prelude.{◌≡◌, true, false, IfOk, map, string_bytes};
+ghost use Rattle.std.specs.Prelude.{◌≡◌, ◌∷◌, ◌++◌, [], true, false, IfOk, OnOk, map, string_bytes};
 ghost use Rattle.clap.specs.Words.{app_of, found_of, kind_of, matches_of, new_rule, rows_of, rule_of, takes};
 ghost use Rattle.settings.specs.ClapLine.{clap_line, exact_app, option_rule, spelled};
 ghost use Rattle.settings.specs.WordSteps.{pair_of};
@@ -23,14 +23,35 @@ pub(crate) fn clap_line(
         map string_bytes words.items ≡ clap_line (map pair_of uses.now) test.now file.now) }
 {
     let mut words = Vec::new(alloc);
-    words.push(String::from_str(alloc, "exact")?)?;
+    push_text(alloc, &mut words, "exact")?;
     for given in uses {
-        words.push(spelled(alloc, given)?)?;
+        push(&mut words, spelled(alloc, given)?)?;
     }
-    words.push(String::from_str(alloc, "--")?)?;
-    words.push(String::from_str(alloc, test)?)?;
-    words.push(String::from_str(alloc, file)?)?;
+    push_text(alloc, &mut words, "--")?;
+    push_text(alloc, &mut words, test)?;
+    push_text(alloc, &mut words, file)?;
     Ok(words)
+}
+
+// Adds the word of a text.
+fn push_text(alloc: Global, words: &mut Vec<String>, text: &str) -> Result<(), NoMemory>
+    ensures { OnOk result (map string_bytes words.new.items
+        ≡ map string_bytes words.old.items ++ text.now ∷ []) }
+{
+    match String::from_str(alloc, text) {
+        Ok(word) => push(words, word),
+        Err(_) => Err(NoMemory),
+    }
+}
+
+// Adds a word.
+fn push(words: &mut Vec<String>, word: String) -> Result<(), NoMemory>
+    ensures { OnOk result (words.new.items ≡ words.old.items ++ word ∷ []) }
+{
+    match words.push(word) {
+        Ok(()) => Ok(()),
+        Err(_) => Err(NoMemory),
+    }
 }
 
 // The word of an option with its value.
@@ -67,12 +88,18 @@ fn command<'a>(alloc: Global) -> Result<Command<'a>, NoMemory>
 {
     let mut command = Command::new(alloc, "exact").args_override_self(true);
     for option in OPTIONS {
-        command = command.arg(option_argument(alloc, option.name()))?;
+        match command.arg(option_argument(alloc, option.name())) {
+            Ok(more) => command = more,
+            Err(_) => return Err(NoMemory),
+        }
     }
-    let command = command
-        .arg(positional_argument(alloc, "TEST"))?
-        .arg(positional_argument(alloc, "FILE"))?;
-    Ok(command)
+    let Ok(command) = command.arg(positional_argument(alloc, "TEST")) else {
+        return Err(NoMemory);
+    };
+    match command.arg(positional_argument(alloc, "FILE")) {
+        Ok(command) => Ok(command),
+        Err(_) => Err(NoMemory),
+    }
 }
 
 // An option with one value.

@@ -7,9 +7,10 @@ ghost use Rattle.std.specs.List.{list_all, list_any};
 ghost use Rattle.settings.specs.Meaning.{command_of, has_needed, has_whole_piece, is_complete, is_given, is_help, meaning_of, meaning_of_given, settings_of};
 ghost use Rattle.settings.specs.Words.{none_given, with_words};
 ghost use Rattle.settings.specs.WordSteps.{IsSound, given_in};
-ghost use Rattle.settings.specs.Options.{listed_names, with_options};
+ghost use Rattle.settings.specs.Options.{listed_names, settings_without_options, with_options};
 ghost use Rattle.settings.specs.Usable.{IsUsable};
-ghost use Rattle.settings.specs.ClapLine.{value_found};
+ghost use Rattle.settings.specs.ClapLine.{clap_line, value_found};
+ghost use Rattle.settings.specs.RunWords.{piece_begun};
 
 use crate::clap_line::{clap_line, matches_in};
 use crate::names::{FLAGS, OPTIONS, OptionName, PIECE_OPTIONS, TestName, UsageFault};
@@ -17,6 +18,7 @@ use crate::settings::{FileName, Settings};
 use crate::words::{WordsSoFar, words_given};
 use clap::ArgMatches;
 use std::alloc::Global;
+use weights::NoMemory;
 
 /// What the words of the command line ask for.
 #[derive(Drop)]
@@ -90,12 +92,24 @@ fn read_given(alloc: Global, words: &[String]) -> Result<CommandLine, UsageFault
         (with_words (map string_bytes words.now) none_given)) result }
 {
     let given = words_given(alloc, words)?;
-    let word = given.test.ok_or(UsageFault::Form)?;
-    let test = TestName::named(word).ok_or(UsageFault::Value(OptionName::Test))?;
+    command_given(alloc, &given)
+}
+
+// The command that is given.
+fn command_given(alloc: Global, given: &WordsSoFar<'_>) -> Result<CommandLine, UsageFault>
+    requires { IsSound (given_in given.now) }
+    ensures { Meets (meaning_of_given (given_in given.now)) result }
+{
+    let Some(word) = given.test else {
+        return Err(UsageFault::Form);
+    };
+    let Some(test) = TestName::named(word) else {
+        return Err(UsageFault::Value(OptionName::Test));
+    };
     if !given.is_complete(test) {
         return Err(UsageFault::Form);
     }
-    let settings = settings_of(alloc, &given, test, word)?.paired()?;
+    let settings = settings_of(alloc, given, test, word)?.paired()?;
     Ok(command_of(settings))
 }
 
@@ -181,13 +195,52 @@ fn settings_of(
     ensures { Meets (settings_of (given_in given.now) test) result }
 {
     let file = given.file_or_empty();
-    let name = FileName::copy_of(alloc, file)?;
-    let piece = given.piece_begun(alloc, test)?;
-    let mut settings = Settings::without_options(alloc, test, name);
-    settings.piece = piece;
-    let line = clap_line(alloc, &given.uses, word, file)?;
-    let matches = matches_in(alloc, &line)?;
+    let Ok(line) = clap_line(alloc, &given.uses, word, file) else {
+        return Err(UsageFault::NoMemory);
+    };
+    with_line(alloc, given, test, word, &line)
+}
+
+// The settings with the options that the line has for `clap`.
+fn with_line(
+    alloc: Global,
+    given: &WordsSoFar<'_>,
+    test: TestName,
+    word: &str,
+    words: &[String],
+) -> Result<Settings, UsageFault>
+    requires sound { IsSound (given_in given.now) }
+    requires line { let given = given_in given.now in
+        map string_bytes words.now ≡ clap_line given.uses word.now (unwrap_or given.file []) }
+    ensures { Meets (settings_of (given_in given.now) test) result }
+{
+    let Ok(matches) = matches_in(alloc, words) else {
+        return Err(UsageFault::NoMemory);
+    };
+    let Ok(settings) = begun(alloc, given, test) else {
+        return Err(UsageFault::NoMemory);
+    };
     with_matches(alloc, &OPTIONS, settings, &matches)
+}
+
+// The settings before any option is read.
+fn begun(alloc: Global, given: &WordsSoFar<'_>, test: TestName) -> Result<Settings, NoMemory>
+    ensures { let words = given_in given.now in IfOk result (λ settings.
+        settings ≡ record (settings_without_options test (unwrap_or words.file [])) {
+          piece = piece_begun test words.uses;
+        }) }
+{
+    let Ok(name) = FileName::copy_of(alloc, given.file_or_empty()) else {
+        return Err(NoMemory);
+    };
+    match given.piece_begun(alloc, test) {
+        Ok(piece) => {
+            let mut settings = Settings::without_options(alloc, test, name);
+            settings.piece = piece;
+            Ok(settings)
+        }
+        Err(_) => Err(NoMemory),
+    }
 }
 
 // The settings with those of the options that are found.
@@ -201,7 +254,7 @@ fn with_matches(
 {
     let mut settings = settings;
     for option in options {
-        settings = settings.with_option(alloc, *option, matches.get_str(option.word()))?;
+        settings.set_given(alloc, *option, matches.get_str(option.word()))?;
     }
     Ok(settings)
 }

@@ -2,7 +2,7 @@
 ghost use Rattle.std.specs.Prelude.{◌≡◌, ◌++◌, IfOk, OnOk};
 ghost use Rattle.std.specs.List.{flat_map};
 ghost use Rattle.std.specs.Option.{ok_or};
-ghost use Rattle.settings.specs.Faults.{Meets};
+ghost use Rattle.settings.specs.Faults.{MeetsAs};
 ghost use Rattle.settings.specs.Pieces.{part_form, parts_form, piece_with, stage_form, within_parts};
 ghost use Rattle.settings.specs.RunWords.{piece_begun, run_words, told, told_value};
 ghost use Rattle.settings.specs.WordSteps.{given_in, text_of};
@@ -10,7 +10,8 @@ ghost use Rattle.settings.specs.declared.names.OptionName.TheVariants as option;
 ghost use Rattle.settings.specs.declared.names.UsageFault.TheVariants as fault;
 
 use crate::lists::{ListForm, number_of};
-use crate::names::{OPTIONS, OptionName, PIECE_OPTIONS, TestName, UsageFault};
+use crate::names::{OPTIONS, OptionName, TestName, UsageFault};
+use crate::settings::put;
 use crate::words::WordsSoFar;
 use std::alloc::Global;
 use weights::{Bytes, NoMemory};
@@ -56,34 +57,35 @@ const PART: ListForm = ListForm {
 };
 
 impl PieceOf {
-    // With the value of this text for one of its options.
-    pub(crate) fn with_text(self, name: OptionName, text: &str) -> Result<PieceOf, UsageFault>
-        ensures { Meets (ok_or (piece_with name text.now self) (fault.Value name)) result }
+    // Takes over the value of this text for one of its options.
+    pub(crate) fn set_text(&mut self, name: OptionName, text: &str) -> Result<(), UsageFault>
+        ensures { let more = piece_with name text.now self.old in
+            MeetsAs (λ unit. self.new) (ok_or more (fault.Value name)) result }
     {
         match name {
-            OptionName::Stage => Ok(PieceOf {
-                at: number_of(name, STAGE, text)?,
-                ..self
-            }),
-            OptionName::Parts => Ok(PieceOf {
-                parts: number_of(name, PARTS, text)?,
-                part: 0,
-                ..self
-            }),
-            OptionName::Part => self.within_parts(number_of(name, PART, text)?),
+            OptionName::Stage => put(&mut self.at, number_of(name, STAGE, text)),
+            OptionName::Parts => {
+                self.part = 0;
+                put(&mut self.parts, number_of(name, PARTS, text))
+            }
+            OptionName::Part => match number_of(name, PART, text) {
+                Ok(part) => self.set_part(part),
+                Err(fault) => Err(fault),
+            },
             _ => Err(UsageFault::Value(name)),
         }
     }
 
-    // With this part, where there are so many.
-    fn within_parts(self, part: u64) -> Result<PieceOf, UsageFault>
-        ensures { result ≡ ok_or (within_parts self part) (fault.Value option.Part) }
+    // Takes over which part is run, where there are so many.
+    fn set_part(&mut self, part: u64) -> Result<(), UsageFault>
+        ensures { let more = within_parts self.old part in
+            MeetsAs (λ unit. self.new) (ok_or more (fault.Value option.Part)) result }
     {
-        if part < self.parts {
-            Ok(PieceOf { part, ..self })
-        } else {
-            Err(UsageFault::Value(OptionName::Part))
+        if part >= self.parts {
+            return Err(UsageFault::Value(OptionName::Part));
         }
+        self.part = part;
+        Ok(())
     }
 }
 

@@ -1,11 +1,12 @@
 // What a run is asked for.
-ghost use Rattle.std.specs.Prelude.{◌≡◌, IfOk, Ok, Err, if◌then◌else◌};
+ghost use Rattle.std.specs.Prelude.{◌≡◌, IfOk, Some};
 ghost use Rattle.std.specs.Option.{ok_or};
-ghost use Rattle.settings.specs.Faults.{Meets, MeetsAs};
+ghost use Rattle.settings.specs.Faults.{MeetsAs};
 ghost use Rattle.settings.specs.Meaning.{paired};
-ghost use Rattle.settings.specs.Options.{form_of, raised, settings_without_options, suited, with_option, with_piece};
+ghost use Rattle.settings.specs.Options.{form_of, raised, settings_without_options, with_option, with_piece};
 ghost use Rattle.settings.specs.Values.{column_scores_form, number_form, peak_form, row_scores_form};
 ghost use Rattle.settings.specs.WordSteps.{text_of};
+ghost use Rattle.settings.specs.declared.names.OptionName.TheVariants as option;
 
 use crate::lists::{ListForm, columns_in, number_of, numbers_of};
 use crate::names::{OptionName, TestName, UsageFault};
@@ -162,37 +163,44 @@ impl Settings {
         }
     }
 
-    // With the value of an option, where it is given.
-    pub(crate) fn with_option(
-        mut self,
+    // Takes over the value of an option, where it is given.
+    pub(crate) fn set_given(
+        &mut self,
         alloc: Global,
         name: OptionName,
         value: Option<&str>,
-    ) -> Result<Settings, UsageFault>
-        ensures { Meets (with_option name (text_of value.entry) self) result }
+    ) -> Result<(), UsageFault>
+        ensures { let more = with_option name (text_of value.entry) self.old in
+            MeetsAs (λ unit. self.new) more result }
     {
-        let Some(text) = value else {
-            return Ok(self);
-        };
+        match value {
+            Some(text) => self.set_option(alloc, name, text),
+            None => Ok(()),
+        }
+    }
+
+    // Takes over the value of an option, where the test takes it and goes with the value.
+    fn set_option(&mut self, alloc: Global, name: OptionName, text: &str) -> Result<(), UsageFault>
+        ensures { MeetsAs (λ unit. self.new) (with_option name (Some text.now) self.old) result }
+    {
         if !self.test.takes(name) {
             return Err(UsageFault::Pairing(name, self.test));
         }
         self.set_text(alloc, name, text)?;
-        self.suited(name)
-    }
-
-    // Where the test goes with the value of the option too.
-    fn suited(self, name: OptionName) -> Result<Settings, UsageFault>
-        ensures { result ≡ suited name self }
-    {
-        let suits = match name {
-            OptionName::Tail => self.test.allows_tail(self.tail),
-            _ => true,
-        };
-        if suits {
-            Ok(self)
+        if self.suits(name) {
+            Ok(())
         } else {
             Err(UsageFault::Pairing(name, self.test))
+        }
+    }
+
+    // Whether the test goes with the value of the option too.
+    fn suits(&self, name: OptionName) -> bool
+        ensures { result ≡ (form_of name).suits self.now }
+    {
+        match name {
+            OptionName::Tail => self.test.allows_tail(self.tail),
+            _ => true,
         }
     }
 
@@ -211,34 +219,64 @@ impl Settings {
         ensures { let more = (form_of name).set text.now self.old in
             MeetsAs (λ unit. self.new) (ok_or more (UsageFault.Value name)) result }
     {
-        let fault = UsageFault::Value(name);
         match name {
-            OptionName::Test => return Err(fault),
-            OptionName::Tail => self.tail = TailChoice::named(text).ok_or(fault)?,
-            OptionName::Scores => self.scores = scores_of(text).ok_or(fault)?,
-            OptionName::Order => self.order = order_of(alloc, text)?,
-            OptionName::Peak => self.peak = number_of(name, PEAK, text)?,
+            OptionName::Test => Err(UsageFault::Value(name)),
+            OptionName::Tail => put_found(&mut self.tail, name, TailChoice::named(text)),
+            OptionName::Scores => put_found(&mut self.scores, name, scores_of(text)),
+            OptionName::Order => put(&mut self.order, order_of(alloc, text)),
+            OptionName::Peak => put(&mut self.peak, number_of(name, PEAK, text)),
             OptionName::RowScores => {
-                self.row_scores = numbers_of(alloc, name, ROW_SCORES, text)?;
+                put(
+                    &mut self.row_scores,
+                    numbers_of(alloc, name, ROW_SCORES, text),
+                )
             }
             OptionName::ColumnScores => {
-                self.column_scores = numbers_of(alloc, name, COLUMN_SCORES, text)?;
+                put(
+                    &mut self.column_scores,
+                    numbers_of(alloc, name, COLUMN_SCORES, text),
+                )
             }
-            OptionName::Columns => {
-                let fields = self.test.fields();
-                self.picks = Picks::Listed(columns_in(alloc, name, fields, text)?);
+            OptionName::Columns => self.set_columns(alloc, text),
+            OptionName::Separator => put_found(&mut self.separator, name, separator_of(text)),
+            OptionName::Number => put(&mut self.number, number_of(name, NUMBER, text)),
+            OptionName::Odds => self.set_odds(text),
+            OptionName::Missing => put_found(&mut self.missing, name, missing_of(text)),
+            OptionName::Miss => put_found(&mut self.miss, name, miss_of(text)),
+            OptionName::Distribution | OptionName::Plain | OptionName::Nodes => {
+                self.raise(name);
+                Ok(())
             }
-            OptionName::Separator => self.separator = separator_of(text).ok_or(fault)?,
-            OptionName::Number => self.number = number_of(name, NUMBER, text)?,
-            OptionName::Odds => self.odds = Some(odds_of(text).ok_or(fault)?),
-            OptionName::Missing => self.missing = missing_of(text).ok_or(fault)?,
-            OptionName::Miss => self.miss = miss_of(text).ok_or(fault)?,
-            OptionName::Distribution | OptionName::Plain | OptionName::Nodes => self.raise(name),
-            OptionName::Stage | OptionName::Parts | OptionName::Part => {
-                self.set_piece(name, text)?;
-            }
+            OptionName::Stage | OptionName::Parts | OptionName::Part => self.set_piece(name, text),
         }
-        Ok(())
+    }
+
+    // Takes over the fields that are read.
+    fn set_columns(&mut self, alloc: Global, text: &str) -> Result<(), UsageFault>
+        ensures { let more = (form_of option.Columns).set text.now self.old in
+            MeetsAs (λ unit. self.new) (ok_or more (UsageFault.Value option.Columns)) result }
+    {
+        match columns_in(alloc, OptionName::Columns, self.test.fields(), text) {
+            Ok(columns) => {
+                self.picks = Picks::Listed(columns);
+                Ok(())
+            }
+            Err(fault) => Err(fault),
+        }
+    }
+
+    // Takes over the odds ratio.
+    fn set_odds(&mut self, text: &str) -> Result<(), UsageFault>
+        ensures { let more = (form_of option.Odds).set text.now self.old in
+            MeetsAs (λ unit. self.new) (ok_or more (UsageFault.Value option.Odds)) result }
+    {
+        match odds_of(text) {
+            Some(odds) => {
+                self.odds = Some(odds);
+                Ok(())
+            }
+            None => Err(UsageFault::Value(OptionName::Odds)),
+        }
     }
 
     // Takes over the value of this text for an option of the part that is run.
@@ -246,9 +284,10 @@ impl Settings {
         ensures { let more = with_piece name text.now self.old in
             MeetsAs (λ unit. self.new) (ok_or more (UsageFault.Value name)) result }
     {
-        let piece = self.piece.take().ok_or(UsageFault::Value(name))?;
-        self.piece = Some(piece.with_text(name, text)?);
-        Ok(())
+        match &mut self.piece {
+            Some(piece) => piece.set_text(name, text),
+            None => Err(UsageFault::Value(name)),
+        }
     }
 
     // Raises a flag; an option is none.
@@ -261,5 +300,31 @@ impl Settings {
             OptionName::Nodes => self.nodes = true,
             _ => {}
         }
+    }
+}
+
+// Puts a value in its place, where there is one.
+pub(crate) fn put<T: Drop>(place: &mut T, value: Result<T, UsageFault>) -> Result<(), UsageFault>
+    ensures { MeetsAs (λ unit. place.new) value result }
+{
+    match value {
+        Ok(value) => {
+            *place = value;
+            Ok(())
+        }
+        Err(fault) => Err(fault),
+    }
+}
+
+// Puts the value of an option in its place, where its text has one.
+fn put_found<T: Drop>(place: &mut T, name: OptionName, value: Option<T>) -> Result<(), UsageFault>
+    ensures { MeetsAs (λ unit. place.new) (ok_or value (UsageFault.Value name)) result }
+{
+    match value {
+        Some(value) => {
+            *place = value;
+            Ok(())
+        }
+        None => Err(UsageFault::Value(name)),
     }
 }

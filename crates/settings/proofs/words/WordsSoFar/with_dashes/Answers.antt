@@ -1,4 +1,4 @@
-use Rattle.std.proofs.Common.{◌≡◌, ◌+◌, ◌||◌, ◌∷◌, ℕ, Bool, List, Some, [], arith, cond, false, length, not, refl, rules, true}
+use Rattle.std.proofs.Common.{◌≡◌, ◌∙◌, ◌+◌, ◌||◌, ◌∷◌, ℕ, Bool, List, None, Some, [], arith, cond, false, length, not, refl, rules, sym, true}
 use Rattle.std.specs.List.{list_any, position_or_len}
 use Rattle.settings.specs.Words.{is_equals_sign, option_named}
 use Rattle.settings.proofs.words.WordsSoFar.with_dashes.Goals as goal
@@ -13,8 +13,12 @@ nowhere p (byte ∷ bytes) end = by_test (p byte) (nowhere p bytes) end
     by_test true more end = absurd (omega arith)
     by_test false more end = more (omega arith)
 
-pub returns-in_ok-ok_or-in-None : goal.returns-in_ok-ok_or-in-None
-returns-in_ok-ok_or-in-None c =
-    let end : position_or_len is_equals_sign c.args.word.now ≡ length c.args.word.now = search rules in
-    let named : option_named c.args.word.now ≡ Some c.in_ok-ok_or-in-None.field-0 = search rules in
-    rw (nowhere is_equals_sign c.args.word.now end, named) c.with_name.ensures
+pub returns-in-Some-option_named-2 : goal.returns-in-Some-option_named-2
+returns-in-Some-option_named-2 c =
+    let named : option_named c.args.word.now ≡ Some c.in-Some-option_named-2.option = sym c.option_named-in-None.ensures ∙ c.in-Some-option_named-2.is in
+    rw (nowhere is_equals_sign c.args.word.now (search rules), named) c.with_name.ensures
+
+pub returns : goal.returns
+returns c =
+    let named : option_named c.args.word.now ≡ None = sym c.option_named-in-None.ensures ∙ c.in-None-option_named-2.is in
+    rw (nowhere is_equals_sign c.args.word.now (search rules), named) refl
