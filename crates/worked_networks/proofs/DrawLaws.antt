@@ -1,6 +1,6 @@
 -- The rooms of the draws are sound, and the number of white balls is a measure of them.
 use Rattle.std.proofs.Common.{◌≡◌, ◌≢◌, ℕ, zero, suc, ◌+◌, ◌-◌, ◌<◌, ◌≤◌, List, [], ◌∷◌, length, Bool, true, false, cond, refl, sym, ◌∙◌, ap, subst, arith, lit≤, nat_eq, nat_lt, get_or, set}
-use Rattle.std.specs.Prelude.{ℤ, pos, ◌+ℤ◌, ◌-ℤ◌, ◌≤ℤ◌, AllPairs, slice_index}
+use Rattle.std.specs.Prelude.{ℤ, pos, ◌+ℤ◌, ◌-ℤ◌, ◌≤ℤ◌, AllPairs, nat_abs, slice_index}
 use Rattle.std.specs.List.{AllByRecursion, Contains}
 use Rattle.std.proofs.lemmas.Int.{ints}
 use Rattle.std.proofs.lemmas.List.Elements.{All-contains, All-from_recursion}
@@ -162,6 +162,29 @@ white-written g room c (first_white e r f) z = rw (r, f) refl
 white-written g room c (then_black e r f) z = absurd (z (ap (λ x. slice_index x 0) f))
 white-written g room c (then_white e r f) z = rw (r, f) refl
 white-written g room c (only_black e r f) z = absurd (z (ap (λ x. slice_index x 0) f))
+
+-- what a draw weighs: the balls of its colour that are left
+
+pub black-weighed : (g : ℕ) (room : List ℤ) (c : List ℕ) → IsDraw g room c → slice_index c 0 ≡ 0 → nat_abs (held (get_or room 0 (pos 0))) ≡ balls room (slice_index c 0)
+black-weighed g room c (first_black e r f) z = rw (r, f) refl
+black-weighed g room c (first_white e r f) z = (let no : 1 ≡ 0 = sym (ap (λ x. slice_index x 0) f) ∙ z in absurd (omega (arith, no)))
+black-weighed g room c (then_black e r f) z = rw (r, f) refl
+black-weighed g room c (then_white e r f) z = (let no : 1 ≡ 0 = sym (ap (λ x. slice_index x 0) f) ∙ z in absurd (omega (arith, no)))
+black-weighed g room c (only_black e r f) z = rw (r, f) refl
+
+pub white-weighed : (g : ℕ) (room : List ℤ) (c : List ℕ) → IsDraw g room c → slice_index c 0 ≢ 0 → nat_abs (held (get_or room 1 (pos 0))) ≡ balls room (slice_index c 0)
+white-weighed g room c (first_black e r f) z = absurd (z (ap (λ x. slice_index x 0) f))
+white-weighed g room c (first_white e r f) z = rw (r, f) refl
+white-weighed g room c (then_black e r f) z = absurd (z (ap (λ x. slice_index x 0) f))
+white-weighed g room c (then_white e r f) z = rw (r, f) refl
+white-weighed g room c (only_black e r f) z = absurd (z (ap (λ x. slice_index x 0) f))
+
+pub blacks-few : (g : ℕ) (room : List ℤ) → IsFound g room → (pos 0 ≤ℤ get_or room 0 (pos 0)) × (get_or room 0 (pos 0) ≤ℤ pos 2)
+blacks-few g room (at_first e r) = rw r (omega (arith, ints), omega (arith, ints))
+blacks-few g room (black_gone e r) = rw r (omega (arith, ints), omega (arith, ints))
+blacks-few g room (white_gone e r) = rw r (omega (arith, ints), omega (arith, ints))
+blacks-few g room (white_left e r) = rw r (omega (arith, ints), omega (arith, ints))
+blacks-few g room (black_left e r) = rw r (omega (arith, ints), omega (arith, ints))
 
 pub whites-few : (g : ℕ) (room : List ℤ) → IsFound g room → (pos 0 ≤ℤ get_or room 1 (pos 0)) × (get_or room 1 (pos 0) ≤ℤ pos 1)
 whites-few g room (at_first e r) = rw r (omega (arith, ints), omega (arith, ints))

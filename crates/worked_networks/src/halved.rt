@@ -1,17 +1,25 @@
 // The sums of the signed rank test by two halves, as they are known by hand.
+use crate::tests::{EVERY_TAIL, same, same_lines, walked};
 use crate::{RankStages, SignedRanks};
 use enumerate::Plain;
 use halves::{completion_values, first_half, meeting_sums, tail_sums};
-use networks::{AdditiveStages, Judge, Roomed, Stages};
-use stage_network::{Prepared, plain_spread};
+use networks::{AdditiveStages, Judge, Roomed, Spread, Stages, TailSums};
+use stage_network::Prepared;
+use std::process::Abort;
 use std::test::Fail;
-use weights::{Tail, Tails, Wide};
+use weights::{Tail, Wide};
 
-const EVERY_TAIL: Tails = Tails {
-    less: true,
-    greater: true,
-    two: true,
-};
+// The three tails have the sums that are known.
+fn are_known(rt: &impl Abort, found: Option<TailSums>) {
+    match found {
+        Some(all) => same(
+            rt,
+            &[all.less.sum, all.greater.sum, all.two.sum],
+            &[6, 3, 6],
+        ),
+        None => panic!(rt; "no sums"),
+    }
+}
 
 // The halves meet behind the second difference, at the sums 0, 2, 4 and 6, to each of which the
 // third adds 0 or 6.
@@ -21,20 +29,22 @@ fn signs_by_halves(rt: HostRuntime) -> Result<(), Fail> {
     let judge = Judge::of(&SignedRanks.frame());
     let stages = SignedRanks.stages_of(alloc, Tail::Less)?;
     let _lawful = stages.stages();
-    let is_shift = stages.is_shift();
-    assert_eq!(rt; is_shift, true);
-    if is_shift {
-        let half = first_half::<Wide, AdditiveStages<RankStages>>(alloc, &stages, EVERY_TAIL, 8)?;
-        assert_eq!(rt; (half.stage, half.nodes.len()), (2, 4));
-        let found = meeting_sums::<Wide, AdditiveStages<RankStages>>(
-            alloc, &stages, &half, &judge, EVERY_TAIL,
-        )?;
-        assert_eq!(rt; found.is_some(), true);
-        if let Some(all) = found {
-            assert_eq!(rt; (all.less.sum, all.greater.sum, all.two.sum), (6, 3, 6));
-        }
-    }
+    assert!(rt; stages.is_shift());
+    let half = first_half::<Wide, AdditiveStages<RankStages>>(alloc, &stages, EVERY_TAIL, 8)?;
+    same(&rt, &(half.stage, half.nodes.len()), &(2, 4));
+    let found = meeting_sums::<Wide, AdditiveStages<RankStages>>(
+        alloc, &stages, &half, &judge, EVERY_TAIL,
+    )?;
+    are_known(&rt, found);
     Ok(())
+}
+
+// The values are those that the plain walk gives.
+fn are_walked(rt: &impl Abort, found: Option<Spread>, walked: &Spread) {
+    match found {
+        Some(values) => same_lines(rt, values.as_slice(), walked.as_slice()),
+        None => panic!(rt; "no values"),
+    }
 }
 
 // The completions of the first key come to what the plain walk does.
@@ -43,14 +53,9 @@ fn values_of_all_signs(rt: HostRuntime) -> Result<(), Fail> {
     let alloc = rt.alloc();
     let stages = SignedRanks.stages_of(alloc, Tail::Less)?;
     let _lawful = stages.stages();
-    if stages.is_shift() {
-        let found = completion_values::<Wide, AdditiveStages<RankStages>>(alloc, &stages, 0, &[0])?;
-        let walked = plain_spread(alloc, &SignedRanks)?;
-        assert_eq!(rt; found.is_some(), true);
-        if let Some(values) = found {
-            assert_eq!(rt; values.as_slice(), walked.as_slice());
-        }
-    }
+    assert!(rt; stages.is_shift());
+    let found = completion_values::<Wide, AdditiveStages<RankStages>>(alloc, &stages, 0, &[0])?;
+    are_walked(&rt, found, &walked(alloc)?);
     Ok(())
 }
 
@@ -59,7 +64,6 @@ fn signs_by_the_quickest_way(rt: HostRuntime) -> Result<(), Fail> {
     let alloc = rt.alloc();
     let judge = Judge::of(&SignedRanks.frame());
     let stages = SignedRanks.stages_of(alloc, Tail::Less)?;
-    let all = tail_sums(alloc, &stages, &judge, EVERY_TAIL)?;
-    assert_eq!(rt; (all.less.sum, all.greater.sum, all.two.sum), (6, 3, 6));
+    are_known(&rt, Some(tail_sums(alloc, &stages, &judge, EVERY_TAIL)?));
     Ok(())
 }

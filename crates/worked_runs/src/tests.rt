@@ -72,20 +72,24 @@ fn expect(
     Ok(())
 }
 
-// A run over a source that gives so many bytes at a time, and whose call of this number fails.
+// Runs over a source that gives so many bytes at a time, of which one call fails, each of these in
+// turn.
 fn expect_of_reads(
     rt: &impl Abort,
     alloc: Global,
     step: usize,
-    call: u64,
+    calls: &[u64],
     status: Status,
     told: [&str; 2],
 ) -> Result<(), AllocError>
     requires { 1 ≤ step }
 {
-    let mut source = six_values(alloc, step, &[call])?;
-    let words = "ranksum f.csv";
-    expect(rt, alloc, words, &mut source, [&[], &[]], status, told)
+    for call in calls {
+        let mut source = six_values(alloc, step, &[*call])?;
+        let words = "ranksum f.csv";
+        expect(rt, alloc, words, &mut source, [&[], &[]], status, told)?;
+    }
+    Ok(())
 }
 
 // The source is started by call 0, gives its bytes, and then none: five times eight bytes at most,
@@ -93,30 +97,22 @@ fn expect_of_reads(
 #[test]
 fn tells_read_faults(rt: HostRuntime) -> Result<(), AllocError> {
     let alloc = rt.alloc();
-    let fault = Status::ReadFault;
     let refused = ["", "refused: read fault\n"];
-    let done = [REPORT, ""];
-    expect_of_reads(&rt, alloc, 8, 0, fault, refused)?;
-    expect_of_reads(&rt, alloc, 8, 1, fault, refused)?;
-    expect_of_reads(&rt, alloc, 8, 6, fault, refused)?;
-    expect_of_reads(&rt, alloc, 8, 7, Status::Done, done)?;
-    expect_of_reads(&rt, alloc, 1, 37, fault, refused)?;
-    expect_of_reads(&rt, alloc, 1, 38, Status::Done, done)
+    expect_of_reads(
+        &rt,
+        alloc,
+        8,
+        &[0, 1, 2, 3, 4, 5, 6],
+        Status::ReadFault,
+        refused,
+    )?;
+    expect_of_reads(&rt, alloc, 8, &[7], Status::Done, [REPORT, ""])?;
+    expect_of_reads(&rt, alloc, 1, &[37], Status::ReadFault, refused)?;
+    expect_of_reads(&rt, alloc, 1, &[38], Status::Done, [REPORT, ""])
 }
 
-#[test]
-fn tells_faults_between_reads(rt: HostRuntime) -> Result<(), AllocError> {
-    let alloc = rt.alloc();
-    let fault = Status::ReadFault;
-    let refused = ["", "refused: read fault\n"];
-    for call in 2u64..6 {
-        expect_of_reads(&rt, alloc, 8, call, fault, refused)?;
-    }
-    Ok(())
-}
-
-// A run over sinks, of which the first fails at its write of this number.
-fn expect_of_writes(
+// A run over sinks, of which the first fails at its write of this number, with what it holds then.
+fn expect_of_write(
     rt: &impl Abort,
     alloc: Global,
     write: u64,
@@ -129,43 +125,42 @@ fn expect_of_writes(
     expect(rt, alloc, words, &mut source, writes, status, told)
 }
 
+// What the first sink holds, of which a write fails: all of the report that came before.
+const HELD: [(u64, &str); 8] = [
+    (1, ""),
+    (2, "test ranksum\ngro"),
+    (3, "test ranksum\ngroup 3 x\ngroup 3 y"),
+    (4, "test ranksum\ngroup 3 x\ngroup 3 y\nstatistic 30/2\n"),
+    (
+        5,
+        "test ranksum\ngroup 3 x\ngroup 3 y\nstatistic 30/2\ntotal 20\nless 20",
+    ),
+    (
+        6,
+        "test ranksum\ngroup 3 x\ngroup 3 y\nstatistic 30/2\ntotal 20\n\
+        less 20/20 1.000000\ngre",
+    ),
+    (
+        7,
+        "test ranksum\ngroup 3 x\ngroup 3 y\nstatistic 30/2\ntotal 20\n\
+        less 20/20 1.000000\ngreater 1/20 0.0500",
+    ),
+    (
+        8,
+        "test ranksum\ngroup 3 x\ngroup 3 y\nstatistic 30/2\ntotal 20\n\
+        less 20/20 1.000000\ngreater 1/20 0.050000\ntwo 2/20 0.10",
+    ),
+];
+
+// The report is written by eight writes. No later one comes.
 #[test]
 fn tells_write_faults(rt: HostRuntime) -> Result<(), AllocError> {
     let alloc = rt.alloc();
-    let fault = Status::WriteFault;
-    let line = "refused: write fault\n";
-    let last = "test ranksum\ngroup 3 x\ngroup 3 y\nstatistic 30/2\ntotal 20\n\
-        less 20/20 1.000000\ngreater 1/20 0.050000\ntwo 2/20 0.10";
-    expect_of_writes(&rt, alloc, 1, fault, ["", line])?;
-    expect_of_writes(&rt, alloc, 2, fault, ["test ranksum\ngro", line])?;
-    expect_of_writes(&rt, alloc, 8, fault, [last, line])?;
-    expect_of_writes(&rt, alloc, 9, Status::Done, [REPORT, ""])
-}
-
-#[test]
-fn tells_faults_between_writes(rt: HostRuntime) -> Result<(), AllocError> {
-    let alloc = rt.alloc();
-    let fault = Status::WriteFault;
-    let line = "refused: write fault\n";
-    let third = "test ranksum\ngroup 3 x\ngroup 3 y";
-    let fourth = "test ranksum\ngroup 3 x\ngroup 3 y\nstatistic 30/2\n";
-    let fifth = "test ranksum\ngroup 3 x\ngroup 3 y\nstatistic 30/2\ntotal 20\nless 20";
-    expect_of_writes(&rt, alloc, 3, fault, [third, line])?;
-    expect_of_writes(&rt, alloc, 4, fault, [fourth, line])?;
-    expect_of_writes(&rt, alloc, 5, fault, [fifth, line])
-}
-
-#[test]
-fn tells_faults_of_late_writes(rt: HostRuntime) -> Result<(), AllocError> {
-    let alloc = rt.alloc();
-    let fault = Status::WriteFault;
-    let line = "refused: write fault\n";
-    let sixth = "test ranksum\ngroup 3 x\ngroup 3 y\nstatistic 30/2\ntotal 20\n\
-        less 20/20 1.000000\ngre";
-    let seventh = "test ranksum\ngroup 3 x\ngroup 3 y\nstatistic 30/2\ntotal 20\n\
-        less 20/20 1.000000\ngreater 1/20 0.0500";
-    expect_of_writes(&rt, alloc, 6, fault, [sixth, line])?;
-    expect_of_writes(&rt, alloc, 7, fault, [seventh, line])
+    for (write, held) in HELD {
+        let told = [held, "refused: write fault\n"];
+        expect_of_write(&rt, alloc, write, Status::WriteFault, told)?;
+    }
+    expect_of_write(&rt, alloc, 9, Status::Done, [REPORT, ""])
 }
 
 // What fails on `err` changes no status.
@@ -179,18 +174,32 @@ fn tells_what_it_can(rt: HostRuntime) -> Result<(), AllocError> {
     expect(&rt, alloc, "sign f.csv", &mut failing, writes, status, told)
 }
 
+// The help text over a source whose first call fails, and a sink whose write of this number does.
+fn expect_of_help(
+    rt: &impl Abort,
+    alloc: Global,
+    write: u64,
+    held: &str,
+) -> Result<(), AllocError> {
+    let mut failing = six_values(alloc, 8, &[0])?;
+    let writes: [&[u64]; 2] = [&[write], &[]];
+    let told = [held, "refused: write fault\n"];
+    expect(
+        rt,
+        alloc,
+        "--help",
+        &mut failing,
+        writes,
+        Status::WriteFault,
+        told,
+    )
+}
+
 // No source is touched but for a file.
 #[test]
 fn helps_without_a_source(rt: HostRuntime) -> Result<(), AllocError> {
-    let alloc = rt.alloc();
-    let mut failing = six_values(alloc, 8, &[0])?;
-    let status = Status::WriteFault;
-    let told = ["", "refused: write fault\n"];
-    let writes: [&[u64]; 2] = [&[1], &[]];
-    expect(&rt, alloc, "--help", &mut failing, writes, status, told)?;
-    let told = ["usage: exact TES", "refused: write fault\n"];
-    let writes: [&[u64]; 2] = [&[2], &[]];
-    expect(&rt, alloc, "--help", &mut failing, writes, status, told)
+    expect_of_help(&rt, rt.alloc(), 1, "")?;
+    expect_of_help(&rt, rt.alloc(), 2, "usage: exact TES")
 }
 
 // The six values under the name `six`.
@@ -260,38 +269,53 @@ fn tells_faults_of_any_source(rt: HostRuntime) -> Result<(), AllocError> {
     expect_of_shelf(&rt, alloc, words, &mut shelf, fault, "")
 }
 
+// A source gives all six values.
+fn gives_six<S: Source>(rt: &impl Abort, alloc: Global, source: &mut S) {
+    match read_all(alloc, source, "f.csv") {
+        Ok(bytes) => assert!(rt; bytes.as_slice() == SIX.as_slice()),
+        Err(_) => panic!(rt; "no bytes"),
+    }
+}
+
 #[test]
 fn reads_in_steps(rt: HostRuntime) -> Result<(), AllocError> {
     for step in [1, 5, 36, 100] {
         let bytes = Vec::from_slice(rt.alloc(), SIX)?;
         let mut steady = SteadySource::new(bytes, step);
-        let read = read_all(rt.alloc(), &mut steady, "f.csv");
-        assert!(rt; read.map(|bytes| bytes.len()) == Ok(36));
+        gives_six(&rt, rt.alloc(), &mut steady);
         let mut source = six_values(rt.alloc(), step, &[])?;
-        let read = read_all(rt.alloc(), &mut source, "f.csv");
-        assert!(rt; read.map(|bytes| bytes.len()) == Ok(36));
+        gives_six(&rt, rt.alloc(), &mut source);
     }
     Ok(())
+}
+
+// Writes come to what is wanted.
+fn same(rt: &impl Abort, written: Result<(), WriteFault>, wanted: Result<(), WriteFault>) {
+    assert!(rt; written == wanted);
 }
 
 #[test]
 fn sinks_end_at_their_limits(rt: HostRuntime) -> Result<(), AllocError> {
     let room = Vec::with_capacity(rt.alloc(), 20)?;
     let mut sink = MemorySink::new(room, 16, Vec::new(rt.alloc()));
-    assert!(rt; write_all(&mut sink, b"twenty bytes of text") == Ok(()));
-    assert!(rt; write_all(&mut sink, b"") == Ok(()));
-    assert!(rt; write_all(&mut sink, b"!") == Err(WriteFault));
+    same(&rt, write_all(&mut sink, b"twenty bytes of text"), Ok(()));
+    same(&rt, write_all(&mut sink, b""), Ok(()));
+    same(&rt, write_all(&mut sink, b"!"), Err(WriteFault));
     assert!(rt; sink.taken() == b"twenty bytes of text".as_slice());
+    Ok(())
+}
+
+#[test]
+fn counters_end_at_their_limits(rt: HostRuntime) {
     let mut room = Counter {
         bytes: u128::MAX - 3,
     };
     {
         let mut sink = SteadySink::new(&mut room);
         assert!(rt; sink.write(b"ab").is_ok());
-        assert!(rt; write_all(&mut sink, b"cdef") == Ok(()));
+        same(&rt, write_all(&mut sink, b"cdef"), Ok(()));
     }
     assert!(rt; room.bytes == u128::MAX);
-    Ok(())
 }
 
 const NAME: &str = "written_by_a_test.csv";

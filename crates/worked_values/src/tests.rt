@@ -14,6 +14,7 @@ use row_products::{RowBounds, RowProducts};
 use scores::ScoreKind::{Ansari, Median, Mood, Raw, Savage, Wilcoxon};
 use scores::{ScoreFault, ScoreKind, labelled_sum, scored};
 use std::alloc::Global;
+use std::fmt::Debug;
 use std::process::Abort;
 use std::test::Fail;
 use weights::{
@@ -21,8 +22,18 @@ use weights::{
     bounded_product, gcd, lcm, multinomial, power,
 };
 
+// The value is the one that is wanted.
+fn same<T: PartialEq + Debug>(rt: &impl Abort, found: &T, wanted: &T) {
+    assert_eq!(rt; *found, *wanted);
+}
+
+// The list is the one that is wanted.
+fn same_list<T: PartialEq + Debug>(rt: &impl Abort, found: &[T], wanted: &[T]) {
+    assert_eq!(rt; *found, *wanted);
+}
+
 fn chooses(rt: &impl Abort, n: u64, k: u64, ways: Option<u128>) {
-    assert_eq!(rt; binomial(n, k), ways, "{k} of {n}");
+    assert!(rt; binomial(n, k) == ways, "{k} of {n}");
 }
 
 #[test]
@@ -33,17 +44,21 @@ fn choices(rt: HostRuntime) {
     let most = 42535295865117307928310139910543638528;
     chooses(&rt, 1 << 63, 2, Some(most));
     chooses(&rt, u64::MAX, 1 << 63, None);
-    assert_eq!(rt; multinomial(&[2, 1, 1]), Some(12));
-    assert_eq!(rt; multinomial(&[5_000, 5_000]), None);
+    same(&rt, &multinomial(&[2, 1, 1]), &Some(12));
+    same(&rt, &multinomial(&[5_000, 5_000]), &None);
 }
 
 #[test]
 fn multiples_and_powers(rt: HostRuntime) {
-    assert_eq!(rt; (gcd(0, 0), gcd(12, 18)), (0, 6));
-    assert_eq!(rt; (lcm(4, 6), lcm(MAX, 2)), (Some(12), None));
-    assert_eq!(rt; bounded_product(1 << 64, 1 << 63), None);
-    assert_eq!(rt; power(2, 126), Some(85070591730234615865843651857942052864));
-    assert_eq!(rt; (power(2, 127), power(1, u64::MAX)), (None, Some(1)));
+    same(&rt, &(gcd(0, 0), gcd(12, 18)), &(0, 6));
+    same(&rt, &(lcm(4, 6), lcm(MAX, 2)), &(Some(12), None));
+    same(&rt, &bounded_product(1 << 64, 1 << 63), &None);
+    same(
+        &rt,
+        &power(2, 126),
+        &Some(85070591730234615865843651857942052864),
+    );
+    same(&rt, &(power(2, 127), power(1, u64::MAX)), &(None, Some(1)));
 }
 
 fn sum_and_product<C: Count>(a: u128, b: u128) -> Option<(u128, u128)> {
@@ -54,13 +69,14 @@ fn sum_and_product<C: Count>(a: u128, b: u128) -> Option<(u128, u128)> {
 
 #[test]
 fn counts(rt: HostRuntime) {
-    assert_eq!(rt; sum_and_product::<Narrow>(4, 6), Some((10, 24)));
-    assert_eq!(rt; sum_and_product::<Narrow>(1 << 63, 1 << 63), None);
-    assert_eq!(rt;
-        sum_and_product::<Wide>(1 << 64, 5),
-        Some(((1 << 64) + 5, 5 << 64))
+    same(&rt, &sum_and_product::<Narrow>(4, 6), &Some((10, 24)));
+    same(&rt, &sum_and_product::<Narrow>(1 << 63, 1 << 63), &None);
+    same(
+        &rt,
+        &sum_and_product::<Wide>(1 << 64, 5),
+        &Some(((1 << 64) + 5, 5 << 64)),
     );
-    assert_eq!(rt; sum_and_product::<Wide>(MAX, 1), None);
+    same(&rt, &sum_and_product::<Wide>(MAX, 1), &None);
 }
 
 #[test]
@@ -71,20 +87,30 @@ fn lists_of_scores(rt: HostRuntime) -> Result<(), Fail> {
     for item in copy.as_mut_slice().iter_mut() {
         *item = -8;
     }
-    assert_eq!(rt; copy.as_slice(), [-8].as_slice());
-    assert_eq!(rt; ints.as_slice(), [7].as_slice());
+    same_list(&rt, copy.as_slice(), &[-8]);
+    same_list(&rt, ints.as_slice(), &[7]);
+    Ok(())
+}
+
+#[test]
+fn lists_of_zeros(rt: HostRuntime) -> Result<(), Fail> {
+    same_list(&rt, Ints::zeros(rt.alloc(), 2)?.as_slice(), &[0, 0]);
     Ok(())
 }
 
 #[test]
 fn lists_of_numbers(rt: HostRuntime) -> Result<(), Fail> {
-    assert_eq!(rt; Ints::zeros(rt.alloc(), 2)?.as_slice(), [0, 0].as_slice());
     let mut nums = Nums::empty(rt.alloc());
     nums.append(&[u64::MAX, 1])?;
-    assert_eq!(rt; nums.as_slice(), [u64::MAX, 1].as_slice());
+    same_list(&rt, nums.as_slice(), &[u64::MAX, 1]);
+    Ok(())
+}
+
+#[test]
+fn lists_of_bytes(rt: HostRuntime) -> Result<(), Fail> {
     let mut bytes = Bytes::empty(rt.alloc());
     bytes.push(255)?;
-    assert_eq!(rt; bytes.len(), 1);
+    same_list(&rt, bytes.as_slice(), &[255]);
     Ok(())
 }
 
@@ -97,70 +123,99 @@ fn equality_belongs_to_the_tail(rt: HostRuntime) {
         total: 20,
         two: Rule::far(6, 126, 30),
     };
-    assert_eq!(rt; frame.rule(Tail::Two), Rule::Far(6, 126, 54));
-    assert_eq!(rt; frame.rule(Tail::Less), Rule::AtMost(30));
+    same(&rt, &frame.rule(Tail::Two), &Rule::Far(6, 126, 54));
+    same(&rt, &frame.rule(Tail::Less), &Rule::AtMost(30));
     let greater = frame.rule(Tail::Greater);
-    assert_eq!(rt; greater, Rule::AtLeast(30));
+    same(&rt, &greater, &Rule::AtLeast(30));
     for (rule, value, passes) in [
         (Rule::AtMost(30), 30, true),
         (Rule::AtLeast(30), 29, false),
         (Rule::Far(6, 126, 54), 12, true),
         (Rule::Far(6, 126, 54), 13, false),
     ] {
-        assert_eq!(rt; rule.passes(value), passes, "{value}");
+        assert!(rt; rule.passes(value) == passes, "{value}");
     }
 }
 
 #[test]
-fn walks_in_order(rt: HostRuntime) -> Result<(), Fail> {
+fn walks_labels_in_order(rt: HostRuntime) -> Result<(), Fail> {
     let mut labels = first_labelling(rt.alloc(), &[2, 1])?;
-    assert_eq!(rt; labels.as_slice(), [0, 0, 1].as_slice());
-    assert!(rt; next_labelling(labels.as_mut_slice()));
-    assert!(rt; next_labelling(labels.as_mut_slice()));
-    assert!(rt; !next_labelling(labels.as_mut_slice()));
-    assert_eq!(rt; labels.as_slice(), [1, 0, 0].as_slice());
-    let mut signs = [0, 1];
-    assert!(rt; next_signs(&mut signs));
-    assert_eq!(rt; signs, [1, 0]);
-    assert_eq!(rt; tail_of_six(rt.alloc(), Tail::Less)?, 20);
-    assert_eq!(rt; tail_of_six(rt.alloc(), Tail::Greater)?, 1);
-    assert_eq!(rt; tail_of_six(rt.alloc(), Tail::Two)?, 2);
+    same_list(&rt, labels.as_slice(), &[0, 0, 1]);
+    let steps = [
+        next_labelling(labels.as_mut_slice()),
+        next_labelling(labels.as_mut_slice()),
+        next_labelling(labels.as_mut_slice()),
+    ];
+    same(&rt, &steps, &[true, true, false]);
+    same_list(&rt, labels.as_slice(), &[1, 0, 0]);
     Ok(())
 }
 
-fn reads(rt: &impl Abort, text: &str, value: Result<i128, NumberFault>) {
-    assert_eq!(rt; read_value(text.as_bytes()), value, "at {text}");
+#[test]
+fn walks_signs_in_order(rt: HostRuntime) {
+    let mut signs = [0, 1];
+    assert!(rt; next_signs(&mut signs));
+    same(&rt, &signs, &[1, 0]);
+}
+
+fn tails_of_six(alloc: Global) -> Result<[u128; 3], NoMemory> {
+    let less = tail_of_six(alloc, Tail::Less)?;
+    let greater = tail_of_six(alloc, Tail::Greater)?;
+    Ok([less, greater, tail_of_six(alloc, Tail::Two)?])
+}
+
+#[test]
+fn tails_in_order(rt: HostRuntime) -> Result<(), Fail> {
+    same(&rt, &tails_of_six(rt.alloc())?, &[20, 1, 2]);
+    Ok(())
+}
+
+// Each text has its value or its fault.
+fn reads(rt: &impl Abort, texts: &[(&str, Result<i128, NumberFault>)]) {
+    for (text, value) in texts {
+        assert!(rt; read_value(text.as_bytes()) == *value, "at {text}");
+    }
 }
 
 #[test]
 fn texts_of_values(rt: HostRuntime) {
-    reads(&rt, "+.5", Ok(500_000_000_000_000_000));
-    reads(&rt, "-1e-18", Ok(-1));
-    reads(&rt, "-0.0E+999999999999999999999999999999", Ok(0));
-    reads(&rt, "0.0000000000000000000000000000000000000001e22", Ok(1));
     let least = -999_999_999_999_999_999_999_999_999_999_999_999;
-    reads(&rt, "-999999999999999999.999999999999999999", Ok(least));
-    reads(&rt, "\t \t", Err(Missing));
-    reads(&rt, " NA ", Err(Missing));
-    reads(&rt, "1e5.", Err(NotNumber));
-    reads(&rt, "1\r", Err(NotNumber));
-    reads(&rt, "é", Err(NotNumber));
-    reads(&rt, "1e18", Err(OutOfRange));
-    reads(&rt, "-1.5e-18", Err(OutOfRange));
-    reads(&rt, "1e999999999999999999999999999999", Err(OutOfRange));
+    reads(
+        &rt,
+        &[
+            ("+.5", Ok(500_000_000_000_000_000)),
+            ("-1e-18", Ok(-1)),
+            ("-0.0E+999999999999999999999999999999", Ok(0)),
+            ("0.0000000000000000000000000000000000000001e22", Ok(1)),
+            ("-999999999999999999.999999999999999999", Ok(least)),
+            ("\t \t", Err(Missing)),
+            (" NA ", Err(Missing)),
+            ("1e5.", Err(NotNumber)),
+            ("1\r", Err(NotNumber)),
+            ("é", Err(NotNumber)),
+            ("1e18", Err(OutOfRange)),
+            ("-1.5e-18", Err(OutOfRange)),
+            ("1e999999999999999999999999999999", Err(OutOfRange)),
+        ],
+    );
 }
 
 #[test]
 fn texts_of_counts_and_lists(rt: HostRuntime) {
-    assert_eq!(rt; read_count(b"1000000", 1_000_000), Some(1_000_000));
-    assert_eq!(rt; read_count(b"1000001", 1_000_000), None);
+    same(&rt, &read_count(b"1000000", 1_000_000), &Some(1_000_000));
+    same(&rt, &read_count(b"1000001", 1_000_000), &None);
     let mut out = [7; 3];
-    assert_eq!(rt;
-        read_list(b" 05 ,\t-006\t", -9, 9, out.as_mut_slice()),
-        Some(2)
+    same(
+        &rt,
+        &read_list(b" 05 ,\t-006\t", -9, 9, out.as_mut_slice()),
+        &Some(2),
     );
-    assert_eq!(rt; out, [5, -6, 7]);
-    assert_eq!(rt; read_list(b"1,2,3,4", -9, 9, out.as_mut_slice()), None);
+    same(&rt, &out, &[5, -6, 7]);
+    same(
+        &rt,
+        &read_list(b"1,2,3,4", -9, 9, out.as_mut_slice()),
+        &None,
+    );
 }
 
 // Ten thousand digits are read without a number of that size.
@@ -168,15 +223,20 @@ fn texts_of_counts_and_lists(rt: HostRuntime) {
 fn long_texts_of_numbers(rt: HostRuntime) {
     let mut text = [b'0'; 10_000];
     text[9_999] = b'9';
-    assert_eq!(rt; read_value(text.as_slice()), Ok(9_000_000_000_000_000_000));
-    assert_eq!(rt; read_count(text.as_slice(), 9), Some(9));
+    same(
+        &rt,
+        &read_value(text.as_slice()),
+        &Ok(9_000_000_000_000_000_000),
+    );
+    same(&rt, &read_count(text.as_slice(), 9), &Some(9));
     text[0] = b'9';
-    assert_eq!(rt; read_value(text.as_slice()), Err(OutOfRange));
-    assert_eq!(rt; read_count(text.as_slice(), u64::MAX), None);
+    same(&rt, &read_value(text.as_slice()), &Err(OutOfRange));
+    same(&rt, &read_count(text.as_slice(), u64::MAX), &None);
     text[1] = b'e';
-    assert_eq!(rt;
-        read_value(text.as_slice()),
-        Ok(9_000_000_000_000_000_000_000_000_000)
+    same(
+        &rt,
+        &read_value(text.as_slice()),
+        &Ok(9_000_000_000_000_000_000_000_000_000),
     );
 }
 
@@ -197,24 +257,32 @@ fn many(alloc: Global, number: usize) -> Result<Ints, NoMemory> {
 
 #[test]
 fn place_of_a_group(rt: HostRuntime) -> Result<(), Fail> {
-    assert_eq!(rt; group_of(&[tie(-1, 1), tie(5, 4)], 5), 1);
+    same(&rt, &group_of(&[tie(-1, 1), tie(5, 4)], 5), &1);
     Ok(())
 }
 
 #[test]
-fn ranks_and_groups(rt: HostRuntime) -> Result<(), Fail> {
+fn ranks_of_ties(rt: HostRuntime) -> Result<(), Fail> {
     let six = doubled(rt.alloc(), &[1, 2, 2, 2, 3, 3])?;
-    assert_eq!(rt; six.as_slice(), [2, 6, 6, 6, 11, 11].as_slice());
+    same_list(&rt, six.as_slice(), &[2, 6, 6, 6, 11, 11]);
+    Ok(())
+}
+
+#[test]
+fn groups_of_ties(rt: HostRuntime) -> Result<(), Fail> {
     let groups = tie_groups(rt.alloc(), &[3, 2, 1, 2, 3, 2])?;
-    assert_eq!(rt;
-        groups.as_slice(),
-        [tie(1, 1), tie(2, 3), tie(3, 2)].as_slice()
-    );
+    same_list(&rt, groups.as_slice(), &[tie(1, 1), tie(2, 3), tie(3, 2)]);
+    Ok(())
+}
+
+// As many as there may be.
+#[test]
+fn ranks_of_many_values(rt: HostRuntime) -> Result<(), Fail> {
     let values = many(rt.alloc(), MOST_VALUES)?;
     assert!(rt; values.len() <= MOST_VALUES);
     let ranks = doubled(rt.alloc(), values.as_slice())?;
-    assert_eq!(rt; ranks.as_slice().first().copied(), Some(20_000));
-    assert_eq!(rt; ranks.as_slice().last().copied(), Some(2));
+    same(&rt, &ranks.as_slice().first().copied(), &Some(20_000));
+    same(&rt, &ranks.as_slice().last().copied(), &Some(2));
     Ok(())
 }
 
@@ -230,7 +298,7 @@ fn score_sum(rt: &impl Abort, alloc: Global, kind: ScoreKind, values: &[i128]) -
 
 fn tied_scores(rt: &impl Abort, alloc: Global, kind: ScoreKind, sum: u128) {
     let tied = [5, -3, 5, -3, 0];
-    assert_eq!(rt; score_sum(rt, alloc, kind, &tied), Some(sum), "{kind:?}");
+    assert!(rt; score_sum(rt, alloc, kind, &tied) == Some(sum), "{kind:?}");
 }
 
 #[test]
@@ -241,7 +309,7 @@ fn scores_of_ties(rt: HostRuntime) {
     tied_scores(&rt, rt.alloc(), Savage, 600);
     tied_scores(&rt, rt.alloc(), Median, 4);
     tied_scores(&rt, rt.alloc(), Raw, 16);
-    assert_eq!(rt; labelled_sum(&[2, -5, 11], &[1, 0, 1], 1), 13);
+    same(&rt, &labelled_sum(&[2, -5, 11], &[1, 0, 1], 1), &13);
 }
 
 // Whether the scores of so many distinct values have a sum within the limit.
@@ -254,7 +322,7 @@ fn fits(
 ) -> Result<(), NoMemory> {
     let values = many(alloc, number)?;
     let sum = score_sum(rt, alloc, kind, values.as_slice());
-    assert_eq!(rt; sum.is_some(), fits, "{kind:?} of {number}");
+    assert!(rt; sum.is_some() == fits, "{kind:?} of {number}");
     Ok(())
 }
 
@@ -306,14 +374,14 @@ fn two_keys(alloc: Global) -> Result<NodePool<Wide>, NoMemory> {
 #[test]
 fn pools_of_nodes(rt: HostRuntime) -> Result<(), Fail> {
     let mut pool = two_keys(rt.alloc())?;
-    assert_eq!(rt; pool.len(), 2);
+    same(&rt, &pool.len(), &2);
     let spare = pool.spare();
     assert!(rt; pool.reserve(1 << 40).is_err());
-    assert_eq!(rt; pool.spare(), spare);
-    assert_eq!(rt; weight_of(&pool, &[1, 5]), 7);
-    assert_eq!(rt; weight_of(&pool, &[1, 6]), 1 << 100);
+    same(&rt, &pool.spare(), &spare);
+    same(&rt, &weight_of(&pool, &[1, 5]), &7);
+    same(&rt, &weight_of(&pool, &[1, 6]), &(1 << 100));
     pool.clear();
-    assert_eq!(rt; pool.len(), 0);
+    same(&rt, &pool.len(), &0);
     Ok(())
 }
 
@@ -325,19 +393,14 @@ fn pools_are_filled_after_a_refusal(rt: HostRuntime) -> Result<(), Fail> {
     put(&mut pool, &[1; 16], 3)?;
     let spare = pool.spare();
     assert!(rt; pool.reserve(2_147_000_000).is_err());
-    assert_eq!(rt; (pool.len(), pool.spare()), (1, spare));
-    put(&mut pool, &[2; 16], 5)?;
-    put(&mut pool, &[3; 16], 5)?;
-    put(&mut pool, &[4; 16], 5)?;
-    put(&mut pool, &[5; 16], 5)?;
-    put(&mut pool, &[6; 16], 5)?;
-    put(&mut pool, &[7; 16], 5)?;
-    put(&mut pool, &[8; 16], 5)?;
-    put(&mut pool, &[9; 16], 5)?;
+    same(&rt, &(pool.len(), pool.spare()), &(1, spare));
+    for more in 0..8usize {
+        put(&mut pool, &[more as i128 + 2; 16], 5)?;
+    }
     put(&mut pool, &[1; 16], 4)?;
-    assert_eq!(rt; pool.len(), 9);
-    assert_eq!(rt; weight_of(&pool, &[1; 16]), 7);
-    assert_eq!(rt; weight_of(&pool, &[9; 16]), 5);
+    same(&rt, &pool.len(), &9);
+    same(&rt, &weight_of(&pool, &[1; 16]), &7);
+    same(&rt, &weight_of(&pool, &[9; 16]), &5);
     Ok(())
 }
 
@@ -347,18 +410,18 @@ fn pools_of_empty_keys(rt: HostRuntime) -> Result<(), Fail> {
     let mut empty = NodePool::<Narrow>::new(rt.alloc(), 0)?;
     put(&mut empty, &[], 3)?;
     put(&mut empty, &[], 4)?;
-    assert_eq!(rt; (empty.len(), weight_of(&empty, &[])), (1, 7));
+    same(&rt, &(empty.len(), weight_of(&empty, &[])), &(1, 7));
     Ok(())
 }
 
 #[test]
 fn lists_of_nodes(rt: HostRuntime) -> Result<(), Fail> {
-    let mut list = NodeList::<Narrow>::new(rt.alloc(), 0);
     let one = Narrow::of(1).ok_or("within the limit")?;
+    let mut list = NodeList::<Narrow>::new(rt.alloc(), 0);
     list.push(&[], one)?;
-    assert_eq!(rt; (list.len(), list.weight(0).value()), (1, 1));
+    same(&rt, &(list.len(), list.weight(0).value()), &(1, 1));
     list.clear();
-    assert_eq!(rt; list.len(), 0);
+    same(&rt, &list.len(), &0);
     Ok(())
 }
 
@@ -394,11 +457,15 @@ fn bounds_of_completions(rt: HostRuntime) {
         later(3, 2, 3),
         later(9, 1, 4),
     ];
-    assert_eq!(rt; least_linear(&rows, &columns, 2), -50);
-    assert_eq!(rt; greatest_linear(&rows, &columns, 2), 54);
-    assert_eq!(rt; box_bounds(&[-2, 1], &[3, 4], &[5, 2], MAX), (2, 77));
-    assert_eq!(rt; box_bounds(&[4, 4], &[12, 12], &[1, 1], 200), (32, 200));
-    assert_eq!(rt; weight_bounds(3, 21, &[0, 5, 2], &[6, 1]), (18, 63));
+    same(&rt, &least_linear(&rows, &columns, 2), &-50);
+    same(&rt, &greatest_linear(&rows, &columns, 2), &54);
+    same(&rt, &box_bounds(&[-2, 1], &[3, 4], &[5, 2], MAX), &(2, 77));
+    same(
+        &rt,
+        &box_bounds(&[4, 4], &[12, 12], &[1, 1], 200),
+        &(32, 200),
+    );
+    same(&rt, &weight_bounds(3, 21, &[0, 5, 2], &[6, 1]), &(18, 63));
 }
 
 // The tables weigh from 4 to 12, and from 4 to 288; where a product passes the limit there are no
@@ -410,12 +477,12 @@ fn bounds_by_rows(rt: HostRuntime) -> Result<(), Fail> {
         least: 2,
         greatest: 12,
     };
-    assert_eq!(rt; products.bounds(&[2, 4], &[3, 3]), Some(of_six));
+    same(&rt, &products.bounds(&[2, 4], &[3, 3]), &Some(of_six));
     let of_ten = RowBounds {
         least: 4,
         greatest: 288,
     };
-    assert_eq!(rt; products.bounds(&[2, 4, 4], &[5, 3, 2]), Some(of_ten));
-    assert_eq!(rt; products.bounds(&[21, 21], &[40, 2]), None);
+    same(&rt, &products.bounds(&[2, 4, 4], &[5, 3, 2]), &Some(of_ten));
+    same(&rt, &products.bounds(&[21, 21], &[40, 2]), &None);
     Ok(())
 }
