@@ -2,7 +2,7 @@
 #![tactic(auto)]
 
 ghost use Rattle.std.specs.Prelude.{◌≡◌};
-ghost use Rattle.exact_run.specs.Promises.{status_number};
+ghost use Rattle.run_outcome.specs.Promises.{status_number};
 ghost use Rattle.run_in_memory.specs.Answers.{IsAnswer};
 ghost use Rattle.run_in_memory.specs.declared.answers.Answer.{Answer};
 

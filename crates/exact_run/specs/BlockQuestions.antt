@@ -16,7 +16,8 @@ use Rattle.block_tests.specs.BlockNetworks.{block_network, running_network}
 use Rattle.block_tests.specs.BlockTests.{block_test, blocks_for}
 use Rattle.block_tests.specs.declared.kinds.BlockKind.{BlockKind}
 use Rattle.block_tests.specs.declared.kinds.BlockKind.TheVariants.{Cochran}
-use Rattle.exact_run.specs.Question.{Question, dropped_told, layout_refusal, question_about}
+use Rattle.run_outcome.specs.Question.{Question, question_about}
+use Rattle.exact_run.specs.Layouts.{dropped_told, layout_refusal}
 
 -- Cochran's test reads cells of 0 and 1, and the others read values
 abbrev pub blocks_read : BlockKind → Missing → Picks → List (List (List ℕ))

@@ -22,7 +22,8 @@ use Rattle.k_sample_tests.specs.KruskalWallis.{ScoredGroups}
 use Rattle.k_sample_tests.specs.Umbrella.{PeakedGroups}
 use Rattle.networks.specs.declared.one_of.OneOf.{OneOf}
 use Rattle.networks.specs.declared.one_of.OneOf.TheVariants.{First, Second}
-use Rattle.exact_run.specs.Question.{Question, dropped_told, layout_refusal, question_about}
+use Rattle.run_outcome.specs.Question.{Question, question_about}
+use Rattle.exact_run.specs.Layouts.{dropped_told, layout_refusal}
 
 -- ---- groups
 

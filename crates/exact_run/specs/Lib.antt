@@ -1,4 +1,4 @@
-pub mod Question
+pub mod Layouts
 pub mod PairQuestions
 pub mod GroupQuestions
 pub mod BlockQuestions
@@ -9,9 +9,7 @@ pub mod SequenceQuestions
 pub mod ShiftReports
 pub mod Questions
 pub mod MadeData
+pub mod Tests
 pub mod Outcome
-pub mod Texts
-pub mod Promises
 pub mod Divided
-pub mod CauseSteps
 pub mod MergedRuns

@@ -11,7 +11,8 @@ use Rattle.report.specs.declared.refusals.Refusal.{Refusal}
 use Rattle.one_sample_tests.specs.SignNetwork.{one_sample_network}
 use Rattle.one_sample_tests.specs.SignedSamples.{nonzero, one_sample_test, sample_of}
 use Rattle.one_sample_tests.specs.declared.kinds.SignKind.{SignKind}
-use Rattle.exact_run.specs.Question.{Question, dropped_told, layout_refusal, question_about}
+use Rattle.run_outcome.specs.Question.{Question, question_about}
+use Rattle.exact_run.specs.Layouts.{dropped_told, layout_refusal}
 
 -- a pair is used where its difference is not zero
 abbrev pub pair_sizes : List ℤ → Sizes

@@ -13,7 +13,8 @@ use Rattle.report.specs.declared.headings.Sizes.{Sizes}
 use Rattle.report.specs.declared.headings.Sizes.TheVariants as sizes
 use Rattle.report.specs.declared.refusals.Refusal.{Refusal}
 use Rattle.sequence_tests.specs.SequenceTests.{running_network, sequence_network, sequence_test}
-use Rattle.exact_run.specs.Question.{Question, dropped_told, layout_refusal, question_about}
+use Rattle.run_outcome.specs.Question.{Question, question_about}
+use Rattle.exact_run.specs.Layouts.{dropped_told, layout_refusal}
 
 -- ---- bivariate samples
 

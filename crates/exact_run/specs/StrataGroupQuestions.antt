@@ -12,7 +12,8 @@ use Rattle.report.specs.declared.headings.Sizes.TheVariants as sizes
 use Rattle.report.specs.declared.refusals.Refusal.{Refusal}
 use Rattle.homogeneity.specs.Homogeneities.{homogeneity_network, homogeneity_test}
 use Rattle.exact_run.specs.GroupQuestions.{in_order_by}
-use Rattle.exact_run.specs.Question.{Question, dropped_told, layout_refusal, question_about}
+use Rattle.run_outcome.specs.Question.{Question, question_about}
+use Rattle.exact_run.specs.Layouts.{dropped_told, layout_refusal}
 
 -- the samples in the order of their labels that is asked
 abbrev pub in_strata_order : List (List ℕ) → StrataGroupData → Result StrataGroupData Refusal

@@ -13,7 +13,8 @@ use Rattle.report.specs.declared.refusals.Refusal.{Refusal}
 use Rattle.homogeneity.specs.Homogeneities.{homogeneity_network, homogeneity_test}
 use Rattle.stratified_tests.specs.StrataNetwork.{strata_network}
 use Rattle.stratified_tests.specs.StrataTests.{data_of, strata_test}
-use Rattle.exact_run.specs.Question.{Question, layout_refusal, question_about}
+use Rattle.run_outcome.specs.Question.{Question, question_about}
+use Rattle.exact_run.specs.Layouts.{layout_refusal}
 
 -- each stratum has four cells
 abbrev pub strata_sizes : List ℕ → Sizes

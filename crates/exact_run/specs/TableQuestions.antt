@@ -22,7 +22,8 @@ use Rattle.table_tests.specs.FisherOdds.{WeightedTable}
 use Rattle.table_tests.specs.LinearByLinear.{ScoredTable}
 use Rattle.networks.specs.declared.one_of.OneOf.{OneOf}
 use Rattle.networks.specs.declared.one_of.OneOf.TheVariants.{First, Second}
-use Rattle.exact_run.specs.Question.{Question, layout_refusal, question_about}
+use Rattle.run_outcome.specs.Question.{Question, question_about}
+use Rattle.exact_run.specs.Layouts.{layout_refusal}
 
 -- the table of the rows: one of two rows and two columns, or any
 abbrev pub table_of : Bool → Settings → List (List (List ℕ)) → Result TableData Refusal

@@ -5,16 +5,16 @@ ghost use Rattle.weights.specs.Results.{with_fault};
 ghost use Rattle.sample_reader.specs.Data.{block_data_of};
 ghost use Rattle.block_tests.specs.BlockTests.{TakesCells, has_tail};
 ghost use Rattle.exact_run.specs.BlockQuestions.{block_sizes, blocks_of, blocks_read, layout_read};
-ghost use Rattle.exact_run.specs.CauseSteps.{Fulfils, IsCauseOf};
-ghost use Rattle.exact_run.specs.Outcome.{tails_by};
-ghost use Rattle.exact_run.specs.Question.{layout_refusal};
+ghost use Rattle.run_outcome.specs.CauseSteps.{Fulfils, IsCauseOf};
+ghost use Rattle.run_outcome.specs.Outcome.{tails_by};
+ghost use Rattle.exact_run.specs.Layouts.{layout_refusal};
 
-use crate::refusing::layout_refusal;
-use crate::reports::{ALL, GREATER, report_on};
-use crate::requests::Request;
+use crate::layouts::{heading_for, layout_refusal};
+use crate::prepared_reports::report_blocks;
 use block_tests::{BlockKind, prepare};
 use record_reader::Rows;
 use report::{Extra, Refusal, Sizes};
+use run_outcome::{ALL, GREATER, Request};
 use sample_reader::{Blocks, Layout, binary_blocks, blocks};
 use settings::Settings;
 use std::alloc::Global;
@@ -81,6 +81,6 @@ pub(crate) fn block_report(
 {
     let blocks = blocks_read(alloc, kind, request.settings, request.rows)?;
     let problem = prepare(alloc, kind, &blocks);
-    let heading = request.heading(sizes_of(&blocks), layout_read(kind), Extra::None);
-    report_on(alloc, request.asking, &heading, tails_of(kind), problem)
+    let heading = heading_for(request, sizes_of(&blocks), layout_read(kind), Extra::None);
+    report_blocks(alloc, request.asking, &heading, tails_of(kind), problem)
 }

@@ -1,142 +1,20 @@
 // The top call: it does all that the program does.
-ghost use Rattle.std.specs.Prelude.{◌≡◌, ◌≢◌, ◌≤◌, ◌⊎◌, ℕ, List, false, true, Err, Ok, OnOk, Some, length, map, option_map, string_bytes};
+ghost use Rattle.std.specs.Prelude.{◌≡◌, ◌⊎◌, ℕ, List, false, true, Err, Ok, map, string_bytes};
 ghost use Rattle.std.specs.Io.KnownBytes.{Appends};
 ghost use Rattle.outside.specs.Faults.{AppendsPrefix, Rose};
-ghost use Rattle.outside.specs.declared.source.TheConstants.{LONGEST_FILE};
-ghost use Rattle.weights.specs.Results.{with_value};
 ghost use Rattle.settings.specs.Meaning.{is_help, meaning_of};
-ghost use Rattle.settings.specs.Usable.{AreUsable};
 ghost use Rattle.settings.specs.declared.names.UsageFault.{UsageFault};
-ghost use Rattle.report.specs.Refusals.{refusal_line_text};
-ghost use Rattle.exact_run.specs.CauseSteps.{ComesTo, Meets};
+ghost use Rattle.run_outcome.specs.Outcome.{names_file};
+ghost use Rattle.run_outcome.specs.Promises.{IsBeforeWriting, Promises, ReadRose, WritesLine};
 ghost use Rattle.exact_run.specs.Divided.{PartAnswers, Writes};
-ghost use Rattle.exact_run.specs.Outcome.{names_file, outcome_of, outcome_of_bytes, usage_refusal as refusal_of};
-ghost use Rattle.exact_run.specs.MergedRuns.{MergeComes, MergePromises};
-ghost use Rattle.exact_run.specs.Promises.{IsBeforeWriting, Promises, ReadRose, WritesLine, status_of};
-ghost use Rattle.exact_run.specs.Texts.{text_of};
+ghost use Rattle.exact_run.specs.MergedRuns.{MergePromises};
+ghost use Rattle.exact_run.specs.Outcome.{outcome_of};
 
-use crate::made_data::made_report;
-use crate::merged::merged_report;
-use crate::questions::report_in;
-use crate::refusing::usage_refusal;
-use crate::reports::Asking;
-use crate::requests::Request;
-use crate::status::Status;
-use outside::{ReadFail, Sink, Source, read_all, write_all};
-use record_reader::records;
-use report::{Refusal, refusal_line};
-use settings::{CommandLine, Settings, TestName, help_text, read};
+use crate::tests::Tests;
+use outside::{Sink, Source};
+use run_outcome::{Status, run_with};
+use settings::{CommandLine, Settings};
 use std::alloc::Global;
-use weights::Bytes;
-
-// The text that is written to `out`.
-#[derive(Drop)]
-enum Text {
-    // The help text, which stands in the program already.
-    Help,
-    // A report, composed whole.
-    Report(Bytes),
-}
-
-impl Text {
-    fn as_slice(&self) -> &[u8]
-        ensures { result.now ≡ text_of self.now }
-    {
-        match self {
-            Text::Help => help_text().as_bytes(),
-            Text::Report(report) => report.as_slice(),
-        }
-    }
-}
-
-// The report of a file's bytes, or the refusal.
-fn report_of(alloc: Global, settings: &Settings, bytes: &[u8]) -> Result<Bytes, Refusal>
-    requires short { length bytes.now ≤ LONGEST_FILE }
-    requires usable { AreUsable settings.now }
-    ensures meets { Meets (outcome_of_bytes settings.now bytes.now) result }
-    ensures answerable { let answers = PartAnswers settings.now (Some bytes.now) in
-        settings.now.test ≢ TestName.Shift → OnOk result answers }
-{
-    match records(alloc, bytes, settings.separator) {
-        Ok(rows) => {
-            let request = Request {
-                asking: Asking::of(settings, bytes),
-                settings,
-                rows: &rows,
-            };
-            report_in(alloc, &request)
-        }
-        Err(_) => Err(Refusal::NoMemory),
-    }
-}
-
-// The report of the file that the settings name, or the refusal.
-fn report_from<S: Source>(
-    alloc: Global,
-    settings: &Settings,
-    source: &mut S,
-) -> Result<Bytes, Refusal>
-    requires { AreUsable settings.now }
-    ensures comes { let held = S.held source.old settings.now.file in
-        let known = option_map (outcome_of_bytes settings.now) held in
-        ComesTo (Rose (S.faults source.old) (S.faults source.new)) known result }
-    ensures answerable { let held = S.held source.old settings.now.file in
-        settings.now.test ≢ TestName.Shift → OnOk result (PartAnswers settings.now held) }
-{
-    match read_all(alloc, source, settings.file.as_str()) {
-        Ok(bytes) => report_of(alloc, settings, bytes.as_slice()),
-        Err(ReadFail::ReadFault) => Err(Refusal::ReadFault),
-        Err(ReadFail::TooLong) => Err(Refusal::TooLong),
-        Err(ReadFail::NoMemory) => Err(Refusal::NoMemory),
-    }
-}
-
-// A report as the text to write.
-fn as_text(report: Result<Bytes, Refusal>) -> Result<Text, Refusal>
-    ensures { with_value text_of result ≡ report }
-{
-    report.map(Text::Report)
-}
-
-// The text that the words and the source ask for, or the refusal.
-fn text_for<S: Source>(alloc: Global, words: &[String], source: &mut S) -> Result<Text, Refusal>
-    ensures comes { let known = outcome_of (map string_bytes words.now) (S.held source.old) in
-        let meaning = meaning_of (map string_bytes words.now) in
-        let source_rose = ReadRose meaning (S.faults source.old) (S.faults source.new) in
-        ComesTo source_rose known (with_value text_of result) }
-    ensures help { is_help (map string_bytes words.now) ≡ true → result ≡ Ok Text.Help }
-    ensures words { let meaning = meaning_of (map string_bytes words.now) in
-        (fault : UsageFault) → meaning ≡ Err fault
-        → (result ≡ Err (refusal_of fault)) ⊎ (result ≡ Err Refusal.NoMemory) }
-    ensures untouched { names_file (meaning_of (map string_bytes words.now)) ≡ false
-        → source.new ≡ source.old }
-    ensures merged { let meaning = meaning_of (map string_bytes words.now) in
-        (file : List ℕ) → meaning ≡ Ok (CommandLine.Merge file)
-        → MergeComes (Rose (S.faults source.old) (S.faults source.new)) (S.held source.old file)
-        (with_value text_of result) }
-    ensures answerable { let meaning = meaning_of (map string_bytes words.now) in
-        (settings : Settings) → meaning ≡ Ok (CommandLine.Test settings)
-        → OnOk result (PartAnswers settings (S.held source.old settings.file)) }
-{
-    match read(alloc, words) {
-        Ok(CommandLine::Help) => Ok(Text::Help),
-        Ok(CommandLine::Test(settings)) => as_text(report_from(alloc, &settings, source)),
-        Ok(CommandLine::Shift(settings)) => as_text(report_from(alloc, &settings, source)),
-        Ok(CommandLine::Merge(file)) => as_text(merged_report(alloc, &file, source)),
-        Ok(CommandLine::Drill(number)) => as_text(made_report(alloc, number)),
-        Err(fault) => Err(usage_refusal(fault)),
-    }
-}
-
-// Tells the refusal, and answers its status.
-fn refuse<E: Sink>(refusal: Refusal, err: &mut E) -> Status
-    ensures status { result ≡ status_of refusal }
-    ensures line { let rose = Rose (E.faults err.old) (E.faults err.new) in
-        WritesLine (E.taken err.old) (E.taken err.new) rose (refusal_line_text refusal) }
-{
-    let _told = write_all(err, refusal_line(&refusal).as_slice());
-    Status::of(refusal)
-}
 
 /// Runs the command that the words name; they are those after the program's own name. `TEST FILE`
 /// with options in any place writes the report of the test for the data of the file, and `shift
@@ -203,11 +81,5 @@ pub fn run<S: Source, O: Sink, E: Sink>(
     ensures untouched { names_file (meaning_of (map string_bytes words.now)) ≡ false
         → source.new ≡ source.old }
 {
-    match text_for(alloc, words, source) {
-        Ok(text) => match write_all(out, text.as_slice()) {
-            Ok(()) => Status::Done,
-            Err(_) => refuse(Refusal::WriteFault, err),
-        },
-        Err(refusal) => refuse(refusal, err),
-    }
+    run_with::<Tests, S, O, E>(alloc, words, source, out, err)
 }

@@ -4,16 +4,16 @@ ghost use Rattle.record_reader.specs.Layouts.{MayPick};
 ghost use Rattle.weights.specs.Results.{with_fault};
 ghost use Rattle.sample_reader.specs.Data.{data_of};
 ghost use Rattle.sample_reader.specs.GroupLayout.{groups_in};
-ghost use Rattle.exact_run.specs.CauseSteps.{Fulfils, IsCauseOf};
+ghost use Rattle.run_outcome.specs.CauseSteps.{Fulfils, IsCauseOf};
 ghost use Rattle.exact_run.specs.GroupQuestions.{group_rows, groups_of, has_peak, in_order, kruskal_wallis_of, ordered_of, two_samples_of, umbrella_of};
-ghost use Rattle.exact_run.specs.Question.{layout_refusal};
+ghost use Rattle.exact_run.specs.Layouts.{layout_refusal};
 
-use crate::refusing::layout_refusal;
-use crate::reports::{ALL, GREATER, report_on};
-use crate::requests::Request;
+use crate::layouts::{heading_for, layout_refusal};
+use crate::prepared_reports::{report_samples, report_two_samples};
 use k_sample_tests::{prepare_kw, prepare_umbrella};
 use record_reader::Rows;
 use report::{Extra, Refusal, Sizes};
+use run_outcome::{ALL, GREATER, Request};
 use sample_reader::{Groups, Labels, Layout, OrderFault, groups, reorder};
 use scores::ScoreKind;
 use settings::{OptionName, Settings};
@@ -101,8 +101,8 @@ pub(crate) fn two_sample_report(
 {
     let groups = groups_of(alloc, TWO_SAMPLES, request.settings, request.rows)?;
     let problem = prepare(alloc, kind, &groups);
-    let heading = request.heading(sizes_of(groups), Layout::Groups, Extra::None);
-    report_on(alloc, request.asking, &heading, ALL, problem)
+    let heading = heading_for(request, sizes_of(groups), Layout::Groups, Extra::None);
+    report_two_samples(alloc, request.asking, &heading, ALL, problem)
 }
 
 /// The report of the test of Kruskal and Wallis by the scores that are asked, or the refusal.
@@ -113,8 +113,13 @@ pub(crate) fn kruskal_wallis_report(alloc: Global, request: &Request) -> Result<
     let kind = request.settings.scores;
     let groups = groups_of(alloc, MOST_SAMPLES, request.settings, request.rows)?;
     let problem = prepare_kw(alloc, kind, &groups);
-    let heading = request.heading(sizes_of(groups), Layout::Groups, Extra::Scores(kind));
-    report_on(alloc, request.asking, &heading, GREATER, problem)
+    let heading = heading_for(
+        request,
+        sizes_of(groups),
+        Layout::Groups,
+        Extra::Scores(kind),
+    );
+    report_samples(alloc, request.asking, &heading, GREATER, problem)
 }
 
 /// The report of the test of ordered groups, or the refusal.
@@ -124,8 +129,8 @@ pub(crate) fn ordered_report(alloc: Global, request: &Request) -> Result<Bytes, 
 {
     let groups = groups_of(alloc, MOST_SAMPLES, request.settings, request.rows)?;
     let problem = prepare_umbrella(alloc, groups.labels.len() as u64, &groups);
-    let heading = request.heading(sizes_of(groups), Layout::Groups, Extra::None);
-    report_on(alloc, request.asking, &heading, ALL, problem)
+    let heading = heading_for(request, sizes_of(groups), Layout::Groups, Extra::None);
+    report_samples(alloc, request.asking, &heading, ALL, problem)
 }
 
 // The peak is the number of a group.
@@ -146,6 +151,6 @@ pub(crate) fn umbrella_report(alloc: Global, request: &Request) -> Result<Bytes,
         return Err(Refusal::Unfit(OptionName::Peak));
     }
     let problem = prepare_umbrella(alloc, peak, &groups);
-    let heading = request.heading(sizes_of(groups), Layout::Groups, Extra::Peak(peak));
-    report_on(alloc, request.asking, &heading, ALL, problem)
+    let heading = heading_for(request, sizes_of(groups), Layout::Groups, Extra::Peak(peak));
+    report_samples(alloc, request.asking, &heading, ALL, problem)
 }

@@ -3,24 +3,20 @@
 
 mod block_reports;
 mod command;
-mod dropping;
 mod group_reports;
+mod layouts;
 mod made_data;
-mod merged;
 mod pair_reports;
-mod parts;
+mod prepared_reports;
 mod questions;
-mod refusing;
-mod reports;
-mod requests;
 mod sequence_reports;
 mod shift_reports;
-mod status;
 mod strata_group_reports;
 mod strata_reports;
 mod sums;
 mod table_reports;
+mod tests;
 
 pub use command::run;
 pub use made_data::made_groups;
-pub use status::Status;
+pub use run_outcome::Status;

@@ -3,13 +3,14 @@ ghost use Rattle.std.specs.Prelude.{◌≡◌, ◌<◌, ◌≤◌, ◌+◌, ◌^
 ghost use Rattle.sample_reader.specs.Data.{data_of};
 ghost use Rattle.sample_reader.specs.Kept.{AreInRange};
 ghost use Rattle.settings.specs.Usable.{IsDrillNumber};
-ghost use Rattle.exact_run.specs.CauseSteps.{Meets};
+ghost use Rattle.run_outcome.specs.CauseSteps.{Meets};
 ghost use Rattle.exact_run.specs.MadeData.{made_groups, made_members, made_question, made_value, made_values, next_state, state_after, two_samples_made};
-ghost use Rattle.exact_run.specs.Outcome.{asking_of_made, outcome_of_question};
+ghost use Rattle.run_outcome.specs.Outcome.{asking_of_made, outcome_of_question};
 
 use crate::group_reports::sizes_of;
-use crate::reports::{ALL, Asking, Heading, report_on};
+use crate::prepared_reports::report_two_samples;
 use report::{Extra, Refusal};
+use run_outcome::{ALL, Asking, Heading};
 use sample_reader::{Groups, Labels};
 use scores::ScoreKind;
 use std::alloc::Global;
@@ -127,5 +128,5 @@ pub(crate) fn made_report(alloc: Global, number: u64) -> Result<Bytes, Refusal>
         dropped: None,
         extra: Extra::None,
     };
-    report_on(alloc, Asking::of_made(number), &heading, ALL, problem)
+    report_two_samples(alloc, Asking::of_made(number), &heading, ALL, problem)
 }

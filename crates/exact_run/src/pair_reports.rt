@@ -3,16 +3,16 @@ ghost use Rattle.std.specs.Prelude.{◌≡◌, Ok, IfErr, IfOk};
 ghost use Rattle.record_reader.specs.Layouts.{MayPick};
 ghost use Rattle.weights.specs.Results.{with_fault};
 ghost use Rattle.sample_reader.specs.CellLayouts.{differences_in};
-ghost use Rattle.exact_run.specs.CauseSteps.{Fulfils, IsCauseOf};
+ghost use Rattle.run_outcome.specs.CauseSteps.{Fulfils, IsCauseOf};
 ghost use Rattle.exact_run.specs.PairQuestions.{pair_sizes, pairs_of};
-ghost use Rattle.exact_run.specs.Question.{layout_refusal};
+ghost use Rattle.exact_run.specs.Layouts.{layout_refusal};
 
-use crate::refusing::layout_refusal;
-use crate::reports::{ALL, report_on};
-use crate::requests::Request;
+use crate::layouts::{heading_for, layout_refusal};
+use crate::prepared_reports::report_one_sample;
 use one_sample_tests::{SignKind, prepare_pairs, used_pairs};
 use record_reader::Rows;
 use report::{Extra, Refusal, Sizes};
+use run_outcome::{ALL, Request};
 use sample_reader::{Layout, Pairs, pairs};
 use settings::Settings;
 use std::alloc::Global;
@@ -49,6 +49,6 @@ pub(crate) fn pair_report(
 {
     let pairs = pairs_read(alloc, request.settings, request.rows)?;
     let problem = prepare_pairs(alloc, kind, &pairs);
-    let heading = request.heading(sizes_of(&pairs), Layout::Pairs, Extra::None);
-    report_on(alloc, request.asking, &heading, ALL, problem)
+    let heading = heading_for(request, sizes_of(&pairs), Layout::Pairs, Extra::None);
+    report_one_sample(alloc, request.asking, &heading, ALL, problem)
 }

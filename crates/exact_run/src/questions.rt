@@ -1,13 +1,13 @@
 // The report of each test, and that of a shift.
 ghost use Rattle.settings.specs.Usable.{AreUsable};
-ghost use Rattle.exact_run.specs.CauseSteps.{AnswersRows};
+ghost use Rattle.run_outcome.specs.CauseSteps.{AnswersRows};
+ghost use Rattle.exact_run.specs.Tests.{tests};
 
 use crate::block_reports::block_report;
 use crate::group_reports::{
     kruskal_wallis_report, ordered_report, two_sample_report, umbrella_report,
 };
 use crate::pair_reports::pair_report;
-use crate::requests::Request;
 use crate::sequence_reports::{kendall_report, runs_report};
 use crate::shift_reports::shift_report;
 use crate::strata_group_reports::stratified_rank_report;
@@ -16,6 +16,7 @@ use crate::table_reports::{fisher_report, linear_report, mcnemar_report};
 use block_tests::BlockKind;
 use one_sample_tests::SignKind;
 use report::Refusal;
+use run_outcome::Request;
 use scores::ScoreKind;
 use settings::{OptionName, TestName};
 use std::alloc::Global;
@@ -26,7 +27,8 @@ use weights::Bytes;
 pub(crate) fn report_in(alloc: Global, request: &Request) -> Result<Bytes, Refusal>
     requires { AreUsable request.now.settings.now }
     ensures { let settings = request.now.settings.now in
-        AnswersRows settings.test request.now.asking settings request.now.rows.now result }
+        let answers = AnswersRows tests settings.test request.now.asking settings in
+        answers request.now.rows.now result }
 {
     match request.settings.test {
         TestName::SignedRank => pair_report(alloc, SignKind::SignedRank, request),

@@ -5,15 +5,15 @@ ghost use Rattle.weights.specs.Results.{with_fault};
 ghost use Rattle.sample_reader.specs.Bivariate.{bivariate_in};
 ghost use Rattle.sample_reader.specs.Data.{bivariate_data_of, sequence_data_of};
 ghost use Rattle.sample_reader.specs.Sequences.{sequence_in};
-ghost use Rattle.exact_run.specs.CauseSteps.{Fulfils, IsCauseOf};
-ghost use Rattle.exact_run.specs.Question.{layout_refusal};
+ghost use Rattle.run_outcome.specs.CauseSteps.{Fulfils, IsCauseOf};
+ghost use Rattle.exact_run.specs.Layouts.{layout_refusal};
 ghost use Rattle.exact_run.specs.SequenceQuestions.{bivariate_sizes, kendall_of, runs_of, sequence_sizes};
 
-use crate::refusing::layout_refusal;
-use crate::reports::{ALL, report_on};
-use crate::requests::Request;
+use crate::layouts::{heading_for, layout_refusal};
+use crate::prepared_reports::report_sequence;
 use record_reader::Rows;
 use report::{Extra, Refusal, Sizes};
+use run_outcome::{ALL, Request};
 use sample_reader::{BivariateSample, Layout, Sequence, bivariate_sample, sequence};
 use sequence_tests::{prepare_kendall, prepare_runs};
 use settings::Settings;
@@ -50,9 +50,14 @@ pub(crate) fn kendall_report(alloc: Global, request: &Request) -> Result<Bytes, 
     ensures { Fulfils request.now kendall_of result }
 {
     let sample = bivariate_read(alloc, request.settings, request.rows)?;
-    let heading = request.heading(bivariate_sizes(&sample), Layout::Bivariate, Extra::None);
+    let heading = heading_for(
+        request,
+        bivariate_sizes(&sample),
+        Layout::Bivariate,
+        Extra::None,
+    );
     let problem = prepare_kendall(alloc, sample);
-    report_on(alloc, request.asking, &heading, ALL, problem)
+    report_sequence(alloc, request.asking, &heading, ALL, problem)
 }
 
 // The sequence of the rows, or the refusal of its fault.
@@ -81,7 +86,12 @@ pub(crate) fn runs_report(alloc: Global, request: &Request) -> Result<Bytes, Ref
     ensures { Fulfils request.now runs_of result }
 {
     let sequence = sequence_read(alloc, request.settings, request.rows)?;
-    let heading = request.heading(sequence_sizes(&sequence)?, Layout::Sequence, Extra::None);
+    let heading = heading_for(
+        request,
+        sequence_sizes(&sequence)?,
+        Layout::Sequence,
+        Extra::None,
+    );
     let problem = prepare_runs(alloc, sequence);
-    report_on(alloc, request.asking, &heading, ALL, problem)
+    report_sequence(alloc, request.asking, &heading, ALL, problem)
 }

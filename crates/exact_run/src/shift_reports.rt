@@ -2,11 +2,11 @@
 ghost use Rattle.std.specs.Prelude.{◌≡◌};
 ghost use Rattle.record_reader.specs.Layouts.{MayPick};
 ghost use Rattle.weights.specs.Odds.{IsMiss};
-ghost use Rattle.exact_run.specs.CauseSteps.{Meets};
+ghost use Rattle.run_outcome.specs.CauseSteps.{Meets};
 ghost use Rattle.exact_run.specs.ShiftReports.{shift_of};
 
-use crate::dropping::dropped_told;
 use crate::group_reports::{TWO_SAMPLES, groups_of, sizes_of};
+use crate::layouts::dropped_told;
 use record_reader::Rows;
 use report::{Refusal, compose_shift};
 use sample_reader::Layout;

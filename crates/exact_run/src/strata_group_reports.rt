@@ -4,16 +4,16 @@ ghost use Rattle.record_reader.specs.Layouts.{MayPick};
 ghost use Rattle.weights.specs.Results.{with_fault};
 ghost use Rattle.sample_reader.specs.Data.{strata_data_of};
 ghost use Rattle.sample_reader.specs.StrataGroups.{strata_groups_in};
-ghost use Rattle.exact_run.specs.CauseSteps.{Fulfils, IsCauseOf};
-ghost use Rattle.exact_run.specs.Question.{layout_refusal};
+ghost use Rattle.run_outcome.specs.CauseSteps.{Fulfils, IsCauseOf};
+ghost use Rattle.exact_run.specs.Layouts.{layout_refusal};
 ghost use Rattle.exact_run.specs.StrataGroupQuestions.{in_strata_order, strata_group_sizes, strata_groups_of, stratified_ranks_of};
 
-use crate::refusing::layout_refusal;
-use crate::reports::{ALL, report_on};
-use crate::requests::Request;
+use crate::layouts::{heading_for, layout_refusal};
+use crate::prepared_reports::report_homogeneity;
 use homogeneity::prepare_ranks;
 use record_reader::Rows;
 use report::{Extra, Refusal, Sizes};
+use run_outcome::{ALL, Request};
 use sample_reader::{Labels, Layout, OrderFault, StrataGroups, reorder_strata, strata_groups};
 use settings::{OptionName, Settings};
 use std::alloc::Global;
@@ -72,7 +72,12 @@ pub(crate) fn stratified_rank_report(alloc: Global, request: &Request) -> Result
     ensures { Fulfils request.now stratified_ranks_of result }
 {
     let samples = samples_of(alloc, request.settings, request.rows)?;
-    let heading = request.heading(sizes_of(&samples), Layout::StrataGroups, Extra::None);
+    let heading = heading_for(
+        request,
+        sizes_of(&samples),
+        Layout::StrataGroups,
+        Extra::None,
+    );
     let problem = prepare_ranks(alloc, samples);
-    report_on(alloc, request.asking, &heading, ALL, problem)
+    report_homogeneity(alloc, request.asking, &heading, ALL, problem)
 }

@@ -4,17 +4,17 @@ ghost use Rattle.record_reader.specs.Layouts.{MayPick};
 ghost use Rattle.weights.specs.Odds.{IsOdds};
 ghost use Rattle.weights.specs.Wide.{Prepares};
 ghost use Rattle.stratified_tests.specs.StrataTests.{data_of, strata_test, tails_with};
-ghost use Rattle.exact_run.specs.CauseSteps.{Fulfils, IsCauseOf};
-ghost use Rattle.exact_run.specs.Outcome.{tails_by};
+ghost use Rattle.run_outcome.specs.CauseSteps.{Fulfils, IsCauseOf};
+ghost use Rattle.run_outcome.specs.Outcome.{tails_by};
 ghost use Rattle.exact_run.specs.StrataQuestions.{strata_cells_of, stratified_of, strata_sizes, zelen_of};
 
-use crate::refusing::layout_refusal;
-use crate::reports::{ALL, Heading, ONE_SIDED, TWO, report_on};
-use crate::requests::Request;
+use crate::layouts::layout_refusal;
+use crate::prepared_reports::{report_homogeneity, report_strata};
 use crate::sums::cell_sum;
 use homogeneity::prepare_zelen;
 use record_reader::Rows;
 use report::{Extra, Refusal, Sizes};
+use run_outcome::{ALL, Heading, ONE_SIDED, Request, TWO};
 use settings::Settings;
 use std::alloc::Global;
 use stratified_tests::{StrataTest, prepare, prepare_odds};
@@ -76,7 +76,7 @@ pub(crate) fn strata_report(alloc: Global, request: &Request) -> Result<Bytes, R
     let strata = strata_read(alloc, request.settings, request.rows)?;
     let problem = prepared(alloc, request.settings.odds, &strata);
     let tails = tails_of(request.settings.odds);
-    report_on(alloc, request.asking, &heading_of(&strata), tails, problem)
+    report_strata(alloc, request.asking, &heading_of(&strata), tails, problem)
 }
 
 /// The report of the test of equal odds ratios in strata, or the refusal.
@@ -87,5 +87,5 @@ pub(crate) fn zelen_report(alloc: Global, request: &Request) -> Result<Bytes, Re
     let strata = strata_read(alloc, request.settings, request.rows)?;
     let heading = heading_of(&strata);
     let problem = prepare_zelen(alloc, strata);
-    report_on(alloc, request.asking, &heading, TWO, problem)
+    report_homogeneity(alloc, request.asking, &heading, TWO, problem)
 }

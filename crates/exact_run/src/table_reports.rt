@@ -9,17 +9,17 @@ ghost use Rattle.table_reader.specs.TableLayout.{table_shape};
 ghost use Rattle.table_reader.specs.declared.TheConstants.{MOST_TABLE_COLUMNS};
 ghost use Rattle.settings.specs.Usable.{AreWithin};
 ghost use Rattle.settings.specs.Values.{column_scores_form, row_scores_form};
-ghost use Rattle.exact_run.specs.CauseSteps.{Answers, Fulfils, IsCauseOf};
-ghost use Rattle.exact_run.specs.Outcome.{HasParts};
+ghost use Rattle.run_outcome.specs.CauseSteps.{Answers, Fulfils, IsCauseOf};
+ghost use Rattle.run_outcome.specs.Outcome.{HasParts};
 ghost use Rattle.exact_run.specs.TableQuestions.{fisher_of, fisher_question, fitting_scores, linear_of, mcnemar_of, odds_question, scores_or_numbers, table_of, table_sizes};
 
-use crate::refusing::layout_refusal;
-use crate::reports::{ALL, Asking, Heading, ONE_SIDED, report_on};
-use crate::requests::Request;
+use crate::layouts::layout_refusal;
+use crate::prepared_reports::{report_one_sample, report_table};
 use crate::sums::cell_sum;
 use one_sample_tests::prepare_mcnemar;
 use record_reader::Rows;
 use report::{Extra, Refusal, Sizes};
+use run_outcome::{ALL, Asking, Heading, ONE_SIDED, Request};
 use settings::{Nums64, OptionName, Settings};
 use std::alloc::Global;
 use table_reader::{Table, table};
@@ -68,7 +68,7 @@ pub(crate) fn mcnemar_report(alloc: Global, request: &Request) -> Result<Bytes, 
 {
     let table = table_of(alloc, true, request.settings, request.rows)?;
     let problem = prepare_mcnemar(alloc, &table);
-    report_on(alloc, request.asking, &heading_of(&table), ALL, problem)
+    report_one_sample(alloc, request.asking, &heading_of(&table), ALL, problem)
 }
 
 // The report of Fisher's exact test of a table without odds, or the refusal.
@@ -78,7 +78,7 @@ fn central_report(alloc: Global, asking: Asking, table: &Table) -> Result<Bytes,
 {
     let problem = prepare_fisher(alloc, table);
     let tails = fisher_tails(table);
-    report_on(alloc, asking, &heading_of(table), tails, problem)
+    report_table(alloc, asking, &heading_of(table), tails, problem)
 }
 
 // The report of Fisher's exact test of a table with odds, or the refusal.
@@ -91,7 +91,7 @@ fn odds_report(alloc: Global, asking: Asking, odds: Odds, table: &Table) -> Resu
         return Err(Refusal::Unfit(OptionName::Tail));
     }
     let problem = prepare_odds(alloc, odds, table);
-    report_on(alloc, asking, &heading_of(table), ONE_SIDED, problem)
+    report_table(alloc, asking, &heading_of(table), ONE_SIDED, problem)
 }
 
 /// The report of Fisher's exact test, with odds where they are given, or the refusal.
@@ -181,5 +181,5 @@ pub(crate) fn linear_report(alloc: Global, request: &Request) -> Result<Bytes, R
         row_scores.as_slice(),
         column_scores.as_slice(),
     );
-    report_on(alloc, request.asking, &heading_of(&table), ALL, problem)
+    report_table(alloc, request.asking, &heading_of(&table), ALL, problem)
 }

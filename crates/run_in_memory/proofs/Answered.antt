@@ -4,8 +4,8 @@ use Rattle.std.proofs.Math.Nat.{min-eq_left}
 use Rattle.std.proofs.Math.Seq.{take-length}
 use Rattle.report.specs.Refusals.{refusal_line_text}
 use Rattle.report.specs.declared.refusals.Refusal.TheVariants as refusal
-use Rattle.exact_run.specs.declared.status.Status.{Status}
-use Rattle.exact_run.specs.declared.status.Status.TheVariants as status
+use Rattle.run_outcome.specs.declared.status.Status.{Status}
+use Rattle.run_outcome.specs.declared.status.Status.TheVariants as status
 use Rattle.run_in_memory.specs.Answers.{IsAnswer, IsTooLong}
 use Rattle.run_in_memory.specs.Places.{IsFilled, IsPut}
 use Rattle.run_in_memory.specs.Runs.{IsRun, PromisesMerged, TookLine, outcome_in}

@@ -9,9 +9,9 @@ use Rattle.settings.specs.declared.settings.Settings.{Settings}
 use Rattle.exact_run.specs.Divided.{PartAnswers}
 use Rattle.exact_run.specs.MergedRuns.{MergePromises}
 use Rattle.exact_run.specs.Outcome.{outcome_of}
-use Rattle.exact_run.specs.Promises.{IsBeforeWriting, Promises, ReadRose, WritesLine}
-use Rattle.exact_run.specs.declared.status.Status.{Status}
-use Rattle.exact_run.specs.declared.status.Status.TheVariants as status
+use Rattle.run_outcome.specs.Promises.{IsBeforeWriting, Promises, ReadRose, WritesLine}
+use Rattle.run_outcome.specs.declared.status.Status.{Status}
+use Rattle.run_outcome.specs.declared.status.Status.TheVariants as status
 use Rattle.run_in_memory.specs.Runs.{IsRun}
 
 -- what a sink took and the count of its faults, before and after

@@ -3,10 +3,10 @@ use Rattle.std.proofs.Common.{◌≡◌, ◌≢◌, ◌⊎◌, inl, inr, ℕ, Li
 use Rattle.std.specs.Prelude.{IfSome}
 use Rattle.report.specs.Refusals.{refusal_line_text}
 use Rattle.report.specs.declared.refusals.Refusal.TheVariants as refusal
-use Rattle.exact_run.specs.Outcome.{Outcome}
-use Rattle.exact_run.specs.Promises.{ComesExactly, Promises, ReportsWith, TellsRefusal}
-use Rattle.exact_run.specs.declared.status.Status.{Status}
-use Rattle.exact_run.specs.declared.status.Status.TheVariants as status
+use Rattle.run_outcome.specs.Outcome.{Outcome}
+use Rattle.run_outcome.specs.Promises.{ComesExactly, Promises, ReportsWith, TellsRefusal}
+use Rattle.run_outcome.specs.declared.status.Status.{Status}
+use Rattle.run_outcome.specs.declared.status.Status.TheVariants as status
 use Rattle.run_in_memory.specs.Answers.{HasNoRoom, IsTooLong}
 use Rattle.run_in_memory.specs.Runs.{Never}
 

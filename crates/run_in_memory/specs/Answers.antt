@@ -3,9 +3,9 @@ use Rattle.std.specs.Prelude.{◌≡◌, ◌≢◌, ◌<◌, ℕ, List, [], Opti
 use Rattle.settings.specs.declared.command_line.CommandLine.TheVariants as command
 use Rattle.settings.specs.declared.settings.Settings.{Settings}
 use Rattle.exact_run.specs.Divided.{PartAnswers}
-use Rattle.exact_run.specs.Outcome.{Outcome}
-use Rattle.exact_run.specs.Promises.{Promises, ReportsWith}
-use Rattle.exact_run.specs.declared.status.Status.TheVariants as status
+use Rattle.run_outcome.specs.Outcome.{Outcome}
+use Rattle.run_outcome.specs.Promises.{Promises, ReportsWith}
+use Rattle.run_outcome.specs.declared.status.Status.TheVariants as status
 use Rattle.run_in_memory.specs.Places.{IsFilled, IsPut}
 use Rattle.run_in_memory.specs.Runs.{PromisesMerged, meaning_in, outcome_in}
 use Rattle.run_in_memory.specs.declared.answers.Answer.{Answer}

@@ -10,10 +10,11 @@ use Rattle.settings.specs.declared.names.UsageFault.{UsageFault}
 use Rattle.settings.specs.declared.settings.Settings.{Settings}
 use Rattle.exact_run.specs.Divided.{PartAnswers}
 use Rattle.exact_run.specs.MergedRuns.{MergePromises}
-use Rattle.exact_run.specs.Outcome.{Outcome, outcome_of}
-use Rattle.exact_run.specs.Promises.{IsBeforeWriting, Promises, ReadRose, WritesLine}
-use Rattle.exact_run.specs.declared.status.Status.{Status}
-use Rattle.exact_run.specs.declared.status.Status.TheVariants as status
+use Rattle.run_outcome.specs.Outcome.{Outcome}
+use Rattle.exact_run.specs.Outcome.{outcome_of}
+use Rattle.run_outcome.specs.Promises.{IsBeforeWriting, Promises, ReadRose, WritesLine}
+use Rattle.run_outcome.specs.declared.status.Status.{Status}
+use Rattle.run_outcome.specs.declared.status.Status.TheVariants as status
 
 -- what the packed words mean
 abbrev pub meaning_in : List ℕ → Result CommandLine UsageFault

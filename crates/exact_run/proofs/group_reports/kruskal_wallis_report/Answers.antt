@@ -1,16 +1,10 @@
-use Rattle.std.proofs.Common.{◌∙◌}
+use Rattle.std.proofs.Common.{◌∙◌, refl}
 use Rattle.sample_reader.specs.Data.{data_of}
-use Rattle.report.specs.declared.headings.Extra.TheVariants as extra
-use Rattle.k_sample_tests.specs.KSamples.{k_sample_network, k_sample_test}
 use Rattle.networks.specs.declared.one_of.OneOf.TheVariants.{First}
-use Rattle.exact_run.specs.GroupQuestions.{group_rows, groups_dropped}
-use Rattle.exact_run.proofs.Asking.{asked_outcome}
 use Rattle.exact_run.proofs.group_reports.kruskal_wallis_report.Goals as goal
 
 pub returns : goal.returns
 returns c =
-    let groups = data_of c.in_ok-groups.groups in
-    let dropped = groups_dropped c.args.request.now.settings.now c.args.request.now.rows.now in
     rw c.in_ok-groups.ensures.ok
-    (asked_outcome k_sample_test k_sample_network k_sample_network c.args.request.now.asking (group_rows groups) dropped (extra.Scores c.args.request.now.settings.now.scores)
-    (First (record { kind = c.args.request.now.settings.now.scores; groups = groups })) _ _ c.prepare_kw-problem.ensures (rw (c.heading-heading.ensures.sizes ∙ c.sizes_of.ensures, c.heading-heading.ensures.dropped, c.heading-heading.ensures.extra) at c.report_on.ensures))
+    ((rw (c.heading_for-heading.ensures.sizes ∙ c.sizes_of.ensures, c.heading_for-heading.ensures.dropped, c.heading_for-heading.ensures.extra) at c.report_samples.ensures)
+    (First (record { kind = c.args.request.now.settings.now.scores; groups = data_of c.in_ok-groups.groups })) c.prepare_kw-problem.ensures refl)

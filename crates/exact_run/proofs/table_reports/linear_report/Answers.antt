@@ -1,12 +1,8 @@
-use Rattle.std.proofs.Common.{None}
+use Rattle.std.proofs.Common.{refl}
 use Rattle.table_reader.specs.Data.{table_data_of}
-use Rattle.report.specs.declared.headings.Extra.TheVariants as extra
 use Rattle.table_tests.specs.TableSteps.{scored_of}
-use Rattle.table_tests.specs.TableTests.{table_network, table_test}
 use Rattle.networks.specs.declared.one_of.OneOf.TheVariants.{First, Second}
-use Rattle.exact_run.specs.TableQuestions.{table_sizes}
 use Rattle.settings.specs.declared.names.OptionName.TheVariants.{RowScores, ColumnScores}
-use Rattle.exact_run.proofs.Asking.{asked_outcome}
 use Rattle.exact_run.proofs.TableScores.{fitting, rows-few}
 use Rattle.exact_run.proofs.table_reports.linear_report.Goals as goal
 
@@ -36,6 +32,5 @@ returns c =
     let us = c.in_ok-row_scores.row_scores in
     let vs = c.in_ok-column_scores.column_scores in
     rw (c.in_ok-table.ensures.ok, c.in_ok-row_scores.ensures.ok, c.in_ok-column_scores.ensures.ok)
-    (asked_outcome table_test table_network table_network c.args.request.now.asking (table_sizes table) None extra.None
-    (First (Second (scored_of table us vs))) _ _ (rw (c.as_slice.ensures, c.as_slice-2.ensures) at c.prepare_linear-problem.ensures)
-    (rw (c.heading_of.ensures.sizes, c.heading_of.ensures.dropped, c.heading_of.ensures.extra) at c.report_on.ensures))
+    ((rw (c.heading_of.ensures.sizes, c.heading_of.ensures.dropped, c.heading_of.ensures.extra) at c.report_table.ensures)
+    (First (Second (scored_of table us vs))) (rw (c.as_slice.ensures, c.as_slice-2.ensures) at c.prepare_linear-problem.ensures) refl)

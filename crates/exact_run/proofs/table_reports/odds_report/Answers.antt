@@ -1,16 +1,14 @@
-use Rattle.std.proofs.Common.{◌≡◌, None, refl, true}
+use Rattle.std.proofs.Common.{◌≡◌, refl, true}
 use Rattle.table_reader.specs.Data.{table_data_of}
-use Rattle.report.specs.declared.headings.Extra.TheVariants as extra
 use Rattle.table_tests.specs.OddsSteps.{weighted_of}
 use Rattle.table_tests.specs.Tables.{is_two_by_two}
-use Rattle.table_tests.specs.TableTests.{table_network, table_test}
+use Rattle.table_tests.specs.TableTests.{table_test}
 use Rattle.networks.specs.declared.one_of.OneOf.TheVariants.{Second}
-use Rattle.exact_run.specs.TableQuestions.{table_sizes}
-use Rattle.exact_run.proofs.Asking.{asked_outcome, prepared-tails}
+use Rattle.run_outcome.proofs.PreparedOutcome.{prepared-tails}
 use Rattle.exact_run.proofs.table_reports.odds_report.Goals as goal
 
-pub report_on-requires-clause-has : goal.report_on-requires-clause-has
-report_on-requires-clause-has c =
+pub report_table-requires-clause-has : goal.report_table-requires-clause-has
+report_table-requires-clause-has c =
     let weighted = weighted_of (table_data_of c.args.table.now) c.args.odds in
     prepared-tails table_test (Second weighted) c.prepare_odds-problem.result _ refl c.prepare_odds-problem.ensures
 
@@ -19,5 +17,5 @@ returns c =
     let table = table_data_of c.args.table.now in
     let here : is_two_by_two table ≡ true = cc in
     rw here
-    (asked_outcome table_test table_network table_network c.args.asking (table_sizes table) None extra.None
-    (Second (weighted_of table c.args.odds)) _ _ c.prepare_odds-problem.ensures (rw (c.heading_of.ensures.sizes, c.heading_of.ensures.dropped, c.heading_of.ensures.extra) at c.report_on.ensures))
+    ((rw (c.heading_of.ensures.sizes, c.heading_of.ensures.dropped, c.heading_of.ensures.extra) at c.report_table.ensures)
+    (Second (weighted_of table c.args.odds)) c.prepare_odds-problem.ensures refl)

@@ -1,8 +1,8 @@
 use denote.Enum.Bare.{differs_false, differs_true}
 use Rattle.std.proofs.Common.{◌≡◌, sym, subst, List, ℕ, arith}
-use Rattle.exact_run.specs.declared.status.Status.{Status}
-use Rattle.exact_run.specs.declared.status.Status.TheVariants as status
-use Rattle.exact_run.specs.contracts.status.Status.{the_type}
+use Rattle.run_outcome.specs.declared.status.Status.{Status}
+use Rattle.run_outcome.specs.declared.status.Status.TheVariants as status
+use Rattle.run_outcome.specs.contracts.status.Status.{the_type}
 use Rattle.run_in_memory.specs.Runs.{IsRun}
 use Rattle.run_in_memory.proofs.Answered.{as_told, no_memory, refused, reported, without_room}
 use Rattle.run_in_memory.proofs.answers.answer_in_memory.Goals as goal

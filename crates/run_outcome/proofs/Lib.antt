@@ -1,0 +1,16 @@
+pub mod AllParts
+pub mod EachName
+pub mod HeadLines
+pub mod MergedFits
+pub mod Merging
+pub mod OneQuestion
+pub mod OneReading
+pub mod PartAnswered
+pub mod PreparedOutcome
+pub mod Promised
+pub mod Readings
+pub mod RunNameShape
+pub mod Showable
+pub mod Shifts
+pub mod Undivided
+pub mod Words
