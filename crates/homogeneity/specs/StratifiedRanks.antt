@@ -1,7 +1,8 @@
--- The rank sum test of two samples in strata (van Elteren, Bulletin of the International
--- Statistical Institute 37, 1960; Lehmann, Nonparametrics, chapter 3): the sum of the second
--- group's ranks, each among the values of its own stratum. It is conditional on the values of each
--- stratum, with their ties.
+-- The rank sum test of two samples in strata (Lehmann, Nonparametrics, chapter 3): the sum of the
+-- second group's ranks, each among the values of its own stratum. It is conditional on the values
+-- of each stratum, with their ties. Every rank counts alike, where the statistic of van Elteren
+-- (Bulletin of the International Statistical Institute 37, 1960) weighs each stratum's sum by
+-- 1 / (N + 1).
 use Rattle.std.specs.Prelude.{ℕ, pos, ◌+◌, ◌*◌, List, [], ◌∷◌, length, map, slice_index, nat_eq, if◌then◌else◌}
 use Rattle.std.specs.List.{concat, range_with_len, sum_by}
 use Rattle.weights.specs.Conditional.{ConditionalTest, by_distance, every_tail, unit_weight}

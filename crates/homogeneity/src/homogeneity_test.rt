@@ -31,8 +31,8 @@ pub fn prepare_zelen(alloc: Global, strata: Strata) -> Result<Homogeneity, Prepa
 
 /// Prepares the rank sum test of two samples in strata, over all labellings of each stratum's
 /// subjects with its sizes of both groups: the sum of the second group's ranks, each among the
-/// values of its own stratum (van Elteren, On the combination of independent two-sample tests of
-/// Wilcoxon, Bulletin of the International Statistical Institute 37, 1960).
+/// values of its own stratum (Lehmann, Nonparametrics, chapter 3). Every rank counts alike: the
+/// statistic of van Elteren weighs each stratum's sum by 1 / (N + 1).
 ///
 /// # Errors
 /// `TooWide(Total)` where there are more labellings than `weights::MAX`, or else `NoMemory` where
