@@ -7,3 +7,4 @@ pub mod KSamples
 pub mod UmbrellaSteps
 pub mod RankSumSteps
 pub mod SumMeanings
+pub mod SquaredStages

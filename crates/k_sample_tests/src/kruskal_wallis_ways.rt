@@ -18,19 +18,14 @@ use crate::centred_sums::CentredSums;
 use crate::group_sums::squares_statistic;
 use crate::kruskal_wallis::SquaredSums;
 use crate::rank_sums::RankSums;
-use label_network::{LabelRooms, LabelStages, label_stages};
+use crate::squared_stages::{EqualGroups, OrderedSums, SquaredStages, WrittenSums};
+use label_network::{LabelRooms, label_stages};
 use labelled::LabelStatistic;
-use networks::{Judge, OneOf};
+use networks::Judge;
 use ordered_groups::InOrder;
 use packed_keys::{PackedGroups, bits_for};
 use std::alloc::Global;
 use weights::{NoMemory, Tail};
-
-// The network of the groups' sums with groups of equal size in order and the sums in one number.
-type EqualGroups = PackedGroups<LabelRooms, CentredSums>;
-
-// The same with a number for each group.
-type OrderedSums = InOrder<LabelRooms, RankSums>;
 
 // The sums of the groups' scores as what is measured.
 fn rank_sums(alloc: Global, problem: &SquaredSums, judge: Judge) -> Result<RankSums, NoMemory>
@@ -56,7 +51,7 @@ fn written_stages(
     alloc: Global,
     problem: &SquaredSums,
     judge: Judge,
-) -> Result<LabelStages<RankSums>, NoMemory>
+) -> Result<WrittenSums, NoMemory>
     requires { judge ≡ judge_of (kruskal_wallis_test problem.now) }
     ensures sums { IfOk result (λ s. AreSums problem.now s.1) }
     ensures follows { (t : Tail) → Follows (kruskal_wallis_test problem.now) t
@@ -155,7 +150,7 @@ fn ordered_stages(
 impl LabelStatistic for SquaredSums {
     ghost use Rattle.k_sample_tests.specs.KruskalWallis.{kruskal_wallis_says};
 
-    type Built = OneOf<OneOf<EqualGroups, OrderedSums>, LabelStages<RankSums>>;
+    type Built = SquaredStages;
 
     ghost says = { kruskal_wallis_says };
 
@@ -188,7 +183,7 @@ impl LabelStatistic for SquaredSums {
 
     fn stages_of(&self, alloc: Global, judge: Judge) -> Result<Self::Built, NoMemory> {
         let stages = written_stages(alloc, self, judge)?;
-        Ok(OneOf::Second(stages))
+        Ok(SquaredStages::Written(stages))
     }
 
     // With groups of equal size in order: in one number where it holds their sums, or else where
@@ -196,13 +191,13 @@ impl LabelStatistic for SquaredSums {
     fn quick_stages_of(&self, alloc: Global, judge: Judge) -> Result<Self::Built, NoMemory> {
         if fits_one(self) {
             let stages = packed_stages(alloc, self, judge)?;
-            Ok(OneOf::First(OneOf::First(stages)))
+            Ok(SquaredStages::Packed(stages))
         } else if equal_neighbours(self.made().sizes.as_slice()) >= 2 {
             let stages = ordered_stages(alloc, self, judge)?;
-            Ok(OneOf::First(OneOf::Second(stages)))
+            Ok(SquaredStages::Ordered(stages))
         } else {
             let stages = written_stages(alloc, self, judge)?;
-            Ok(OneOf::Second(stages))
+            Ok(SquaredStages::Written(stages))
         }
     }
 }

@@ -9,7 +9,8 @@ ghost use Rattle.k_sample_tests.specs.UmbrellaSteps.{AreCounted};
 use crate::counted_samples::{CountedSamples, made_of};
 use crate::pair_counts::PairCounts;
 use crate::pair_points::{labelling_points, signed, subject_pairs};
-use label_network::{LabelStages, label_stages};
+use crate::pair_stages::PairStages;
+use label_network::label_stages;
 use labelled::{LabelStatistic, Labelled};
 use networks::{Judge, TailSums};
 use pooled_columns::labels_in;
@@ -96,7 +97,7 @@ impl LabelStatistic for PeakedSamples {
     ghost use Rattle.k_sample_tests.specs.PairCounts.{umbrella_meaning};
     ghost use Rattle.k_sample_tests.specs.Umbrella.{umbrella_says};
 
-    type Built = LabelStages<Numbered<PairCounts>>;
+    type Built = PairStages;
 
     ghost says = { umbrella_says };
 
@@ -131,7 +132,8 @@ impl LabelStatistic for PeakedSamples {
         let rows = made.sizes.as_slice();
         let columns = made.columns.as_slice();
         let measure = PairCounts::new(alloc, made.pairs.as_slice(), rows, columns, judge)?;
-        label_stages(alloc, columns, rows, Numbered::new(measure))
+        let labels = label_stages(alloc, columns, rows, Numbered::new(measure))?;
+        Ok(PairStages { labels })
     }
 
     // Where all groups rise and no two subjects are equal, by how many pairs rise.

@@ -15,7 +15,7 @@ use Rattle.weights.proofs.Members.{Contains-labellings}
 use Rattle.completion_bounds.specs.Pairings.{greatest_score}
 use Rattle.networks.specs.declared.verdicts.Judge.{Judge}
 use Rattle.networks.specs.Judged.{judge_of}
-use Rattle.label_network.specs.LabelNetwork.{IsMargin, label_network, over_rooms}
+use Rattle.label_network.specs.LabelNetwork.{label_network}
 use Rattle.label_network.specs.LaterSums.{subjects}
 use Rattle.label_network.specs.Linear.{IsLinear, greatest_sizes, row_sum, table_sum}
 use Rattle.label_network.proofs.LinearNarrows.{linear_measure}
@@ -29,7 +29,6 @@ use Rattle.table_tests.specs.LinearByLinear.{ScoredTable, linear_says, linear_te
 use Rattle.table_tests.specs.TableNetworks.{product_meaning}
 use Rattle.table_tests.specs.Tables.{column_sums, columns_in, observed_labels, row_sums}
 use Rattle.table_tests.specs.TableSteps.{AreFitting, AreScored, AreScores, scored_of}
-use Rattle.table_tests.proofs.Built.{is-margin}
 use Rattle.table_tests.proofs.MarginSums.{are-columns, even, few-labels, length-columns, length-rows, subjects-few, table-of}
 use Rattle.table_tests.proofs.Observed.{observed-columns, observed-labelling}
 use Rattle.table_tests.proofs.ProductLimits.{is-linear as linear-within, sizes-small}
@@ -106,9 +105,6 @@ module _ (t : ScoredTable) (f : AreFitting t) where
   is-linear judge e =
       linear-within (row_sums t.table) (column_sums t.table) t.row_scores t.column_scores (even t.table) few f.row_sizes f.column_sizes as-wide as-long (few-labels t.table f.table) judge
       (λ v h. label-judge (linear_says t) is-within judge e v (value-fits v h))
-
-  pub margin : IsMargin (over_rooms (product_meaning t)) (column_sums t.table) (row_sums t.table)
-  margin = is-margin t.table f.table (over_rooms (product_meaning t)) refl refl
 
   pub linear-sound : IsSound (linear_says t) (label_network (product_meaning t)) (label_network (product_meaning t))
   linear-sound =

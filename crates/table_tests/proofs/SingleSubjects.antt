@@ -7,7 +7,7 @@ use Rattle.weights.specs.declared.tails.Tail.{Tail}
 use Rattle.networks.specs.declared.verdicts.Judge.{Judge}
 use Rattle.networks.specs.Judged.{judge_of}
 use Rattle.networks.specs.Follows.{Follows}
-use Rattle.label_network.specs.LabelNetwork.{IsMargin, label_network, over_rooms}
+use Rattle.label_network.specs.LabelNetwork.{label_network}
 use Rattle.label_network.specs.LaterSums.{subjects}
 use Rattle.label_network.specs.Linear.{IsLinear, linear_statistic}
 use Rattle.label_network.proofs.Later.{length-subjects}
@@ -18,7 +18,7 @@ use Rattle.table_tests.specs.LinearByLinear.{ScoredTable, linear_says, linear_te
 use Rattle.table_tests.specs.TableNetworks.{subject_meaning}
 use Rattle.table_tests.specs.Tables.{column_sums, row_sums}
 use Rattle.table_tests.specs.TableSteps.{AreFitting}
-use Rattle.table_tests.proofs.LinearTests.{as-long, as-wide, is-linear, margin}
+use Rattle.table_tests.proofs.LinearTests.{as-long, as-wide, is-linear}
 use Rattle.table_tests.proofs.MarginSums.{even}
 
 -- so many columns of one subject
@@ -58,17 +58,6 @@ module _ (t : ScoredTable) (f : AreFitting t) where
         rows_fit = written.rows_fit;
         sums_fit = rw (single-subjects units) written.sums_fit;
         rules_fit = rw (single-subjects units) written.rules_fit;
-      }
-
-  pub margin-singles : IsMargin (over_rooms (subject_meaning t)) singles (row_sums t.table)
-  margin-singles =
-      let written = margin t f in
-      let labelled = written.labelled in
-      record {
-        floor_is = refl;
-        labelled = record { level = level; units = labelled.units; few = labelled.few; total = labelled.total };
-        some = written.some;
-        wide = written.wide;
       }
 
   pub follows-singles : (tail : Tail) → Follows (linear_test t) tail (label_network (subject_meaning t))

@@ -14,7 +14,7 @@ use Rattle.table_reader.specs.TableLayout.{TableData}
 use Rattle.table_tests.specs.FisherExact.{fisher_test, has_fisher_tail}
 use Rattle.table_tests.specs.FisherSteps.{FisherFacts, FisherLabels}
 use Rattle.table_tests.specs.SortedWeighing.{sorted_network}
-use Rattle.table_tests.specs.TableNetworks.{first_cell_meaning, fisher_network, rarity_meaning}
+use Rattle.table_tests.specs.TableNetworks.{fisher_network, rarity_meaning}
 use Rattle.table_tests.specs.Tables.{column_sums, is_two_by_two, row_sums}
 use Rattle.table_tests.specs.TableSteps.{IsTable}
 use Rattle.label_network.specs.LabelNetwork.{over_rooms}
@@ -55,7 +55,6 @@ module _ (t : TableData) (i : IsTable t) where
       few = omega (arith, observed-rarity t, observed-few t i);
     };
     linear = linear-of t i;
-    first_margin = is-margin t i (over_rooms (first_cell_meaning t)) refl refl;
     follows = follows t i;
     follows_sorted = follows-sorted;
   }

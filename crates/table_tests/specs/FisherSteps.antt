@@ -15,7 +15,7 @@ use Rattle.table_reader.specs.TableLayout.{TableData}
 use Rattle.table_tests.specs.FisherExact.{fisher_test, rarity}
 use Rattle.table_tests.specs.LastSteps.{AreLast}
 use Rattle.table_tests.specs.SortedWeighing.{sorted_network}
-use Rattle.table_tests.specs.TableNetworks.{first_cell_meaning, first_scores, fisher_network}
+use Rattle.table_tests.specs.TableNetworks.{first_scores, fisher_network}
 use Rattle.table_tests.specs.TableNetworks.{rarity_meaning}
 use Rattle.table_tests.specs.Tables.{column_sums, is_two_by_two, row_sums}
 use Rattle.table_tests.specs.TableSteps.{AreColumns}
@@ -36,7 +36,6 @@ pub record FisherFacts (t : TableData) : Type 0 where
   pub last : AreLast (falling (row_sums t)) (rising (column_sums t)) (judge_of (fisher_test t))
   pub linear : is_two_by_two t ≡ true
       → IsLinear first_scores (row_sums t) first_scores (column_sums t) (judge_of (fisher_test t))
-  pub first_margin : IsMargin (over_rooms (first_cell_meaning t)) (column_sums t) (row_sums t)
   pub follows : AllFollow (fisher_test t) (fisher_network t)
   pub follows_sorted : Follows (fisher_test t) Two (sorted_network t)
 

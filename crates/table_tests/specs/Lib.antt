@@ -13,3 +13,4 @@ pub mod WeightSteps
 pub mod OddsSteps
 pub mod LastSteps
 pub mod FisherSteps
+pub mod FisherStages

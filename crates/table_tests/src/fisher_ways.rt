@@ -2,7 +2,7 @@
 ghost use Rattle.std.specs.Prelude.{◌≡◌, pos, false, true, IfOk, Contains};
 ghost use Rattle.weights.specs.Labellings.{labellings};
 ghost use Rattle.completion_bounds.specs.Fillings.{falling};
-ghost use Rattle.label_network.specs.Linear.{linear_meaning};
+ghost use Rattle.label_network.specs.LabelNetwork.{label_network};
 ghost use Rattle.sorted_tables.specs.SortedRooms.{rising};
 ghost use Rattle.networks.specs.Follows.{AreNumerators, HasTails};
 ghost use Rattle.table_tests.specs.FisherExact.{fisher_test, first_cell, rarity};
@@ -12,16 +12,16 @@ ghost use Rattle.table_tests.specs.Tables.{column_sums, is_two_by_two, row_sums}
 ghost use Rattle.table_tests.specs.Weighing.{weight_meaning};
 
 use crate::by_turning::{quick_spread, quick_sum};
+use crate::fisher_stages::FisherStages;
 use crate::fisher_table::{FisherTable, held};
 use crate::last_columns::LastColumns;
-use crate::product_stages::{ProductStages, product_stages};
 use crate::sorted_weights::{SortedStages, sorted_stages};
 use crate::sums::{count_label, front, labelled_weight};
 use crate::weight_measure::{WeightMeasure, WeightStages};
 use completion_bounds::fall;
 use enumerate::{Plain, first_labelling, next_labelling};
-use label_network::label_stages;
-use networks::{OneOf, Spread, Stages, TailSum, TailSums};
+use label_network::{LinearStages, label_stages, linear_stages};
+use networks::{Spread, Stages, TailSum, TailSums};
 use room_network::Numbered;
 use sorted_tables::rise;
 use stage_network::{Prepared, tail_sums_by_rooms};
@@ -34,9 +34,6 @@ struct InOrder {
     rows: Vec<u64>,
     columns: Vec<u64>,
 }
-
-// The networks of the first cell, of the weight, and of the weight over sorted rooms.
-type FisherStages = OneOf<ProductStages, OneOf<WeightStages, SortedStages>>;
 
 impl FisherTable {
     // The weight of the table that a labelling gives.
@@ -60,20 +57,19 @@ impl FisherTable {
     }
 
     // The network of the first cell.
-    fn by_first_cell(&self, alloc: Global) -> Result<ProductStages, NoMemory>
+    fn by_first_cell(&self, alloc: Global) -> Result<LinearStages, NoMemory>
         requires { is_two_by_two self.now ≡ true }
-        ensures { let meaning = first_cell_meaning self.now in
-            IfOk result (λ s. linear_meaning s.1.scores.items s.1.rows.items
-            s.1.later.scores.items s.1.later.columns.items s.1.judge ≡ meaning) }
+        ensures { let n = label_network (first_cell_meaning self.now) in
+            IfOk result (λ s. ⟦<LinearStages as Stages>⟧.network s ≡ n) }
     {
         self.facts();
         let rows = self.row_sums();
-        product_stages(
+        linear_stages(
             alloc,
+            &[1, 0],
             rows,
+            &[1, 0],
             self.column_sums(),
-            &[1, 0],
-            &[1, 0],
             self.judge(),
         )
     }
@@ -138,9 +134,9 @@ impl FisherTable {
             IfOk result (λ built. ⟦<FisherStages as Stages>⟧.network built ≡ n) }
     {
         match tail {
-            Tail::Less => Ok(OneOf::First(self.by_first_cell(alloc)?)),
-            Tail::Greater => Ok(OneOf::First(self.by_first_cell(alloc)?)),
-            Tail::Two => Ok(OneOf::Second(OneOf::First(self.by_weight(alloc)?))),
+            Tail::Less => Ok(FisherStages::Cell(self.by_first_cell(alloc)?)),
+            Tail::Greater => Ok(FisherStages::Cell(self.by_first_cell(alloc)?)),
+            Tail::Two => Ok(FisherStages::Weight(self.by_weight(alloc)?)),
         }
     }
 
@@ -227,7 +223,7 @@ impl Prepared for FisherTable {
         }
         self.facts();
         let sorted = self.by_sorted_weight(alloc)?;
-        Ok(OneOf::Second(OneOf::Second(sorted)))
+        Ok(FisherStages::Sorted(sorted))
     }
 
     fn quick_sum(&self, alloc: Global, asked: bool, tail: Tail) -> Result<TailSum, NoMemory> {

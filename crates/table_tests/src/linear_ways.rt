@@ -1,46 +1,44 @@
 // The sum of products as the statistic of the linear-by-linear test, and its networks.
 ghost use Rattle.std.specs.Prelude.{◌≡◌, IfOk};
 ghost use Rattle.networks.specs.Judged.{judge_of};
-ghost use Rattle.label_network.specs.Linear.{linear_meaning};
+ghost use Rattle.label_network.specs.LabelNetwork.{label_network};
 ghost use Rattle.table_tests.specs.LinearByLinear.{linear_test};
 ghost use Rattle.table_tests.specs.TableNetworks.{subject_meaning};
 
 use crate::linear_table::ProductSum;
-use crate::product_stages::{ProductStages, product_stages};
 use crate::single_subjects::{single_columns, subject_scores};
 use crate::sums::labelled_sum;
+use label_network::{LinearStages, linear_stages};
 use labelled::LabelStatistic;
-use networks::Judge;
+use networks::{Judge, Stages};
 use std::alloc::Global;
 use weights::{NoMemory, Tail};
 
 // The network whose columns are single subjects.
-fn by_subjects(alloc: Global, sum: &ProductSum, judge: Judge) -> Result<ProductStages, NoMemory>
+fn by_subjects(alloc: Global, sum: &ProductSum, judge: Judge) -> Result<LinearStages, NoMemory>
     requires { judge ≡ judge_of (linear_test sum.now) }
-    ensures { let meaning = subject_meaning sum.now in
-        IfOk result (λ s. linear_meaning s.1.scores.items s.1.rows.items
-        s.1.later.scores.items s.1.later.columns.items s.1.judge ≡ meaning) }
+    ensures { let n = label_network (subject_meaning sum.now) in
+        IfOk result (λ s. ⟦<LinearStages as Stages>⟧.network s ≡ n) }
 {
     let made = sum.made();
     let columns = made.margins.columns.as_slice();
     let scores = subject_scores(alloc, made.column_scores.as_slice(), columns)?;
     let singles = single_columns(alloc, scores.len())?;
-    product_stages(
+    linear_stages(
         alloc,
-        made.margins.rows.as_slice(),
-        singles.as_slice(),
         made.row_scores.as_slice(),
+        made.margins.rows.as_slice(),
         scores.as_slice(),
+        singles.as_slice(),
         judge,
     )
 }
 
 impl LabelStatistic for ProductSum {
-    ghost use Rattle.label_network.specs.LabelNetwork.{label_network};
     ghost use Rattle.table_tests.specs.LinearByLinear.{linear_says};
     ghost use Rattle.table_tests.specs.TableNetworks.{product_meaning};
 
-    type Built = ProductStages;
+    type Built = LinearStages;
 
     ghost says = { linear_says };
 
@@ -72,12 +70,12 @@ impl LabelStatistic for ProductSum {
 
     fn stages_of(&self, alloc: Global, judge: Judge) -> Result<Self::Built, NoMemory> {
         let made = self.made();
-        product_stages(
+        linear_stages(
             alloc,
-            made.margins.rows.as_slice(),
-            made.margins.columns.as_slice(),
             made.row_scores.as_slice(),
+            made.margins.rows.as_slice(),
             made.column_scores.as_slice(),
+            made.margins.columns.as_slice(),
             judge,
         )
     }

@@ -5,6 +5,7 @@ ghost use Rattle.label_network.specs.LabelNetwork.{over_rooms};
 ghost use Rattle.table_tests.specs.OddsNetworks.{cell_meaning, odds_weights};
 
 use crate::odds_rooms::OddsRooms;
+use crate::odds_stages::OddsStages;
 use crate::odds_table::OddsTable;
 use crate::odds_weights::odds_weight;
 use enumerate::Plain;
@@ -14,8 +15,6 @@ use room_network::{Numbered, RoomNetwork};
 use stage_network::Prepared;
 use std::alloc::Global;
 use weights::{Bytes, Frame, NoMemory, Rule, Tail};
-
-type OddsStages = RoomNetwork<OddsRooms, Numbered<LinearMeasure>>;
 
 impl Plain for OddsTable {
     ghost use Rattle.table_tests.specs.FisherOdds.{odds_test};
@@ -97,6 +96,7 @@ impl OddsTable {
         let columns = self.fisher().column_sums();
         let cell = LinearMeasure::new(alloc, &[1, 0], rows, &[1, 0], columns, judge)?;
         let rooms = OddsRooms::new(alloc, self.odds(), columns, rows, total)?;
-        Ok(RoomNetwork::new(rooms, Numbered::new(cell)))
+        let cell = RoomNetwork::new(rooms, Numbered::new(cell));
+        Ok(OddsStages { cell })
     }
 }

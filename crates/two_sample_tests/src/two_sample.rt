@@ -8,12 +8,11 @@ ghost use Rattle.two_sample_tests.specs.SampleSteps.{AreScored};
 
 use crate::even_scores::{even_scores, least_sum};
 use drawn_sums::drawn_sums;
-use label_network::{LabelStages, LinearMeasure};
+use label_network::LinearStages;
 use labelled::{LabelStatistic, Labelled, LinearSum};
 use networks::{Judge, TailSums};
 use pooled_columns::prepare_scored;
 use rising_pairs::rising_sums;
-use room_network::Numbered;
 use sample_reader::{Groups, Labels};
 use scores::{ScoreKind, labelled_sum};
 use std::alloc::Global;
@@ -95,7 +94,7 @@ impl LabelStatistic for ScoreSum {
     ghost use Rattle.two_sample_tests.specs.Columns.{two_sample_meaning};
     ghost use Rattle.two_sample_tests.specs.TwoSamples.{two_sample_says};
 
-    type Built = LabelStages<Numbered<LinearMeasure>>;
+    type Built = LinearStages;
 
     ghost says = { two_sample_says };
 

@@ -1,5 +1,4 @@
 use Rattle.std.proofs.Common.{◌≡◌, ℕ, List, length, ◌∙◌, ap}
-use Rattle.std.proofs.lemmas.Result.{IfOk-weaker}
 use Rattle.sample_reader.specs.Groups.{group_sizes}
 use Rattle.pooled_columns.specs.PooledColumns.{column_sizes, pooled_values}
 use Rattle.k_sample_tests.specs.declared.used_pairs.UsedPair.{UsedPair}
@@ -27,4 +26,4 @@ returns c =
     ∙ ap (λ x. pairs_meaning pairs sizes x c.args.judge) (c.as_slice-columns.ensures ∙ made.columns)
     ∙ ap (pairs_meaning pairs sizes (column_sizes (pooled_values samples.groups))) c.requires in
     let same : (m : PairCounts) → m ≡ c.in_ok-measure.measure → label_network (pairs_meaning m.pairs.items m.rows.items m.columns.items m.judge) ≡ label_network (umbrella_meaning samples) = λ m e. ap (λ (m : PairCounts). label_network (pairs_meaning m.pairs.items m.rows.items m.columns.items m.judge)) e ∙ ap label_network given in
-    IfOk-weaker c.label_stages.result (λ s. s.1 ≡ c.new-2.result) _ (λ s e. same s.1 (e ∙ c.new-2.ensures)) c.label_stages.ensures.measure
+    same c.in_ok-labels.labels.1 (c.in_ok-labels.ensures.measure ∙ c.new-2.ensures)

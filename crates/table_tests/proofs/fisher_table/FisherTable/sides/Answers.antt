@@ -3,8 +3,6 @@ use Rattle.weights.specs.declared.tails.Tail.TheVariants.{Less, Greater, Two}
 use Rattle.networks.specs.Follows.{Follows}
 use Rattle.networks.specs.Judged.{judge_of}
 use Rattle.networks.proofs.Following.{extreme-is}
-use Rattle.label_network.specs.LabelNetwork.{label_network}
-use Rattle.label_network.specs.Meanings.{Meaning}
 use Rattle.table_reader.specs.TableLayout.{TableData}
 use Rattle.table_tests.specs.FisherExact.{fisher_test}
 use Rattle.table_tests.specs.Tables.{is_two_by_two}
@@ -14,14 +12,14 @@ pub tail_sums_by_rooms-requires : goal.tail_sums_by_rooms-requires
 tail_sums_by_rooms-requires c =
     let table : TableData = c.args.self.now in
     let square : is_two_by_two table ≡ true = search rules in
-    let follows = subst (λ (m : Meaning). Follows (fisher_test table) Less (label_network m)) (sym c.in_ok-cells.ensures) (c.facts.ensures.follows Less square) in
+    let follows = subst (Follows (fisher_test table) Less) (sym c.in_ok-cells.ensures) (c.facts.ensures.follows Less square) in
     record { judge = judge_of (fisher_test table); intervals = follows.intervals }
 
 pub returns : goal.returns
 returns c Less a =
     let table : TableData = c.args.self.now in
-    c.in_ok-sums.ensures.sum Less a ∙ extreme-is (fisher_test table) Less _ (subst (λ (m : Meaning). Follows (fisher_test table) Less (label_network m)) (sym c.in_ok-cells.ensures) (c.facts.ensures.follows Less (c.requires.has Less a)))
+    c.in_ok-sums.ensures.sum Less a ∙ extreme-is (fisher_test table) Less _ (subst (Follows (fisher_test table) Less) (sym c.in_ok-cells.ensures) (c.facts.ensures.follows Less (c.requires.has Less a)))
 returns c Greater a =
     let table : TableData = c.args.self.now in
-    c.in_ok-sums.ensures.sum Greater a ∙ extreme-is (fisher_test table) Greater _ (subst (λ (m : Meaning). Follows (fisher_test table) Greater (label_network m)) (sym c.in_ok-cells.ensures) (c.facts.ensures.follows Greater (c.requires.has Greater a)))
+    c.in_ok-sums.ensures.sum Greater a ∙ extreme-is (fisher_test table) Greater _ (subst (Follows (fisher_test table) Greater) (sym c.in_ok-cells.ensures) (c.facts.ensures.follows Greater (c.requires.has Greater a)))
 returns c Two a = search (a, c.requires.one_sided)

@@ -1,7 +1,6 @@
 use Rattle.std.proofs.Common.{subst, sym}
 use Rattle.std.proofs.lemmas.Result.{IfOk-weaker}
 use Rattle.networks.specs.Follows.{Follows}
-use Rattle.label_network.specs.LabelNetwork.{label_network}
 use Rattle.table_tests.specs.LinearByLinear.{linear_test}
 use Rattle.table_tests.proofs.LinearTests.{linear-sound}
 use Rattle.table_tests.proofs.SingleSubjects.{follows-singles}
@@ -13,4 +12,4 @@ returns-then-len-eq2 c =
 
 pub returns-else-len-eq2 : goal.returns-else-len-eq2
 returns-else-len-eq2 c =
-    IfOk-weaker c.by_subjects.result _ _ (λ s e t. subst (λ m. Follows (linear_test c.args.self.now) t (label_network m)) (sym e) (follows-singles c.args.self.now c.made.ensures.fitting t)) c.by_subjects.ensures
+    IfOk-weaker c.by_subjects.result _ _ (λ s e t. subst (Follows (linear_test c.args.self.now) t) (sym e) (follows-singles c.args.self.now c.made.ensures.fitting t)) c.by_subjects.ensures

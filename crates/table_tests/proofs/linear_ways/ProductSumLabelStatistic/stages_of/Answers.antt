@@ -1,21 +1,24 @@
-use Rattle.std.proofs.Common.{◌∙◌, ap}
-use Rattle.std.proofs.lemmas.Result.{IfOk-weaker}
-use Rattle.label_network.specs.LabelNetwork.{label_network}
-use Rattle.table_tests.proofs.LinearTests.{is-linear, margin}
+use Rattle.std.proofs.Common.{◌∙◌}
+use Rattle.table_tests.proofs.LinearTests.{is-linear}
+use Rattle.table_tests.proofs.MarginSums.{some-labels}
 use Rattle.table_tests.proofs.linear_ways.ProductSumLabelStatistic.stages_of.Goals as goal
 
-pub product_stages-requires-clause-linear : goal.product_stages-requires-clause-linear
-product_stages-requires-clause-linear c =
+pub linear_stages-requires-clause-linear : goal.linear_stages-requires-clause-linear
+linear_stages-requires-clause-linear c =
     let made = c.made-made.ensures in
-    rw (c.as_slice.ensures ∙ made.margins.rows, c.as_slice-2.ensures ∙ made.margins.columns, c.as_slice-3.ensures ∙ made.row_scores, c.as_slice-4.ensures ∙ made.column_scores) (is-linear c.args.self.now made.fitting c.args.judge c.requires)
+    rw (c.as_slice.ensures ∙ made.row_scores, c.as_slice-2.ensures ∙ made.margins.rows, c.as_slice-3.ensures ∙ made.column_scores, c.as_slice-4.ensures ∙ made.margins.columns) (is-linear c.args.self.now made.fitting c.args.judge c.requires)
 
-pub product_stages-requires-clause-margin : goal.product_stages-requires-clause-margin
-product_stages-requires-clause-margin c =
+pub linear_stages-requires-clause-some : goal.linear_stages-requires-clause-some
+linear_stages-requires-clause-some c =
     let made = c.made-made.ensures in
-    rw (c.as_slice.ensures ∙ made.margins.rows, c.as_slice-2.ensures ∙ made.margins.columns, c.as_slice-3.ensures ∙ made.row_scores, c.as_slice-4.ensures ∙ made.column_scores, c.requires) (margin c.args.self.now made.fitting)
+    rw (c.as_slice-2.ensures ∙ made.margins.rows) (some-labels c.args.self.now.table made.fitting.table)
+
+pub linear_stages-requires-clause-total : goal.linear_stages-requires-clause-total
+linear_stages-requires-clause-total c =
+    let made = c.made-made.ensures in
+    rw (c.as_slice-2.ensures ∙ made.margins.rows) made.fitting.table.total_fits
 
 pub returns : goal.returns
 returns c =
     let made = c.made-made.ensures in
-    IfOk-weaker c.product_stages.result _ _ (λ s e. ap label_network e)
-    (rw (c.as_slice.ensures ∙ made.margins.rows, c.as_slice-2.ensures ∙ made.margins.columns, c.as_slice-3.ensures ∙ made.row_scores, c.as_slice-4.ensures ∙ made.column_scores, c.requires) at c.product_stages.ensures)
+    rw (c.as_slice.ensures ∙ made.row_scores, c.as_slice-2.ensures ∙ made.margins.rows, c.as_slice-3.ensures ∙ made.column_scores, c.as_slice-4.ensures ∙ made.margins.columns, c.requires) at c.linear_stages.ensures

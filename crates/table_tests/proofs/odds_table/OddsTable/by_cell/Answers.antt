@@ -20,7 +20,7 @@ new-requires c = rw (c.row_sums-rows.ensures ∙ ap row_sums c.fisher.ensures, c
 pub returns : goal.returns
 returns c =
     let given = rw (c.row_sums-rows.ensures ∙ ap row_sums c.fisher.ensures, c.column_sums-columns.ensures ∙ ap column_sums c.fisher-2.ensures, (c.of-judge.ensures (odds_test c.args.self.now) c.frame.ensures.frame)) at c.in_ok-cell.ensures in
-    let whole : c.new-4.result ≡ (c.in_ok-rooms.rooms, c.in_ok-cell.cell) = c.new-4.ensures.parts ∙ ap (λ (m : LinearMeasure). (c.in_ok-rooms.rooms, m)) c.new-3.ensures in
+    let whole : c.new-cell.result ≡ (c.in_ok-rooms.rooms, c.in_ok-cell.cell) = c.new-cell.ensures.parts ∙ ap (λ (m : LinearMeasure). (c.in_ok-rooms.rooms, m)) c.new-3.ensures in
     ap (λ (x : OddsRooms × LinearMeasure). room_network (over_rooms (meaning_of x.1)) (odds_weights x.0.odds)) whole
     ∙ ap (λ (o : Odds). room_network (over_rooms (meaning_of c.in_ok-cell.cell)) (odds_weights o)) (c.in_ok-rooms.ensures.odds ∙ c.odds.ensures)
     ∙ ap (λ m. room_network (over_rooms m) (odds_weights c.args.self.now.odds)) given

@@ -1,0 +1,4 @@
+use Rattle.k_sample_tests.proofs.squared_stages.SquaredStagesRoomed.step.Goals as goal
+
+pub step-requires-clause-arc : goal.step-requires-clause-arc
+step-requires-clause-arc c = rw c.in-Packed.is at c.requires.arc

@@ -1,0 +1,4 @@
+use Rattle.k_sample_tests.proofs.squared_stages.SquaredStagesStages.stages.Goals as goal
+
+pub returns-in-Packed-clause-lawful : goal.returns-in-Packed-clause-lawful
+returns-in-Packed-clause-lawful c = rw c.in-Packed.is c.stages.ensures.lawful
