@@ -2,10 +2,12 @@
    of a file: no file is opened, no process started, and no memory kept. Link libexact.a or libexact.so.
 
    The caller owes what the types cannot say, and nothing checks it:
-   - each pointer leads to as many bytes as its length says; where that is 0, it may be null;
-   - of `out`, `told` and `counts` no two overlap, nor one of them with `words` or `bytes`, and nobody else reads or writes
-     them during the call;
-   - nobody writes `words` or `bytes` during the call;
+   - `words` and `bytes` lead to as many bytes as their lengths say, which nobody writes during the call; they may overlap
+     one another;
+   - `out` and `told` lead to as many bytes as their lengths say, `counts` to a struct exact_counts, aligned as one is; no
+     two of these overlap, nor one of them with `words` or `bytes`, and nobody else reads or writes them during the call;
+   - `words`, `bytes`, `out` and `told` need no alignment, and may be null where their length is 0; `counts` is never null;
+   - no length is greater than PTRDIFF_MAX;
    - malloc, realloc and free are of one allocator, and may be called in this thread;
    - the stack has 256 KiB left.
    Calls in several threads do not disturb one another. */
@@ -39,6 +41,10 @@ struct exact_counts {
    of the command line after the program's own name, in UTF-8, each ended by a byte 0:
 
        "ranksum\0six.csv\0--tail=less\0"
+
+   Where one of the words is not UTF-8, all of them are refused as the command line, with EXACT_USAGE. Bytes behind the last
+   byte 0 are no word and are left out: end the last word too, since "ranksum\0six.csv\0--tail=less" without its 0 asks for
+   all tails.
 
    After EXACT_DONE the report is the first `counts->written` bytes of `out`, and all else there is as it was. After any
    other status `out` is as it was, and the first `counts->told` bytes of `told` are a line that says why there is no
