@@ -2,19 +2,18 @@ ghost use Rattle.std.specs.Prelude.{◌≢◌, ◌≤◌, IfOk};
 ghost use Rattle.record_reader.specs.Layouts.{MayPick};
 
 use crate::{longest_field, rows_with_empty_fields};
-use record_reader::{DataFault, Kind, LayoutFault, Missing, Picks, records};
+use record_reader::{DataFault, Kind, LayoutFault, Missing, Picks, Rows, records};
 use sample_reader::{
     Blocks, Groups, Labels, Layout, Subject, blocks, dropped, groups, pooled_subjects,
 };
 use std::alloc::Global;
-use std::fmt::Debug;
 use std::process::Abort;
 use std::test::Fail;
 use weights::{NoMemory, Nums};
 
 // What is found for a text is what is wanted.
-fn same<T: PartialEq + Debug>(rt: &impl Abort, text: &str, found: &T, wanted: &T) {
-    assert_eq!(rt; *found, *wanted, "at {text:?}");
+fn same<T: PartialEq>(rt: &impl Abort, text: &str, found: &T, wanted: &T) {
+    assert!(rt; *found == *wanted, "at {text:?}");
 }
 
 // The fault of a kind in a row and a field.
@@ -26,13 +25,18 @@ fn at(row: u64, field: u64, kind: Kind) -> LayoutFault {
 // fault.
 type File = (&'static str, u64, Result<usize, LayoutFault>);
 
+fn reads(rt: &impl Abort, alloc: Global, rows: &Rows, missing: Missing, file: &File) {
+    let (text, dropped, longest) = file;
+    let told = rows_with_empty_fields(rows, &Picks::Natural, missing);
+    same(rt, text, &told, dropped);
+    let answer = longest_field(alloc, rows, &Picks::Natural, missing);
+    same(rt, text, &answer, longest);
+}
+
 fn read_all(rt: &impl Abort, alloc: Global, missing: Missing, files: &[File]) -> Result<(), Fail> {
-    for (text, dropped, longest) in files {
-        let rows = records(alloc, text.as_bytes(), b',')?;
-        let told = rows_with_empty_fields(&rows, &Picks::Natural, missing);
-        same(rt, text, &told, dropped);
-        let answer = longest_field(alloc, &rows, &Picks::Natural, missing);
-        same(rt, text, &answer, longest);
+    for file in files {
+        let rows = records(alloc, file.0.as_bytes(), b',')?;
+        reads(rt, alloc, &rows, missing, file);
     }
     Ok(())
 }
@@ -162,13 +166,20 @@ fn have_labels(subjects: &[Subject], labels: &[u64]) -> bool {
     true
 }
 
+fn are_pooled(rt: &impl Abort, alloc: Global, groups: &Groups, labels: &[u64]) {
+    match pooled_subjects(alloc, groups) {
+        Ok(subjects) => assert!(rt; have_labels(&subjects, labels)),
+        Err(_) => panic!(rt; "no memory"),
+    }
+}
+
 // The pooled sample has its ties in the order of groups.
 #[test]
-fn pools_ties_by_groups(rt: HostRuntime) -> Result<(), Fail> {
-    let groups = groups_of(rt.alloc(), b"group,value\nx,2\ny,2\nx,-1\ny,1e-18\nx,2\n")?;
-    let subjects = pooled_subjects(rt.alloc(), &groups)?;
-    assert!(rt; have_labels(&subjects, &[0, 1, 0, 0, 1]));
-    Ok(())
+fn pools_ties_by_groups(rt: HostRuntime) {
+    match groups_of(rt.alloc(), b"group,value\nx,2\ny,2\nx,-1\ny,1e-18\nx,2\n") {
+        Ok(groups) => are_pooled(&rt, rt.alloc(), &groups, &[0, 1, 0, 0, 1]),
+        Err(_) => panic!(rt; "no groups"),
+    }
 }
 
 // Whether three subjects are read, of whom the second is alone in the group `NA`.
