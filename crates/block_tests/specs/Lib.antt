@@ -6,3 +6,4 @@ pub mod Upright
 pub mod Servings
 pub mod Mirrors
 pub mod BoundSteps
+pub mod BlockStages

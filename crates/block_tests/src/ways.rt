@@ -13,6 +13,7 @@ ghost use Rattle.block_tests.specs.Servings.{all_servings, has_room_for, serving
 ghost use Rattle.block_tests.specs.declared.kinds.BlockKind.TheVariants.{Friedman, Cochran};
 
 use crate::block::first_arrangements;
+use crate::block_stages::{BlockStages, PageStages, SquareStages};
 use crate::block_test::BlockStatistic;
 use crate::kinds::BlockKind;
 use crate::page::{PageBlocks, page_blocks};
@@ -20,7 +21,7 @@ use crate::served_blocks::{OrderedBlocks, ServedBlocks, has_room_for, served_blo
 use crate::squares::{SquareBlocks, block_copies};
 use enumerate::next_joined;
 use labelled::UnweightedTest;
-use networks::{AdditiveStages, Judge, OneOf, Stages};
+use networks::{AdditiveStages, Judge, Stages};
 use packed_keys::{Packed, bits_for};
 use std::alloc::Global;
 use weights::{Bytes, NoMemory, Tail};
@@ -33,7 +34,7 @@ fn square_stages(
     alloc: Global,
     test: &BlockStatistic,
     judge: Judge,
-) -> Result<AdditiveStages<SquareBlocks>, NoMemory>
+) -> Result<SquareStages, NoMemory>
     requires stages { let k = test.now.blocks.treatments in
         AreStages k (block_counts test.now) judge }
     requires bounded { let bound = (block_test test.now).bound in
@@ -102,11 +103,7 @@ fn served_stages(
 }
 
 // The network of Page's test.
-fn page_stages(
-    alloc: Global,
-    test: &BlockStatistic,
-    judge: Judge,
-) -> Result<AdditiveStages<PageBlocks>, NoMemory>
+fn page_stages(alloc: Global, test: &BlockStatistic, judge: Judge) -> Result<PageStages, NoMemory>
     requires { let k = test.now.blocks.treatments in
         AreStages k (block_counts test.now) judge }
     ensures { let a = line_addends (block_counts test.now) judge in
@@ -121,10 +118,7 @@ impl UnweightedTest for BlockStatistic {
     ghost use Rattle.block_tests.specs.BlockNetworks.{addends_of, network_by, running_addends};
     ghost use Rattle.block_tests.specs.BlockTests.{block_test};
 
-    type Built = OneOf<
-        OneOf<ServedBlocks, AdditiveStages<SquareBlocks>>,
-        AdditiveStages<PageBlocks>,
-    >;
+    type Built = BlockStages;
 
     ghost test = { block_test };
 
@@ -157,11 +151,11 @@ impl UnweightedTest for BlockStatistic {
         match self.kind() {
             BlockKind::Page => {
                 let stages = page_stages(alloc, self, judge)?;
-                Ok(OneOf::Second(stages))
+                Ok(BlockStages::Page(stages))
             }
             BlockKind::Friedman | BlockKind::Cochran => {
                 let stages = square_stages(alloc, self, judge)?;
-                Ok(OneOf::First(OneOf::Second(stages)))
+                Ok(BlockStages::Squares(stages))
             }
         }
     }
@@ -172,7 +166,7 @@ impl UnweightedTest for BlockStatistic {
         match self.kind() {
             BlockKind::Friedman if self.treatments() >= FEW => {
                 match served_stages(alloc, self, judge)? {
-                    Some(stages) => Ok(OneOf::First(OneOf::First(stages))),
+                    Some(stages) => Ok(BlockStages::Served(stages)),
                     None => self.stages_of(alloc, judge),
                 }
             }
