@@ -17,6 +17,7 @@ mod rank_columns;
 mod rank_made;
 mod rank_measure;
 mod rank_rooms;
+mod rank_stages;
 mod rank_strata;
 mod rank_sums;
 mod strata_rank_sum;
@@ -26,6 +27,7 @@ mod sum_walk;
 mod zelen;
 mod zelen_measure;
 mod zelen_rooms;
+mod zelen_stages;
 mod zelen_ways;
 
 pub use homogeneity_test::{Homogeneity, prepare_ranks, prepare_zelen};

@@ -7,6 +7,7 @@ use crate::part_numbers::first_labels;
 use crate::rank_made::RankedStrata;
 use crate::rank_measure::RankMeasure;
 use crate::rank_rooms::RankRooms;
+use crate::rank_stages::RankStages;
 use enumerate::next_joined;
 use labelled::UnweightedTest;
 use networks::{Judge, TailSums};
@@ -59,7 +60,7 @@ impl UnweightedTest for StrataRankSum {
     ghost use Rattle.homogeneity.specs.RankNetworks.{ranked_strata_network};
     ghost use Rattle.homogeneity.specs.StratifiedRanks.{strata_subjects, stratified_rank_test};
 
-    type Built = RoomNetwork<RankRooms, Numbered<RankMeasure>>;
+    type Built = RankStages;
 
     ghost test = { stratified_rank_test };
 
@@ -92,7 +93,8 @@ impl UnweightedTest for StrataRankSum {
         let rooms = RankRooms::new(alloc, made.strata.columns.copy()?)?;
         let columns = made.strata.columns.copy()?;
         let measure = RankMeasure { columns, judge };
-        Ok(RoomNetwork::new(rooms, Numbered::new(measure)))
+        let network = RoomNetwork::new(rooms, Numbered::new(measure));
+        Ok(RankStages { network })
     }
 
     // Where sums seldom meet, by two halves.

@@ -10,6 +10,7 @@ use crate::sum_walk::{first_with_sum, next_with_sum};
 use crate::zelen::Zelen;
 use crate::zelen_measure::{ZelenMeasure, held};
 use crate::zelen_rooms::ZelenRooms;
+use crate::zelen_stages::ZelenStages;
 use enumerate::Plain;
 use networks::Judge;
 use room_network::{Numbered, RoomNetwork};
@@ -80,7 +81,7 @@ impl Plain for Zelen {
 impl Prepared for Zelen {
     ghost use Rattle.homogeneity.specs.ZelenNetwork.{zelen_network};
 
-    type Built = RoomNetwork<ZelenRooms, Numbered<ZelenMeasure>>;
+    type Built = ZelenStages;
 
     ghost network = { zelen_network };
 
@@ -102,6 +103,7 @@ impl Prepared for Zelen {
         let rooms = ZelenRooms::new(counts_of(alloc, &made.strata, made.sum)?);
         let counts = counts_of(alloc, &made.strata, made.sum)?;
         let measure = ZelenMeasure::new(alloc, counts, Judge::of(&made.frame))?;
-        Ok(RoomNetwork::new(rooms, Numbered::new(measure)))
+        let network = RoomNetwork::new(rooms, Numbered::new(measure));
+        Ok(ZelenStages { network })
     }
 }

@@ -7,6 +7,7 @@ use crate::by_turning::quick_sums;
 use crate::kendall_made::kendall_subjects;
 use crate::kendall_measure::KendallMeasure;
 use crate::kendall_rooms::KendallRooms;
+use crate::kendall_stages::KendallStages;
 use crate::kendall_sums::kendall_sum;
 use crate::pair_order::PairOrder;
 use labelled::{LabelStatistic, Labelled};
@@ -35,7 +36,7 @@ impl LabelStatistic for PairOrder {
     ghost use Rattle.sequence_tests.specs.Kendall.{kendall_says};
     ghost use Rattle.sequence_tests.specs.KendallNetwork.{kendall_stages};
 
-    type Built = RoomNetwork<KendallRooms, Numbered<KendallMeasure>>;
+    type Built = KendallStages;
 
     ghost says = { kendall_says };
 
@@ -65,7 +66,8 @@ impl LabelStatistic for PairOrder {
         let rows = made.rows.as_slice();
         let rooms = KendallRooms::new(alloc, columns, rows)?;
         let measure = KendallMeasure::new(alloc, columns, rows, judge)?;
-        Ok(RoomNetwork::new(rooms, Numbered::new(measure)))
+        let network = RoomNetwork::new(rooms, Numbered::new(measure));
+        Ok(KendallStages { network })
     }
 
     // By the test turned, where that is less work.

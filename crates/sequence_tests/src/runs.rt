@@ -8,7 +8,8 @@ ghost use Rattle.sequence_tests.specs.Runs.{runs, runs_test};
 ghost use Rattle.sequence_tests.specs.RunSteps.{AreRuns};
 
 use crate::run_measure::{RunMeasure, begins_run};
-use label_network::{LabelStages, label_stages};
+use crate::run_stages::RunStages;
+use label_network::label_stages;
 use labelled::{LabelStatistic, Labelled};
 use networks::Judge;
 use sample_reader::Sequence;
@@ -105,7 +106,7 @@ impl LabelStatistic for RunNumber {
     ghost use Rattle.sequence_tests.specs.RunNetwork.{sequence_meaning, written_network};
     ghost use Rattle.sequence_tests.specs.Runs.{runs_says};
 
-    type Built = LabelStages<RunMeasure>;
+    type Built = RunStages;
 
     ghost says = { runs_says };
 
@@ -133,6 +134,7 @@ impl LabelStatistic for RunNumber {
         let sizes = self.counts();
         let measure = RunMeasure::new(sizes[0], sizes[1], judge);
         let columns = vec![in alloc; 1u64; (sizes[0] + sizes[1]) as usize]?;
-        label_stages(alloc, &columns, sizes, measure)
+        let network = label_stages(alloc, &columns, sizes, measure)?;
+        Ok(RunStages { network })
     }
 }

@@ -19,7 +19,7 @@ returns c =
     let strata : List (List Subject) = strata_subjects c.args.self.now in
     let made = c.made-made.ensures in
     let numbers : RankMeasure → Network = λ m. room_network (rank_meaning m.columns m.judge) (rank_weight c.in_ok-rooms.rooms.columns) in
-    ap (λ (b : RankRooms × RankMeasure). room_network (rank_meaning b.1.columns b.1.judge) (rank_weight b.0.columns)) c.new-3.ensures.parts
+    ap (λ (b : RankRooms × RankMeasure). room_network (rank_meaning b.1.columns b.1.judge) (rank_weight b.0.columns)) c.new-network.ensures.parts
     ∙ ap numbers c.new-2.ensures
     ∙ network-same strata c.in_ok-rooms.rooms.columns c.in_ok-columns.columns c.args.judge
     (c.in_ok-rooms.ensures ∙ c.in_ok-copy.ensures ∙ made.lists.columns) (c.in_ok-columns.ensures ∙ made.lists.columns) c.requires

@@ -24,7 +24,7 @@ returns-clause-built c =
     let made = c.made-made.ensures in
     let judge : c.of.result ≡ judge_of (observed_sum_test strata) = c.of.ensures (observed_sum_test strata) made.frame_is in
     let measure = c.in_ok-measure.ensures in
-    let whole : c.new-3.result ≡ (c.new-rooms.result, c.in_ok-measure.measure) = c.new-3.ensures.parts ∙ ap (λ (m : ZelenMeasure). (c.new-rooms.result, m)) c.new-2.ensures in
+    let whole : c.new-network.result ≡ (c.new-rooms.result, c.in_ok-measure.measure) = c.new-network.ensures.parts ∙ ap (λ (m : ZelenMeasure). (c.new-rooms.result, m)) c.new-2.ensures in
     ap (λ (b : ZelenRooms × ZelenMeasure). room_network (zelen_meaning b.1.counts.strata b.1.counts.sum b.1.judge) (zelen_weights b.0.counts.strata)) whole
     ∙ network-same strata c.new-rooms.result.counts.strata c.in_ok-measure.measure.counts.strata c.in_ok-measure.measure.counts.sum c.in_ok-measure.measure.judge
     (ap (λ (r : SumCounts). r.strata) c.new-rooms.ensures ∙ c.in_ok-counts_of.ensures.strata ∙ made.tables)
