@@ -17,6 +17,10 @@
 #include <stddef.h>
 #include <stdint.h>
 
+/* What the library was made of; the file in the repository has no commit. */
+#define EXACT_VERSION "0.1.0"
+#define EXACT_COMMIT ""
+
 #ifdef __cplusplus
 extern "C" {
 #endif

@@ -2,11 +2,13 @@
 
     >>> import exact
     >>> report = exact.run("ranksum", {"x": [1, 2, 3], "y": [4, 5, 6]})
+    >>> report
+    <exact.Report ranksum: group 3 x, group 3 y; statistic 15; less 1, greater 1/20, two 1/10>
     >>> report.greater
     Fraction(1, 20)
-    >>> report.statistic, report.total
-    (Fraction(15, 1), 20)
-    >>> exact.run("signedrank", zip([1, 2, 4], [2, 4, 7]), tail="greater").greater
+    >>> report.statistic, report.pvalue, f"{report.pvalue:.3f}"
+    (Fraction(15, 1), Fraction(1, 10), '0.100')
+    >>> exact.run("signedrank", zip([1, 2, 4], [2, 4, 7]), tail="greater").pvalue
     Fraction(1, 8)
     >>> exact.run("fisher", [[3, 1], [1, 3]], distribution=True).distribution[0]
     (Fraction(0, 1), 1)
@@ -23,27 +25,60 @@
     >>> found.estimate, found.lower, found.upper, found.miss
     (Fraction(3, 1), Fraction(2, 1), Fraction(4, 1), Fraction(1, 5))
 
+A data frame of pandas or polars is read by the names of its columns:
+
+    rats = pandas.read_csv("rotarod.csv")
+    exact.run("ranksum", rats, group="group", value="time", tail="less").pvalue
+    exact.run("signedrank", patients, columns=["before", "after"])
+
+Statistics of two samples are of the second one: of two labels the one that comes later in the data, or in `order`; of
+pairs the differences are the second value less the first.
+
 Each run is a process of its own, which may be interrupted, and whose end ends nothing else. For many small runs
-`exact.library()` asks for the same in this process, by libexact.so: the same calls, the same answers (docs/LIBRARY.md).
+`exact.library()` asks for the same in this process, by libexact.so: the same calls, the same answers.
 
 One file, no dependency. Nothing is rounded: a number is written as Python shows it (`repr`), a text or a Decimal as it
-is; None and NaN are written as an empty field, which is missing. A number that has more than 18 decimals, such as
-3.3333333333333335e-06, is refused as out of range: round it first.
+is. None, NaN, pandas.NA and NaT are missing. A number that has more than 18 decimals, such as 3.3333333333333335e-06,
+is refused as out of range: round it first.
 """
 from __future__ import annotations
 
 import csv
 import dataclasses
+import errno
 import io
 import math
 import os
 import re
 import shutil
+import site
 import subprocess
 import sys
+import sysconfig
 import tempfile
-from collections.abc import Iterable, Mapping
+from collections.abc import Iterable, Iterator, Mapping, Sequence, Set
+from decimal import Decimal
 from fractions import Fraction
+from typing import Any, Literal, Union
+
+Tail = Literal["all", "less", "greater", "two"]
+Scores = Literal["wilcoxon", "ansari", "mood", "savage", "median", "raw"]
+Separator = Literal["comma", "semicolon", "tab"]
+Missing = Literal["refuse", "drop"]
+Odds = Union[Fraction, int, str]
+
+__version__ = "0.1.0"
+__commit__ = ""
+"""The commit that a package was made of; the file by itself has none."""
+
+# where an installed package has the program
+_HERE = os.path.dirname(os.path.abspath(__file__))
+_BROUGHT = "exact_program"
+
+__all__ = [
+    "BadData", "Fraction", "Library", "NoMemory", "ReadFault", "Refused", "Report", "Shift", "TooWide", "Usage",
+    "WriteFault", "library", "read", "read_shift", "run", "shift",
+]
 
 
 class Refused(Exception):
@@ -106,22 +141,48 @@ HELPS = {
     "field count": "pick the fields that the test reads with columns",
     "too many columns": "pick the fields that the test reads with columns",
     "ends too early": "there are too few groups, pairs, blocks or rows",
-    "total": "so many data are enough for an approximation, which this program does not give",
-    "statistic": "round or rescale the values",
-    "value of TEST": "the names are in docs/TESTS.md, in small letters",
+    "total": "simulate the same distribution: fisher.test(simulate.p.value = TRUE), coin with approximate()",
+    "statistic": "round or rescale the values, or simulate the same distribution",
+    "value of TEST": "tests have names in small letters, as ranksum, signedrank, kw, fisher",
     "read fault": "look at the path, and at who may read it",
     "no memory": "fewer different values make fewer keys: round them, where that does no harm",
 }
 
 
 def _help(line: str) -> str:
-    """What helps after a refusal, and where docs/REFUSALS.md speaks of it."""
+    """What helps after a refusal, and the place of the page that speaks of it."""
     cause = re.sub("^--[^ ]+ with .*", "option with test", line.split(": ")[-1])
     link = re.sub("[^a-z]+", "-", cause.lower()).strip("-")
-    return f"{HELPS.get(cause, 'see')} (docs/REFUSALS.md#{link})"
+    return f"{HELPS.get(cause, 'see')} ({_pages()}/REFUSALS.md#{link})"
 
 
-@dataclasses.dataclass(frozen=True)
+def _pages() -> str:
+    """The folder of the pages that came with this module or with the program, else as the repository has it."""
+    own = [sysconfig.get_path("data"), site.getuserbase(), os.path.join(_HERE, "..")] if _own_program() else []
+    bases = [*own, _beside_program("..")]
+    folders = [os.path.normpath(os.path.join(base, "share", "doc", "exact", "docs")) for base in bases if base]
+    return next(filter(os.path.isdir, folders), "docs")
+
+
+def _beside_program(*way: str) -> str | None:
+    """What is reached this way from the folder of the program, where there is one."""
+    program = shutil.which(os.environ.get("EXACT") or _own_program() or "exact")
+    return os.path.join(os.path.dirname(os.path.realpath(program)), *way) if program else None
+
+
+class Ratio(Fraction):
+    """A Fraction that is formatted as a float is: `f"{report.two:.4f}"`."""
+
+    __slots__ = ()
+
+    def __repr__(self) -> str:
+        return f"Fraction({self.numerator}, {self.denominator})"
+
+    def __format__(self, spec: str) -> str:
+        return format(float(self) if spec[-1:] in tuple("eEfFgG%") else str(self), spec)
+
+
+@dataclasses.dataclass(frozen=True, repr=False)
 class Report:
     """A report; its p-values are exact ratios, or None where a tail was not asked or is not there."""
 
@@ -140,8 +201,22 @@ class Report:
     text: str = ""
     """The report as it was printed."""
 
+    @property
+    def pvalue(self) -> Fraction:
+        """The p-value of the tail that was asked; where that is not one alone, the p-value of both sides."""
+        asked = [value for value in (self.less, self.greater, self.two) if value is not None]
+        value = asked[0] if len(asked) == 1 else self.two
+        if value is None:
+            raise ValueError('with odds there is no p-value of both sides: ask for tail="less" or tail="greater"')
+        return value
 
-@dataclasses.dataclass(frozen=True)
+    def __repr__(self) -> str:
+        tails = {"less": self.less, "greater": self.greater, "two": self.two}
+        told = ", ".join(f"{tail} {value}" for tail, value in tails.items() if value is not None)
+        return f"<exact.Report {self.test}: {', '.join(self.sizes)}; statistic {self.statistic}; {told}>"
+
+
+@dataclasses.dataclass(frozen=True, repr=False)
 class Shift:
     """The estimate of the shift of the second sample against the first, and its exact limits."""
 
@@ -162,30 +237,83 @@ class Shift:
     text: str = ""
     """The report as it was printed."""
 
+    def __repr__(self) -> str:
+        limits = "no limits" if self.lower is None else f"limits {self.lower} to {self.upper}"
+        return f"<exact.Shift {', '.join(self.sizes)}; estimate {self.estimate}; {limits}; miss {self.miss}>"
 
-def run(test: str, data: object = None, *, program: str | Library | None = None, **options: object) -> Report:
+
+def run(
+    test: str,
+    data: object = None,
+    *,
+    value: object = None,
+    group: object = None,
+    stratum: object = None,
+    columns: Iterable[int | str] | None = None,
+    tail: Tail | None = None,
+    scores: Scores | None = None,
+    order: Iterable[object] | str | None = None,
+    peak: int | None = None,
+    row_scores: Iterable[int] | str | None = None,
+    column_scores: Iterable[int] | str | None = None,
+    odds: Odds | None = None,
+    missing: Missing | None = None,
+    separator: Separator | None = None,
+    number: int | None = None,
+    distribution: bool = False,
+    plain: bool = False,
+    nodes: bool = False,
+    program: str | Library | None = None,
+) -> Report:
     """The report of a test.
 
-    data: a mapping from labels to samples (a label and a value in each row), or rows: a list of lists or tuples, a zip
-    of two lists, a numpy array, a pandas frame (whose columns are the fields); a list of numbers, or of labels, is one
-    field a row. A text or a path names a file that stands. Without data no file is named, as `drill` wants it.
-    options: as the program has them, with `_` for the dash: tail="less", order=["x", "y"], columns=[2, 3], nodes=True,
-    odds=Fraction(3, 2) or "3/2".
+    data: a data frame of pandas, polars or pyarrow, or a list of records (dicts): their columns are the fields. For a
+    test of groups a mapping from labels to samples; for all others a mapping is one from names to columns. Or rows: a
+    list of lists or tuples, a zip of two lists, a numpy array; a list of numbers, or of labels, is one field a row. A
+    text or a path names a file that stands. Without data no file is named, as `drill` wants it. What is none of these
+    is a TypeError: it is never guessed which way round a table stands.
+    value, group, stratum: the names of the columns of a frame, of records, or of a mapping from names to columns.
+    columns: the names of the columns in the order in which the test reads them, as ["before", "after"]; or the numbers
+    of the fields, from 1, as the program has it.
+    tail, scores, order, ...: the options of the program. order: ["x", "y"]; odds: Fraction(3, 2) or "3/2".
     program: its path; else the library, where `library` asked for it, else the path in the environment variable EXACT,
-    else the one that was installed with this module,
-    else the one on the PATH.
+    else the one that was installed with this module, else the one on the PATH.
+
+    With pandas, of a file with the columns `group` and `time`:
+
+        rats = pandas.read_csv("rotarod.csv")
+        exact.run("ranksum", rats, group="group", value="time", tail="less").pvalue
     """
-    return read(_text(test, data, program, options))
+    names, numbers = _picked(stratum, group, value, columns)
+    options = {
+        "tail": tail, "scores": scores, "order": order, "peak": peak, "row_scores": row_scores,
+        "column_scores": column_scores, "columns": numbers, "separator": separator, "number": number, "odds": odds,
+        "missing": missing, "distribution": distribution, "plain": plain, "nodes": nodes,
+    }
+    return read(_text(test, data, names, program, options))
 
 
-def shift(data: object, *, program: str | Library | None = None, **options: object) -> Shift:
+def shift(
+    data: object,
+    *,
+    value: object = None,
+    group: object = None,
+    columns: Iterable[int | str] | None = None,
+    miss: Odds | None = None,
+    order: Iterable[object] | str | None = None,
+    missing: Missing | None = None,
+    separator: Separator | None = None,
+    program: str | Library | None = None,
+) -> Shift:
     """The shift of the second sample against the first, with exact limits.
 
-    data: a mapping from two labels to samples, or rows of a label and a value, or a file, as for `run`.
-    options: miss=Fraction(1, 20) or "1/20", the part of all rearrangements that the limits may miss; order, columns,
-    separator, missing.
+    data: a mapping from two labels to samples, a data frame, rows of a label and a value, or a file, as for `run`.
+    miss: Fraction(1, 20) or "1/20", the part of all rearrangements that the limits may miss.
+    The others are as for `run`.
     """
-    return read_shift(_text("shift", data, program, options))
+    names, numbers = _picked(None, group, value, columns)
+    options = {"miss": miss, "order": order, "columns": numbers, "missing": missing, "separator": separator}
+    return read_shift(_text("shift", data, names, program, options))
 
 
 def library(folder: str | os.PathLike[str] | None = None) -> Library:
@@ -193,15 +321,15 @@ def library(folder: str | os.PathLike[str] | None = None) -> Library:
 
     It costs no process and no file, and threads run side by side. But a run cannot be interrupted, and where the stack
     does not do, the process ends: what takes long is better left to the program.
-    folder: where libexact.so is; else the one in the environment variable EXACT_LIBRARY, else that of this file, else
-    `../lib` of the program on the PATH, else where the system looks.
+    folder: where libexact.so is; else the one in the environment variable EXACT_LIBRARY, else that of this file or of
+    the program that was installed with it, else `../lib` of the program on the PATH, else where the system looks.
     """
     global _library
-    program = shutil.which(os.environ.get("EXACT") or _own_program() or "exact")
-    beside = os.path.join(os.path.dirname(os.path.realpath(program)), "..", "lib") if program else None
+    beside = _beside_program("..", "lib")
     asked = folder or os.environ.get("EXACT_LIBRARY")
-    places = [asked] if asked else [os.path.dirname(os.path.realpath(__file__)), beside]
-    paths = [os.path.join(place, "libexact.so") for place in places if place]
+    near = [os.path.dirname(os.path.realpath(__file__)), os.path.join(_HERE, _BROUGHT)]
+    places = [asked] if asked else [*near, *([beside] if beside else [])]
+    paths = [os.path.join(place, "libexact.so") for place in places]
     _library = Library(next(filter(os.path.exists, paths), "libexact.so" if not asked else paths[0]))
     return _library
 
@@ -221,68 +349,85 @@ class Library:
     def answer(self, words: Iterable[str], data: bytes) -> tuple[int, str, str]:
         """The status, the report and the line of refusal of one run; the file that the words name has these bytes."""
         types = self._types
-        packed = [os.fsencode(word) for word in words]
-        if any(b"\0" in word for word in packed):
+        encoded = [os.fsencode(word) for word in words]
+        if any(b"\0" in word for word in encoded):
             raise ValueError("embedded null byte")
-        packed = b"".join(word + b"\0" for word in packed)
+        packed = b"".join(word + b"\0" for word in encoded)
         room, told, counts = 1 << 14, types.create_string_buffer(96), (types.c_size_t * 2)()
         while True:
             out = types.create_string_buffer(room)
-            status = self._answer(packed, len(packed), data, len(data), out, room, told, len(told), counts)
+            status: int = self._answer(packed, len(packed), data, len(data), out, room, told, len(told), counts)
             if status != WriteFault.status:
                 texts = types.string_at(out, counts[0]), types.string_at(told, counts[1])
-                return status, *(text.decode(errors="replace") for text in texts)
+                report, line = (text.decode(errors="replace") for text in texts)
+                return status, report, line
             room *= 16
+
+    def answer_of(self, command: str, path: str | None, file: bytes | None, flags: list[str]) -> tuple[int, str, str]:
+        """The same of a run over the file of this path or of these bytes.
+
+        A file that cannot be read is refused where its words are not.
+        """
+        if path is None:
+            return self.answer([command, *([] if file is None else ["data.csv"]), *flags], file or b"")
+        words = [command, path, *flags]
+        try:
+            with open(path, "rb") as source:
+                return self.answer(words, source.read(_LONGEST_FILE + 1))
+        except OSError:
+            status, report, line = self.answer(words, b"")
+            return (ReadFault.status, "", "refused: read fault") if status == BadData.status else (status, report, line)
 
 
 _library: Library | None = None
 
 
-def _text(command: str, data: object, program: str | Library | None, options: Mapping[str, object]) -> str:
+def _text(
+    command: str, data: object, names: list[object], program: str | Library | None, options: Mapping[str, object]
+) -> str:
     """What the program prints; a refusal is raised."""
-    program = program or _library or os.environ.get("EXACT") or _own_program() or "exact"
+    path = os.fspath(data) if isinstance(data, (str, os.PathLike)) else None
+    if names and (data is None or path is not None):
+        raise ValueError("a file has no columns by name here: pick them by number, as columns=[2, 3]")
+    file = None if data is None or path is not None else _file(*_table(command, data, names))
     flags = [_word(name, value) for name, value in options.items() if value is not None and value is not False]
-    run_by = _here if isinstance(program, Library) else _process
-    status, report, line = run_by(program, command, data, flags)
+    program = program or _library or os.environ.get("EXACT") or _own_program() or "exact"
+    run_by = program.answer_of if isinstance(program, Library) else _Process(program).answer_of
+    status, report, line = run_by(command, path, file, flags)
     if status:
         raise REFUSALS[status](line.rstrip("\n"))
     return report
 
 
-def _process(program: str, command: str, data: object, flags: list[str]) -> tuple[int, str, str]:
-    """A run in a process."""
-    with tempfile.TemporaryDirectory() as folder:
-        words = [program, command]
-        if isinstance(data, (str, os.PathLike)):
-            words.append(os.fspath(data))
-        elif data is not None:
-            words.append(os.path.join(folder, "data.csv"))
-            with open(words[-1], "wb") as file:
-                file.write(_file(data))
-        done = subprocess.run(words + flags, stdin=subprocess.DEVNULL, capture_output=True, check=False)
-    if done.returncode not in REFUSALS:
-        done.check_returncode()
-    return done.returncode, done.stdout.decode(errors="replace"), done.stderr.decode(errors="replace")
+class _Process:
+    """The program in a process of its own."""
+
+    def __init__(self, path: str) -> None:
+        self._path = path
+
+    def answer_of(self, command: str, path: str | None, file: bytes | None, flags: list[str]) -> tuple[int, str, str]:
+        """The status, the report and the line of refusal of one run, over the file of this path or of these bytes."""
+        with tempfile.TemporaryDirectory() as folder:
+            if file is not None:
+                path = os.path.join(folder, "data.csv")
+                with open(path, "wb") as out:
+                    out.write(file)
+            words = [self._path, command, *([] if path is None else [path]), *flags]
+            try:
+                done = subprocess.run(words, stdin=subprocess.DEVNULL, capture_output=True, check=False)
+            except FileNotFoundError:
+                raise FileNotFoundError(errno.ENOENT, _NO_PROGRAM, self._path) from None
+        if done.returncode not in REFUSALS:
+            done.check_returncode()
+        return done.returncode, done.stdout.decode(errors="replace"), done.stderr.decode(errors="replace")
 
 
-def _here(program: Library, command: str, data: object, flags: list[str]) -> tuple[int, str, str]:
-    """A run in this process. A file that cannot be read is refused where its words are not."""
-    if data is None:
-        return program.answer([command, *flags], b"")
-    if not isinstance(data, (str, os.PathLike)):
-        return program.answer([command, "data.csv", *flags], _file(data))
-    words = [command, os.fspath(data), *flags]
-    try:
-        with open(data, "rb") as file:
-            return program.answer(words, file.read(_LONGEST_FILE + 1))
-    except OSError:
-        status, report, line = program.answer(words, b"")
-        return (ReadFault.status, "", "refused: read fault") if status == BadData.status else (status, report, line)
+_NO_PROGRAM = "the program exact is not there: name its path with program= or in the environment variable EXACT"
 
 
 def _own_program() -> str | None:
     """The program that was installed with this module, where it was."""
-    path = os.path.join(os.path.dirname(os.path.abspath(__file__)), "exact_program", "exact")
+    path = os.path.join(_HERE, _BROUGHT, "exact")
     return path if os.path.exists(path) else None
 
 
@@ -293,7 +438,7 @@ def command() -> None:
 
 def read(text: str) -> Report:
     """Reads the text of a report: each line is a word and what belongs to it."""
-    found: dict = {"sizes": [], "nodes": [], "distribution": [], "text": text}
+    found: dict[str, Any] = {"sizes": [], "nodes": [], "distribution": [], "text": text}
     scale = 1
     for line in text.splitlines():
         word, _, rest = line.partition(" ")
@@ -302,15 +447,15 @@ def read(text: str) -> Report:
             found["test"] = rest
         elif word == "statistic":
             value, scale = map(int, rest.split("/"))
-            found["statistic"] = Fraction(value, scale)
+            found["statistic"] = Ratio(value, scale)
         elif word in ("total", "dropped"):
             found[word] = int(rest)
         elif word in ("less", "greater", "two"):
-            found[word] = Fraction(parts[0])
+            found[word] = Ratio(parts[0])
         elif word == "nodes":
             found["nodes"].append((parts[0], int(parts[1])))
         elif word == "at":
-            found["distribution"].append((Fraction(int(parts[0]), scale), int(parts[1])))
+            found["distribution"].append((Ratio(int(parts[0]), scale), int(parts[1])))
         else:
             found["sizes"].append(line)
     return Report(**{name: tuple(value) if isinstance(value, list) else value for name, value in found.items()})
@@ -318,7 +463,7 @@ def read(text: str) -> Report:
 
 def read_shift(text: str) -> Shift:
     """Reads the report of a shift."""
-    found: dict = {"sizes": (), "text": text}
+    found: dict[str, Any] = {"sizes": (), "text": text}
     for line in text.splitlines()[1:]:
         word, _, rest = line.partition(" ")
         if word in ("differences", "total", "dropped"):
@@ -326,13 +471,14 @@ def read_shift(text: str) -> Shift:
         elif word in ("lower", "upper") and rest == "none":
             found[word] = None
         elif word in ("estimate", "lower", "upper", "miss"):
-            found[word] = Fraction(rest.split(" ")[0])
+            found[word] = Ratio(rest.split(" ")[0])
         else:
             found["sizes"] += (line,)
     return Shift(**found)
 
 
 def _word(name: str, value: object) -> str:
+    """An option as a word."""
     flag = "--" + name.replace("_", "-")
     if value is True:
         return flag
@@ -343,22 +489,122 @@ def _word(name: str, value: object) -> str:
     return f"{flag}={value}"
 
 
-def _rows(data: object) -> tuple[list[str], list[list[object]]]:
+# ---- the rows of data of any kind
+
+_Columns = Mapping[str, Sequence[object]]
+# the tests of which a mapping is one from labels to samples
+_OF_GROUPS = frozenset("ranksum ansari mood savage median raw kw jt umbrella shift".split())
+
+
+def _picked(
+    stratum: object, group: object, value: object, columns: Iterable[int | str] | None
+) -> tuple[list[object], list[int | str] | str | None]:
+    """The names of the columns that are picked by name, in the order in which a test reads them, and the numbers."""
+    named = [name for name in (stratum, group, value) if name is not None]
+    if columns is None:
+        return named, None
+    if named:
+        raise ValueError("pick columns by columns= or by value=, group= and stratum=, not by both")
+    if isinstance(columns, str):
+        return [], columns
+    listed = list(columns)
+    return (list(listed), None) if any(isinstance(column, str) for column in listed) else ([], listed)
+
+
+def _table(command: str, data: object, names: list[object]) -> tuple[list[str], list[list[object]]]:
     """A header and the rows below it."""
-    if hasattr(data, "columns") and hasattr(data, "itertuples"):
-        return [str(name) for name in data.columns], [list(row) for row in data.itertuples(index=False)]
+    columns = _columns_of(data, bool(names) or command not in _OF_GROUPS)
+    if columns is not None:
+        return _rows_of_columns(columns, names)
     if isinstance(data, Mapping):
-        return ["label", "value"], [[label, value] for label, sample in data.items() for value in sample]
-    rows = []
-    for row in data:
-        is_row = isinstance(row, Iterable) and not isinstance(row, (str, bytes))
-        rows.append(list(row) if is_row else [row])
+        samples = {label: _cells(sample) for label, sample in data.items()}
+        return ["label", "value"], [[label, value] for label, sample in samples.items() for value in sample]
+    if names:
+        raise ValueError(f"columns are picked by name of a data frame or of records; {_kind(data)} has no names")
+    rows = _rows(data)
     return [f"field{i}" for i in range(1, len(rows[0]) + 1)] if rows else ["field1"], rows
 
 
-def _file(data: object) -> bytes:
+def _columns_of(data: object, is_by_columns: bool) -> _Columns | None:
+    """The columns by their names: of a data frame, of records, and of a mapping where its keys are the names."""
+    if isinstance(data, Mapping):
+        return {str(name): _cells(column) for name, column in data.items()} if is_by_columns else None
+    if isinstance(data, list) and data and any(isinstance(row, Mapping) for row in data):
+        return _columns_of_records(data)
+    return _columns_of_frame(data)
+
+
+def _columns_of_records(records: list[Any]) -> _Columns:
+    names = list(records[0]) if isinstance(records[0], Mapping) else []
+    if any(not isinstance(record, Mapping) or set(record) != set(names) for record in records):
+        raise ValueError("the records have not all the same names")
+    return {str(name): [record[name] for record in records] for name in names}
+
+
+def _columns_of_frame(data: Any) -> _Columns | None:
+    """The columns of a frame; None where the data are none."""
+    names: Any = _names_of_frame(data)
+    if names is None and not hasattr(data, "__dataframe__"):
+        return None
+    try:
+        listed = list(names)
+        if len({str(name) for name in listed}) < len(listed):
+            raise ValueError("two columns have the same name")
+        return {str(name): _cells(data[name]) for name in listed}
+    except (TypeError, LookupError) as fault:
+        raise TypeError(f"{_kind(data)} does not give its columns by name: {_WANTED}") from fault
+
+
+def _names_of_frame(data: Any) -> Any:
+    """The names of its columns: of a table of pyarrow, a structured array of numpy, a frame of pandas or polars."""
+    if hasattr(data, "column_names"):
+        return data.column_names
+    structured = getattr(getattr(data, "dtype", None), "names", None)
+    return structured if structured is not None else getattr(data, "columns", None)
+
+
+def _rows_of_columns(columns: _Columns, names: list[object]) -> tuple[list[str], list[list[object]]]:
+    """The columns of these names, or all of them, side by side."""
+    header = [str(name) for name in names] or list(columns)
+    unknown = [name for name in header if name not in columns]
+    if unknown:
+        raise ValueError(f"there is no column {unknown[0]!r}: the columns are {', '.join(map(repr, columns))}")
+    picked = [columns[name] for name in header]
+    if len({len(column) for column in picked}) > 1:
+        raise ValueError(f"the columns have not all the same length: {[len(column) for column in picked]}")
+    return header, [list(row) for row in zip(*picked)]
+
+
+def _cells(column: object) -> list[object]:
+    """The values of a column or of a sample."""
+    if isinstance(column, (str, bytes, Mapping, Set)) or hasattr(column, "columns") or not isinstance(column, Iterable):
+        raise TypeError(f"{_kind(column)} is no column and no sample: give a list of values")
+    return list(column)
+
+
+def _rows(data: Any) -> list[list[object]]:
+    """The rows of data that are rows."""
+    is_array = any(hasattr(data, name) for name in ("tolist", "to_list", "to_pylist"))
+    if isinstance(data, bytes) or not (is_array or isinstance(data, (Sequence, Iterator))):
+        raise TypeError(f"{_kind(data)} is no data here: {_WANTED}")
+    rows: list[list[object]] = []
+    for row in data:
+        if isinstance(row, (Mapping, Set)) or hasattr(row, "columns"):
+            raise TypeError(f"{_kind(row)} is no row: give a list or a tuple of its fields")
+        rows.append(list(row) if isinstance(row, Iterable) and not isinstance(row, (str, bytes)) else [row])
+    return rows
+
+
+_WANTED = "give a data frame, a mapping, a list of rows or a numpy array"
+
+
+def _kind(data: object) -> str:
+    """What the data are called in a message."""
+    return f"a value of {type(data).__module__}.{type(data).__qualname__}"
+
+
+def _file(header: list[str], rows: list[list[object]]) -> bytes:
     """The bytes of a file that has the rows."""
-    header, rows = _rows(data)
     file = io.StringIO(newline="")
     out = csv.writer(file)
     out.writerow(header)
@@ -366,10 +612,15 @@ def _file(data: object) -> bytes:
     return file.getvalue().encode("utf-8")
 
 
-def _field(value: object) -> str:
-    if hasattr(value, "item"):
+def _field(value: Any) -> str:
+    """A value as the text of its field; what is missing is an empty one."""
+    if type(value).__name__ in ("NAType", "NaTType", "MaskedConstant"):
+        return ""
+    if hasattr(value, "as_py"):
+        value = value.as_py()
+    elif hasattr(value, "item"):
         value = value.item()
-    if value is None or isinstance(value, float) and math.isnan(value):
+    if value is None or isinstance(value, float) and math.isnan(value) or isinstance(value, Decimal) and value.is_nan():
         return ""
     if isinstance(value, bool):
         return str(int(value))

@@ -27,7 +27,7 @@ is_example("depression_sign", exact_test("sign", data_of("depression")))
 is_example("motivation", exact_test("jt", value ~ in_file_order(group), data = data_of("motivation")))
 is_example("rounding", exact_test("friedman", data_of("rounding")))
 is_example("tea", exact_test("fisher", as.matrix(data_of("tea")), distribution = TRUE))
-is_example("tea_odds", exact_test("fisher", as.matrix(data_of("tea")), odds = "2/1"))
+is_example("tea_odds", exact_test("fisher", as.matrix(data_of("tea")), odds = "2/1", tail = "all"))
 is_example("satisfaction", exact_test("linear", as.matrix(data_of("satisfaction")), row_scores = c(3, 10, 20, 35), column_scores = c(1, 3, 4, 5)))
 is_example("rabbits", exact_test("strata", data_of("rabbits")))
 is_example("rabbits_zelen", exact_test("zelen", data_of("rabbits")))
@@ -65,3 +65,80 @@ ordered <- exact_test("ranksum", c(1, 2, 3, 4, 5, 6) ~ factor(rep(c("x", "y"), e
 tell(ordered$report[2] == "group 3 y" && ordered$tails$numerator[1] == "1", "R: the order of the levels")
 x <- c(1, 2, 3)
 tell(exact_test("ranksum", x, c(4L, 5L, NA)[1:2])$data.name == "x and c(4L, 5L, NA)[1:2]", "R: what the data are called")
+
+# ---- what an answer prints, and what is asked in R's words
+
+printed <- function(answer) paste(capture.output(print(answer)), collapse = "\n")
+shows <- function(answer, ..., what) tell(all(vapply(c(...), grepl, NA, printed(answer), fixed = TRUE)), paste("R, print:", what))
+fails <- function(expression, words, what) {
+  said <- tryCatch({ expression; "" }, error = conditionMessage)
+  tell(all(vapply(words, grepl, NA, said, fixed = TRUE)) && nzchar(said), paste("R:", what))
+}
+d <- data_of("rotarod")
+shows(exact_test("ranksum", value ~ group, data = d, tail = "less"), "Exact Wilcoxon rank sum test", "groups c (12), t (12)",
+      "W = 120 (of t)", "50388/2704156", "alternative hypothesis: values of t are less than those of c", what = "ranksum")
+shows(exact_test("kw", value ~ group, data = data_of("motivation")), "Exact Kruskal-Wallis test", what = "kw")
+for (answer in list(exact_test("kw", value ~ group, data = data_of("motivation")), exact_test("friedman", data_of("rounding")),
+                    exact_test("cochran", data_of("diphtheria")), exact_test("zelen", data_of("rabbits")),
+                    exact_test("fisher", matrix(c(3, 1, 0, 1, 4, 2), 2)))) {
+  tell(is.null(answer$alternative) && !grepl("alternative", printed(answer)), paste("R, print: no alternative,", answer$method))
+}
+shows(exact_test("ansari", c(1, 4), c(2, 3), tail = "less"), "C = 4", "values of y are spread more", what = "ansari")
+shows(exact_test("sign", c(1, 2, -4)), "B = 2", "differences are less or greater than 0", what = "differences")
+shows(exact_test("signedrank", d[1:3, "value", drop = FALSE]), "T+", what = "a data frame of one column")
+shows(exact_test("stratranksum", data_of("teeth"), order = c("VC", "OJ"), tail = "greater"), "strata 2 sum 40", "(of OJ)",
+      "values of OJ are greater than those of VC", what = "stratranksum")
+shows(exact_test("fisher", as.matrix(data_of("tea")), odds = "2/1", tail = "all"), "less = 0.9502 = 305/321", what = "odds")
+shows(exact_shift(1:3, 4:6, miss = "1/5"), "shift of y against x", "groups x (3), y (3)", "80 percent", what = "a shift")
+names_told <- vapply(exact_tests, `[`, "", 1)
+tell(!anyDuplicated(names_told) && all(lengths(exact_tests) %in% c(2, 5)), "R: a full name for each test")
+words <- readLines(file.path(exact_state$folder, "..", "completions", "words"))
+tests <- unlist(strsplit(sub("^test ", "", words[startsWith(words, "test ")]), " "))
+tell(setequal(names(exact_tests), c(tests, "drill")), "R: all tests have a name")
+options <- gsub("-", "_", sub("^(option|flag) --([^ ]+).*", "\\2", words[grepl("^(option|flag) ", words)]))
+divided <- c("stage", "parts", "part")
+tell(setequal(union(exact_options, exact_shift_options), setdiff(options, divided)), "R: all options are known")
+
+# R's own functions, on data without ties, where they are exact
+x <- c(1.1, 2.7, 3.9, 5.2, 8.4)
+y <- c(2.1, 4.4, 6.3, 7.7, 9.8, 10.5)
+same <- function(ours, theirs, what) tell(isTRUE(all.equal(ours$p.value, theirs$p.value)), paste("R's own:", what))
+for (side in c("two.sided", "less", "greater")) {
+  same(exact_test("ranksum", x, y, alternative = side), wilcox.test(x, y, alternative = side), paste("wilcox.test", side))
+  same(exact_test("ranksum", x, y, alternative = side, order = c("y", "x")), wilcox.test(y, x, alternative = side),
+       paste("wilcox.test, turned", side))
+  same(exact_test("signedrank", x, y[-6], paired = TRUE, alternative = side),
+       wilcox.test(x, y[-6], paired = TRUE, alternative = side), paste("paired", side))
+  same(exact_test("signedrank", x - 3, alternative = side), wilcox.test(x - 3, alternative = side), paste("one sample", side))
+  same(exact_test("kendall", x, y[c(2, 1, 4, 3, 5)], paired = TRUE, alternative = side),
+       cor.test(x, y[c(2, 1, 4, 3, 5)], method = "kendall", alternative = side), paste("cor.test", side))
+  same(exact_test("fisher", matrix(c(3, 1, 1, 3), 2), alternative = side),
+       fisher.test(matrix(c(3, 1, 1, 3), 2), alternative = side), paste("fisher.test", side))
+  tell(exact_test("ranksum", x, y, alternative = side)$alternative == side, paste("R: the alternative", side))
+}
+for (side in c("less", "greater")) {
+  same(exact_test("ansari", x, y, alternative = side), ansari.test(x, y, alternative = side), paste("ansari.test", side))
+  spread <- exact_test("mood", c(-9, 0.1, 9), c(-1, 0, 1, 2), alternative = side)$p.value
+  tell((spread < 0.5) == (side == "greater"), paste("R: mood", side))
+  same(exact_test("fisher", matrix(c(3, 1, 1, 3), 2), odds = "2/1", alternative = side),
+       fisher.test(matrix(c(3, 1, 1, 3), 2), or = 2, alternative = side), paste("fisher.test with odds", side))
+}
+tell(exact_test("ranksum", x, y, tail = "less")$p.value == exact_test("ranksum", x, y, alternative = "greater")$p.value,
+     "R: a tail is of the second sample")
+tea <- as.matrix(data_of("tea"))
+fails(exact_test("fisher", tea, odds = "2/1"), c("odds", "tail", "alternative"), "odds without a tail")
+fails(exact_test("fisher", tea, odds = "2/1", alternative = "two.sided"), c("odds", "two-sided"), "odds on both sides")
+fails(exact_test("kw", x, y, alternative = "less"), c("kw", "alternative"), "an alternative that kw has not")
+fails(exact_test("ranksum", x, y, alternative = "less", tail = "less"), c("alternative", "tail"), "two ways to ask")
+fails(exact_test("ranksum", x, y, tial = "less"), c("'tial'", "'tail'"), "a misspelt option")
+fails(exact_test("ranksum", x, y, distributoin = TRUE), "'distribution'", "another")
+fails(exact_test("ranksum", x, y, NULL, FALSE, "less"), "no name", "an option without its name")
+fails(exact_shift(x, y, mis = "1/5"), "'miss'", "a misspelt option of a shift")
+fails(exact_test("ranksum", x, y, program = "/no/such"), c("/no/such", "EXACT"), "no program")
+fails(exact_test("ranksum", factor(x), y), "factor", "a factor for numbers")
+rows <- as.data.frame(exact_test("ranksum", 1:3, 4:6))
+tell(identical(rows$tail, c("less", "greater", "two")) && identical(rows$numerator, c("20", "1", "2")) &&
+       all(c("statistic", "p.value", "method", "alternative") %in% names(rows)), "R: a row a tail")
+tell(rows$alternative[2] == "values of y are greater than those of x", "R: what a tail says")
+limits <- as.data.frame(exact_shift(1:3, 4:6, miss = "1/5"))
+tell(identical(unlist(limits[1:4]), c(estimate = 3, conf.low = 2, conf.high = 4, conf.level = 0.8)), "R: a shift as a row")

@@ -6,11 +6,11 @@
 exact_library(folder = Sys.getenv("EXACT_LIBRARY", NA))
 }
 \arguments{
-  \item{folder}{where \file{rexact.so} is; else the folder in the environment variable \env{EXACT_LIBRARY}, else
-    \file{../lib} of the program}
+  \item{folder}{where \file{rexact.so} is; else the folder in the environment variable \env{EXACT_LIBRARY}, else that of
+    the package, else \file{../lib} of the program}
 }
 \details{
-  It costs no process and no file, and serves many small runs. But a run cannot be interrupted, and where the stack does
-  not do, the session ends: what takes long is better left to the program.
+  It costs no process and no file, and serves many small runs. But a run cannot be interrupted, and where the stack is
+  too small, the session ends: what takes long is better left to the program.
 }
 \value{What may be given to single runs as \code{program}, invisibly.}

@@ -1,0 +1,12 @@
+"""A use of the Python client, which `packages` has looked at by mypy --strict."""
+from fractions import Fraction
+
+import exact
+
+report: exact.Report = exact.run("ranksum", {"x": [1, 2], "y": [3]}, tail="less", order=["x", "y"], distribution=True)
+pvalue: Fraction = report.pvalue
+weights: list[int] = [weight for _, weight in report.distribution]
+pairs = exact.run("signedrank", [{"before": 1, "after": 2}], columns=["before", "after"], missing="drop")
+umbrella = exact.run("umbrella", [["a", 1], ["b", 2]], peak=2)
+found: exact.Shift = exact.shift({"x": [1], "y": [2]}, miss=Fraction(1, 5))
+limits: tuple[Fraction | None, Fraction | None] = (found.lower, found.upper)
