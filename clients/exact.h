@@ -46,9 +46,8 @@ struct exact_counts {
 
        "ranksum\0six.csv\0--tail=less\0"
 
-   Where one of the words is not UTF-8, all of them are refused as the command line, with EXACT_USAGE. Bytes behind the last
-   byte 0 are no word and are left out: end the last word too, since "ranksum\0six.csv\0--tail=less" without its 0 asks for
-   all tails.
+   Where one of the words is not UTF-8, all of them are refused as the command line, with EXACT_USAGE. So are they where the
+   last word is not ended by a byte 0.
 
    After EXACT_DONE the report is the first `counts->written` bytes of `out`, and all else there is as it was. After any
    other status `out` is as it was, and the first `counts->told` bytes of `told` are a line that says why there is no

@@ -18,7 +18,9 @@ pub struct ExactCounts {
 }
 
 /// Runs the command that the packed words name, each ended by a byte 0, over the bytes of its file,
-/// and answers the number of the status, which is that with which the program `exact` ends.
+/// and answers the number of the status, which is that with which the program `exact` ends. Words
+/// of which one is no text, or of which the last is not ended, are taken as none, which is refused
+/// as the command line.
 #[unsafe(no_mangle)]
 pub extern "C" fn exact_answer(
     alloc: Global,

@@ -37,8 +37,8 @@ fn without_report(status: Status, line: &[u8], told: &mut [u8]) -> Answer
 /// name, whatever its name, has these bytes. The report is put to the front of `out`. Where there
 /// is none, `out` is as it was, and a line that says why is put to the front of `told`, as far as
 /// it goes in. The status is `WriteFault` where `out` has no room for the report, and never
-/// `ReadFault`. Words of which one is no text are taken as none. All memory that the call takes is
-/// given back.
+/// `ReadFault`. Words of which one is no text, or of which the last is not ended, are taken as
+/// none, which is refused as the command line. All memory that the call takes is given back.
 pub fn answer_in_memory(
     alloc: Global,
     packed: &[u8],

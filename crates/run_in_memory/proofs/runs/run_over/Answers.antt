@@ -10,7 +10,7 @@ returns c =
     let report = c.in_ok-whole.ensures in
     let line = c.in_ok-whole-2.ensures in
     kept _ _ _ _ (map string_bytes c.deref.result.now) c.new-source.result.bytes.now _ _ _
-    (ap (map string_bytes) c.deref.ensures.value ∙ c.in_ok-words.ensures) c.new-source.ensures
+    (ap (map string_bytes) c.deref.ensures.value ∙ c.in_ok-words.ensures.texts) c.new-source.ensures
     (whole_kept _ _ _ _ _ c.new-report.ensures.bytes report.bytes (ap fault_count c.new-report.ensures.whole) (ap fault_count report.whole))
     (whole_kept _ _ _ _ _ c.new-line.ensures.bytes line.bytes (ap fault_count c.new-line.ensures.whole) (ap fault_count line.whole))
     (record {
