@@ -35,6 +35,8 @@ struct answer {
 
 enum { LINE = 96, UNTOUCHED = 0xa5 };
 
+static const char SIX[] = "group,value\nx,1\nx,2\nx,3\ny,4\ny,5\ny,6\n";
+
 static void tell(int right, const char *what, const char *name) {
     printf("%d C: %s: %s\n", right ? 0 : 1, what, name);
 }
@@ -161,6 +163,20 @@ static void try_problem(const struct problem *asked) {
     let_go(whole);
 }
 
+/* words that are refused as the command line, over a file that has a report */
+static void try_no_words(const char *words, size_t length, const char *what) {
+    struct problem asked = {"", {(uint8_t *)words, length}, {(uint8_t *)SIX, strlen(SIX)}, {NULL, 0}};
+    struct answer came = answer(&asked, 1 << 12, LINE);
+    tell(came.status == EXACT_USAGE && came.counts.written == 0 && is_untouched(came.out, 0) &&
+             same(came.told.at, came.counts.told, "refused: command line\n"),
+         what, "");
+    let_go(came);
+}
+
+static int has(const struct answer *came, const char *text) {
+    return memmem(came->out.at, came->counts.written, text, strlen(text)) != NULL;
+}
+
 /* words, a file and places of no bytes, and what no program is given */
 static void try_edges(void) {
     struct problem asked = {"", {NULL, 0}, {NULL, 0}, {NULL, 0}};
@@ -174,14 +190,15 @@ static void try_edges(void) {
     came = answer(&asked, 0, LINE);
     tell(came.status == EXACT_BAD_DATA && same(came.told.at, came.counts.told, "refused: row 1: no header\n"), "no file", "");
     let_go(came);
-    asked.words.length = 13;
-    came = answer(&asked, 0, LINE);
-    tell(came.status == EXACT_USAGE, "a word that is not ended is none", "");
+    asked.words = (struct bytes){(uint8_t *)"ranksum\0f.csv\0--tail=less", 26};
+    asked.file = (struct bytes){(uint8_t *)SIX, strlen(SIX)};
+    came = answer(&asked, 1 << 12, LINE);
+    tell(came.status == EXACT_DONE && has(&came, "\nless ") && !has(&came, "\ngreater "), "each word is ended", "");
     let_go(came);
-    asked.words = (struct bytes){(uint8_t *)"ranksum\0\xff.csv", 14};
-    came = answer(&asked, 0, LINE);
-    tell(came.status == EXACT_USAGE && same(came.told.at, came.counts.told, "refused: command line\n"), "a word that is no text", "");
-    let_go(came);
+    try_no_words("ranksum\0f.csv\0--tail=less", 25, "an option that is not ended");
+    try_no_words("ranksum\0f.csv", 13, "a file that is not ended");
+    try_no_words("ranksum", 7, "one word that is not ended");
+    try_no_words("ranksum\0\xff.csv", 14, "a word that is no text");
 }
 
 static int is_answered_always(const struct problem *asked, int calls) {
