@@ -1,5 +1,5 @@
 //! The parts of a divided run: a network cut at a stage, the sums of the parts that the open keys
-//! there are given to, and the merge of all of them.
+//! there are given to, their texts, and the merge of all of them.
 #![tactic(auto)]
 
 mod cuts;
@@ -13,3 +13,6 @@ pub use cuts::Cut;
 pub use cutting::cut;
 pub use merges::merge;
 pub use parting::{part_sum, run_piece};
+pub use piece_texts::{
+    MergeFault, Merged, Piece, PieceFault, PieceSum, Pieces, name_of, piece_text, read_pieces,
+};
