@@ -1,3 +1,4 @@
+pub mod Products
 pub mod Summing
 pub mod TailLaw
 pub mod Vectors

@@ -1,6 +1,5 @@
 // The weight of the lines whose values are extreme.
-ghost use Rattle.std.specs.Prelude.{◌≡◌, ◌≤◌, int_le, nat_le};
-ghost use Rattle.weights.specs.declared.TheConstants.{MAX};
+ghost use Rattle.std.specs.Prelude.{◌≡◌, ◌*◌, ◌-◌, ◌^◌, ◌-ℤ◌, pos, int_le, min, nat_abs, nat_le};
 ghost use Rattle.weights.specs.Conditional.{ConditionalTest, by_distance, distance, distribution};
 ghost use Rattle.weights.specs.Conditional.{numerator, observed_statistic};
 ghost use Rattle.weights.specs.declared.tails.Tail.TheVariants.{Less, Greater, Two};
@@ -51,26 +50,39 @@ pub fn above(spread: &Spread, value: i128) -> u128
     weight_of(spread.as_slice(), Rule::AtLeast(value))
 }
 
-// Whether a value times a factor is at least so far apart from a centre. A number past 128 bits is
-// held at the greatest of them, which is farther from any centre than the limit.
+// How far a product is from a size on the same side of 0. Past 128 bits it is held at the greatest
+// number of these: then the product is the greater, and is counted from the first multiple of the
+// factor above the size.
+fn away(factor: u128, times: u128, size: u128) -> u128
+    ensures { result ≡ min (nat_abs (pos (factor * times) -ℤ pos size)) (2 ^ 128 - 1) }
+{
+    let Some(whole) = size.checked_div(factor) else {
+        return size;
+    };
+    if times <= whole {
+        return size - factor * times;
+    }
+    let above = factor - size % factor;
+    factor
+        .saturating_mul(times - whole - 1)
+        .saturating_add(above)
+}
+
+// Whether a value times a factor is at least so far apart from a centre.
 fn is_far(factor: u128, centre: i128, value: i128, apart: u128) -> bool
-    requires { apart ≤ MAX }
     ensures { result ≡ nat_le apart (distance factor centre value) }
 {
-    let product = factor.saturating_mul(value.unsigned_abs());
+    let times = value.unsigned_abs();
     let size = centre.unsigned_abs();
-    let away = if (value < 0) == (centre < 0) {
-        product.abs_diff(size)
-    } else {
-        product.saturating_add(size)
-    };
-    apart <= away
+    if (value < 0) == (centre < 0) {
+        return apart <= away(factor, times, size);
+    }
+    apart <= factor.saturating_mul(times).saturating_add(size)
 }
 
 // The weight of the lines with such values.
 fn weight_far(lines: &[Line], factor: u128, centre: i128, apart: u128) -> u128
-    requires total { WeightsFit lines.now }
-    requires apart { apart ≤ MAX }
+    requires { WeightsFit lines.now }
     ensures { result ≡ line_sum (λ v. nat_le apart (distance factor centre v)) lines.now }
 {
     let mut weight = 0;
@@ -83,13 +95,12 @@ fn weight_far(lines: &[Line], factor: u128, centre: i128, apart: u128) -> u128
 }
 
 /// The weight of the lines with a value that, times a factor, is at least so far apart from a
-/// centre, `apart` being at most [`weights::MAX`], where the weights of all lines sum to at most
-/// that. Of the distribution of a test that goes by distance, with the test's factor and centre and
-/// as far apart as the observed statistic, it is the numerator of the tail `Two`. It takes no
-/// memory, and looks at each line once.
+/// centre, where the weights of all lines sum to at most [`weights::MAX`]. Every factor, centre and
+/// distance will do: no product passes a limit. Of the distribution of a test that goes by
+/// distance, with the test's factor and centre and as far apart as the observed statistic, it is
+/// the numerator of the tail `Two`. It takes no memory, and looks at each line once.
 pub fn far(spread: &Spread, factor: u128, centre: i128, apart: u128) -> u128
-    requires total { WeightsFit spread.now }
-    requires apart { apart ≤ MAX }
+    requires { WeightsFit spread.now }
     ensures sum { result ≡ line_sum (λ v. nat_le apart (distance factor centre v)) spread.now }
     ensures law { (test : ConditionalTest) → spread.now ≡ distribution test
         → test.two_sided ≡ by_distance factor centre
