@@ -1,8 +1,9 @@
 // Why there is no report, and the line that says so.
 ghost use Rattle.std.specs.Prelude.{◌≡◌, ◌+◌, ◌≤◌, ◌++◌, decimal, length};
+ghost use Rattle.report.specs.ShortLines.{bytes_of};
 ghost use Rattle.report.specs.Refusals.{fault_text, option_text, refusal_line_text, refusal_text, usage_text, wide_word};
 
-use crate::short_line::ShortLine;
+use crate::short_line::{LineStart, ShortLine};
 use record_reader::DataFault;
 use settings::{OptionName, UsageFault};
 use thiserror::Error;
@@ -54,7 +55,7 @@ pub enum Refusal {
 }
 
 // Adds an option as it is written.
-fn push_option(line: &mut ShortLine, name: OptionName)
+fn push_option(line: &mut LineStart, name: OptionName)
     requires { length line.old ≤ 20 }
     ensures text { line.new ≡ line.old ++ option_text name }
     ensures short { length line.new ≤ length line.old + 15 }
@@ -66,7 +67,7 @@ fn push_option(line: &mut ShortLine, name: OptionName)
 }
 
 // Adds what is wrong with the words.
-fn push_usage(line: &mut ShortLine, fault: UsageFault)
+fn push_usage(line: &mut LineStart, fault: UsageFault)
     requires { length line.old ≤ 9 }
     ensures text { line.new ≡ line.old ++ usage_text fault }
     ensures short { length line.new ≤ 80 }
@@ -87,7 +88,7 @@ fn push_usage(line: &mut ShortLine, fault: UsageFault)
 }
 
 // Adds where a fault of the data is, and what is wrong there.
-fn push_fault(line: &mut ShortLine, fault: DataFault)
+fn push_fault(line: &mut LineStart, fault: DataFault)
     requires { length line.old ≤ 9 }
     ensures text { line.new ≡ line.old ++ fault_text fault }
     ensures short { length line.new ≤ 80 }
@@ -113,7 +114,7 @@ fn word_of(number: WideOf) -> &'static str
 }
 
 // Adds words and the number of what is wrong.
-fn push_place(line: &mut ShortLine, words: &str, number: u64)
+fn push_place(line: &mut LineStart, words: &str, number: u64)
     requires line { length line.old ≤ 9 }
     requires words { length words.now ≤ 14 }
     ensures text { line.new ≡ line.old ++ (words.now ++ decimal number) }
@@ -124,7 +125,7 @@ fn push_place(line: &mut ShortLine, words: &str, number: u64)
 }
 
 // Adds the words that tell a refusal.
-fn push_text(line: &mut ShortLine, refusal: Refusal)
+fn push_text(line: &mut LineStart, refusal: Refusal)
     requires { length line.old ≤ 9 }
     ensures text { line.new ≡ line.old ++ refusal_text refusal }
     ensures short { length line.new ≤ 80 }
@@ -152,15 +153,16 @@ fn push_text(line: &mut ShortLine, refusal: Refusal)
     }
 }
 
-/// The line that tells a refusal, with its line feed. It takes no memory.
+/// The line that tells a refusal, with its line feed: `bytes[..used]`. It takes no memory.
 pub fn refusal_line(refusal: &Refusal) -> ShortLine
-    ensures { result ≡ refusal_line_text refusal.now }
+    ensures line { bytes_of result ≡ refusal_line_text refusal.now }
+    ensures fits { result.used ≤ 96 }
 {
-    let mut line = ShortLine::empty();
+    let mut line = LineStart::empty();
     line.push(b"refused: ");
     push_text(&mut line, *refusal);
     line.push(b"\n");
-    line
+    line.line()
 }
 
 impl From<NoMemory> for Refusal {

@@ -15,7 +15,7 @@ as_done {packed} {bytes} {report} {line} done run =
 pub returns-in_default : goal.returns-in_default
 returns-in_default c =
     as_told _ _ _ _ _ status.NoMemory _ c.without_report.ensures.status c.without_report.ensures.written
-    (no_memory _ _ _ _ _ _ (rw (c.as_slice.ensures, c.refusal_line-line.ensures) at c.without_report.ensures.told))
+    (no_memory _ _ _ _ _ _ (rw (c.as_slice.ensures, c.refusal_line-line.ensures.line) at c.without_report.ensures.told))
 
 pub returns-then-ne : goal.returns-then-ne
 returns-then-ne c =
@@ -29,7 +29,7 @@ returns-then-len-out c =
     let done = differs_false the_type (record {}) c.in-Ok.run'.status status.Done (sym c.if-ne.ensures) in
     as_told _ _ _ _ _ status.WriteFault _ told.status told.written
     (without_room _ _ _ _ _ c.in-Ok.run'.report.items c.in-Ok.run'.line.items _ (as_done done c.in-Ok.ensures) (omega arith)
-    (rw (c.as_slice-then-len-out.ensures, c.refusal_line-line-then-len-out.ensures) at told.told))
+    (rw (c.as_slice-then-len-out.ensures, c.refusal_line-line-then-len-out.ensures.line) at told.told))
 
 pub returns : goal.returns
 returns c =
