@@ -78,6 +78,6 @@ pub(crate) fn stratified_rank_report(alloc: Global, request: &Request) -> Result
         Layout::StrataGroups,
         Extra::None,
     );
-    let problem = prepare_ranks(alloc, samples);
+    let problem = prepare_ranks(alloc, &samples);
     report_homogeneity(alloc, request.asking, &heading, ALL, problem)
 }

@@ -86,6 +86,6 @@ pub(crate) fn zelen_report(alloc: Global, request: &Request) -> Result<Bytes, Re
 {
     let strata = strata_read(alloc, request.settings, request.rows)?;
     let heading = heading_of(&strata);
-    let problem = prepare_zelen(alloc, strata);
+    let problem = prepare_zelen(alloc, &strata);
     report_homogeneity(alloc, request.asking, &heading, TWO, problem)
 }

@@ -1,5 +1,5 @@
 -- What is kept of samples in strata that are prepared for the rank sum test.
-use Rattle.std.specs.Prelude.{◌≡◌, ◌+◌, ◌≤◌, pos, List, map}
+use Rattle.std.specs.Prelude.{◌≡◌, ◌+◌, ◌≤◌, pos, ℕ, ℤ, List, map}
 use Rattle.std.specs.List.{concat, sum, sum_by}
 use Rattle.weights.specs.Conditional.{total}
 use Rattle.weights.specs.Numbers.{absolute_sum}
@@ -19,6 +19,16 @@ use Rattle.homogeneity.specs.StratifiedRanks.{stratified_rank_test, two_sizes}
 use Rattle.homogeneity.specs.declared.rank_made.RankedStrata.{RankedStrata}
 use Rattle.homogeneity.specs.declared.rank_strata.Part.{Part}
 use Rattle.homogeneity.specs.declared.rank_strata.RankStrata.{RankStrata}
+
+-- the samples of these lists
+abbrev pub samples_of : List (List ℕ) → List (List ℕ) → List ℕ → List ℕ → List ℤ → StrataGroupData
+samples_of strata labels places members values = record {
+  strata = strata;
+  labels = labels;
+  places = places;
+  members = members;
+  values = values;
+}
 
 -- what is made of strata
 pub record AreLists (strata : List (List Subject)) (made : RankStrata) : Type 0 where

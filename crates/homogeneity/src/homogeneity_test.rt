@@ -23,8 +23,8 @@ pub type Homogeneity = OneOf<Zelen, StratifiedRanks>;
 /// # Errors
 /// `TooWide(Total)` where there are more of these labellings than `weights::MAX`, or else
 /// `NoMemory` where memory runs out. The statistic is never too wide.
-pub fn prepare_zelen(alloc: Global, strata: Strata) -> Result<Homogeneity, PrepareFault>
-    ensures { Prepares homogeneity_test (OneOf.First strata.cells) result }
+pub fn prepare_zelen(alloc: Global, strata: &Strata) -> Result<Homogeneity, PrepareFault>
+    ensures { Prepares homogeneity_test (OneOf.First strata.now.cells) result }
 {
     Ok(OneOf::First(Zelen::prepare(alloc, strata)?))
 }
@@ -37,8 +37,8 @@ pub fn prepare_zelen(alloc: Global, strata: Strata) -> Result<Homogeneity, Prepa
 /// # Errors
 /// `TooWide(Total)` where there are more labellings than `weights::MAX`, or else `NoMemory` where
 /// memory runs out. The statistic of at most 10,000 subjects is never too wide.
-pub fn prepare_ranks(alloc: Global, samples: StrataGroups) -> Result<Homogeneity, PrepareFault>
-    ensures { Prepares homogeneity_test (OneOf.Second (strata_data_of samples)) result }
+pub fn prepare_ranks(alloc: Global, samples: &StrataGroups) -> Result<Homogeneity, PrepareFault>
+    ensures { Prepares homogeneity_test (OneOf.Second (strata_data_of samples.now)) result }
 {
     Ok(OneOf::Second(prepare(alloc, samples)?))
 }

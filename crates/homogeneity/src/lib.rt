@@ -2,9 +2,10 @@
 //! two samples by ranks within strata.
 #![tactic(auto)]
 
-ghost use Rattle.std.specs.Prelude.{◌≡◌, ◌≤◌, IfOk};
-ghost use Rattle.weights.specs.Conditional.{distribution};
-ghost use Rattle.networks.specs.Follows.{HasTails, answer_of, open_keys};
+ghost use Rattle.std.specs.Prelude.{◌≡◌, ◌≤◌, true, IfOk};
+ghost use Rattle.weights.specs.Conditional.{distribution, numerator, total};
+ghost use Rattle.networks.specs.Completions.{extreme_weight, total_weight};
+ghost use Rattle.networks.specs.Follows.{AllFollow, HasTails, answer_of, open_keys};
 ghost use Rattle.networks.specs.Lines.{TailsFit, WeightsFit};
 ghost use Rattle.homogeneity.specs.Homogeneities.{homogeneity_network, homogeneity_test};
 
@@ -31,16 +32,21 @@ mod zelen_stages;
 mod zelen_ways;
 
 pub use homogeneity_test::{Homogeneity, prepare_ranks, prepare_zelen};
-use networks::{Answer, Spread, Way};
+use networks::{Answer, OneOf, Spread, Stages, Way};
 pub use rank_measure::RankMeasure;
 pub use rank_rooms::RankRooms;
+pub use rank_stages::RankStages;
 use std::alloc::Global;
 pub use strata_rank_sum::StrataRankSum;
 pub use stratified_ranks::StratifiedRanks;
-use weights::{NoMemory, Tails};
+use weights::{NoMemory, Tail, Tails};
 pub use zelen::Zelen;
 pub use zelen_measure::ZelenMeasure;
 pub use zelen_rooms::ZelenRooms;
+pub use zelen_stages::ZelenStages;
+
+/// The network of a test over strata.
+pub type HomogeneityStages = OneOf<ZelenStages, RankStages>;
 
 /// The answer of a test over strata for tails that it has, by either way: the observed statistic,
 /// its scale, the number of labellings, and of each asked tail how many labellings are at least as
@@ -67,4 +73,24 @@ pub fn distribution(alloc: Global, problem: &Homogeneity, way: Way) -> Result<Sp
     ensures rules { IfOk result (TailsFit (homogeneity_test problem.now)) }
 {
     stage_network::distribution(alloc, problem, way)
+}
+
+/// The network of a tail that the test has, as it runs, for whoever wants to sweep, cut or count
+/// it. The completions of its first key weigh as much as there are labellings, and those that are
+/// extreme as much as the tail's numerator.
+pub fn stages_of(
+    alloc: Global,
+    problem: &Homogeneity,
+    tail: Tail,
+) -> Result<HomogeneityStages, NoMemory>
+    requires { (homogeneity_test problem.now).has_tail tail ≡ true }
+    ensures built { let n = homogeneity_network problem.now tail in
+        IfOk result (λ built. ⟦<HomogeneityStages as Stages>⟧.network built ≡ n) }
+    ensures follows { AllFollow (homogeneity_test problem.now) (homogeneity_network problem.now) }
+    ensures whole { let n = homogeneity_network problem.now tail in
+        total_weight n 0 n.first ≡ total (homogeneity_test problem.now) }
+    ensures numerator { let n = homogeneity_network problem.now tail in
+        extreme_weight n tail 0 n.first ≡ numerator (homogeneity_test problem.now) tail }
+{
+    stage_network::network_of(alloc, problem, tail)
 }

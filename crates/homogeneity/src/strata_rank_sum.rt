@@ -1,5 +1,5 @@
 // The statistic of the stratified rank sum test, and both ways to it.
-ghost use Rattle.std.specs.Prelude.{◌≡◌};
+ghost use Rattle.std.specs.Prelude.{◌≡◌, IfOk};
 ghost use Rattle.sample_reader.specs.Data.{strata_data_of};
 ghost use Rattle.homogeneity.specs.RankMade.{AreRanked};
 
@@ -12,40 +12,51 @@ use enumerate::next_joined;
 use labelled::UnweightedTest;
 use networks::{Judge, TailSums};
 use room_network::{Numbered, RoomNetwork};
-use sample_reader::StrataGroups;
+use sample_reader::{Labels, StrataGroups};
 use scores::labelled_sum;
 use std::alloc::Global;
 use std::marker::Model;
-use weights::{Bytes, NoMemory, Tail, Tails};
+use weights::{Bytes, Ints, NoMemory, Nums, Tail, Tails};
 
 /// The sum of the second group's ranks, each among the values of its own stratum. It is seen as the
 /// samples that it was prepared of.
 #[derive(Drop)]
 pub struct StrataRankSum {
     // What it was prepared of, by which contracts name it.
-    samples: StrataGroups,
+    strata: Labels,
+    labels: Labels,
+    places: Nums,
+    members: Nums,
+    values: Ints,
     made: RankedStrata,
 }
 
 impl Model for StrataRankSum {
-    ghost use Rattle.sample_reader.specs.Data.{strata_data_of};
     ghost use Rattle.sample_reader.specs.StrataGroups.{StrataGroupData};
-    ghost use Rattle.homogeneity.specs.RankMade.{AreRanked};
+    ghost use Rattle.homogeneity.specs.RankMade.{AreRanked, samples_of};
 
     ghost Value = { StrataGroupData };
 
-    ghost view = { λ s. strata_data_of s.samples };
+    ghost view = { λ s. samples_of s.strata s.labels s.places s.members s.values };
 
-    ghost invariant = { λ s. AreRanked (strata_data_of s.samples) s.made };
+    ghost invariant = { λ s.
+        AreRanked (samples_of s.strata s.labels s.places s.members s.values) s.made };
 }
 
 impl StrataRankSum {
     /// That of samples of which this was made.
-    pub(crate) fn new(samples: StrataGroups, made: RankedStrata) -> StrataRankSum
-        requires { AreRanked (strata_data_of samples) made }
-        ensures { result ≡ strata_data_of samples }
+    pub(crate) fn of(samples: &StrataGroups, made: RankedStrata) -> Result<StrataRankSum, NoMemory>
+        requires { AreRanked (strata_data_of samples.now) made }
+        ensures { IfOk result (λ sum. sum ≡ strata_data_of samples.now) }
     {
-        StrataRankSum { samples, made }
+        Ok(StrataRankSum {
+            strata: samples.strata.copy()?,
+            labels: samples.labels.copy()?,
+            places: samples.places.copy()?,
+            members: samples.members.copy()?,
+            values: samples.values.copy()?,
+            made,
+        })
     }
 
     // What was made of the samples.

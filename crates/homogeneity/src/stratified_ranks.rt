@@ -18,11 +18,15 @@ pub type StratifiedRanks = Unweighted<StrataRankSum>;
 /// # Errors
 /// `TooWide(Total)` where there are more labellings than `weights::MAX`, or else `NoMemory`
 /// where memory runs out. The statistic of at most 10,000 subjects is never too wide.
-pub(crate) fn prepare(alloc: Global, samples: StrataGroups) -> Result<StratifiedRanks, PrepareFault>
-    ensures { Prepares stratified_rank_test (strata_data_of samples) result }
+pub(crate) fn prepare(
+    alloc: Global,
+    samples: &StrataGroups,
+) -> Result<StratifiedRanks, PrepareFault>
+    ensures { Prepares stratified_rank_test (strata_data_of samples.now) result }
 {
-    let Some((made, frame)) = made_of(alloc, &samples)? else {
+    let Some((made, frame)) = made_of(alloc, samples)? else {
         return Err(PrepareFault::TooWide(WideOf::Total));
     };
-    Ok(Unweighted::of(StrataRankSum::new(samples, made), frame))
+    let sum = StrataRankSum::of(samples, made)?;
+    Ok(Unweighted::of(sum, frame))
 }

@@ -36,7 +36,7 @@ pub(crate) struct ObservedStrata {
 #[derive(Drop)]
 pub struct Zelen {
     // What it was prepared of, by which contracts name it.
-    strata: Strata,
+    cells: Nums,
     made: ObservedStrata,
 }
 
@@ -47,9 +47,9 @@ impl Model for Zelen {
 
     ghost Value = { List ℕ };
 
-    ghost view = { λ t. t.strata.cells };
+    ghost view = { λ t. t.cells };
 
-    ghost invariant = { λ t. AreObserved (strata_of t.strata.cells) t.made };
+    ghost invariant = { λ t. AreObserved (strata_of t.cells) t.made };
 }
 
 // How many labellings of strata have the sum, or None exactly where they pass the greatest weight.
@@ -118,13 +118,14 @@ impl Zelen {
     /// # Errors
     /// `TooWide(Total)` where there are more of these labellings than `weights::MAX`, or else
     /// `NoMemory` where memory runs out. The statistic is never too wide.
-    pub(crate) fn prepare(alloc: Global, strata: Strata) -> Result<Zelen, PrepareFault>
-        ensures { Prepares zelen_test strata.cells result }
+    pub(crate) fn prepare(alloc: Global, strata: &Strata) -> Result<Zelen, PrepareFault>
+        ensures { Prepares zelen_test strata.now.cells result }
     {
-        let Some(made) = made_of(alloc, &strata)? else {
+        let Some(made) = made_of(alloc, strata)? else {
             return Err(PrepareFault::TooWide(WideOf::Total));
         };
-        Ok(Zelen { strata, made })
+        let cells = strata.cells.copy()?;
+        Ok(Zelen { cells, made })
     }
 
     /// What was made of the strata.
