@@ -56,7 +56,7 @@ pub(crate) fn kendall_report(alloc: Global, request: &Request) -> Result<Bytes, 
         Layout::Bivariate,
         Extra::None,
     );
-    let problem = prepare_kendall(alloc, sample);
+    let problem = prepare_kendall(alloc, &sample);
     report_sequence(alloc, request.asking, &heading, ALL, problem)
 }
 
@@ -92,6 +92,6 @@ pub(crate) fn runs_report(alloc: Global, request: &Request) -> Result<Bytes, Ref
         Layout::Sequence,
         Extra::None,
     );
-    let problem = prepare_runs(alloc, sequence);
+    let problem = prepare_runs(alloc, &sequence);
     report_sequence(alloc, request.asking, &heading, ALL, problem)
 }

@@ -49,6 +49,10 @@ pub record RunSeat (judge : Judge) (remaining partial : List ℤ) : Type 0 where
   pub low : JudgeFits judge (runs_so_far partial +ℤ pos (least_left remaining partial))
   pub high : JudgeFits judge (runs_so_far partial +ℤ pos (most_left remaining partial))
 
+-- the sequence of these labels, of which each row has one
+abbrev pub sequence_of : List (List ℕ) → List ℕ → SequenceData
+sequence_of labels members = record { labels = labels; members = members }
+
 -- what is known of a sequence whose rows have these counts
 pub record AreRuns (sequence : SequenceData) (sizes : List ℕ) : Type 0 where
   pub sizes_are : sizes ≡ row_counts sequence

@@ -1,4 +1,5 @@
 // Two values of each subject that are prepared for Kendall's test.
+ghost use Rattle.std.specs.Prelude.{◌≡◌, IfOk};
 ghost use Rattle.weights.specs.Wide.{Prepares};
 ghost use Rattle.sample_reader.specs.Data.{bivariate_data_of};
 ghost use Rattle.sequence_tests.specs.Kendall.{kendall_test};
@@ -21,12 +22,23 @@ use weights::{NoMemory, PrepareFault, Tail, Tails};
 /// A test of Kendall's K whose data are checked.
 pub type Kendall = Labelled<PairOrder>;
 
-/// Prepares two values of each subject.
-pub(crate) fn prepare(alloc: Global, sample: BivariateSample) -> Result<Kendall, PrepareFault>
-    ensures { Prepares kendall_test (bivariate_data_of sample) result }
+// The same values in memory of their own.
+fn copy_of(twins: &BivariateSample) -> Result<BivariateSample, NoMemory>
+    ensures { IfOk result (λ copy. bivariate_data_of copy ≡ bivariate_data_of twins.now) }
 {
-    let subjects = kendall_subjects(alloc, &sample)?;
-    let order = PairOrder::of(alloc, sample, &subjects)?;
+    Ok(BivariateSample {
+        rows: twins.rows,
+        first: twins.first.copy()?,
+        second: twins.second.copy()?,
+    })
+}
+
+/// Prepares two values of each subject.
+pub(crate) fn prepare(alloc: Global, twins: &BivariateSample) -> Result<Kendall, PrepareFault>
+    ensures { Prepares kendall_test (bivariate_data_of twins.now) result }
+{
+    let subjects = kendall_subjects(alloc, twins)?;
+    let order = PairOrder::of(alloc, copy_of(twins)?, &subjects)?;
     let observed = labels_in(alloc, &subjects)?;
     let total = order.made().total;
     Ok(Labelled::new(order, observed.as_slice(), 1, 1, 0, total))

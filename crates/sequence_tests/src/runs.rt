@@ -1,7 +1,9 @@
 // A sequence of two labels that is prepared for the runs test.
 ghost use Rattle.std.specs.Prelude.{◌≡◌, ◌+◌, ◌*◌, ◌<◌, ◌≤◌, pos, IfOk};
 ghost use Rattle.std.specs.List.{All};
+ghost use Rattle.weights.specs.Labellings.{number_of_labellings};
 ghost use Rattle.weights.specs.Wide.{Prepares};
+ghost use Rattle.weights.specs.declared.TheConstants.{MAX};
 ghost use Rattle.record_reader.specs.declared.TheConstants.{MOST_ROWS};
 ghost use Rattle.sample_reader.specs.Data.{sequence_data_of};
 ghost use Rattle.sequence_tests.specs.Runs.{runs, runs_test};
@@ -12,10 +14,10 @@ use crate::run_stages::RunStages;
 use label_network::label_stages;
 use labelled::{LabelStatistic, Labelled};
 use networks::Judge;
-use sample_reader::Sequence;
+use sample_reader::{Labels, Sequence};
 use std::alloc::Global;
 use std::marker::Model;
-use weights::{Bytes, NoMemory, PrepareFault, Tail, WideOf, multinomial};
+use weights::{Bytes, NoMemory, Nums, PrepareFault, Tail, WideOf, multinomial};
 
 /// A runs test whose data are checked.
 pub type Runs = Labelled<RunNumber>;
@@ -23,19 +25,22 @@ pub type Runs = Labelled<RunNumber>;
 /// The number of runs. It is seen as the sequence that it was prepared of.
 #[derive(Drop)]
 pub struct RunNumber {
-    sequence: Sequence,
+    // What it was prepared of, by which contracts name it.
+    labels: Labels,
+    members: Nums,
+    // How many rows have each label.
+    sizes: Nums,
 }
 
 impl Model for RunNumber {
-    ghost use Rattle.sample_reader.specs.Data.{sequence_data_of};
     ghost use Rattle.sample_reader.specs.Sequences.{SequenceData};
-    ghost use Rattle.sequence_tests.specs.RunSteps.{AreRuns};
+    ghost use Rattle.sequence_tests.specs.RunSteps.{AreRuns, sequence_of};
 
     ghost Value = { SequenceData };
 
-    ghost view = { λ t. sequence_data_of t.sequence };
+    ghost view = { λ t. sequence_of t.labels t.members };
 
-    ghost invariant = { λ t. AreRuns (sequence_data_of t.sequence) t.sequence.sizes };
+    ghost invariant = { λ t. AreRuns (sequence_of t.labels t.members) t.sizes };
 }
 
 // The labels of rows.
@@ -78,26 +83,38 @@ fn centre_of(first: u64, second: u64) -> i128
 /// # Errors
 /// `TooWide(Total)` where there are more labellings than `weights::MAX`, or else `NoMemory` where
 /// memory runs out. The statistic of at most 10,000 rows is never too wide.
-pub(crate) fn prepare(alloc: Global, sequence: Sequence) -> Result<Runs, PrepareFault>
-    ensures { Prepares runs_test (sequence_data_of sequence) result }
+pub(crate) fn prepare(alloc: Global, sequence: &Sequence) -> Result<Runs, PrepareFault>
+    ensures { Prepares runs_test (sequence_data_of sequence.now) result }
 {
     let Some(total) = multinomial(sequence.sizes.as_slice()) else {
         return Err(PrepareFault::TooWide(WideOf::Total));
     };
     let observed = labels_in(alloc, sequence.members.as_slice())?;
     let rows = sequence.members.as_slice().len() as u128;
-    let number = RunNumber { sequence };
+    let number = RunNumber::of(sequence)?;
     let sizes = number.counts();
     let centre = centre_of(sizes[0], sizes[1]);
     Ok(Labelled::new(number, observed.as_slice(), 1, rows, centre, total))
 }
 
 impl RunNumber {
+    // That of a sequence, whose labellings do not pass the greatest weight.
+    fn of(sequence: &Sequence) -> Result<RunNumber, NoMemory>
+        requires { number_of_labellings sequence.now.sizes ≤ MAX }
+        ensures { IfOk result (λ number. number ≡ sequence_data_of sequence.now) }
+    {
+        Ok(RunNumber {
+            labels: sequence.labels.copy()?,
+            members: sequence.members.copy()?,
+            sizes: sequence.sizes.copy()?,
+        })
+    }
+
     // How many rows have each label, and what is known of them.
     fn counts(&self) -> &[u64]
         ensures { AreRuns self.now result.now }
     {
-        self.sequence.sizes.as_slice()
+        self.sizes.as_slice()
     }
 }
 

@@ -3,4 +3,4 @@ use Rattle.sequence_tests.proofs.KendallFitting.{labels-small, read-few, read-pa
 use Rattle.sequence_tests.proofs.kendall.prepare.Goals as goal
 
 pub labels_in-requires : goal.labels_in-requires
-labels_in-requires c = rw (c.deref-2.ensures.value, c.in_ok-subjects.ensures) (labels-small (bivariate_data_of c.args.sample) (read-paired c.args.sample) (read-few c.args.sample))
+labels_in-requires c = rw (c.deref-2.ensures.value, c.in_ok-subjects.ensures) (labels-small (bivariate_data_of c.args.twins.now) (read-paired c.args.twins.now) (read-few c.args.twins.now))
