@@ -3,7 +3,7 @@
 use Rattle.std.specs.Prelude.{ℕ, List, length, Option, Result}
 use Rattle.weights.specs.Labellings.{counts_of}
 use Rattle.weights.specs.Results.{with_fault, with_value}
-use Rattle.sample_reader.specs.Bivariate.{BivariateData, bivariate_in}
+use Rattle.sample_reader.specs.Twins.{TwinData, twins_in}
 use Rattle.sample_reader.specs.Sequences.{SequenceData, sequence_in}
 use Rattle.sample_reader.specs.declared.layout.Layout.TheVariants as layout
 use Rattle.settings.specs.declared.settings.Settings.{Settings}
@@ -19,18 +19,18 @@ use Rattle.exact_run.specs.Layouts.{dropped_told, layout_refusal}
 -- ---- bivariate samples
 
 -- each row is used
-abbrev pub bivariate_sizes : BivariateData → Sizes
-bivariate_sizes sample = sizes.Pairs (length sample.first) (length sample.first)
+abbrev pub twin_sizes : TwinData → Sizes
+twin_sizes sample = sizes.Pairs (length sample.first) (length sample.first)
 
-abbrev pub kendall_question : Option ℕ → BivariateData → Question
+abbrev pub kendall_question : Option ℕ → TwinData → Question
 kendall_question dropped sample =
     question_about sequence_test sequence_network running_network (First sample)
-    (bivariate_sizes sample) dropped extra.None
+    (twin_sizes sample) dropped extra.None
 
 abbrev pub kendall_of : Settings → List (List (List ℕ)) → Result Question Refusal
 kendall_of settings rows =
-    with_value (kendall_question (dropped_told settings layout.Bivariate rows))
-    (with_fault layout_refusal (bivariate_in settings.missing settings.picks rows))
+    with_value (kendall_question (dropped_told settings layout.Twins rows))
+    (with_fault layout_refusal (twins_in settings.missing settings.picks rows))
 
 -- ---- sequences
 

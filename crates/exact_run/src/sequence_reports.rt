@@ -2,41 +2,37 @@
 ghost use Rattle.std.specs.Prelude.{◌≡◌, Ok, IfErr, IfOk};
 ghost use Rattle.record_reader.specs.Layouts.{MayPick};
 ghost use Rattle.weights.specs.Results.{with_fault};
-ghost use Rattle.sample_reader.specs.Bivariate.{bivariate_in};
-ghost use Rattle.sample_reader.specs.Data.{bivariate_data_of, sequence_data_of};
+ghost use Rattle.sample_reader.specs.Twins.{twins_in};
+ghost use Rattle.sample_reader.specs.Data.{twin_data_of, sequence_data_of};
 ghost use Rattle.sample_reader.specs.Sequences.{sequence_in};
 ghost use Rattle.run_outcome.specs.CauseSteps.{Fulfils, IsCauseOf};
 ghost use Rattle.exact_run.specs.Layouts.{layout_refusal};
-ghost use Rattle.exact_run.specs.SequenceQuestions.{bivariate_sizes, kendall_of, runs_of, sequence_sizes};
+ghost use Rattle.exact_run.specs.SequenceQuestions.{twin_sizes, kendall_of, runs_of, sequence_sizes};
 
 use crate::layouts::{heading_for, layout_refusal};
 use crate::prepared_reports::report_sequence;
 use record_reader::Rows;
 use report::{Extra, Refusal, Sizes};
 use run_outcome::{ALL, Request};
-use sample_reader::{BivariateSample, Layout, Sequence, bivariate_sample, sequence};
+use sample_reader::{Layout, Sequence, Twins, sequence, twins};
 use sequence_tests::{prepare_kendall, prepare_runs};
 use settings::Settings;
 use std::alloc::Global;
 use weights::{Bytes, NoMemory};
 
 // The bivariate sample of the rows, or the refusal of their fault.
-fn bivariate_read(
-    alloc: Global,
-    settings: &Settings,
-    rows: &Rows,
-) -> Result<BivariateSample, Refusal>
+fn twins_read(alloc: Global, settings: &Settings, rows: &Rows) -> Result<Twins, Refusal>
     requires { MayPick 2 2 settings.now.picks }
-    ensures ok { let found = bivariate_in settings.now.missing settings.now.picks rows.now in
-        IfOk result (λ sample. with_fault layout_refusal found ≡ Ok (bivariate_data_of sample)) }
-    ensures err { let found = bivariate_in settings.now.missing settings.now.picks rows.now in
+    ensures ok { let found = twins_in settings.now.missing settings.now.picks rows.now in
+        IfOk result (λ sample. with_fault layout_refusal found ≡ Ok (twin_data_of sample)) }
+    ensures err { let found = twins_in settings.now.missing settings.now.picks rows.now in
         IfErr result (IsCauseOf (with_fault layout_refusal found)) }
 {
-    bivariate_sample(alloc, rows, &settings.picks, settings.missing).map_err(layout_refusal)
+    twins(alloc, rows, &settings.picks, settings.missing).map_err(layout_refusal)
 }
 
-fn bivariate_sizes(sample: &BivariateSample) -> Sizes
-    ensures { result ≡ bivariate_sizes (bivariate_data_of sample.now) }
+fn twin_sizes(sample: &Twins) -> Sizes
+    ensures { result ≡ twin_sizes (twin_data_of sample.now) }
 {
     Sizes::Pairs {
         rows: sample.rows,
@@ -49,13 +45,8 @@ pub(crate) fn kendall_report(alloc: Global, request: &Request) -> Result<Bytes, 
     requires { MayPick 2 2 request.now.settings.now.picks }
     ensures { Fulfils request.now kendall_of result }
 {
-    let sample = bivariate_read(alloc, request.settings, request.rows)?;
-    let heading = heading_for(
-        request,
-        bivariate_sizes(&sample),
-        Layout::Bivariate,
-        Extra::None,
-    );
+    let sample = twins_read(alloc, request.settings, request.rows)?;
+    let heading = heading_for(request, twin_sizes(&sample), Layout::Twins, Extra::None);
     let problem = prepare_kendall(alloc, &sample);
     report_sequence(alloc, request.asking, &heading, ALL, problem)
 }

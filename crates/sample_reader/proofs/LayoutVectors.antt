@@ -7,7 +7,7 @@ use Rattle.record_reader.specs.declared.missing.Missing.TheVariants.{Refuse, Dro
 use Rattle.record_reader.specs.declared.picks.Picks.{Picks}
 use Rattle.record_reader.specs.declared.faults.LayoutFault.TheVariants.{Columns}
 use Rattle.record_reader.specs.declared.picks.Picks.TheVariants.{Natural, Listed}
-use Rattle.sample_reader.specs.Bivariate.{bivariate_in}
+use Rattle.sample_reader.specs.Twins.{twins_in}
 use Rattle.sample_reader.specs.CellLayouts.{binary_blocks_in, blocks_in, differences_in}
 use Rattle.sample_reader.specs.Dropped.{dropped_of}
 use Rattle.sample_reader.specs.GroupLayout.{groups_in}
@@ -15,7 +15,7 @@ use Rattle.sample_reader.specs.Groups.{GroupData, group_sizes}
 use Rattle.sample_reader.specs.Orders.{reordered_strata}
 use Rattle.sample_reader.specs.Sequences.{sequence_in}
 use Rattle.sample_reader.specs.StrataGroups.{StrataGroupData, strata_groups_in}
-use Rattle.sample_reader.specs.declared.TheConstants.{MOST_BIVARIATE_ROWS, MOST_LABELS}
+use Rattle.sample_reader.specs.declared.TheConstants.{MOST_TWINS, MOST_LABELS}
 use Rattle.sample_reader.specs.declared.layout.Layout.TheVariants.{Pairs, Groups, Blocks, BinaryBlocks, StrataGroups, Sequence}
 use Rattle.record_reader.specs.Layouts.{field_fault, row_fault}
 
@@ -122,17 +122,17 @@ no_pairs = refl
 
 -- ---- bivariate samples
 
-most_bivariate_rows : MOST_BIVARIATE_ROWS ≡ 120
-most_bivariate_rows = refl
+most_twins : MOST_TWINS ≡ 120
+most_twins = refl
 
-turned_bivariate : bivariate_in Refuse (Listed (3 ∷ 1 ∷ [])) (three (codes "a") (codes "b") (codes "c") ∷ three (codes "1") (codes "") (codes "2") ∷ three (codes "5") (codes "x") (codes "-4") ∷ [])
+turned_twins : twins_in Refuse (Listed (3 ∷ 1 ∷ [])) (three (codes "a") (codes "b") (codes "c") ∷ three (codes "1") (codes "") (codes "2") ∷ three (codes "5") (codes "x") (codes "-4") ∷ [])
     ≡ Ok (record { first = pos (2 * 10 ^ 18) ∷ negsuc (4 * 10 ^ 18 - 1) ∷ []; second = pos (10 ^ 18) ∷ pos (5 * 10 ^ 18) ∷ [] })
 unfolding units_of value_of
-turned_bivariate = refl
+turned_twins = refl
 
 -- a single value in each row makes no bivariate sample
-single_bivariate : bivariate_in Refuse Natural (one (codes "d") ∷ one (codes "1") ∷ []) ≡ Err (row_fault 1 kind.FieldCount)
-single_bivariate = refl
+single_twins : twins_in Refuse Natural (one (codes "d") ∷ one (codes "1") ∷ []) ≡ Err (row_fault 1 kind.FieldCount)
+single_twins = refl
 
 -- ---- sequences
 

@@ -8,9 +8,9 @@ mod PooledLemmas
 pub mod Rearranged
 mod Sizes
 mod SubjectLemmas
-mod WholeBivariate
 mod WholeBlocks
 mod WholeGroups
 mod WholePairs
 mod WholeSequence
 mod WholeStrata
+mod WholeTwins

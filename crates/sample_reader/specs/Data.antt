@@ -1,10 +1,10 @@
 -- What samples stand for.
-use Rattle.sample_reader.specs.Bivariate.{BivariateData}
+use Rattle.sample_reader.specs.Twins.{TwinData}
 use Rattle.sample_reader.specs.CellLayouts.{BlockData}
 use Rattle.sample_reader.specs.Groups.{GroupData}
 use Rattle.sample_reader.specs.Sequences.{SequenceData}
 use Rattle.sample_reader.specs.StrataGroups.{StrataGroupData}
-use Rattle.sample_reader.specs.declared.samples.BivariateSample.{BivariateSample}
+use Rattle.sample_reader.specs.declared.samples.Twins.{Twins}
 use Rattle.sample_reader.specs.declared.samples.Blocks.{Blocks}
 use Rattle.sample_reader.specs.declared.samples.Groups.{Groups}
 use Rattle.sample_reader.specs.declared.samples.Sequence.{Sequence}
@@ -26,8 +26,8 @@ strata_data_of samples = record {
   values = samples.values;
 }
 
-abbrev pub bivariate_data_of : BivariateSample → BivariateData
-bivariate_data_of sample = record { first = sample.first; second = sample.second }
+abbrev pub twin_data_of : Twins → TwinData
+twin_data_of sample = record { first = sample.first; second = sample.second }
 
 abbrev pub sequence_data_of : Sequence → SequenceData
 sequence_data_of sequence = record { labels = sequence.labels; members = sequence.members }

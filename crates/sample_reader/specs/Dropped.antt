@@ -7,10 +7,10 @@ use Rattle.sample_reader.specs.CellLayouts.{block_layout, pair_layout}
 use Rattle.sample_reader.specs.GroupLayout.{group_layout}
 use Rattle.sample_reader.specs.Sequences.{sequence_layout}
 use Rattle.sample_reader.specs.StrataGroups.{strata_layout}
-use Rattle.sample_reader.specs.Bivariate.{bivariate_layout}
+use Rattle.sample_reader.specs.Twins.{twin_layout}
 use Rattle.sample_reader.specs.Values.{binary_in, value_in}
 use Rattle.sample_reader.specs.declared.layout.Layout.{Layout}
-use Rattle.sample_reader.specs.declared.layout.Layout.TheVariants.{Pairs, Groups, Blocks, BinaryBlocks, StrataGroups, Bivariate, Sequence}
+use Rattle.sample_reader.specs.declared.layout.Layout.TheVariants.{Pairs, Groups, Blocks, BinaryBlocks, StrataGroups, Twins, Sequence}
 use Rattle.sample_reader.specs.declared.TheConstants.{MOST_LABELS}
 
 -- fields that may be picked in a layout
@@ -20,7 +20,7 @@ MayPickFor Groups = MayPick 2 2
 MayPickFor Blocks = MayPick 2 8
 MayPickFor BinaryBlocks = MayPick 2 8
 MayPickFor StrataGroups = MayPick 3 3
-MayPickFor Bivariate = MayPick 2 2
+MayPickFor Twins = MayPick 2 2
 MayPickFor Sequence = MayPick 1 1
 
 -- how many rows of a file are dropped in a layout, where those that miss a field are: in that of
@@ -31,5 +31,5 @@ dropped_of Groups = dropped_rows (group_layout MOST_LABELS) Drop
 dropped_of Blocks = dropped_rows (block_layout value_in) Drop
 dropped_of BinaryBlocks = dropped_rows (block_layout binary_in) Drop
 dropped_of StrataGroups = dropped_rows strata_layout Drop
-dropped_of Bivariate = dropped_rows bivariate_layout Drop
+dropped_of Twins = dropped_rows twin_layout Drop
 dropped_of Sequence = dropped_rows sequence_layout Drop

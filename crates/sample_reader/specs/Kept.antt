@@ -4,7 +4,7 @@ use Rattle.sample_reader.specs.CellLayouts.{PairValues}
 use Rattle.sample_reader.specs.GroupLayout.{Subjects, different}
 use Rattle.sample_reader.specs.Numbered.{IsNumbered}
 use Rattle.sample_reader.specs.StrataGroups.{StrataSubjects}
-use Rattle.sample_reader.specs.declared.TheConstants.{MOST_BIVARIATE_ROWS}
+use Rattle.sample_reader.specs.declared.TheConstants.{MOST_TWINS}
 use Rattle.record_reader.specs.declared.TheConstants.{MOST_ROWS}
 
 -- each value is in the range of values
@@ -22,9 +22,9 @@ pub record AreWholePairs (pairs : PairValues) : Type 0 where
   pub one_or_two : (length pairs.second ≡ 0) ⊎ (length pairs.first ≡ length pairs.second)
 
 -- Values that make a bivariate sample: all rows have two.
-pub record AreWholeBivariate (pairs : PairValues) : Type 0 where
+pub record AreWholeTwins (pairs : PairValues) : Type 0 where
   pub not_empty : 1 ≤ length pairs.first
-  pub few_enough : length pairs.first ≤ MOST_BIVARIATE_ROWS
+  pub few_enough : length pairs.first ≤ MOST_TWINS
   pub two_each : length pairs.second ≡ length pairs.first
 
 -- Cells that make so many blocks of so many treatments.

@@ -1,4 +1,3 @@
-pub mod Bivariate
 pub mod CellLayouts
 pub mod Cells
 pub mod Data
@@ -11,4 +10,5 @@ pub mod Orders
 pub mod PooledSample
 pub mod Sequences
 pub mod StrataGroups
+pub mod Twins
 pub mod Values

@@ -3,13 +3,13 @@ ghost use Rattle.std.specs.Prelude.{◌≡◌};
 ghost use Rattle.sample_reader.specs.Dropped.{MayPickFor, dropped_of};
 
 use crate::MOST_LABELS;
-use crate::bivariate_rows::BivariateLayout;
 use crate::block_rows::{BlockLayout, Cell};
 use crate::group_rows::GroupLayout;
 use crate::layout::Layout;
 use crate::pair_rows::PairLayout;
 use crate::sequence_rows::SequenceLayout;
 use crate::strata_rows::StrataLayout;
+use crate::twin_rows::TwinLayout;
 use record_reader::{Missing, Picks, Rows};
 
 /// How many rows of a file are dropped where it is read in a layout and those that miss a picked
@@ -33,7 +33,7 @@ pub fn dropped(rows: &Rows, picks: &Picks, layout: Layout) -> u64
             record_reader::dropped(&blocks, Missing::Drop, rows, picks)
         }
         Layout::StrataGroups => record_reader::dropped(&StrataLayout, Missing::Drop, rows, picks),
-        Layout::Bivariate => record_reader::dropped(&BivariateLayout, Missing::Drop, rows, picks),
+        Layout::Twins => record_reader::dropped(&TwinLayout, Missing::Drop, rows, picks),
         Layout::Sequence => record_reader::dropped(&SequenceLayout, Missing::Drop, rows, picks),
     }
 }

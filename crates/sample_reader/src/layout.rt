@@ -15,8 +15,8 @@ pub enum Layout {
     /// A label of a stratum, a label of a group and a value in each row, as
     /// [`strata_groups`](crate::strata_groups) reads them.
     StrataGroups,
-    /// Two values in each row, as [`bivariate_sample`](crate::bivariate_sample) reads them.
-    Bivariate,
+    /// Two values in each row, as [`twins`](crate::twins) reads them.
+    Twins,
     /// A label in each row, as [`sequence`](crate::sequence) reads them.
     Sequence,
 }

@@ -2,7 +2,6 @@
 //! and sequences; and the pooled sample of groups.
 #![tactic(auto)]
 
-mod bivariate_rows;
 mod block_rows;
 mod dropping;
 mod fields;
@@ -16,8 +15,8 @@ mod samples;
 mod sequence_rows;
 mod strata_rows;
 mod subjects;
+mod twin_rows;
 
-pub use bivariate_rows::bivariate_sample;
 pub use block_rows::{binary_blocks, blocks};
 pub use dropping::dropped;
 pub use group_rows::groups;
@@ -26,13 +25,14 @@ pub use layout::Layout;
 pub use order::{OrderFault, reorder, reorder_strata};
 pub use pair_rows::pairs;
 pub use record_reader::Missing;
-pub use samples::{BivariateSample, Blocks, Groups, Pairs, Sequence, StrataGroups};
+pub use samples::{Blocks, Groups, Pairs, Sequence, StrataGroups, Twins};
 pub use sequence_rows::sequence;
 pub use strata_rows::strata_groups;
 pub use subjects::{Subject, ordered_subjects, pooled_subjects, values};
+pub use twin_rows::twins;
 
 /// The greatest number of labels that groups may have.
 pub const MOST_LABELS: u64 = 8;
 
 /// The greatest number of rows of a bivariate sample.
-pub const MOST_BIVARIATE_ROWS: u64 = 120;
+pub const MOST_TWINS: u64 = 120;

@@ -2,13 +2,13 @@
 ghost use Rattle.std.specs.Prelude.{◌≡◌, ◌⊎◌, ◌-ℤ◌, ◌*◌, ◌^◌, ◌<◌, Ok, IfErr, IfOk, length, nat_abs};
 ghost use Rattle.record_reader.specs.Answers.{IsFaultOf};
 ghost use Rattle.sample_reader.specs.CellLayouts.{differences, differences_in, differences_of, no_pairs, second_less_first, with_pair_value};
-ghost use Rattle.sample_reader.specs.Data.{bivariate_data_of};
-ghost use Rattle.sample_reader.specs.Kept.{AreDifferences, AreInRange, AreWholeBivariate, AreWholePairs};
+ghost use Rattle.sample_reader.specs.Data.{twin_data_of};
+ghost use Rattle.sample_reader.specs.Kept.{AreDifferences, AreInRange, AreWholeTwins, AreWholePairs};
 ghost use Rattle.record_reader.specs.Layouts.{MayPick};
-ghost use Rattle.sample_reader.specs.Bivariate.{bivariate_of};
+ghost use Rattle.sample_reader.specs.Twins.{twins_of};
 
 use crate::fields::{is_missing_value, value_in};
-use crate::samples::{BivariateSample, Pairs};
+use crate::samples::{Pairs, Twins};
 use record_reader::{
     FieldFault, Kind, Layout, LayoutFault, MOST_ROWS, Missing, Picks, Rows, Shape, read_in,
 };
@@ -72,11 +72,11 @@ impl PairsSoFar {
     }
 
     // The bivariate sample of these, where they are all.
-    pub(crate) fn into_bivariate(self) -> BivariateSample
-        requires { AreWholeBivariate self }
-        ensures { bivariate_data_of result ≡ bivariate_of self }
+    pub(crate) fn into_twins(self) -> Twins
+        requires { AreWholeTwins self }
+        ensures { twin_data_of result ≡ twins_of self }
     {
-        BivariateSample {
+        Twins {
             rows: self.first.len() as u64,
             first: self.first,
             second: self.second,

@@ -2,7 +2,7 @@
 ghost use Rattle.std.specs.Prelude.{◌≡◌, ◌≢◌, ◌<◌, ◌≤◌, ◌*◌, ◌^◌, nat_abs, length, All, AllPairs, IfOk};
 ghost use Rattle.weights.specs.Labellings.{counts_of};
 ghost use Rattle.record_reader.specs.declared.TheConstants.{MOST_ROWS};
-ghost use Rattle.sample_reader.specs.declared.TheConstants.{MOST_BIVARIATE_ROWS};
+ghost use Rattle.sample_reader.specs.declared.TheConstants.{MOST_TWINS};
 
 use crate::labels::Labels;
 use std::alloc::Global;
@@ -90,9 +90,9 @@ pub struct StrataGroups {
     pub ghost no_stratum_empty: { All (λ size. 1 ≤ size) (counts_of (length strata) places) },
 }
 
-/// The two values of each subject of a file. No difference of the two is taken.
+/// A bivariate sample: the two values of each subject of a file. No difference of the two is taken.
 #[derive(Drop)]
-pub struct BivariateSample {
+pub struct Twins {
     /// How many rows there are.
     pub rows: u64,
     /// Each row's first value, in units of 10^-18, in the order of the file.
@@ -100,7 +100,7 @@ pub struct BivariateSample {
     /// Each row's second value, in units of 10^-18, in the order of the file.
     pub second: Ints,
     pub ghost not_empty: { 1 ≤ rows },
-    pub ghost few_enough: { rows ≤ MOST_BIVARIATE_ROWS },
+    pub ghost few_enough: { rows ≤ MOST_TWINS },
     pub ghost one_first_each: { length first ≡ rows },
     pub ghost one_second_each: { length second ≡ rows },
     pub ghost first_in_range: { All (λ value. nat_abs value < 10 ^ 36) first },

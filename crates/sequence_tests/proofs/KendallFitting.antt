@@ -17,10 +17,10 @@ use Rattle.weights.proofs.Members.{Contains-labellings, IsLabelling, labelling_f
 use Rattle.midranks.specs.Ties.{tie_groups}
 use Rattle.midranks.specs.declared.ties.Tie.{Tie}
 use Rattle.midranks.proofs.TieLemmas.{all-weaker, groups-ascend}
-use Rattle.sample_reader.specs.Bivariate.{BivariateData}
+use Rattle.sample_reader.specs.Twins.{TwinData}
 use Rattle.sample_reader.specs.Groups.{GroupData}
 use Rattle.sample_reader.specs.PooledSample.{labels_of, values_of}
-use Rattle.sample_reader.specs.declared.samples.BivariateSample.{BivariateSample}
+use Rattle.sample_reader.specs.declared.samples.Twins.{Twins}
 use Rattle.sample_reader.specs.declared.subjects.Subject.{Subject}
 use Rattle.networks.specs.Follows.{Follows}
 use Rattle.networks.specs.Judged.{judge_of}
@@ -45,10 +45,10 @@ use Rattle.sequence_tests.proofs.Places.{groups-few, places-below, places-counte
 
 -- ---- of a sample that was read
 
-pub read-paired : (sample : BivariateSample) → length sample.second ≡ length sample.first
+pub read-paired : (sample : Twins) → length sample.second ≡ length sample.first
 read-paired sample = sample.one_second_each ∙ sym sample.one_first_each
 
-pub read-few : (sample : BivariateSample) → length sample.first ≤ 120
+pub read-few : (sample : Twins) → length sample.first ≤ 120
 read-few sample = omega (arith, sample.one_first_each, sample.few_enough)
 
 -- ---- of its two values of each subject
@@ -56,7 +56,7 @@ read-few sample = omega (arith, sample.one_first_each, sample.few_enough)
 pub value-fits : (v : ℤ) → unsigned_abs v ≤ 14400 → RuleFits (Far 1 (pos 0) 0) v
 value-fits v h = far-fits 1 (pos 0) v (lit≤ tt) (omega (arith, h))
 
-module _ (sample : BivariateData) where
+module _ (sample : TwinData) where
   abbrev firsts : List ℤ
   firsts = values_of (kendall_subjects sample)
 

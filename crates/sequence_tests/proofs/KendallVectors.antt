@@ -4,14 +4,14 @@ use Rattle.std.proofs.Common.{refl}
 use Rattle.weights.specs.Conditional.{numerator, observed_statistic, total}
 use Rattle.weights.specs.declared.tails.Tail.TheVariants.{Less, Greater, Two}
 use Rattle.midranks.specs.Ties.{tie_groups}
-use Rattle.sample_reader.specs.Bivariate.{BivariateData}
+use Rattle.sample_reader.specs.Twins.{TwinData}
 use Rattle.sample_reader.specs.PooledSample.{paired_subjects}
 use Rattle.sequence_tests.specs.CountCodes.{code}
 use Rattle.sequence_tests.specs.Kendall.{kendall_test, places_of}
-use Rattle.sequence_tests.specs.TurnedKendall.{turned_bivariate}
+use Rattle.sequence_tests.specs.TurnedKendall.{turned_twins}
 
 -- three subjects, of whom the first two stand in the other order
-abbrev three : BivariateData
+abbrev three : TwinData
 three = record { first = pos 1 ∷ pos 2 ∷ pos 3 ∷ []; second = pos 2 ∷ pos 1 ∷ pos 3 ∷ [] }
 
 three_sum : observed_statistic (kendall_test three) ≡ pos 1
@@ -35,7 +35,7 @@ unfolding tie_groups paired_subjects
 three_two = refl
 
 -- two of three second values are equal
-abbrev tied : BivariateData
+abbrev tied : TwinData
 tied = record { first = pos 1 ∷ pos 2 ∷ pos 3 ∷ []; second = pos 1 ∷ pos 1 ∷ pos 2 ∷ [] }
 
 tied_sum : observed_statistic (kendall_test tied) ≡ pos 2
@@ -47,20 +47,20 @@ unfolding tie_groups paired_subjects
 tied_two = refl
 
 -- the same with the two values of each subject in each other's place: as many again of twice as many
-tied_turned_sum : observed_statistic (kendall_test (turned_bivariate tied)) ≡ pos 2
+tied_turned_sum : observed_statistic (kendall_test (turned_twins tied)) ≡ pos 2
 unfolding tie_groups paired_subjects
 tied_turned_sum = refl
 
-tied_turned_total : total (kendall_test (turned_bivariate tied)) ≡ 6
+tied_turned_total : total (kendall_test (turned_twins tied)) ≡ 6
 unfolding tie_groups
 tied_turned_total = refl
 
-tied_turned_two : numerator (kendall_test (turned_bivariate tied)) Two ≡ 4
+tied_turned_two : numerator (kendall_test (turned_twins tied)) Two ≡ 4
 unfolding tie_groups paired_subjects
 tied_turned_two = refl
 
 -- ties in both columns, and subjects whose first values do not ascend
-abbrev both : BivariateData
+abbrev both : TwinData
 both = record { first = pos 3 ∷ pos 1 ∷ pos 3 ∷ pos 2 ∷ []; second = pos 1 ∷ pos 7 ∷ pos 7 ∷ negsuc 0 ∷ [] }
 
 both_sum : observed_statistic (kendall_test both) ≡ pos 0

@@ -16,11 +16,11 @@ use Rattle.midranks.specs.Ties.{tie_groups}
 use Rattle.midranks.specs.declared.ties.Tie.{Tie}
 use Rattle.midranks.proofs.Places.{group-exists}
 use Rattle.midranks.proofs.TieLemmas.{less-from_test, not_less-from_test, test-less, test-not_less}
-use Rattle.sample_reader.specs.Bivariate.{BivariateData}
+use Rattle.sample_reader.specs.Twins.{TwinData}
 use Rattle.sample_reader.specs.PooledSample.{labels_of, may_precede, paired_subjects, values_of}
 use Rattle.sample_reader.specs.declared.subjects.Subject.{Subject}
 use Rattle.sequence_tests.specs.Kendall.{kendall_subjects, kendall_test, one_where_greater, one_where_less, over_pairs, place_among, places_of}
-use Rattle.sequence_tests.specs.TurnedKendall.{turned_bivariate}
+use Rattle.sequence_tests.specs.TurnedKendall.{turned_twins}
 use Rattle.sequence_tests.proofs.Places.{below, no_tie}
 
 -- ---- places are in the order of the values
@@ -164,7 +164,7 @@ over-ordered f ss =
 abbrev value_sum : List ℤ → List ℤ → ℤ
 value_sum vs ws = pos (values_rise (zip vs ws)) -ℤ pos (values_fall (zip vs ws))
 
-observed-is : (t : BivariateData) → observed_statistic (kendall_test t) ≡ value_sum t.first t.second
+observed-is : (t : TwinData) → observed_statistic (kendall_test t) ≡ value_sum t.first t.second
 observed-is t =
     let ss : List Subject = kendall_subjects t in
     let places : List ℕ = places_of t.second in
@@ -173,8 +173,8 @@ observed-is t =
     ∙ ap (λ n. pos n -ℤ pos (over_pairs one_where_greater ss ss)) (over-ordered one_where_less (paired_subjects t.first places) ∙ placed-rise (place_among (tie_groups t.second)) t.first t.second placed)
     ∙ ap (λ n. pos (values_rise (zip t.first t.second)) -ℤ pos n) (over-ordered one_where_greater (paired_subjects t.first places) ∙ placed-fall (place_among (tie_groups t.second)) t.first t.second placed)
 
-pub observed-turned : (t : BivariateData) → observed_statistic (kendall_test t) ≡ observed_statistic (kendall_test (turned_bivariate t))
+pub observed-turned : (t : TwinData) → observed_statistic (kendall_test t) ≡ observed_statistic (kendall_test (turned_twins t))
 observed-turned t =
     observed-is t
-    ∙ sym (observed-is (turned_bivariate t) ∙ ap (λ n. pos n -ℤ pos (values_fall (zip t.second t.first))) (rise-swapped t.first t.second)
+    ∙ sym (observed-is (turned_twins t) ∙ ap (λ n. pos n -ℤ pos (values_fall (zip t.second t.first))) (rise-swapped t.first t.second)
     ∙ ap (λ n. pos (values_rise (zip t.first t.second)) -ℤ pos n) (fall-swapped t.first t.second))

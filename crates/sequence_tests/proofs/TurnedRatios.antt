@@ -20,14 +20,14 @@ use Rattle.networks.specs.declared.verdicts.Judge.{Judge}
 use Rattle.stage_network.proofs.DistributionLines.{distribution-is, spread-is}
 use Rattle.networks.proofs.Following.{numerator-by_rule, rule-of}
 use Rattle.labelled.proofs.LabelLaws.{total-some}
-use Rattle.sample_reader.specs.Bivariate.{BivariateData}
+use Rattle.sample_reader.specs.Twins.{TwinData}
 use Rattle.pooled_columns.specs.PooledColumns.{column_sizes}
 use Rattle.turned_tables.proofs.Reduced.{no-rest, quotient}
 use Rattle.turned_tables.proofs.Weighed.{cancel}
 use Rattle.sequence_tests.specs.Kendall.{kendall_says, kendall_test}
 use Rattle.sequence_tests.specs.declared.kendall_made.KendallMade.{KendallMade}
 use Rattle.sequence_tests.specs.KendallMade.{AreMade}
-use Rattle.sequence_tests.specs.TurnedKendall.{AreInRatio, turned_bivariate, weighed_line}
+use Rattle.sequence_tests.specs.TurnedKendall.{AreInRatio, turned_twins, weighed_line}
 use Rattle.sequence_tests.proofs.TurnedObserved.{observed-turned}
 use Rattle.sequence_tests.proofs.TurnedSums.{sums-turned, total-is}
 
@@ -36,37 +36,37 @@ use Rattle.sequence_tests.proofs.TurnedSums.{sums-turned, total-is}
 abbrev judge_by : ℤ → Judge
 judge_by z = record { less = AtMost z; greater = AtLeast z; two = Far 1 (pos 0) (distance 1 (pos 0) z) }
 
-pub judge-turned : (t : BivariateData) → judge_of (kendall_test t) ≡ judge_of (kendall_test (turned_bivariate t))
+pub judge-turned : (t : TwinData) → judge_of (kendall_test t) ≡ judge_of (kendall_test (turned_twins t))
 judge-turned t = ap judge_by (observed-turned t)
 
-rule-turned : (t : BivariateData) (tail : Tail) → rule_of (kendall_test t) tail ≡ rule_of (kendall_test (turned_bivariate t)) tail
-rule-turned t tail = sym (rule-of (kendall_test t) tail) ∙ ap (λ judge. rule_in judge tail) (judge-turned t) ∙ rule-of (kendall_test (turned_bivariate t)) tail
+rule-turned : (t : TwinData) (tail : Tail) → rule_of (kendall_test t) tail ≡ rule_of (kendall_test (turned_twins t)) tail
+rule-turned t tail = sym (rule-of (kendall_test t) tail) ∙ ap (λ judge. rule_in judge tail) (judge-turned t) ∙ rule-of (kendall_test (turned_twins t)) tail
 
-numerator-sums : (t : BivariateData) (tail : Tail) → numerator (kendall_test t) tail ≡ statistic_sums (kendall_test t) (passes (rule_of (kendall_test t) tail))
+numerator-sums : (t : TwinData) (tail : Tail) → numerator (kendall_test t) tail ≡ statistic_sums (kendall_test t) (passes (rule_of (kendall_test t) tail))
 numerator-sums t tail =
     numerator-by_rule (kendall_test t) tail
     ∙ ap (sum_by unit_weight) (filter-same (λ r. passes (rule_of (kendall_test t) tail) (measured (kendall_test t) tail r)) (λ r. passes (rule_of (kendall_test t) tail) ((kendall_says t).statistic r)) (λ r. ap (passes (rule_of (kendall_test t) tail)) (measured-is (kendall_test t) refl tail r)) (labellings (column_sizes t.second)))
 
-pub numerators-turned : (t : BivariateData) → length t.second ≡ length t.first → (tail : Tail) → numerator (kendall_test t) tail * total (kendall_test (turned_bivariate t)) ≡ numerator (kendall_test (turned_bivariate t)) tail * total (kendall_test t)
+pub numerators-turned : (t : TwinData) → length t.second ≡ length t.first → (tail : Tail) → numerator (kendall_test t) tail * total (kendall_test (turned_twins t)) ≡ numerator (kendall_test (turned_twins t)) tail * total (kendall_test t)
 numerators-turned t long tail =
-    ap (λ n. n * total (kendall_test (turned_bivariate t))) (numerator-sums t tail)
+    ap (λ n. n * total (kendall_test (turned_twins t))) (numerator-sums t tail)
     ∙ sums-turned t long (passes (rule_of (kendall_test t) tail))
-    ∙ ap (λ rule. statistic_sums (kendall_test (turned_bivariate t)) (passes rule) * total (kendall_test t)) (rule-turned t tail)
-    ∙ sym (ap (λ n. n * total (kendall_test t)) (numerator-sums (turned_bivariate t) tail))
+    ∙ ap (λ rule. statistic_sums (kendall_test (turned_twins t)) (passes rule) * total (kendall_test t)) (rule-turned t tail)
+    ∙ sym (ap (λ n. n * total (kendall_test t)) (numerator-sums (turned_twins t) tail))
 
-numerator-within : (t : BivariateData) (tail : Tail) → numerator (kendall_test t) tail ≤ total (kendall_test t)
+numerator-within : (t : TwinData) (tail : Tail) → numerator (kendall_test t) tail ≤ total (kendall_test t)
 numerator-within t tail = omega (arith, numerator-sums t tail, sum_by-filter-≤ unit_weight (λ r. passes (rule_of (kendall_test t) tail) ((kendall_says t).statistic r)) (labellings (column_sizes t.second)))
 
 -- a part of a total that in the ratio of another is a whole number, and the numerator
-pub record Gives (t : BivariateData) (tail : Tail) (part of all : ℕ) : Type 0 where
+pub record Gives (t : TwinData) (tail : Tail) (part of all : ℕ) : Type 0 where
   pub some : 0 < of
   pub within : part ≤ of
   pub whole : (all * part) % of ≡ 0
   pub law : (found : ℕ) → found * of ≡ part * all → found ≡ numerator (kendall_test t) tail
 
-pub gives : (t u : BivariateData) (here there : KendallMade) (tail : Tail) (part : ℕ) → u ≡ turned_bivariate t → AreMade t here → AreMade u there → part ≡ numerator (kendall_test u) tail → Gives t tail part there.total here.total
+pub gives : (t u : TwinData) (here there : KendallMade) (tail : Tail) (part : ℕ) → u ≡ turned_twins t → AreMade t here → AreMade u there → part ≡ numerator (kendall_test u) tail → Gives t tail part there.total here.total
 gives t u here there tail part e a b p =
-    let v : BivariateData = turned_bivariate t in
+    let v : TwinData = turned_twins t in
     let all : here.total ≡ total (kendall_test t) = a.total ∙ sym (total-is t) in
     let of : there.total ≡ total (kendall_test v) = b.total ∙ ap (λ x. number_of_labellings (column_sizes x.second)) e ∙ sym (total-is v) in
     let there_part : part ≡ numerator (kendall_test v) tail = p ∙ ap (λ x. numerator (kendall_test x) tail) e in
@@ -117,9 +117,9 @@ module _ (all of : ℕ) (some : 0 < of) where
       both true n w e = e
       both false n w e = omega arith
 
-module _ (t : BivariateData) (long : length t.second ≡ length t.first) where
-  abbrev u : BivariateData
-  u = turned_bivariate t
+module _ (t : TwinData) (long : length t.second ≡ length t.first) where
+  abbrev u : TwinData
+  u = turned_twins t
 
   abbrev all : ℕ
   all = total (kendall_test t)
@@ -158,5 +158,5 @@ module _ (t : BivariateData) (long : length t.second ≡ length t.first) where
         told = told;
       }))
 
-pub are-in-ratio : (t : BivariateData) → length t.second ≡ length t.first → AreInRatio t (turned_bivariate t)
+pub are-in-ratio : (t : TwinData) → length t.second ≡ length t.first → AreInRatio t (turned_twins t)
 are-in-ratio t long = record { observed = observed-turned t; numerators = numerators-turned t long; distributions = spread-turned t long }

@@ -17,7 +17,7 @@ use Rattle.midranks.specs.Ties.{tie_groups}
 use Rattle.midranks.specs.declared.ties.Tie.{Tie}
 use Rattle.midranks.proofs.OneGrouping.{groups-are}
 use Rattle.midranks.proofs.TieLemmas.{groups-ascend, groups-counts, sum_by-groups}
-use Rattle.sample_reader.specs.Bivariate.{BivariateData}
+use Rattle.sample_reader.specs.Twins.{TwinData}
 use Rattle.sample_reader.specs.Groups.{GroupData}
 use Rattle.sample_reader.specs.PooledSample.{may_precede, paired_subjects, values_of}
 use Rattle.sample_reader.specs.declared.subjects.Subject.{Subject}
@@ -31,7 +31,7 @@ use Rattle.turned_tables.proofs.Bijection.{sums}
 use Rattle.turned_tables.proofs.Shapes.{wide-table}
 use Rattle.turned_tables.proofs.Weighed.{weighed-turned}
 use Rattle.sequence_tests.specs.Kendall.{kendall_says, kendall_statistic, kendall_subjects, kendall_test, place_among, places_of}
-use Rattle.sequence_tests.specs.TurnedKendall.{turned_bivariate}
+use Rattle.sequence_tests.specs.TurnedKendall.{turned_twins}
 use Rattle.sequence_tests.proofs.KendallValues.{values_of_ties}
 use Rattle.sequence_tests.proofs.Places.{sizes-sum}
 use Rattle.sequence_tests.proofs.TableSums.{sum-turned, table-is, table_sum}
@@ -59,7 +59,7 @@ values-paired f (v ∷ vs) (x ∷ xs) e =
     ∙ ap (λ n. f v + n) (values-paired f vs xs (omega (arith, e)))
     ∙ sym (sum_by-cons f v vs)
 
-module _ (t : BivariateData) where
+module _ (t : TwinData) where
   abbrev firsts : List ℤ
   firsts = values_of (kendall_subjects t)
 
@@ -110,9 +110,9 @@ module _ (t : BivariateData) where
   total-is = total-of (kendall_says t)
 
 -- the sums of the test turned
-pub sums-turned : (t : BivariateData) → length t.second ≡ length t.first → (p : ℤ → Bool) → statistic_sums (kendall_test t) p * total (kendall_test (turned_bivariate t)) ≡ statistic_sums (kendall_test (turned_bivariate t)) p * total (kendall_test t)
+pub sums-turned : (t : TwinData) → length t.second ≡ length t.first → (p : ℤ → Bool) → statistic_sums (kendall_test t) p * total (kendall_test (turned_twins t)) ≡ statistic_sums (kendall_test (turned_twins t)) p * total (kendall_test t)
 sums-turned t long p =
-    ap (λ n. statistic_sums (kendall_test t) p * n) (total-is (turned_bivariate t))
+    ap (λ n. statistic_sums (kendall_test t) p * n) (total-is (turned_twins t))
     ∙ ap (λ n. n * number_of_labellings (column_sizes t.first)) (sums-are t long p)
     ∙ passing-turned p (column_sizes t.first) (column_sizes t.second) (level t long)
-    ∙ sym (ap (λ n. n * total (kendall_test t)) (sums-are (turned_bivariate t) (sym long) p) ∙ ap (λ n. by_columns (column_sizes t.second) (column_sizes t.first) (passing p (length (column_sizes t.first))) * n) (total-is t))
+    ∙ sym (ap (λ n. n * total (kendall_test t)) (sums-are (turned_twins t) (sym long) p) ∙ ap (λ n. by_columns (column_sizes t.second) (column_sizes t.first) (passing p (length (column_sizes t.first))) * n) (total-is t))

@@ -9,7 +9,7 @@ use Rattle.weights.specs.InOrder.{in_order}
 use Rattle.labelled.specs.LabelTests.{LabelTest, label_test}
 use Rattle.midranks.specs.Ties.{tie_groups}
 use Rattle.midranks.specs.declared.ties.Tie.{Tie}
-use Rattle.sample_reader.specs.Bivariate.{BivariateData}
+use Rattle.sample_reader.specs.Twins.{TwinData}
 use Rattle.sample_reader.specs.PooledSample.{labels_of, may_precede, paired_subjects, values_of}
 use Rattle.sample_reader.specs.declared.subjects.Subject.{Subject}
 use Rattle.pooled_columns.specs.PooledColumns.{column_sizes}
@@ -44,13 +44,13 @@ places_of values = map (place_among (tie_groups values)) values
 
 -- the subjects in ascending order of their first values, each labelled by the place of its second
 -- value among the distinct ones
-abbrev pub kendall_subjects : BivariateData → List Subject
+abbrev pub kendall_subjects : TwinData → List Subject
 kendall_subjects sample =
     in_order may_precede (paired_subjects sample.first (places_of sample.second))
 
 -- all ways to give the second values to the subjects, each distinct value as often as it occurs; K
 -- is at most the square of the number of subjects
-abbrev pub kendall_says : BivariateData → LabelTest
+abbrev pub kendall_says : TwinData → LabelTest
 kendall_says sample =
     let firsts = values_of (kendall_subjects sample) in record {
       sizes = column_sizes sample.second;
@@ -64,5 +64,5 @@ kendall_says sample =
     }
 
 -- the test of Kendall's K of two values of each subject
-abbrev pub kendall_test : BivariateData → ConditionalTest
+abbrev pub kendall_test : TwinData → ConditionalTest
 kendall_test sample = label_test (kendall_says sample)

@@ -3,7 +3,7 @@ use Rattle.std.specs.Prelude.{ℕ, ◌+◌, ◌*◌, ℤ, pos, ◌-ℤ◌, List,
 use Rattle.std.specs.List.{sum}
 use Rattle.weights.specs.declared.tails.Tail.{Tail}
 use Rattle.weights.specs.Grouped.{minus}
-use Rattle.sample_reader.specs.Bivariate.{BivariateData}
+use Rattle.sample_reader.specs.Twins.{TwinData}
 use Rattle.sample_reader.specs.PooledSample.{values_of}
 use Rattle.networks.specs.Judged.{judge_of}
 use Rattle.networks.specs.Network.{Network}
@@ -54,13 +54,13 @@ abbrev pub kendall_meaning : List ℕ → List ℕ → Judge → Meaning
 kendall_meaning columns rows judge =
     number_meaning (kendall_floor columns rows) (kendall_numbers columns rows judge)
 
-abbrev pub sample_meaning : BivariateData → Meaning
+abbrev pub sample_meaning : TwinData → Meaning
 sample_meaning sample = kendall_meaning (column_sizes (values_of (kendall_subjects sample)))
     (column_sizes sample.second) (judge_of (kendall_test sample))
 
-abbrev pub kendall_stages : BivariateData → Network
+abbrev pub kendall_stages : TwinData → Network
 kendall_stages sample = room_network (sample_meaning sample) label_weight
 
 -- one network for all tails
-abbrev pub kendall_network : BivariateData → Tail → Network
+abbrev pub kendall_network : TwinData → Tail → Network
 kendall_network sample tail = kendall_stages sample

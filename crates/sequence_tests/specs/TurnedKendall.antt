@@ -4,11 +4,11 @@ use Rattle.std.specs.Prelude.{◌≡◌, ℕ, ◌*◌, ◌/◌, map}
 use Rattle.weights.specs.declared.lines.Line.{Line}
 use Rattle.weights.specs.declared.tails.Tail.{Tail}
 use Rattle.weights.specs.Conditional.{distribution, numerator, observed_statistic, total}
-use Rattle.sample_reader.specs.Bivariate.{BivariateData}
+use Rattle.sample_reader.specs.Twins.{TwinData}
 use Rattle.sequence_tests.specs.Kendall.{kendall_test}
 
-abbrev pub turned_bivariate : BivariateData → BivariateData
-turned_bivariate sample = record { first = sample.second; second = sample.first }
+abbrev pub turned_twins : TwinData → TwinData
+turned_twins sample = record { first = sample.second; second = sample.first }
 
 -- a line with its weight in the ratio of two totals
 abbrev pub weighed_line : ℕ → ℕ → Line → Line
@@ -16,7 +16,7 @@ weighed_line all of line = record { value = line.value; weight = line.weight * a
 
 -- K is the same in two tests, and what is counted is in the ratio of their totals: each tail, and
 -- the lines of the distribution
-pub record AreInRatio (t u : BivariateData) : Type 0 where
+pub record AreInRatio (t u : TwinData) : Type 0 where
   pub observed : observed_statistic (kendall_test t) ≡ observed_statistic (kendall_test u)
   pub numerators : (tail : Tail)
       → numerator (kendall_test t) tail * total (kendall_test u)

@@ -4,7 +4,7 @@ ghost use Rattle.weights.specs.Conditional.{numerator};
 ghost use Rattle.networks.specs.Follows.{AreNumerators};
 ghost use Rattle.networks.specs.Judged.{judge_of};
 ghost use Rattle.sequence_tests.specs.Kendall.{kendall_test};
-ghost use Rattle.sequence_tests.specs.TurnedKendall.{turned_bivariate};
+ghost use Rattle.sequence_tests.specs.TurnedKendall.{turned_twins};
 
 use crate::pair_order::PairOrder;
 use crate::turned::turned_of;
@@ -39,7 +39,7 @@ fn numerator_by_turning(
     found: TailSum,
     _tail: Tail,
 ) -> TailSum
-    requires turned { turned.now ≡ turned_bivariate order.now }
+    requires turned { turned.now ≡ turned_twins order.now }
     requires found { asked ≡ true → found.sum ≡ numerator (kendall_test turned.now) _tail }
     ensures { asked ≡ true → result.sum ≡ numerator (kendall_test order.now) _tail }
 {
@@ -63,7 +63,7 @@ fn sums_by_turning(
     judge: Judge,
     tails: Tails,
 ) -> Result<TailSums, NoMemory>
-    requires turned { turned.now ≡ turned_bivariate order.now }
+    requires turned { turned.now ≡ turned_twins order.now }
     requires judge { judge ≡ judge_of (kendall_test order.now) }
     ensures { IfOk result (AreNumerators (kendall_test order.now) tails) }
 {

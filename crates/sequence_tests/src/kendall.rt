@@ -1,7 +1,7 @@
 // Two values of each subject that are prepared for Kendall's test.
 ghost use Rattle.std.specs.Prelude.{◌≡◌, IfOk};
 ghost use Rattle.weights.specs.Wide.{Prepares};
-ghost use Rattle.sample_reader.specs.Data.{bivariate_data_of};
+ghost use Rattle.sample_reader.specs.Data.{twin_data_of};
 ghost use Rattle.sequence_tests.specs.Kendall.{kendall_test};
 
 use crate::by_turning::quick_sums;
@@ -15,7 +15,7 @@ use labelled::{LabelStatistic, Labelled};
 use networks::{Judge, TailSums};
 use pooled_columns::labels_in;
 use room_network::{Numbered, RoomNetwork};
-use sample_reader::BivariateSample;
+use sample_reader::Twins;
 use std::alloc::Global;
 use weights::{NoMemory, PrepareFault, Tail, Tails};
 
@@ -23,10 +23,10 @@ use weights::{NoMemory, PrepareFault, Tail, Tails};
 pub type Kendall = Labelled<PairOrder>;
 
 // The same values in memory of their own.
-fn copy_of(twins: &BivariateSample) -> Result<BivariateSample, NoMemory>
-    ensures { IfOk result (λ copy. bivariate_data_of copy ≡ bivariate_data_of twins.now) }
+fn copy_of(twins: &Twins) -> Result<Twins, NoMemory>
+    ensures { IfOk result (λ copy. twin_data_of copy ≡ twin_data_of twins.now) }
 {
-    Ok(BivariateSample {
+    Ok(Twins {
         rows: twins.rows,
         first: twins.first.copy()?,
         second: twins.second.copy()?,
@@ -34,8 +34,8 @@ fn copy_of(twins: &BivariateSample) -> Result<BivariateSample, NoMemory>
 }
 
 /// Prepares two values of each subject.
-pub(crate) fn prepare(alloc: Global, twins: &BivariateSample) -> Result<Kendall, PrepareFault>
-    ensures { Prepares kendall_test (bivariate_data_of twins.now) result }
+pub(crate) fn prepare(alloc: Global, twins: &Twins) -> Result<Kendall, PrepareFault>
+    ensures { Prepares kendall_test (twin_data_of twins.now) result }
 {
     let subjects = kendall_subjects(alloc, twins)?;
     let order = PairOrder::of(alloc, copy_of(twins)?, &subjects)?;

@@ -2,11 +2,11 @@
 ghost use Rattle.std.specs.Prelude.{◌≡◌, IfOk};
 ghost use Rattle.std.specs.List.{Any};
 ghost use Rattle.midranks.specs.Ties.{IsAscending};
-ghost use Rattle.sample_reader.specs.Data.{bivariate_data_of};
+ghost use Rattle.sample_reader.specs.Data.{twin_data_of};
 ghost use Rattle.sequence_tests.specs.Kendall.{kendall_subjects, place_among, places_of};
 
 use midranks::{Tie, group_of, tie_groups};
-use sample_reader::{BivariateSample, Subject, ordered_subjects};
+use sample_reader::{Subject, Twins, ordered_subjects};
 use std::alloc::Global;
 use weights::{Ints, NoMemory, Nums};
 
@@ -47,12 +47,9 @@ fn places_of(alloc: Global, values: &[i128]) -> Result<Nums, NoMemory>
 
 /// The subjects in ascending order of their first values, each labelled by the place of its second
 /// value among the distinct ones.
-pub(crate) fn kendall_subjects(
-    alloc: Global,
-    sample: &BivariateSample,
-) -> Result<Vec<Subject>, NoMemory>
+pub(crate) fn kendall_subjects(alloc: Global, sample: &Twins) -> Result<Vec<Subject>, NoMemory>
     ensures { IfOk result (λ subjects.
-        subjects.items ≡ kendall_subjects (bivariate_data_of sample.now)) }
+        subjects.items ≡ kendall_subjects (twin_data_of sample.now)) }
 {
     let places = places_of(alloc, sample.second.as_slice())?;
     ordered_subjects(alloc, sample.first.as_slice(), places.as_slice())

@@ -1,13 +1,13 @@
 // Kendall's K of two values of each subject.
 ghost use Rattle.std.specs.Prelude.{◌≡◌};
 ghost use Rattle.weights.specs.Wide.{Prepares};
-ghost use Rattle.sample_reader.specs.Data.{bivariate_data_of};
+ghost use Rattle.sample_reader.specs.Data.{twin_data_of};
 ghost use Rattle.sequence_tests.specs.Kendall.{kendall_subjects, kendall_test};
 ghost use Rattle.sequence_tests.specs.KendallMade.{AreMade};
 
 use crate::kendall_made::KendallMade;
 use pooled_columns::column_sizes;
-use sample_reader::{BivariateSample, Subject, values};
+use sample_reader::{Subject, Twins, values};
 use std::alloc::Global;
 use std::marker::Model;
 use weights::{PrepareFault, WideOf, multinomial};
@@ -16,31 +16,31 @@ use weights::{PrepareFault, WideOf, multinomial};
 #[derive(Drop)]
 pub struct PairOrder {
     // What it was prepared of, by which contracts name it, and which the test turned is made of.
-    sample: BivariateSample,
+    sample: Twins,
     made: KendallMade,
 }
 
 impl Model for PairOrder {
-    ghost use Rattle.sample_reader.specs.Bivariate.{BivariateData};
-    ghost use Rattle.sample_reader.specs.Data.{bivariate_data_of};
+    ghost use Rattle.sample_reader.specs.Twins.{TwinData};
+    ghost use Rattle.sample_reader.specs.Data.{twin_data_of};
     ghost use Rattle.sequence_tests.specs.KendallMade.{AreMade};
 
-    ghost Value = { BivariateData };
+    ghost Value = { TwinData };
 
-    ghost view = { λ t. bivariate_data_of t.sample };
+    ghost view = { λ t. twin_data_of t.sample };
 
-    ghost invariant = { λ t. AreMade (bivariate_data_of t.sample) t.made };
+    ghost invariant = { λ t. AreMade (twin_data_of t.sample) t.made };
 }
 
 impl PairOrder {
     /// That of a sample, whose subjects these are.
     pub(crate) fn of(
         alloc: Global,
-        sample: BivariateSample,
+        sample: Twins,
         subjects: &[Subject],
     ) -> Result<PairOrder, PrepareFault>
-        requires { subjects.now ≡ kendall_subjects (bivariate_data_of sample) }
-        ensures { Prepares kendall_test (bivariate_data_of sample) result }
+        requires { subjects.now ≡ kendall_subjects (twin_data_of sample) }
+        ensures { Prepares kendall_test (twin_data_of sample) result }
     {
         let rows = column_sizes(alloc, sample.second.as_slice())?;
         let Some(total) = multinomial(rows.as_slice()) else {
@@ -58,8 +58,8 @@ impl PairOrder {
     }
 
     /// The two values of each subject.
-    pub(crate) fn sample(&self) -> &BivariateSample
-        ensures { bivariate_data_of result.now ≡ self.now }
+    pub(crate) fn sample(&self) -> &Twins
+        ensures { twin_data_of result.now ≡ self.now }
     {
         &self.sample
     }

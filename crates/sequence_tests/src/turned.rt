@@ -1,13 +1,13 @@
 // Kendall's test turned: the two values of each subject change places.
 ghost use Rattle.std.specs.Prelude.{◌≡◌, length, IfOk, IfSome};
-ghost use Rattle.sample_reader.specs.Bivariate.{BivariateData};
-ghost use Rattle.sample_reader.specs.Data.{bivariate_data_of};
-ghost use Rattle.sequence_tests.specs.TurnedKendall.{AreInRatio, turned_bivariate};
+ghost use Rattle.sample_reader.specs.Twins.{TwinData};
+ghost use Rattle.sample_reader.specs.Data.{twin_data_of};
+ghost use Rattle.sequence_tests.specs.TurnedKendall.{AreInRatio, turned_twins};
 
 use crate::kendall_made::kendall_subjects;
 use crate::pair_order::PairOrder;
 use crate::room_work::is_less_work_turned;
-use sample_reader::BivariateSample;
+use sample_reader::Twins;
 use std::alloc::Global;
 use weights::{NoMemory, PrepareFault};
 
@@ -15,16 +15,16 @@ use weights::{NoMemory, PrepareFault};
 /// is the same, the numerators of each tail are in the ratio of the totals, and so are the lines of
 /// the distributions.
 pub fn turned_tests()
-    ensures { (t : BivariateData) → length t.second ≡ length t.first
-        → AreInRatio t (turned_bivariate t) }
+    ensures { (t : TwinData) → length t.second ≡ length t.first
+        → AreInRatio t (turned_twins t) }
 {}
 
 // The sample with the two values of each subject in each other's place.
-fn turned_sample(sample: &BivariateSample) -> Result<BivariateSample, NoMemory>
+fn turned_sample(sample: &Twins) -> Result<Twins, NoMemory>
     ensures { IfOk result (λ turned.
-        bivariate_data_of turned ≡ turned_bivariate (bivariate_data_of sample.now)) }
+        twin_data_of turned ≡ turned_twins (twin_data_of sample.now)) }
 {
-    Ok(BivariateSample {
+    Ok(Twins {
         rows: sample.rows,
         first: sample.second.copy()?,
         second: sample.first.copy()?,
@@ -34,7 +34,7 @@ fn turned_sample(sample: &BivariateSample) -> Result<BivariateSample, NoMemory>
 /// The test turned, which serves where it is less work. None where it is not, and where its total
 /// is too wide.
 pub(crate) fn turned_of(alloc: Global, order: &PairOrder) -> Result<Option<PairOrder>, NoMemory>
-    ensures { IfOk result (λ found. IfSome found (λ turned. turned ≡ turned_bivariate order.now)) }
+    ensures { IfOk result (λ found. IfSome found (λ turned. turned ≡ turned_twins order.now)) }
 {
     let made = order.made();
     if !is_less_work_turned(made.columns.as_slice(), made.rows.as_slice()) {

@@ -1,7 +1,7 @@
 use Rattle.std.proofs.Common.{refl, arith}
 use Rattle.labelled.proofs.LabelLaws.{label-fits, label-wide}
-use Rattle.sample_reader.specs.Bivariate.{BivariateData}
-use Rattle.sample_reader.specs.Data.{bivariate_data_of}
+use Rattle.sample_reader.specs.Twins.{TwinData}
+use Rattle.sample_reader.specs.Data.{twin_data_of}
 use Rattle.sequence_tests.specs.Kendall.{kendall_says}
 use Rattle.sequence_tests.proofs.KendallFitting.{bound-fits, read-few, read-paired}
 use Rattle.sequence_tests.proofs.Places.{sizes-sum}
@@ -11,10 +11,10 @@ pub multinomial-requires : goal.multinomial-requires
 multinomial-requires c = rw (c.as_slice-2.ensures, c.in_ok-rows.ensures, c.as_slice.ensures) (omega (arith, sizes-sum c.args.sample.second, read-paired c.args.sample, read-few c.args.sample))
 
 pub returns-in_default : goal.returns-in_default
-returns-in_default c = label-wide (kendall_says (bivariate_data_of c.args.sample)) (rw (c.as_slice-2.ensures, c.in_ok-rows.ensures, c.as_slice.ensures) at c.in_default.ensures)
+returns-in_default c = label-wide (kendall_says (twin_data_of c.args.sample)) (rw (c.as_slice-2.ensures, c.in_ok-rows.ensures, c.as_slice.ensures) at c.in_default.ensures)
 
 pub returns : goal.returns
 returns c =
-    let sample : BivariateData = bivariate_data_of c.args.sample in
+    let sample : TwinData = twin_data_of c.args.sample in
     let fits = rw (c.as_slice-2.ensures, c.in_ok-rows.ensures, c.as_slice.ensures) at c.in-Some.ensures in
     (refl, label-fits (kendall_says sample) fits.0 (bound-fits sample (read-paired c.args.sample) (read-few c.args.sample)))

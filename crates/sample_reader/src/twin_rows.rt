@@ -2,30 +2,30 @@
 ghost use Rattle.std.specs.Prelude.{◌≡◌, Ok, IfErr, IfOk};
 ghost use Rattle.record_reader.specs.Answers.{IsFaultOf};
 ghost use Rattle.record_reader.specs.Layouts.{MayPick};
-ghost use Rattle.sample_reader.specs.Bivariate.{bivariate_in};
-ghost use Rattle.sample_reader.specs.Data.{bivariate_data_of};
+ghost use Rattle.sample_reader.specs.Twins.{twins_in};
+ghost use Rattle.sample_reader.specs.Data.{twin_data_of};
 
-use crate::MOST_BIVARIATE_ROWS;
+use crate::MOST_TWINS;
 use crate::pair_rows::{PairLayout, PairsSoFar};
-use crate::samples::BivariateSample;
+use crate::samples::Twins;
 use record_reader::{FieldFault, Kind, Layout, LayoutFault, Missing, Picks, Rows, Shape, read_in};
 use std::alloc::Global;
 
 // The layout of a bivariate sample: two values in each row.
 #[derive(Clone, Copy)]
-pub(crate) struct BivariateLayout;
+pub(crate) struct TwinLayout;
 
-impl Layout<PairsSoFar> for BivariateLayout {
-    ghost use Rattle.sample_reader.specs.Bivariate.{bivariate_layout};
+impl Layout<PairsSoFar> for TwinLayout {
+    ghost use Rattle.sample_reader.specs.Twins.{twin_layout};
 
-    ghost meaning = { λ _. bivariate_layout };
+    ghost meaning = { λ _. twin_layout };
 
     fn shape(&self) -> Shape {
         Shape {
             narrowest: 2,
             widest: 2,
             too_wide: Kind::FieldCount,
-            most_rows: MOST_BIVARIATE_ROWS,
+            most_rows: MOST_TWINS,
         }
     }
 
@@ -55,7 +55,7 @@ impl Layout<PairsSoFar> for BivariateLayout {
 /// subject.
 ///
 /// A value is a number text, with spaces and tabs around it ignored. There are 1 to
-/// [`MOST_BIVARIATE_ROWS`] rows below the header, whose texts are not used. Rows and fields have
+/// [`MOST_TWINS`] rows below the header, whose texts are not used. Rows and fields have
 /// numbers from 1, so the header is row 1.
 ///
 /// Where rows with a missing value are dropped, a row below the header that is not one too many, is
@@ -69,16 +69,16 @@ impl Layout<PairsSoFar> for BivariateLayout {
 /// not as wide as the header, and the faults of its picked fields in the order picked: `Missing`,
 /// `NotNumber`, `OutOfRange`. `EndsEarly` at the last row where no row below the header is left. Or
 /// else `NoMemory` where memory runs out.
-pub fn bivariate_sample(
+pub fn twins(
     alloc: Global,
     rows: &Rows,
     picks: &Picks,
     missing: Missing,
-) -> Result<BivariateSample, LayoutFault>
+) -> Result<Twins, LayoutFault>
     requires { MayPick 2 2 picks.now }
     ensures ok { IfOk result (λ sample.
-        bivariate_in missing picks.now rows.now ≡ Ok (bivariate_data_of sample)) }
-    ensures fault { IfErr result (IsFaultOf (bivariate_in missing picks.now rows.now)) }
+        twins_in missing picks.now rows.now ≡ Ok (twin_data_of sample)) }
+    ensures fault { IfErr result (IsFaultOf (twins_in missing picks.now rows.now)) }
 {
-    Ok(read_in(alloc, &BivariateLayout, missing, rows, picks)?.into_bivariate())
+    Ok(read_in(alloc, &TwinLayout, missing, rows, picks)?.into_twins())
 }

@@ -6,9 +6,9 @@ use Rattle.record_reader.specs.declared.missing.Missing.{Missing}
 use Rattle.record_reader.specs.declared.picks.Picks.{Picks}
 use Rattle.record_reader.specs.Layouts.{MayPick, read_in, with_fields}
 use Rattle.record_reader.proofs.LayoutLemmas.{IsRead, picked-many, read_in-ok, with_rows-keep}
-use Rattle.sample_reader.specs.Bivariate.{bivariate_layout, bivariate_shape}
+use Rattle.sample_reader.specs.Twins.{twin_layout, twin_shape}
 use Rattle.sample_reader.specs.CellLayouts.{PairValues, no_pairs, with_pair_value}
-use Rattle.sample_reader.specs.Kept.{AreWholeBivariate}
+use Rattle.sample_reader.specs.Kept.{AreWholeTwins}
 use Rattle.sample_reader.proofs.WholePairs.{one_value}
 
 -- what is true of the values of so many rows
@@ -16,7 +16,7 @@ record HaveRows (rows : ℕ) (pairs : PairValues) : Type 0 where
   pub first : length pairs.first ≡ rows
   pub second : length pairs.second ≡ rows
 
-one_row : (number rows : ℕ) (fields : List ℕ) (row : List (List ℕ)) (s t : PairValues) → length fields ≡ 2 → HaveRows rows s → with_fields bivariate_layout number row 0 fields s ≡ Ok t → HaveRows (rows + 1) t
+one_row : (number rows : ℕ) (fields : List ℕ) (row : List (List ℕ)) (s t : PairValues) → length fields ≡ 2 → HaveRows rows s → with_fields twin_layout number row 0 fields s ≡ Ok t → HaveRows (rows + 1) t
 one_row number rows [] row s t two have e = absurd (omega arith)
 one_row number rows (a ∷ []) row s t two have e = absurd (omega arith)
 one_row number rows (a ∷ b ∷ []) row s t two have e =
@@ -26,12 +26,12 @@ one_row number rows (a ∷ b ∷ []) row s t two have e =
     rw (← same) (record { first = length_push s.first first.0 ∙ ap (λ n. n + 1) have.first; second = length_push s.second second.0 ∙ ap (λ n. n + 1) have.second })
 one_row number rows (a ∷ b ∷ d ∷ fields) row s t two have e = absurd (omega arith)
 
-whole : (missing : Missing) (picks : Picks) (rows : List (List (List ℕ))) (pairs : PairValues) (fields : List ℕ) → MayPick 2 2 picks → IsRead bivariate_layout missing picks rows pairs fields → AreWholeBivariate pairs
+whole : (missing : Missing) (picks : Picks) (rows : List (List (List ℕ))) (pairs : PairValues) (fields : List ℕ) → MayPick 2 2 picks → IsRead twin_layout missing picks rows pairs fields → AreWholeTwins pairs
 whole missing picks rows pairs fields may read =
-    let many = picked-many bivariate_shape picks (length read.header) fields may read.fields_are in
+    let many = picked-many twin_shape picks (length read.header) fields may read.fields_are in
     let two : length fields ≡ 2 = omega (arith, many.0, many.1) in
     let none : HaveRows 0 no_pairs = record { first = refl; second = refl } in
-    let kept = with_rows-keep bivariate_layout missing (length read.header) fields HaveRows (λ number n row s t have e. one_row number n fields row s t two have e)
+    let kept = with_rows-keep twin_layout missing (length read.header) fields HaveRows (λ number n row s t have e. one_row number n fields row s t two have e)
     2 0 read.rest no_pairs pairs (omega arith) none read.rows_say in
     record {
       not_empty = let test = read.enough in grind (arith, nat_tests);
@@ -39,5 +39,5 @@ whole missing picks rows pairs fields may read =
       two_each = kept.holds.second ∙ sym kept.holds.first;
     }
 
-pub bivariate-whole : (missing : Missing) (picks : Picks) (rows : List (List (List ℕ))) (pairs : PairValues) → MayPick 2 2 picks → read_in bivariate_layout missing picks rows ≡ Ok pairs → AreWholeBivariate pairs
-bivariate-whole missing picks rows pairs may e = let read = read_in-ok bivariate_layout missing picks rows pairs e in whole missing picks rows pairs read.0 may read.1
+pub twins-whole : (missing : Missing) (picks : Picks) (rows : List (List (List ℕ))) (pairs : PairValues) → MayPick 2 2 picks → read_in twin_layout missing picks rows ≡ Ok pairs → AreWholeTwins pairs
+twins-whole missing picks rows pairs may e = let read = read_in-ok twin_layout missing picks rows pairs e in whole missing picks rows pairs read.0 may read.1
