@@ -2,8 +2,8 @@
 ghost use Rattle.std.specs.Prelude.{◌≡◌};
 ghost use Rattle.stratified_tests.specs.StrataTests.{is_one_sided, tails_with};
 
+use crate::first_cell_stages::FirstCellStages;
 use crate::odds::labelling_weight;
-use crate::strata_stages::StrataStages;
 use crate::strata_test::StrataTest;
 use enumerate::{Plain, next_joined};
 use networks::AdditiveStages;
@@ -65,7 +65,7 @@ impl Plain for StrataTest {
 impl Prepared for StrataTest {
     ghost use Rattle.stratified_tests.specs.StrataNetwork.{strata_network};
 
-    type Built = AdditiveStages<StrataStages>;
+    type Built = AdditiveStages<FirstCellStages>;
 
     ghost network = { strata_network };
 
@@ -83,7 +83,7 @@ impl Prepared for StrataTest {
         let judge = self.judge();
         let odds = self.odds();
         let strata = self.made().strata.copy()?;
-        let stages = StrataStages {
+        let stages = FirstCellStages {
             odds,
             strata,
             judge,

@@ -8,8 +8,8 @@ use Rattle.strata_cells.specs.Strata.{stratum_at}
 use Rattle.stratified_tests.specs.StrataNetwork.{weighed_cell}
 use Rattle.stratified_tests.proofs.StrataLaws.{IsCell, cell-fits, choice-cell, weight-within}
 use Rattle.weights.proofs.Items.{one_item}
-use Rattle.stratified_tests.proofs.strata_stages.StrataStagesAdditive.adds.Goals as goal
-use Rattle.stratified_tests.proofs.strata_stages.StrataStagesAdditive.adds.Goals.{After-as_slice}
+use Rattle.stratified_tests.proofs.first_cell_stages.FirstCellStagesAdditive.adds.Goals as goal
+use Rattle.stratified_tests.proofs.first_cell_stages.FirstCellStagesAdditive.adds.Goals.{After-as_slice}
 
 -- the choice is a first cell of the stratum
 cell : (c : After-as_slice) → IsCell (stratum_at c.args.self.now.strata c.args.stage) c.args.choice.now

@@ -2,7 +2,7 @@ use Rattle.std.proofs.Common.{◌∙◌, ap, sym}
 use Rattle.strata_cells.specs.Strata.{stratum_at}
 use Rattle.stratified_tests.specs.StrataSteps.{stratum_total}
 use Rattle.stratified_tests.proofs.StrataLaws.{cell-fits, stage-total}
-use Rattle.stratified_tests.proofs.strata_stages.StrataStagesAdditive.total.Goals as goal
+use Rattle.stratified_tests.proofs.first_cell_stages.FirstCellStagesAdditive.total.Goals as goal
 
 pub unreachable-requires : goal.unreachable-requires
 unreachable-requires c =

@@ -1,5 +1,5 @@
 use Rattle.stratified_tests.proofs.StrataLaws.{sound_stages}
-use Rattle.stratified_tests.proofs.strata_stages.StrataStagesAdditive.stages.Goals as goal
+use Rattle.stratified_tests.proofs.first_cell_stages.FirstCellStagesAdditive.stages.Goals as goal
 
 pub returns-clause-sound : goal.returns-clause-sound
 returns-clause-sound c =

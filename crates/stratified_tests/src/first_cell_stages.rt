@@ -14,7 +14,7 @@ use weights::{List, Odds};
 
 /// Each stratum is a stage, and its first cell the choice.
 #[derive(Drop)]
-pub struct StrataStages {
+pub struct FirstCellStages {
     pub(crate) odds: Option<Odds>,
     pub(crate) strata: List<Stratum>,
     pub(crate) judge: Judge,
@@ -36,7 +36,7 @@ fn weight(odds: Option<Odds>, stratum: Stratum, cell: u64) -> u128
     }
 }
 
-impl Additive for StrataStages {
+impl Additive for FirstCellStages {
     ghost use Rattle.stratified_tests.specs.StrataNetwork.{strata_addends};
 
     ghost addends = { λ s. strata_addends s.odds s.strata s.judge };

@@ -2,7 +2,7 @@ use Rattle.std.proofs.Common.{◌≡◌, ◌∙◌, ◌<◌, get_or, ap}
 use Rattle.strata_cells.specs.Strata.{greatest_cell}
 use Rattle.strata_cells.specs.Strata.{stratum_at}
 use Rattle.stratified_tests.proofs.StrataLaws.{next-cells}
-use Rattle.stratified_tests.proofs.strata_stages.StrataStagesAdditive.next_choice.Goals as goal
+use Rattle.stratified_tests.proofs.first_cell_stages.FirstCellStagesAdditive.next_choice.Goals as goal
 
 pub returns-then-choice-greatest_cell : goal.returns-then-choice-greatest_cell
 returns-then-choice-greatest_cell c =
