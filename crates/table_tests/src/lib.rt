@@ -3,9 +3,10 @@
 //! `linear`, which measures how scores of the rows go with scores of the columns.
 #![tactic(auto)]
 
-ghost use Rattle.std.specs.Prelude.{◌≡◌, ◌≤◌, IfOk};
-ghost use Rattle.weights.specs.Conditional.{distribution};
-ghost use Rattle.networks.specs.Follows.{HasTails, answer_of, open_keys};
+ghost use Rattle.std.specs.Prelude.{◌≡◌, ◌≤◌, IfOk, true};
+ghost use Rattle.weights.specs.Conditional.{distribution, numerator, total};
+ghost use Rattle.networks.specs.Completions.{extreme_weight, total_weight};
+ghost use Rattle.networks.specs.Follows.{AllFollow, HasTails, answer_of, open_keys};
 ghost use Rattle.networks.specs.Lines.{TailsFit, WeightsFit};
 ghost use Rattle.table_tests.specs.TableTests.{table_network, table_test};
 
@@ -32,17 +33,20 @@ mod table_test;
 mod turned;
 mod weight_measure;
 
+pub use fisher_stages::FisherStages;
 pub use fisher_table::{FisherTable, fisher_tails, is_two_by_two};
+use label_network::LinearStages;
 pub use linear_table::{LinearTable, ProductSum};
-use networks::{Answer, Spread, Way};
+use networks::{Answer, OneOf, Spread, Stages, Way};
 pub use odds_rooms::OddsRooms;
+pub use odds_stages::OddsStages;
 pub use odds_table::OddsTable;
 pub use sorted_weights::{SortedStages, SortedWeights};
 use std::alloc::Global;
 pub use table_test::{TableTest, prepare_fisher, prepare_linear, prepare_odds};
 pub use turned::turned_tests;
 pub use weight_measure::{WeightMeasure, WeightStages};
-use weights::{NoMemory, Tails};
+use weights::{NoMemory, Tail, Tails};
 
 /// The greatest absolute score of a row or a column.
 pub const MOST_SCORE: u64 = 1_000_000_000;
@@ -74,4 +78,23 @@ pub fn distribution(alloc: Global, problem: &TableTest, way: Way) -> Result<Spre
     ensures rules { IfOk result (TailsFit (table_test problem.now)) }
 {
     stage_network::distribution(alloc, problem, way)
+}
+
+/// The network of a test of a table.
+pub type TableStages = OneOf<OneOf<FisherStages, LinearStages>, OddsStages>;
+
+/// The network of a tail that the test has, as it runs, for whoever wants to sweep, cut or count
+/// it. The completions of its first key weigh as much as the labellings, and those that are extreme
+/// as much as the tail's numerator.
+pub fn stages_of(alloc: Global, problem: &TableTest, tail: Tail) -> Result<TableStages, NoMemory>
+    requires { (table_test problem.now).has_tail tail ≡ true }
+    ensures built { let n = table_network problem.now tail in
+        IfOk result (λ built. ⟦<TableStages as Stages>⟧.network built ≡ n) }
+    ensures follows { AllFollow (table_test problem.now) (table_network problem.now) }
+    ensures whole { let n = table_network problem.now tail in
+        total_weight n 0 n.first ≡ total (table_test problem.now) }
+    ensures numerator { let n = table_network problem.now tail in
+        extreme_weight n tail 0 n.first ≡ numerator (table_test problem.now) tail }
+{
+    stage_network::network_of(alloc, problem, tail)
 }
