@@ -6,14 +6,15 @@ use Rattle.std.proofs.lemmas.List.{length-map}
 use Rattle.std.proofs.lemmas.List.Sums.{sum_by-cons}
 use Rattle.weights.specs.declared.tails.Tail.{Tail}
 use Rattle.node_pool.specs.Nodes.{Node, key_eq, keys, weighted}
+use Rattle.node_pool.specs.PoolSteps.{nodes_of}
 use Rattle.networks.specs.Completions.{extreme_weight, path_weight, paths}
 use Rattle.networks.specs.Laws.{IsLawful}
 use Rattle.networks.specs.Network.{Network}
 use Rattle.networks.proofs.Steps.{extreme-le-total, sum_by-same}
 use Rattle.piece_texts.specs.Merges.{over_parts}
 use Rattle.piece_texts.specs.PieceTexts.{SumFits}
-use Rattle.pieces.specs.declared.cuts.Cut.{Cut}
-use Rattle.pieces.specs.Cuts.{IsCut, PartsAddUp, PiecesAddUp, piece_sum, belongs, cut_nodes, cut_stage, is_owned, met, met_sum, keys_open_at, open_sum, owned_nodes, owned_sum, place_of, stays_open}
+use Rattle.pieces.specs.declared.cuts.CountedCut.{CountedCut}
+use Rattle.pieces.specs.Cuts.{IsCutAt, IsCountedCut, PartsAddUp, PiecesAddUp, piece_sum, belongs, counted_nodes, cut_stage, is_owned, met, met_sum, keys_open_at, open_sum, owned_nodes, owned_sum, place_of, stays_open}
 use Rattle.pieces.specs.Parting.{dealt}
 use Rattle.pieces.proofs.ByPaths.{open-met, passing_extreme, closed-and_open, closed-le, open-le}
 use Rattle.pieces.proofs.Owned.{owned-weighted, parts-all, over-same, pick_one}
@@ -27,22 +28,21 @@ owned-part n t g nodes owners part h told apart =
     ∙ sym (open-met n t (is_owned (keys nodes) owners part) g h)
 
 -- whatever the owners are, all parts are all that is open
-pub cut-parts : (n : Network) (t : Tail) (cut : Cut) → IsLawful n → IsCut n t cut → PartsAddUp n t cut.at cut.closed (keys (cut_nodes n cut))
-cut-parts n t cut l is owners parts long below =
-    let g : ℕ = cut.at in
-    let nodes : List Node = cut_nodes n cut in
+pub cut-parts : (n : Network) (t : Tail) (g closed : ℕ) (row : List ℤ) (weights : List ℕ) → IsLawful n → IsCutAt n t g closed row weights → PartsAddUp n t g closed (keys (nodes_of n.width row weights))
+cut-parts n t g closed row weights l is owners parts long below =
+    let nodes : List Node = nodes_of n.width row weights in
     let e : List ℤ → ℕ = extreme_weight n t g in
     let each : length owners ≡ length nodes = long ∙ length-map nodes (λ (a : Node). a.key) in
     let all : over_parts (owned_sum n t g (keys nodes) owners) parts ≡ met_sum n t g e =
     over-same _ (λ part. weighted e (owned_nodes nodes owners part)) parts (λ part. sym (owned-part n t g nodes owners part is.within is.told is.starts.distinct))
     ∙ parts-all e nodes owners parts each below ∙ is.told e in
-    omega (arith, all, is.closed, closed-and_open n t l g is.within)
+    omega (arith, all, is.closed_is, closed-and_open n t l g is.within)
 
 -- keys that are dealt one after another
-pub dealt-part : (n : Network) (t : Tail) (cut : Cut) (parts part : ℕ) → IsCut n t cut → owned_sum n t cut.at (keys (cut_nodes n cut)) (dealt parts 0 (length (cut_nodes n cut))) part ≡ open_sum n t cut.at (belongs n t cut.at parts part)
+pub dealt-part : (n : Network) (t : Tail) (cut : CountedCut) (parts part : ℕ) → IsCountedCut n t cut → owned_sum n t cut.at (keys (counted_nodes n cut)) (dealt parts 0 (length (counted_nodes n cut))) part ≡ open_sum n t cut.at (belongs n t cut.at parts part)
 dealt-part n t cut parts part is =
     let g : ℕ = cut.at in
-    let nodes : List Node = cut_nodes n cut in
+    let nodes : List Node = counted_nodes n cut in
     sym (owned-part n t g nodes (dealt parts 0 (length nodes)) part is.within is.told is.starts.distinct)
     ∙ dealt-weighted (extreme_weight n t g) (place_of n t g) parts part 0 nodes (placed nodes (keys_open_at n t g) is.ascending is.members)
     ∙ is.told (passing_extreme n t (belongs n t g parts part) g)

@@ -13,9 +13,8 @@ use Rattle.networks.specs.Completions.{total_weight}
 use Rattle.networks.specs.Laws.{IsLawful}
 use Rattle.networks.specs.Network.{Network, IsReached}
 use Rattle.stage_network.specs.NodeSteps.{AllHeavy, AllReached}
-use Rattle.pieces.specs.declared.cuts.Cut.{Cut}
 use Rattle.pieces.specs.declared.ordering.Entry.{Entry}
-use Rattle.pieces.specs.Cuts.{IsCut, closed_sum, cut_nodes, met_sum, keys_open_at}
+use Rattle.pieces.specs.Cuts.{IsCutAt, closed_sum, met_sum, keys_open_at}
 use Rattle.pieces.specs.Ordering.{entry_cmp, entry_node}
 use Rattle.pieces.proofs.Ascending.{AllInRooms, same-sums, still_all, still_distinct, still_members, ascending}
 
@@ -45,17 +44,17 @@ module _ (n : Network) (l : IsLawful n) (t : Tail) (at width : ℕ) (nodes : Lis
   sums : (f : List ℤ → ℕ) → weighted f (map entry_node sorted) ≡ weighted f nodes
   sums f = same-sums entries sorted moved f ∙ ap (weighted f) is
 
-  pub found-cut : AllInRooms width entries → IsSortedBy (λ a b. is_lt (entry_cmp a b)) sorted → (cut : Cut) → cut.at ≡ at → cut.closed ≡ closed_sum n t at → nodes_of n.width cut.keys.items cut.weights.items ≡ map entry_node sorted → length cut.keys.items ≡ length cut.weights.items * n.width → IsCut n t cut
-  found-cut rooms rising cut e closed laid long = record {
+  pub found-cut : AllInRooms width entries → IsSortedBy (λ a b. is_lt (entry_cmp a b)) sorted → (g closed : ℕ) (row : List ℤ) (weights : List ℕ) → g ≡ at → closed ≡ closed_sum n t at → nodes_of n.width row weights ≡ map entry_node sorted → length row ≡ length weights * n.width → IsCutAt n t g closed row weights
+  found-cut rooms rising g closed row weights e closed_is laid long = record {
     within = rw e found.within;
-    closed = closed ∙ ap (closed_sum n t) (sym e);
+    closed_is = closed_is ∙ ap (closed_sum n t) (sym e);
     starts = record {
       within = rw e found.within;
       long = long;
       reached = rw e (subst (AllReached n at) (sym laid) still-reached);
       heavy = subst AllHeavy (sym laid) (still_all entries sorted moved (λ (a : Node). 1 ≤ a.weight) solid);
       distinct = subst (λ ns. IsDistinct key_eq (keys ns)) (sym laid) (still_distinct entries sorted moved solid apart);
-      fits = omega (arith, ap (λ g. weighted (total_weight n g) (cut_nodes n cut)) e, ap (weighted (total_weight n at)) laid, sums (total_weight n at), found.fits);
+      fits = omega (arith, ap (λ g. weighted (total_weight n g) (nodes_of n.width row weights)) e, ap (weighted (total_weight n at)) laid, sums (total_weight n at), found.fits);
     };
     told = λ f. ap (weighted f) laid ∙ sums f ∙ found.told f ∙ ap (λ g. met_sum n t g f) (sym e);
     ascending = rw laid (ascending entries sorted moved width rooms solid apart rising);

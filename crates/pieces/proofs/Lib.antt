@@ -8,5 +8,6 @@ pub mod WrittenPieces
 mod Ascending
 mod Laying
 mod FoundKeys
+mod CountedCuts
 mod Finding
 pub mod WholeRuns

@@ -1,6 +1,6 @@
 -- A network cut at a stage: the keys there that are open, what was closed before them, and the sums
 -- of the parts that they are given to.
-use Rattle.std.specs.Prelude.{◌≡◌, ℕ, zero, suc, ℤ, ◌+◌, ◌*◌, ◌%◌, ◌<◌, ◌≤◌, List, [], ◌∷◌, length, min, filter, Bool, false, ◌&&◌, ◌||◌, nat_eq, cond}
+use Rattle.std.specs.Prelude.{◌≡◌, ℕ, zero, suc, ℤ, ◌+◌, ◌*◌, ◌%◌, ◌<◌, ◌≤◌, List, [], ◌∷◌, length, map, min, nat_abs, pos, filter, Bool, false, ◌&&◌, ◌||◌, nat_eq, cond}
 use Rattle.std.specs.List.{sum_by, AllByRecursion}
 use Rattle.std.specs.List.Sorted.{IsStrictlySortedBy}
 use Rattle.std.specs.Ordering.{is_lt}
@@ -15,6 +15,7 @@ use Rattle.networks.specs.Opened.{is_open, reached_openly}
 use Rattle.piece_texts.specs.declared.piece.PieceSum.{PieceSum}
 use Rattle.piece_texts.specs.Merges.{over_parts}
 use Rattle.pieces.specs.declared.cuts.Cut.{Cut}
+use Rattle.pieces.specs.declared.cuts.CountedCut.{CountedCut}
 
 -- whether a completion meets open keys alone at the m + 1 stages from g on
 abbrev pub stays_open : Network → Tail → ℕ → ℕ → List ℤ → List (List ℕ) → Bool
@@ -90,7 +91,10 @@ owned_sum n t g ks owners part = open_sum n t g (is_owned ks owners part)
 
 -- the keys of a cut with their weights
 abbrev pub cut_nodes : Network → Cut → List Node
-cut_nodes n cut = nodes_of n.width cut.keys.items cut.weights.items
+cut_nodes n cut = nodes_of n.width cut.keys (map nat_abs cut.weights)
+
+abbrev pub counted_nodes : Network → CountedCut → List Node
+counted_nodes n cut = nodes_of n.width cut.keys.items cut.weights.items
 
 -- whatever the owners of the keys are, what was closed and the sums of all parts are all that is
 -- extreme
@@ -108,14 +112,24 @@ met_sum n t m f = sum_by (λ cs. path_weight n 0 n.first cs * f (met n m 0 n.fir
 
 -- the open keys of a stage that are reached through open keys alone, ascending, each once and with
 -- the merged weight of the ways there, which is at least 1; and the closed sum
-pub record IsCut (n : Network) (t : Tail) (cut : Cut) : Type 0 where
-  pub within : cut.at ≤ n.count
-  pub closed : cut.closed ≡ closed_sum n t cut.at
-  pub starts : AreStarts n cut.at cut.keys.items cut.weights.items
-  pub told : (f : List ℤ → ℕ) → weighted f (cut_nodes n cut) ≡ met_sum n t cut.at f
-  pub ascending : IsStrictlySortedBy key_cmp (keys (cut_nodes n cut))
+pub record IsCutAt (n : Network) (t : Tail) (g closed : ℕ) (row : List ℤ) (weights : List ℕ)
+    : Type 0 where
+  pub within : g ≤ n.count
+  pub closed_is : closed ≡ closed_sum n t g
+  pub starts : AreStarts n g row weights
+  pub told : (f : List ℤ → ℕ) → weighted f (nodes_of n.width row weights) ≡ met_sum n t g f
+  pub ascending : IsStrictlySortedBy key_cmp (keys (nodes_of n.width row weights))
   pub members : (k : List ℤ)
-      → is_held (cut_nodes n cut) k ≡ is_member key_eq (keys_open_at n t cut.at) k
+      → is_held (nodes_of n.width row weights) k ≡ is_member key_eq (keys_open_at n t g) k
+
+-- such a list with weights that are signed numbers, none of them negative
+pub record IsCut (n : Network) (t : Tail) (cut : Cut) : Type 0 where
+  pub unsigned : cut.weights ≡ map pos (map nat_abs cut.weights)
+  pub listed : IsCutAt n t cut.at cut.closed cut.keys (map nat_abs cut.weights)
+
+-- and with weights that are counts
+abbrev pub IsCountedCut : Network → Tail → CountedCut → Type 0
+IsCountedCut n t cut = IsCutAt n t cut.at cut.closed cut.keys.items cut.weights.items
 
 -- the nodes that a part owns
 abbrev pub owned_nodes : List Node → List ℕ → ℕ → List Node

@@ -6,10 +6,10 @@ ghost use Rattle.std.specs.Ordering.{is_lt};
 ghost use Rattle.node_pool.specs.Nodes.{Node, keys};
 ghost use Rattle.node_pool.specs.PoolSteps.{nodes_of};
 ghost use Rattle.networks.specs.Completions.{total_weight};
-ghost use Rattle.pieces.specs.Cuts.{IsCut, PartsAddUp, cut_nodes};
+ghost use Rattle.pieces.specs.Cuts.{IsCountedCut, PartsAddUp, counted_nodes};
 ghost use Rattle.pieces.specs.Ordering.{entry_cmp, entry_node};
 
-use crate::cuts::Cut;
+use crate::cuts::CountedCut;
 use crate::ordering::{Entry, entries_of, sort_entries};
 use crate::rows::Rows;
 use networks::{Kept, Roomed, Stages, only};
@@ -45,11 +45,11 @@ fn cut_in<C: Count, S: Roomed>(
     stages: &S,
     tail: Tail,
     at: usize,
-) -> Result<Cut, NoMemory>
+) -> Result<CountedCut, NoMemory>
     requires within { at ≤ (S.Stages.network stages.now).count }
     requires limit { let n = S.Stages.network stages.now in total_weight n 0 n.first ≤ C.LIMIT }
     ensures at { IfOk result (λ cut. cut.at ≡ at) }
-    ensures cut { IfOk result (IsCut (S.Stages.network stages.now) tail) }
+    ensures cut { IfOk result (IsCountedCut (S.Stages.network stages.now) tail) }
 {
     let _lawful = stages.stages();
     let keep = Kept::Open(only(tail));
@@ -57,7 +57,7 @@ fn cut_in<C: Count, S: Roomed>(
     sweep.advance_to(stages, at)?;
     let mut entries = entries_of(alloc, &sweep.nodes)?;
     let rows = laid_flat(alloc, stages.width(), entries.as_mut_slice())?;
-    Ok(Cut {
+    Ok(CountedCut {
         at,
         closed: sweep.sums.of(tail).sum,
         keys: rows.keys,
@@ -71,10 +71,10 @@ fn cut_by_width<S: Roomed>(
     stages: &S,
     tail: Tail,
     at: usize,
-) -> Result<Cut, NoMemory>
+) -> Result<CountedCut, NoMemory>
     requires { at ≤ (S.Stages.network stages.now).count }
     ensures at { IfOk result (λ cut. cut.at ≡ at) }
-    ensures cut { IfOk result (IsCut (S.Stages.network stages.now) tail) }
+    ensures cut { IfOk result (IsCountedCut (S.Stages.network stages.now) tail) }
 {
     let _lawful = stages.stages();
     let total = total_of(alloc, stages)?;
@@ -85,13 +85,18 @@ fn cut_by_width<S: Roomed>(
 }
 
 /// The open keys of a stage that are reached through open keys alone, and what was closed at that
-/// stage or before.
-pub fn cut<S: Roomed>(alloc: Global, stages: &S, tail: Tail, at: usize) -> Result<Cut, NoMemory>
+/// stage or before, of a network of rooms; [`crate::cut`] takes any network.
+pub fn cut_by_rooms<S: Roomed>(
+    alloc: Global,
+    stages: &S,
+    tail: Tail,
+    at: usize,
+) -> Result<CountedCut, NoMemory>
     requires { at ≤ (S.Stages.network stages.now).count }
     ensures at { IfOk result (λ cut. cut.at ≡ at) }
-    ensures cut { IfOk result (IsCut (S.Stages.network stages.now) tail) }
+    ensures cut { IfOk result (IsCountedCut (S.Stages.network stages.now) tail) }
     ensures parts { let n = S.Stages.network stages.now in
-        IfOk result (λ cut. PartsAddUp n tail at cut.closed (keys (cut_nodes n cut))) }
+        IfOk result (λ cut. PartsAddUp n tail at cut.closed (keys (counted_nodes n cut))) }
 {
     let _lawful = stages.stages();
     let cut = cut_by_width(alloc, stages, tail, at)?;

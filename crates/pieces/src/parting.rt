@@ -3,17 +3,17 @@ ghost use Rattle.std.specs.Prelude.{◌≡◌, ◌*◌, ◌≤◌, length, OnOk,
 ghost use Rattle.node_pool.specs.Nodes.{keys};
 ghost use Rattle.node_pool.specs.PoolSteps.{nodes_of};
 ghost use Rattle.piece_texts.specs.PieceTexts.{SumFits};
-ghost use Rattle.pieces.specs.Cuts.{IsCut, PiecesAddUp, cut_nodes};
+ghost use Rattle.pieces.specs.Cuts.{IsCountedCut, PiecesAddUp, counted_nodes};
 ghost use Rattle.pieces.specs.Cuts.{owned_nodes, owned_sum, piece_sum};
 ghost use Rattle.pieces.specs.Parting.{dealt};
 
-use crate::cuts::Cut;
-use crate::cutting::cut;
+use crate::cuts::CountedCut;
+use crate::cutting::cut_by_rooms;
 use crate::rows::Rows;
 use networks::{Roomed, Stages};
 use node_pool::key_at;
 use piece_texts::PieceSum;
-use stage_network::tail_sum_from;
+use stage_network::sum_from_keys;
 use std::alloc::Global;
 use weights::{NoMemory, Tail};
 
@@ -43,21 +43,21 @@ fn owned(
     Ok(rows)
 }
 
-/// The sum over the keys of a cut whose owner is this part: the summed weight of the extreme
-/// completions that meet open keys alone up to the cut, the last of which the part owns.
-pub fn run_piece<S: Roomed>(
+/// The sum over the keys of a cut of a network of rooms whose owner is this part, as
+/// [`crate::run_piece`] gives it of any network.
+pub fn piece_by_rooms<S: Roomed>(
     alloc: Global,
     stages: &S,
     tail: Tail,
-    from: &Cut,
+    from: &CountedCut,
     owners: &[u64],
     part: u64,
 ) -> Result<u128, NoMemory>
-    requires cut { IsCut (S.Stages.network stages.now) tail from.now }
+    requires cut { IsCountedCut (S.Stages.network stages.now) tail from.now }
     requires each { length owners.now ≡ length from.now.weights.items }
     ensures { let n = S.Stages.network stages.now in
         IfOk result (λ sum. sum
-        ≡ owned_sum n tail from.now.at (keys (cut_nodes n from.now)) owners.now part) }
+        ≡ owned_sum n tail from.now.at (keys (counted_nodes n from.now)) owners.now part) }
 {
     let _lawful = stages.stages();
     let rows = owned(
@@ -68,7 +68,7 @@ pub fn run_piece<S: Roomed>(
         owners,
         part,
     )?;
-    let sum = tail_sum_from(alloc, stages, tail, from.at, &rows.keys, &rows.weights)?;
+    let sum = sum_from_keys(alloc, stages, tail, from.at, &rows.keys, &rows.weights)?;
     Ok(sum)
 }
 
@@ -102,10 +102,10 @@ pub fn part_sum<S: Roomed>(
     ensures add { OnOk result (PiecesAddUp (S.Stages.network stages.now) tail at parts) }
 {
     let count = stages.stages();
-    let from = cut(alloc, stages, tail, at.min(count))?;
+    let from = cut_by_rooms(alloc, stages, tail, at.min(count))?;
     let owners = deal(alloc, from.weights.len(), parts)?;
     Ok(PieceSum {
         closed: from.closed,
-        sum: run_piece(alloc, stages, tail, &from, &owners, part)?,
+        sum: piece_by_rooms(alloc, stages, tail, &from, &owners, part)?,
     })
 }

@@ -167,7 +167,7 @@ fn sum_in<C: Count, S: Roomed>(
 
 /// The sum, over distinct keys that are reached at a stage and lie one after another, of the key's
 /// weight times the summed weight of its extreme completions.
-pub fn tail_sum_from<S: Roomed>(
+pub fn sum_from_keys<S: Roomed>(
     alloc: Global,
     stages: &S,
     tail: Tail,

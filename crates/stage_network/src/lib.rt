@@ -7,6 +7,7 @@ mod checked_sums;
 mod first_tails;
 mod from_keys;
 mod links;
+mod listed_keys;
 mod nodes;
 mod one_of;
 mod prepared;
@@ -31,7 +32,8 @@ mod walks;
 mod widths;
 
 pub use answering::{answer, distribution};
-pub use from_keys::tail_sum_from;
+pub use from_keys::sum_from_keys;
+pub use listed_keys::{counts_of, tail_sum_from};
 pub use networks::{
     Additive, AdditiveStages, Answer, Interval, Judge, Kept, OneOf, Roomed, Spread, Stages,
     SumValue, TailSum, TailSums, Verdict, Way, Whole, behind, front, only, write_key,

@@ -3,13 +3,13 @@ use Rattle.node_pool.specs.Nodes.{weighted}
 use Rattle.node_pool.specs.PoolSteps.{nodes_of}
 use Rattle.networks.specs.Network.{Network}
 use Rattle.networks.specs.Completions.{extreme_weight}
-use Rattle.pieces.specs.Cuts.{cut_nodes, owned_nodes}
+use Rattle.pieces.specs.Cuts.{counted_nodes, owned_nodes}
 use Rattle.pieces.proofs.CutSums.{owned-part}
 use Rattle.pieces.proofs.Owned.{owned-starts}
-use Rattle.pieces.proofs.parting.run_piece.Goals as goal
+use Rattle.pieces.proofs.parting.piece_by_rooms.Goals as goal
 
-pub tail_sum_from-requires : goal.tail_sum_from-requires
-tail_sum_from-requires g c =
+pub sum_from_keys-requires : goal.sum_from_keys-requires
+sum_from_keys-requires g c =
     let n : Network = g.S.Stages.network c.args.stages.now in
     let from = c.args.from.now in
     let rows = c.in_ok-rows.rows in
@@ -22,7 +22,7 @@ returns g c =
     let n : Network = g.S.Stages.network c.args.stages.now in
     let from = c.args.from.now in
     let nodes = rw (c.width.ensures, c.deref.ensures.value, c.deref-2.ensures.value) at c.in_ok-rows.ensures.nodes in
-    let laid : nodes_of n.width c.deref-3.result.now c.deref-4.result.now ≡ owned_nodes (cut_nodes n from) c.args.owners.now c.args.part = rw (c.deref-3.ensures.value, c.deref-4.ensures.value) nodes in
+    let laid : nodes_of n.width c.deref-3.result.now c.deref-4.result.now ≡ owned_nodes (counted_nodes n from) c.args.owners.now c.args.part = rw (c.deref-3.ensures.value, c.deref-4.ensures.value) nodes in
     c.in_ok-sum.ensures
     ∙ ap (weighted (extreme_weight n c.args.tail from.at)) laid
-    ∙ owned-part n c.args.tail from.at (cut_nodes n from) c.args.owners.now c.args.part c.requires.cut.within c.requires.cut.told c.requires.cut.starts.distinct
+    ∙ owned-part n c.args.tail from.at (counted_nodes n from) c.args.owners.now c.args.part c.requires.cut.within c.requires.cut.told c.requires.cut.starts.distinct

@@ -1,5 +1,5 @@
 use Rattle.node_pool.specs.PoolSteps.{nodes_of}
-use Rattle.stage_network.proofs.from_keys.tail_sum_from.Given as goal
+use Rattle.stage_network.proofs.from_keys.sum_from_keys.Given as goal
 
 abbrev pub ghost-sum_in : goal.ghost-sum_in
 ghost-sum_in g a = nodes_of (g.S.Stages.network a.stages.now).width a.keys.now a.weights.now
