@@ -1,0 +1,72 @@
+// The public calls of `block_tests`.
+ghost use Rattle.std.specs.Prelude.{◌<◌, ◌≡◌, IfOk, true};
+ghost use Rattle.block_tests.specs.BlockNetworks.{block_network, running_network};
+ghost use Rattle.block_tests.specs.BlockTests.{TakesCells, block_test, blocks_for};
+ghost use Rattle.networks.specs.Completions.{extreme_weight, total_weight};
+ghost use Rattle.networks.specs.Follows.{HasTails, answer_of, open_keys};
+ghost use Rattle.networks.specs.Lines.{WeightsFit};
+ghost use Rattle.sample_reader.specs.Data.{block_data_of};
+ghost use Rattle.weights.specs.Conditional.{distribution, numerator, total};
+ghost use Rattle.weights.specs.Wide.{Prepares};
+
+use block_tests::{BlockKind, BlockStages, BlockTest};
+use sample_reader::Blocks;
+use stage_network::{Answer, PrepareFault, Spread, Stages, Way};
+use std::alloc::Global;
+use weights::{NoMemory, Tail, Tails};
+
+/// A test of blocks, or which number is too wide.
+pub fn prepare(alloc: Global, kind: BlockKind, blocks: &Blocks) -> Result<BlockTest, PrepareFault>
+    requires { TakesCells kind blocks.now.cells }
+    ensures { Prepares block_test (blocks_for kind (block_data_of blocks.now)) result }
+{
+    block_tests::prepare(alloc, kind, blocks)
+}
+
+/// The answer of a test for tails that it has, by either way.
+pub fn answer(
+    alloc: Global,
+    problem: &BlockTest,
+    tails: Tails,
+    way: Way,
+) -> Result<Answer, NoMemory>
+    requires { HasTails (block_test problem.now) tails }
+    ensures { let opened = open_keys (block_network problem.now) in
+        IfOk result (λ answer.
+        answer ≡ answer_of (block_test problem.now) opened tails way) }
+{
+    block_tests::answer(alloc, problem, tails, way)
+}
+
+/// The distribution of a test, by either way.
+pub fn distribution(alloc: Global, problem: &BlockTest, way: Way) -> Result<Spread, NoMemory>
+    ensures lines { IfOk result (λ spread. spread ≡ distribution (block_test problem.now)) }
+    ensures weights { IfOk result WeightsFit }
+{
+    block_tests::distribution(alloc, problem, way)
+}
+
+/// The place of a kind of test of blocks. There are three, and no other.
+pub fn block_place(kind: BlockKind) -> u64
+    ensures { result < 3 }
+{
+    match kind {
+        BlockKind::Friedman => 0,
+        BlockKind::Page => 1,
+        BlockKind::Cochran => 2,
+    }
+}
+
+/// The network that runs for a tail that the test has. All completions of its first key weigh the
+/// total, and the extreme ones the tail's numerator.
+pub fn stages_of(alloc: Global, problem: &BlockTest, tail: Tail) -> Result<BlockStages, NoMemory>
+    requires { (block_test problem.now).has_tail tail ≡ true }
+    ensures built { let n = running_network problem.now tail in
+        IfOk result (λ built. ⟦<BlockStages as Stages>⟧.network built ≡ n) }
+    ensures rest { let n = running_network problem.now tail in
+        total_weight n 0 n.first ≡ total (block_test problem.now) }
+    ensures numerator { let n = running_network problem.now tail in
+        extreme_weight n tail 0 n.first ≡ numerator (block_test problem.now) tail }
+{
+    block_tests::stages_of(alloc, problem, tail)
+}
