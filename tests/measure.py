@@ -6,16 +6,22 @@ TABLE   largest  the largest inputs of each command: what it answers, within a m
         growth   how large a problem of each shape may be, within a second, and within a minute and a gigabyte
         fisher   tables of counts, beside `fisher.test` of R, whose time is taken within R
         peers    problems that R or its packages coin, exactRankTests and kSamples answer exactly, beside those
+        inside   call against call: that of the library in this process, with the reading of the bytes and the report of all
+                 tails, beside those of R, its packages and scipy for one p, each timed within its own process. PROGRAM is
+                 libexact.so, as tools/make_library makes it
 
 Times are processor seconds of the whole process, which other work on the machine lengthens; memory is the greatest
 that lay in the machine, and up to some 12 MB it may be that of Python, from which the process starts.
 """
+import ctypes
+import math
 import os
 import random
 import resource
 import subprocess
 import sys
 import tempfile
+import time
 from dataclasses import dataclass
 from pathlib import Path
 
@@ -527,8 +533,147 @@ def peers(tests):
             print(f"| `{words[0]}` | {what} | {p} | {least:.3f} | {package} | {theirs} | {took} |", flush=True)
 
 
+# ---- call against call
+
+# the test's words, the problem, the file, and who else answers it: of R a call on `d`, of scipy one on its columns
+TABLE = "fisher.test(d, workspace = 2e7)"
+INSIDE = [
+    (["ranksum"], "40 and 40, all different", lambda dice: samples([40, 40], dice), {
+        "stats": "wilcox.test(d[[2]] ~ d[[1]], exact = TRUE)",
+        "scipy": "stats.mannwhitneyu(*split(d), method='exact')",
+    }),
+    (["ranksum"], "65 and 65 with ties", lambda dice: samples(TWO, dice, step=0.25), {
+        "exactRankTests": "exactRankTests::wilcox.exact(d[[2]] ~ factor(d[[1]]), exact = TRUE)",
+    }),
+    *(
+        (["ansari"], f"{n} and {n}, all different", lambda dice, n=n: samples([n, n], dice, 0, 2), {
+            "stats": "ansari.test(d[[2]] ~ factor(d[[1]]), exact = TRUE)",
+            "scipy": "stats.ansari(*split(d))",
+        })
+        for n in (20, 40)
+    ),
+    (["mood"], "20 and 20, all different", lambda dice: samples([20, 20], dice, 0, 2), {
+        "coin": "coin::mood_test(d[[2]] ~ factor(d[[1]]), distribution = 'exact')",
+    }),
+    (["signedrank"], "40 differences, all different", lambda dice: csv([[n] for n in distinct(40, dice, 0.4)]), {
+        "stats": "wilcox.test(d[[1]], exact = TRUE)",
+        "scipy": "stats.wilcoxon(d[0], method='exact')",
+    }),
+    (["signedrank"], "126 differences with ties", lambda dice: differences(126, dice, 2, 8), {
+        "exactRankTests": "exactRankTests::wilcox.exact(d[[1]], exact = TRUE)",
+    }),
+    (["kendall"], "33 pairs without ties", lambda dice: bivariate(33, dice), {
+        "stats": "cor.test(d[[1]], d[[2]], method = 'kendall', exact = TRUE)",
+        "scipy": "stats.kendalltau(d[0], d[1], method='exact')",
+    }),
+    (["kw"], "3 groups of 5", lambda dice: samples([5, 5, 5], dice), {
+        "kSamples": "kSamples::qn.test(split(d[[2]], d[[1]]), test = 'KW', method = 'exact', Nsim = 1e7)",
+    }),
+    (["jt", "--tail", "greater"], "3 groups of 5", lambda dice: samples([5, 5, 5], dice), {
+        "kSamples": "kSamples::jt.test(split(d[[2]], d[[1]]), method = 'exact', Nsim = 1e7)",
+    }),
+    *(
+        (["friedman"], f"{n} blocks of {k}, no ties", lambda dice, n=n, k=k: blocks(n, k, dice), {
+            "SuppDists": f"list(p.value = SuppDists::pFriedman(friedman.test(as.matrix(d))$statistic - 1e-7, {k}, {n}, FALSE))",
+        })
+        for n, k in [(8, 5), (15, 4), (20, 3)]
+    ),
+    (["page"], "8 blocks of 5, no ties", lambda dice: blocks(8, 5, dice), {
+        "scipy": "stats.page_trend_test(list(zip(*d)), method='exact')",
+    }),
+    (["strata"], "15 tables of ten", lambda dice: strata(15, 10, dice), {
+        "stats": "mantelhaen.test(array(t(as.matrix(d[, c(2, 4, 3, 5)])), c(2, 2, 15)), exact = TRUE)",
+    }),
+    (["fisher"], "2 by 2 of 40", lambda dice: table(2, 2, 40, dice), {
+        "stats": TABLE,
+        "scipy": "stats.fisher_exact(list(zip(*d)))",
+    }),
+    *(
+        (["fisher"], f"{r} by {c} of {n}", lambda dice, r=r, c=c, n=n: table(r, c, n, dice), {"stats": TABLE})
+        for r, c, n in [(3, 3, 40), (4, 4, 40), (4, 4, 60), (3, 10, 40), (5, 5, 40), (4, 9, 40), (3, 5, 70), (8, 8, 35)]
+    ),
+    (["fisher"], "4 by 4 of 64, the same table each time", lambda dice: table(4, 4, 64, random.Random(7)), {"stats": TABLE}),
+]
+# R and Python within which a call is timed: the p, and the least seconds that one of many calls takes
+INSIDE_R = PEER.replace("commandArgs(TRUE)\nd <- read.csv(words[1])", """commandArgs(TRUE)
+d <- read.csv(words[1])
+if (grepl("^fisher", words[2])) d <- as.matrix(d)""").replace(
+    "took <- sapply(1:5, function(i) sum(system.time(suppressWarnings(eval(call)))[1:2]))",
+    """times <- max(1, min(1000, ceiling(0.1 / max(1e-5, system.time(suppressWarnings(eval(call)))[3]))))
+    took <- sapply(1:5, function(i) system.time(for (j in 1:times) suppressWarnings(eval(call)))[3] / times)""",
+).replace("%.6f %.3f", "%.6f %.7f")
+INSIDE_PYTHON = r"""
+import csv, sys, timeit, warnings
+from scipy import stats
+warnings.simplefilter("ignore")
+rows = list(csv.reader(open(sys.argv[1])))[1:]
+d = [[float(x) if x.lstrip("-")[:1].isdigit() else x for x in column] for column in zip(*rows)]
+def split(d):
+    labels = list(dict.fromkeys(d[0]))
+    return [[x for label, x in zip(*d) if label == it] for it in labels]
+if "fisher" in sys.argv[2]:
+    d = [[int(x) for x in column] for column in d]
+call = compile(sys.argv[2], "call", "eval")
+found = eval(call)
+p = found[1] if isinstance(found, tuple) else found.pvalue
+timer = timeit.Timer("eval(call)", globals=globals())
+times = timer.autorange()[0]
+print(f"{p:.6f} {min(timer.repeat(5, times)) / times:.7f}")
+"""
+
+
+def in_process(words, text):
+    """The p that the library's report ends with, and the least seconds that one of many calls takes."""
+    call = ctypes.CDLL(PROGRAM).exact_answer
+    call.restype = ctypes.c_uint8
+    packed, data = ("\0".join([words[0], "f.csv", *words[1:]]) + "\0").encode(), text.encode()
+    out, told, counts = ctypes.create_string_buffer(1 << 16), ctypes.create_string_buffer(96), (ctypes.c_size_t * 2)()
+    sizes = [ctypes.c_size_t(it) for it in (len(packed), len(data), len(out), len(told))]
+
+    def once():
+        begun = time.perf_counter()
+        status = call(packed, sizes[0], data, sizes[1], out, sizes[2], told, sizes[3], counts)
+        assert status == 0, told.value
+        return time.perf_counter() - begun
+
+    begun, taken = time.perf_counter(), [once() for _ in range(5)]
+    while time.perf_counter() - begun < 0.5:
+        taken.append(once())
+    return out.raw[: counts[0]].split()[-1].decode(), min(taken)
+
+
+def of_peer(package, call):
+    """The p of a peer's call on the file, and its seconds."""
+    command = ["Rscript", "inside.R"] if package != "scipy" else ["/usr/bin/python3", "inside.py"]
+    told = subprocess.run([*command, "peer.csv", call], capture_output=True, text=True, check=False).stdout.split()
+    return told if len(told) == 2 else ["-", "-"]
+
+
+def inside(tests):
+    print("| test | problem | p | seconds | peer | its p | its seconds | times ahead |\n|---|---|---|---|---|---|---|---|")
+    Path("inside.R").write_text(INSIDE_R, encoding="utf-8")
+    Path("inside.py").write_text(INSIDE_PYTHON, encoding="utf-8")
+    best = {}
+    for words, what, made, others in INSIDE:
+        if tests and words[0] not in tests:
+            continue
+        text = made(random.Random(f"{what} {words[0]}"))
+        Path("peer.csv").write_text(text, encoding="utf-8")
+        p, seconds = in_process(words, text)
+        for package, call in others.items():
+            theirs, took = of_peer(package, call)
+            ahead = "-" if took == "-" else f"{float(took) / seconds:.1f}"
+            print(f"| `{words[0]}` | {what} | {p} | {seconds:.6f} | {package} | {theirs} | {took} | {ahead} |", flush=True)
+            if took != "-":
+                best[what, words[0]] = min(best.get((what, words[0]), math.inf), float(took) / seconds)
+    if best:
+        mean = math.exp(sum(map(math.log, best.values())) / len(best))
+        behind = sum(it < 1 for it in best.values())
+        print(f"\n{len(best)} problems, the best peer of each: geometric mean {mean:.1f} times ahead, behind on {behind}")
+
+
 PROGRAM = os.path.realpath(sys.argv[1])
 with tempfile.TemporaryDirectory() as folder:
     os.chdir(folder)
-    {"largest": largest, "growth": growth, "fisher": fisher, "peers": peers}[sys.argv[2]](sys.argv[3:])
+    {"largest": largest, "growth": growth, "fisher": fisher, "peers": peers, "inside": inside}[sys.argv[2]](sys.argv[3:])
     os.chdir(EXAMPLES)
