@@ -4,22 +4,16 @@ use Rattle.std.specs.Prelude.{ℤ, pos}
 use Rattle.std.specs.List.{AllByRecursion}
 use Rattle.std.proofs.lemmas.Bool.{ltb-true}
 use Rattle.weights.specs.declared.TheConstants.{MAX}
-use Rattle.weights.specs.Conditional.{ConditionalTest}
-use Rattle.weights.specs.declared.tails.Tail.{Tail}
-use Rattle.networks.specs.Follows.{Follows}
-use Rattle.networks.specs.Judged.{judge_of}
+use Rattle.networks.specs.Judged.{IsJudged}
 use Rattle.networks.specs.Network.{Network, IsReached}
 use Rattle.networks.specs.declared.verdicts.Judge.{Judge}
 use Rattle.room_network.proofs.RoomKeys.{is_key}
 use Rattle.label_network.specs.Meanings.{sizes_in}
-use Rattle.ordered_groups.specs.OrderedNetworks.{MayBeOrdered}
-use Rattle.ordered_groups.proofs.OrderedKeys.{AreTurned, may-be-ordered}
 use Rattle.packed_keys.specs.PackedKeys.{IsDigit, MayBePacked}
 use Rattle.packed_keys.proofs.Widths.{bits-few, bits-fit}
 use Rattle.block_tests.specs.Mirrors.{AreMirrors}
-use Rattle.block_tests.specs.Servings.{AreServings, alike, has_room_for, one_each, served_network, served_sums, serving_network}
+use Rattle.block_tests.specs.Servings.{AreServings, has_room_for, one_each, served_network, served_sums, serving_network}
 use Rattle.block_tests.specs.declared.serving.Serving.{Serving}
-use Rattle.block_tests.proofs.ServedFold.{treatments-turned}
 use Rattle.block_tests.proofs.ServedNarrows.{IsServed, served}
 use Rattle.block_tests.proofs.ServingRooms.{serving_width}
 
@@ -35,25 +29,17 @@ within n zero key r = omega arith
 within n (suc g) key r = omega (arith, r.3)
 
 module _ (k : ℕ) (vs : List Serving) (judge : Judge) (a : AreServings k vs judge) (mirrors : List ℕ) (m : AreMirrors k vs mirrors) where
-  n : Network
-  n = serving_network k vs mirrors judge
-
-  turned : AreTurned (alike k) (serving_network k vs mirrors judge) judge
-  turned = treatments-turned k vs judge a mirrors m
-
-  ordered : MayBeOrdered true (alike k) (serving_network k vs mirrors judge)
-  ordered = may-be-ordered true (alike k) (serving_network k vs mirrors judge) judge turned
-
-  pub packed-sums : 2 ≤ k → has_room_for k (length vs) ≡ true → (test : ConditionalTest) (tail : Tail) → Follows test tail (served_network k vs mirrors judge) → MayBePacked k (127 / k) (served_network k vs mirrors judge)
-  packed-sums some room test tail f = record {
+  -- a reached key in order is one of the servings, whose sums are digits
+  pub packed-sums : 2 ≤ k → has_room_for k (length vs) ≡ true → IsJudged (served_network k vs mirrors judge)
+      → ((g : ℕ) (key : List ℤ) → IsReached (served_network k vs mirrors judge) g key → IsReached (serving_network k vs mirrors judge) g key) → MayBePacked k (127 / k) (served_network k vs mirrors judge)
+  packed-sums some room judged reached = record {
     room = omega (arith, a.narrow);
     within = omega arith;
     few = omega (arith, a.narrow);
     narrow = bits-few k some;
     fits = subst (λ i. (2 ^ (127 / k)) ^ i ≤ MAX + 1) (twice k) (bits-fit k);
-    judged = record { judge = judge_of test; intervals = f.intervals };
-    long = λ g key r. turned.long g key (ordered.reached g key r);
-    each = λ g key r. (let here : IsReached (serving_network k vs mirrors judge) g key = ordered.reached g key r in
+    judged = judged;
+    each = λ g key r. (let here : IsReached (serving_network k vs mirrors judge) g key = reached g key r in
         let s : IsServed k vs judge a g (take k key) (drop k key) = served k vs judge a mirrors m g (take k key) (drop k key) (is_key (served_sums k vs mirrors judge) one_each (serving_width k vs) g key here).reached in
         are-digits (2 ^ (127 / k)) (16 * g) (drop k key) (omega (arith, within (serving_network k vs mirrors judge) g key here, ltb-true (16 * length vs) (2 ^ (127 / k)) room)) s.held s.small);
   }

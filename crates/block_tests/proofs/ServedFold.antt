@@ -1,34 +1,31 @@
 -- Treatments may change places in every key of the network of servings.
 use Rattle.std.proofs.Common.{◌≡◌, ℕ, zero, suc, ◌+◌, ◌*◌, ◌<◌, List, [], ◌∷◌, ◌++◌, length, map, min, take, drop, replicate, Bool, true, false, cond, refl, sym, ◌∙◌, ap, subst, arith}
-use Rattle.std.specs.Prelude.{ℤ, pos, nat_abs, ◌≤ℤ◌}
+use Rattle.std.specs.Prelude.{ℤ, pos, nat_abs}
 use Rattle.std.specs.List.{sum_by, Contains}
 use Rattle.std.proofs.lemmas.List.{length-replicate}
-use Rattle.weights.specs.Conditional.{ConditionalTest}
-use Rattle.weights.specs.declared.tails.Tail.{Tail}
 use Rattle.weights.specs.Grouped.{choices, minus}
 use Rattle.weights.proofs.ChoiceLists.{IsChoice}
 use Rattle.weights.proofs.Sized.{length-minus}
 use Rattle.networks.specs.declared.verdicts.Judge.{Judge}
 use Rattle.networks.specs.Network.{Network, IsReached}
-use Rattle.networks.specs.Judged.{HasIntervals, judge_of}
+use Rattle.networks.specs.Judged.{HasIntervals}
 use Rattle.networks.specs.Completions.{over_arcs}
-use Rattle.networks.specs.Follows.{Follows}
 use Rattle.networks.proofs.Folding.{IsTurned, over_allowed}
 use Rattle.networks.proofs.Steps.{reached-next}
 use Rattle.networks.proofs.Swaps.{length-swap, map-swap, swap_at}
 use Rattle.room_network.specs.Meanings.{Meaning}
-use Rattle.room_network.proofs.RoomLaws.{key_long}
-use Rattle.room_network.proofs.RoomKeys.{IsKey, choices_before, is_key, partial-next, room-next}
+use Rattle.room_network.proofs.RoomLaws.{room_intervals}
+use Rattle.room_network.proofs.RoomKeys.{choices_before, is_key}
 use Rattle.label_network.specs.Meanings.{sizes_in}
 use Rattle.label_network.proofs.ChoiceSwaps.{minus-swap, swapped_choices, swapped_member}
 use Rattle.label_network.proofs.Narrowing.{chosen}
 use Rattle.label_network.proofs.Rows.{length-abs, length-pos}
-use Rattle.ordered_groups.specs.OrderedNetworks.{AreItsRooms}
-use Rattle.ordered_groups.proofs.OrderedKeys.{AreTurned, ordered-follows}
-use Rattle.ordered_groups.proofs.PlaceOrder.{IsTurn, back-key, front-key, turn}
+use Rattle.ordered_groups.specs.OrderedGroups.{IsTurn, turn}
+use Rattle.ordered_groups.specs.OrderedNetworks.{AreItsRooms, MayBeOrdered}
+use Rattle.ordered_groups.proofs.PlaceOrder.{back-key, front-key}
 use Rattle.block_tests.specs.BlockTests.{squared}
 use Rattle.block_tests.specs.Mirrors.{AreMirrors}
-use Rattle.block_tests.specs.Servings.{AreServings, ahead_at, alike, around, centre, far_square, gained, greatest_squares, is_late, later_numbers, left_numbers, most_squares, near_square, one_each, over_ends, served_network, served_sums, serving_at, serving_network, serving_plan, unserved}
+use Rattle.block_tests.specs.Servings.{AreServings, ahead_at, alike, around, centre, far_square, gained, greatest_squares, is_late, later_numbers, left_numbers, most_squares, near_square, one_each, over_ends, served_sums, serving_at, serving_network, serving_plan, unserved}
 use Rattle.block_tests.specs.Upright.{mirror_at, upright}
 use Rattle.block_tests.specs.declared.serving.Serving.{Serving}
 use Rattle.block_tests.specs.declared.serving.Ahead.{Ahead}
@@ -211,31 +208,8 @@ module _ (k : ℕ) (vs : List Serving) (judge : Judge) (a : AreServings k vs jud
   abbrev m : Meaning
   m = served_sums k vs mirrors judge
 
-  is-key : (g : ℕ) (key : List ℤ) → IsReached n g key → IsKey m one_each (serving_width k vs) g key
-  is-key g key r = is_key m one_each (serving_width k vs) g key r
-
-  rises : (g : ℕ) (key : List ℤ) (c : List ℕ) → IsReached n g key → g < n.count → Contains (n.choices g key) c → m.low g (room key) (partial key) ≤ℤ m.low (g + 1) (room (n.next g key c)) (partial (n.next g key c))
-  rises g key c r h o =
-      let here : IsKey m one_each (serving_width k vs) g key = is-key g key r in
-      rw (room-next m one_each (serving_width k vs) g key c here.long, partial-next m one_each (serving_width k vs) g key c here.long)
-      ((served_measure k vs judge a mirrors mirrors_are).low_rises g (room key) (partial key) c here.reached h (subst (λ cs. Contains cs c) (choices-at g key h) o))
-
-  falls : (g : ℕ) (key : List ℤ) (c : List ℕ) → IsReached n g key → g < n.count → Contains (n.choices g key) c → m.high (g + 1) (room (n.next g key c)) (partial (n.next g key c)) ≤ℤ m.high g (room key) (partial key)
-  falls g key c r h o =
-      let here : IsKey m one_each (serving_width k vs) g key = is-key g key r in
-      rw (room-next m one_each (serving_width k vs) g key c here.long, partial-next m one_each (serving_width k vs) g key c here.long)
-      ((served_measure k vs judge a mirrors mirrors_are).high_falls g (room key) (partial key) c here.reached h (subst (λ cs. Contains cs c) (choices-at g key h) o))
-
   abbrev intervals : HasIntervals n judge
-  intervals = record {
-    low = λ g key. m.low g (room key) (partial key);
-    high = λ g key. m.high g (room key) (partial key);
-    verdicts = λ t g key r. refl;
-    low_rises = rises;
-    high_falls = falls;
-    low_ends = λ key r. (served_measure k vs judge a mirrors mirrors_are).low_ends (room key) (partial key) (is-key n.count key r).reached;
-    high_ends = λ key r. (served_measure k vs judge a mirrors mirrors_are).high_ends (room key) (partial key) (is-key n.count key r).reached;
-  }
+  intervals = room_intervals m one_each (serving_width k vs) (served_measure k vs judge a mirrors mirrors_are)
 
   ends-turn : (f : ℕ → ℕ → ℕ) (i g : ℕ) (key : List ℤ) → IsReached n g key → over_ends f (ahead_at k vs g) (sizes_in (room (turn k i key))) (sizes_in (partial (turn k i key))) ≡ over_ends f (ahead_at k vs g) (sizes_in (room key)) (sizes_in (partial key))
   ends-turn f i g key r =
@@ -269,19 +243,15 @@ module _ (k : ℕ) (vs : List Serving) (judge : Judge) (a : AreServings k vs jud
       ∙ ap (λ x. pos (cond (is_late k vs g) (min (most_squares k vs (ahead_at k vs g) (sizes_in (room key)) (sizes_in (partial key))) x) (most_squares k vs (ahead_at k vs g) (sizes_in (room key)) (sizes_in (partial key))))) (greatest-turn i g key r)
 
   -- so treatments may be put in order
-  pub treatments-turned : AreTurned (alike k) n judge
+  pub treatments-turned : MayBeOrdered (alike k) n judge
   treatments-turned = record {
     few = rw wide a.narrow;
     wide = rw wide refl;
-    long = key_long (served_sums k vs mirrors judge) one_each (serving_width k vs) (served_measure k vs judge a mirrors mirrors_are);
     turned = served-turned;
     intervals = intervals;
     low = low-turned;
     high = high-turned;
   }
-
-  pub served-follows : (test : ConditionalTest) (tail : Tail) → judge ≡ judge_of test → Follows test tail n → Follows test tail (served_network k vs mirrors judge)
-  served-follows = ordered-follows true (alike k) n judge treatments-turned
 
 -- as the network of servings asks for
 pub treatments-housed : (k : ℕ) (vs : List Serving) (judge : Judge) → AreServings k vs judge → (mirrors : List ℕ) → (j : ℕ) (us : List Serving) → AreItsRooms (serving_plan k vs) (serving_plan j us) (served_sums k vs mirrors judge) (alike k)

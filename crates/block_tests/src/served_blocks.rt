@@ -1,7 +1,13 @@
 // The network of servings with treatments in order.
-ghost use Rattle.std.specs.Prelude.{◌≡◌, ◌<◌, ◌≤◌, ℕ, length, true, All, IfOk};
+ghost use Rattle.std.specs.Prelude.{◌≡◌, ◌<◌, ◌≤◌, ℕ, ℤ, List, length, true, All, IfOk};
+ghost use Rattle.weights.specs.Conditional.{ConditionalTest};
+ghost use Rattle.weights.specs.declared.tails.Tail.{Tail};
+ghost use Rattle.networks.specs.Follows.{Follows};
+ghost use Rattle.networks.specs.Judged.{judge_of};
+ghost use Rattle.networks.specs.Network.{IsReached};
 ghost use Rattle.block_tests.specs.Mirrors.{AreEven, AreMirrors};
 ghost use Rattle.block_tests.specs.Servings.{AreServings, alike, all_servings, has_room_for};
+ghost use Rattle.block_tests.specs.Servings.{served_network, serving_network};
 ghost use Rattle.block_tests.specs.Upright.{mirror_at};
 
 use crate::block::Block;
@@ -74,6 +80,14 @@ pub(crate) fn served_blocks(
     ensures even { let vs = all_servings blocks.now in
         IfOk result (λ s. (g : ℕ) → g < length vs → 0 < mirror_at s.1.servings.mirrors.items g
         → All AreEven blocks.now) }
+    ensures follows { let vs = all_servings blocks.now in
+        IfOk result (λ s. (test : ConditionalTest) (tail : Tail) → judge ≡ judge_of test
+        → Follows test tail (serving_network treatments vs s.1.servings.mirrors.items judge)
+        → Follows test tail (served_network treatments vs s.1.servings.mirrors.items judge)) }
+    ensures reached { let vs = all_servings blocks.now in
+        IfOk result (λ s. (g : ℕ) (key : List ℤ)
+        → IsReached (served_network treatments vs s.1.servings.mirrors.items judge) g key
+        → IsReached (serving_network treatments vs s.1.servings.mirrors.items judge) g key) }
 {
     let is_even = are_even(blocks);
     let given = all_of(alloc, blocks, treatments, is_even, judge)?;

@@ -1,6 +1,6 @@
 -- Neighbouring groups of equal size may change places in every key of the network of their squared sums.
 use Rattle.std.proofs.Common.{◌≡◌, ℕ, zero, suc, ◌+◌, ◌*◌, ◌/◌, ◌<◌, List, [], ◌∷◌, ◌++◌, length, map, take, drop, min, replicate, true, refl, sym, ◌∙◌, ap, subst, arith}
-use Rattle.std.specs.Prelude.{ℤ, pos, nat_abs, ◌≤ℤ◌, slice_index, ◌+ℤ◌, ◌-ℤ◌, ◌*ℤ◌}
+use Rattle.std.specs.Prelude.{ℤ, pos, nat_abs, slice_index, ◌+ℤ◌, ◌-ℤ◌, ◌*ℤ◌}
 use Rattle.std.specs.List.{sum_by, Contains}
 use Rattle.std.proofs.lemmas.List.{length-map}
 use Rattle.weights.specs.Grouped.{choices, minus}
@@ -14,8 +14,8 @@ use Rattle.networks.specs.Completions.{over_arcs}
 use Rattle.networks.proofs.Folding.{IsTurned, over_allowed}
 use Rattle.networks.proofs.Steps.{reached-next}
 use Rattle.networks.proofs.Swaps.{length-swap, map-swap, swap_at}
-use Rattle.room_network.proofs.RoomLaws.{key_long}
-use Rattle.room_network.proofs.RoomKeys.{IsKey, choices_before, is_key, partial-next, room-next, weighed}
+use Rattle.room_network.proofs.RoomLaws.{room_intervals}
+use Rattle.room_network.proofs.RoomKeys.{IsKey, choices_before, is_key, weighed}
 use Rattle.label_network.specs.LabelNetwork.{label_network, over_rooms}
 use Rattle.label_network.specs.LabelRooms.{label_weight}
 use Rattle.label_network.specs.Linear.{score_of}
@@ -34,8 +34,9 @@ use Rattle.k_sample_tests.specs.RankSums.{score_parts, squares_meaning}
 use Rattle.k_sample_tests.specs.RankSumSteps.{IsSquaring}
 use Rattle.k_sample_tests.specs.declared.rank_sums.RankSums.{RankSums}
 use Rattle.label_network.proofs.ChoiceSwaps.{labellings-swap, minus-swap, swapped_choices, swapped_member}
-use Rattle.ordered_groups.proofs.OrderedKeys.{AreTurned}
-use Rattle.ordered_groups.proofs.PlaceOrder.{IsTurn, back-key, front-key, same_at, swap-same, turn}
+use Rattle.ordered_groups.specs.OrderedGroups.{IsTurn, same_at, turn}
+use Rattle.ordered_groups.specs.OrderedNetworks.{MayBeOrdered}
+use Rattle.ordered_groups.proofs.PlaceOrder.{back-key, front-key, swap-same}
 use Rattle.k_sample_tests.proofs.CentredNarrows.{centred_measure}
 use Rattle.packed_keys.proofs.AddedDigits.{length-plus}
 use Rattle.k_sample_tests.proofs.RankNarrows.{length-parts, squares_measure}
@@ -213,28 +214,8 @@ module _ (factors : List ℕ) (bound : ℕ) (scores : List ℤ) (columns rows : 
 
   -- ---- intervals
 
-  rises : (g : ℕ) (k : List ℤ) (c : List ℕ) → IsReached n g k → g < n.count → Contains (n.choices g k) c → m.low g (sizes_in (room k)) (partial k) ≤ℤ m.low (g + 1) (sizes_in (room (n.next g k c))) (partial (n.next g k c))
-  rises g k c r before o =
-      let key : AKey g k = a-key g k r in
-      rw (room-next (over_rooms m) label_weight (label_width columns rows) g k c key.long, partial-next (over_rooms m) label_weight (label_width columns rows) g k c key.long)
-      ((over_measure m measure).low_rises g (room k) (partial k) c key.reached before (subst (λ cs. Contains cs c) (choices-at g k before) o))
-
-  falls : (g : ℕ) (k : List ℤ) (c : List ℕ) → IsReached n g k → g < n.count → Contains (n.choices g k) c → m.high (g + 1) (sizes_in (room (n.next g k c))) (partial (n.next g k c)) ≤ℤ m.high g (sizes_in (room k)) (partial k)
-  falls g k c r before o =
-      let key : AKey g k = a-key g k r in
-      rw (room-next (over_rooms m) label_weight (label_width columns rows) g k c key.long, partial-next (over_rooms m) label_weight (label_width columns rows) g k c key.long)
-      ((over_measure m measure).high_falls g (room k) (partial k) c key.reached before (subst (λ cs. Contains cs c) (choices-at g k before) o))
-
   abbrev sums_intervals : HasIntervals n judge
-  sums_intervals = record {
-    low = λ g k. m.low g (sizes_in (room k)) (partial k);
-    high = λ g k. m.high g (sizes_in (room k)) (partial k);
-    verdicts = λ t g k r. refl;
-    low_rises = rises;
-    high_falls = falls;
-    low_ends = λ k r. measure.low_ends (sizes_in (room k)) (partial k) (reached-label n.count k r);
-    high_ends = λ k r. measure.high_ends (sizes_in (room k)) (partial k) (reached-label n.count k r);
-  }
+  sums_intervals = room_intervals (over_rooms m) label_weight (label_width columns rows) (over_measure m measure)
 
   -- the ends of the box of a key whose groups change places
   module _ (i g : ℕ) (k : List ℤ) (r : IsReached n g k) where
@@ -257,11 +238,10 @@ module _ (factors : List ℕ) (bound : ℕ) (scores : List ℤ) (columns rows : 
   -- where the ends of intervals stay, groups of equal size may be put in order
   module _ (low-turn : (i g : ℕ) → same_at i rows ≡ true → (k : List ℤ) → IsReached n g k → low g (sizes_in (room (turn (length rows) i k))) (partial (turn (length rows) i k)) ≡ low g (sizes_in (room k)) (partial k))
       (high-turn : (i g : ℕ) → same_at i rows ≡ true → (k : List ℤ) → IsReached n g k → high g (sizes_in (room (turn (length rows) i k))) (partial (turn (length rows) i k)) ≡ high g (sizes_in (room k)) (partial k)) where
-    pub rows-turned : AreTurned rows n judge
+    pub rows-turned : MayBeOrdered rows n judge
     rows-turned = record {
       few = h.few_rows;
       wide = refl;
-      long = key_long (over_rooms m) label_weight (label_width columns rows) (over_measure m measure);
       turned = equal-turned;
       intervals = sums_intervals;
       low = λ g k j r (i, s, e). ap (sums_intervals.low g) e ∙ low-turn i g s k r;
@@ -287,7 +267,7 @@ module _ (factors : List ℕ) (bound : ℕ) (scores : List ℤ) (columns rows : 
   abbrev plain : Meaning
   plain = squares_meaning factors bound scores columns rows judge
 
-  pub squares-turned : AreTurned rows (label_network plain) judge
+  pub squares-turned : MayBeOrdered rows (label_network plain) judge
   squares-turned =
       let side = box-side factors bound scores columns rows judge h even plain.outlook plain.low plain.high (squares_measure factors bound scores columns rows judge h) in
       let long = side-long factors bound scores columns rows judge h even plain.outlook plain.low plain.high (squares_measure factors bound scores columns rows judge h) in
@@ -317,7 +297,7 @@ module _ (factors : List ℕ) (bound : ℕ) (scores : List ℤ) (columns rows : 
     seen-long : (ends : List ℤ) → length ends ≡ length rows → length (plus_each ends shifts) ≡ length rows
     seen-long ends l = length-plus ends shifts (shifts-long ∙ sym l) ∙ l
 
-    pub centred-turned : AreTurned rows (label_network centred) judge
+    pub centred-turned : MayBeOrdered rows (label_network centred) judge
     centred-turned =
         let measure = centred_measure factors bound base middle scores columns rows judge h c in
         let side = box-side factors bound scores columns rows judge h even centred.outlook centred.low centred.high measure in
@@ -336,9 +316,9 @@ module _ (factors : List ℕ) (bound : ℕ) (scores : List ℤ) (columns rows : 
 pub even-factors : (sizes : List ℕ) (i : ℕ) → same_at i sizes ≡ true → swap_at i (size_factors sizes) ≡ size_factors sizes
 even-factors sizes i s = sym (map-swap (λ n. common_multiple sizes / n) i sizes) ∙ ap (map (λ n. common_multiple sizes / n)) (swap-same i sizes s)
 
-pub groups-turned : (m : RankSums) (sizes : List ℕ) → sizes ≡ m.rows.items → m.factors.items ≡ size_factors sizes → AreTurned sizes (label_network (sums_meaning m)) m.judge
+pub groups-turned : (m : RankSums) (sizes : List ℕ) → sizes ≡ m.rows.items → m.factors.items ≡ size_factors sizes → MayBeOrdered sizes (label_network (sums_meaning m)) m.judge
 groups-turned m sizes rows_are factors_are =
-    subst (λ ns. AreTurned ns (label_network (sums_meaning m)) m.judge) (sym rows_are)
+    subst (λ ns. MayBeOrdered ns (label_network (sums_meaning m)) m.judge) (sym rows_are)
     (squares-turned m.factors.items m.bound m.later.scores.items m.later.columns.items m.rows.items m.judge m.right.squaring
     (subst (λ ns. (i : ℕ) → same_at i ns ≡ true → swap_at i m.factors.items ≡ m.factors.items) rows_are
     (subst (λ fs. (i : ℕ) → same_at i sizes ≡ true → swap_at i fs ≡ fs) (sym factors_are) (even-factors sizes))))

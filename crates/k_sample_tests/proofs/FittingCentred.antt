@@ -1,5 +1,6 @@
 -- The sums of a test's groups, seen from their middle: what makes them so, and that their network follows the test.
 use Rattle.std.proofs.Common.{◌≡◌, ℕ, ◌*◌, ◌/◌, ◌^◌, ◌<◌, ◌≤◌, List, [], ◌∷◌, get_or, length, map, max, false, true, sym, ◌∙◌, ap, subst, arith}
+use Rattle.std.specs.Prelude.{ℤ}
 use Rattle.std.specs.List.{AllByRecursion, sum}
 use Prim.Native.Nat.{◌∣◌}
 use Rattle.std.proofs.Math.Nat.{mul-div_cancel', mul-le-mul, mul-le-mul_left}
@@ -7,24 +8,23 @@ use Rattle.std.proofs.lemmas.List.Elements.{recursion_from_All}
 use Rattle.std.proofs.lemmas.List.Sums.{sum_by-cons}
 use Rattle.weights.specs.Numbers.{absolute_sum}
 use Rattle.weights.specs.declared.tails.Tail.{Tail}
-use Rattle.weights.specs.declared.tails.Tail.TheVariants.{Greater}
 use Rattle.scores.specs.PlaceScores.{common_multiple}
 use Rattle.scores.specs.Scores.{scale_of}
 use Rattle.scores.proofs.MultipleLemmas.{common_multiple-all}
 use Rattle.sample_reader.specs.Groups.{group_sizes}
 use Rattle.networks.specs.Follows.{Follows}
+use Rattle.networks.specs.Judged.{judge_of}
+use Rattle.networks.specs.Network.{IsReached}
 use Rattle.networks.proofs.Swaps.{swap_at}
 use Rattle.label_network.specs.LabelNetwork.{label_network, over_rooms}
 use Rattle.label_network.specs.LaterSums.{subjects}
 use Rattle.label_network.specs.Meanings.{Meaning}
 use Rattle.label_network.proofs.Endings.{labelling_value}
 use Rattle.labelled.proofs.LabelLaws.{label-follows}
+use Rattle.ordered_groups.specs.OrderedGroups.{same_at}
 use Rattle.ordered_groups.specs.OrderedNetworks.{MayBeOrdered, ordered_network}
-use Rattle.ordered_groups.proofs.OrderedKeys.{AreTurned, may-be-ordered, ordered-follows}
-use Rattle.ordered_groups.proofs.PlaceOrder.{same_at}
 use Rattle.packed_keys.specs.PackedGroups.{AddsSteps}
-use Rattle.packed_keys.specs.PackedKeys.{MayBePacked, packed_network}
-use Rattle.packed_keys.proofs.PackedParts.{packed-follows}
+use Rattle.packed_keys.specs.PackedKeys.{MayBePacked}
 use Rattle.pooled_columns.specs.PooledColumns.{column_sizes, pooled_values}
 use Rattle.k_sample_tests.specs.CentredSums.{AreParts}
 use Rattle.k_sample_tests.specs.KruskalWallis.{ScoredGroups, kruskal_wallis_says, kruskal_wallis_test, pooled_scores, size_factors}
@@ -88,34 +88,26 @@ module _ (samples : ScoredGroups) (f : AreFitting samples) where
     even : (i : ℕ) → same_at i s.sums.rows.items ≡ true → swap_at i s.sums.factors.items ≡ s.sums.factors.items
     even = subst (λ fs. (i : ℕ) → same_at i s.sums.rows.items ≡ true → swap_at i fs ≡ fs) (ap size_factors rows-are ∙ sym a.factors) (even-factors s.sums.rows.items)
 
-    turned : AreTurned s.sums.rows.items (label_network (seen_meaning s)) s.sums.judge
+    turned : MayBeOrdered s.sums.rows.items (label_network (seen_meaning s)) s.sums.judge
     turned = centred-turned s.sums.factors.items s.sums.bound s.sums.later.scores.items s.sums.later.columns.items s.sums.rows.items s.sums.judge s.sums.right.squaring even s.base s.middle s.right
 
     module _ (sizes : List ℕ) (e : sizes ≡ group_sizes samples.groups) where
       to-rows : s.sums.rows.items ≡ sizes
       to-rows = rows-are ∙ sym e
 
-      pub seen-ordered : MayBeOrdered false sizes (label_network (seen_meaning s))
-      seen-ordered = subst (λ ns. MayBeOrdered false ns (label_network (seen_meaning s))) to-rows (may-be-ordered false s.sums.rows.items (label_network (seen_meaning s)) s.sums.judge turned)
-
-      pub ordered-seen : (tail : Tail) → Follows (kruskal_wallis_test samples) tail (ordered_network false sizes (label_network (seen_meaning s)))
-      ordered-seen tail =
-          subst (λ ns. Follows (kruskal_wallis_test samples) tail (ordered_network false ns (label_network (seen_meaning s)))) to-rows
-          (ordered-follows false s.sums.rows.items (label_network (seen_meaning s)) s.sums.judge turned (kruskal_wallis_test samples) tail (ap (λ (m : Meaning). m.judge) a.meaning) (seen-follows tail))
+      pub seen-ordered : MayBeOrdered sizes (label_network (seen_meaning s)) s.sums.judge
+      seen-ordered = subst (λ ns. MayBeOrdered ns (label_network (seen_meaning s)) s.sums.judge) to-rows turned
 
       -- one number has a digit for the sum of each group
-      pub seen-packed : (bits : ℕ) → bits ≡ 127 / length sizes → absolute_sum (pooled_scores samples) < 2 ^ (127 / length (group_sizes samples.groups)) → MayBePacked (length s.sums.rows.items) bits (ordered_network false sizes (label_network (seen_meaning s)))
-      seen-packed bits b small =
+      pub seen-packed : (bits : ℕ) → bits ≡ 127 / length sizes → absolute_sum (pooled_scores samples) < 2 ^ (127 / length (group_sizes samples.groups)) → (tail : Tail) → Follows (kruskal_wallis_test samples) tail (ordered_network false sizes (label_network (seen_meaning s)))
+          → ((g : ℕ) (key : List ℤ) → IsReached (ordered_network false sizes (label_network (seen_meaning s))) g key → IsReached (label_network (seen_meaning s)) g key) → MayBePacked (length s.sums.rows.items) bits (ordered_network false sizes (label_network (seen_meaning s)))
+      seen-packed bits b small tail follows reached =
           let r = s.sums in
           let all : absolute_sum (subjects r.later.scores.items r.later.columns.items) ≡ absolute_sum (pooled_scores samples) = ap (λ (m : Meaning). absolute_sum (subjects r.later.scores.items m.columns)) a.meaning ∙ ap (λ zs. absolute_sum (subjects zs (column_sizes (pooled_values samples.groups)))) a.scores ∙ column-total samples f in
           let own : absolute_sum (subjects r.later.scores.items r.later.columns.items) < 2 ^ (127 / length r.rows.items) = subst (λ ns. absolute_sum (subjects r.later.scores.items r.later.columns.items) < 2 ^ (127 / length ns)) (sym rows-are) (subst (λ n. n < 2 ^ (127 / length (group_sizes samples.groups))) (sym all) small) in
           subst (λ k. MayBePacked (length r.rows.items) k (ordered_network false sizes (label_network (seen_meaning s)))) (ap (λ ns. 127 / length ns) to-rows ∙ sym b)
-          (subst (λ ns. MayBePacked (length r.rows.items) (127 / length r.rows.items) (ordered_network false ns (label_network (seen_meaning s)))) to-rows
-          (packed-sums r.factors.items r.bound s.base s.middle r.later.scores.items r.later.columns.items r.rows.items r.judge r.right.squaring s.right even (subst (λ ns. 2 ≤ length ns) (sym rows-are) f.some) own (kruskal_wallis_test samples) Greater
-          (ordered-follows false r.rows.items (label_network (seen_meaning s)) r.judge turned (kruskal_wallis_test samples) Greater (ap (λ (m : Meaning). m.judge) a.meaning) (seen-follows Greater))))
-
-      pub packed-seen : (bits : ℕ) → MayBePacked (length s.sums.rows.items) bits (ordered_network false sizes (label_network (seen_meaning s))) → (tail : Tail) → Follows (kruskal_wallis_test samples) tail (packed_network (length s.sums.rows.items) bits (ordered_network false sizes (label_network (seen_meaning s))))
-      packed-seen bits may tail = packed-follows may (kruskal_wallis_test samples) tail (ordered-seen tail)
+          (packed-sums r.factors.items r.bound s.base s.middle r.later.scores.items r.later.columns.items r.rows.items r.judge r.right.squaring s.right sizes (subst (λ ns. 2 ≤ length ns) (sym rows-are) f.some) own
+          (record { judge = judge_of (kruskal_wallis_test samples); intervals = follows.intervals }) reached)
 
     pub seen-adds : AddsSteps (over_rooms (seen_meaning s))
     seen-adds = adds-steps s.sums.factors.items s.sums.bound s.base s.middle s.sums.later.scores.items s.sums.later.columns.items s.sums.rows.items s.sums.judge s.sums.right.squaring s.right

@@ -5,12 +5,9 @@ use Rattle.std.specs.List.{AllByRecursion}
 use Rattle.std.proofs.lemmas.Int.{ints}
 use Rattle.std.proofs.lemmas.List.Elements.{recursion_from_All}
 use Rattle.weights.specs.declared.TheConstants.{MAX}
-use Rattle.weights.specs.declared.tails.Tail.{Tail}
-use Rattle.weights.specs.Conditional.{ConditionalTest}
 use Rattle.weights.specs.Grouped.{columns_of, minus}
 use Rattle.weights.specs.Numbers.{absolute_sum}
-use Rattle.networks.specs.Follows.{Follows}
-use Rattle.networks.specs.Judged.{judge_of}
+use Rattle.networks.specs.Judged.{IsJudged}
 use Rattle.networks.specs.Network.{Network, IsReached}
 use Rattle.networks.specs.declared.verdicts.Judge.{Judge}
 use Rattle.room_network.proofs.RoomKeys.{is_key}
@@ -25,10 +22,7 @@ use Rattle.label_network.proofs.LabelPlans.{label_width}
 use Rattle.label_network.proofs.Later.{fits-length}
 use Rattle.label_network.proofs.Narrowing.{chosen, reached-left}
 use Rattle.label_network.proofs.OverRooms.{over_place}
-use Rattle.ordered_groups.specs.OrderedNetworks.{MayBeOrdered, ordered_network}
-use Rattle.ordered_groups.proofs.OrderedKeys.{AreTurned, may-be-ordered}
-use Rattle.ordered_groups.proofs.PlaceOrder.{same_at}
-use Rattle.networks.proofs.Swaps.{swap_at}
+use Rattle.ordered_groups.specs.OrderedNetworks.{ordered_network}
 use Rattle.packed_keys.specs.PackedGroups.{AddsSteps, AreHeld, plus_each}
 use Rattle.packed_keys.specs.PackedKeys.{IsDigit, MayBePacked}
 use Rattle.packed_keys.proofs.Widths.{bits-few, bits-fit}
@@ -36,7 +30,6 @@ use Rattle.k_sample_tests.specs.CentredSums.{IsCentred, centred_meaning}
 use Rattle.k_sample_tests.specs.RankSums.{score_parts, squares_meaning}
 use Rattle.k_sample_tests.specs.RankSumSteps.{IsSquaring}
 use Rattle.k_sample_tests.proofs.CentredNarrows.{IsHeldPartial, held-at, reached_held}
-use Rattle.k_sample_tests.proofs.EqualKeys.{centred-turned}
 use Rattle.k_sample_tests.proofs.RankNarrows.{length-parts}
 
 are-digits : (base : ℕ) (zs : List ℤ) → absolute_sum zs < base → AreHeld zs → AllByRecursion (IsDigit base) zs
@@ -84,25 +77,19 @@ module _ (factors : List ℕ) (bound base middle : ℕ) (scores : List ℤ) (col
       choice-long : (g : ℕ) (room : List ℤ) (x : List ℕ) (p : List ℤ) → IsMove (over_rooms m) g room x p → length x ≡ length rows
       choice-long g room x p v = (chosen (slice_index columns g) (sizes_in room) x v.allowed).long ∙ fits-length (sizes_in room) rows (reached-left m h.level g (sizes_in room) p (over_place m g room p v.reached).reached).within
 
-  module _ (even : (i : ℕ) → same_at i rows ≡ true → swap_at i factors ≡ factors) where
-    turned : AreTurned rows n judge
-    turned = centred-turned factors bound scores columns rows judge h even base middle c
-
-    pub ordered : MayBeOrdered false rows n
-    ordered = may-be-ordered false rows n judge turned
-
-    pub packed-sums : 2 ≤ length rows → absolute_sum (subjects scores columns) < 2 ^ (127 / length rows) → (test : ConditionalTest) (tail : Tail) → Follows test tail (ordered_network false rows n) → MayBePacked (length rows) (127 / length rows) (ordered_network false rows n)
-    packed-sums some small test tail f = record {
-      room = omega (arith, h.few_rows);
-      within = omega arith;
-      few = omega (arith, h.few_rows);
-      narrow = bits-few (length rows) some;
-      fits = subst (λ i. (2 ^ (127 / length rows)) ^ i ≤ MAX + 1) (twice (length rows)) (bits-fit (length rows));
-      judged = record { judge = judge_of test; intervals = f.intervals };
-      long = λ g key r. turned.long g key (ordered.reached g key r);
-      each = λ g key r. (let k = reached-at g key (ordered.reached g key r) in
-          are-digits (2 ^ (127 / length rows)) (drop (length rows) key) (omega (arith, k.whole, small)) k.held);
-    }
-      where
-        twice : (k : ℕ) → k ≡ k + k - k
-        twice k = omega arith
+  -- in whatever order its groups are, a reached key is one of plain sums, which are digits
+  pub packed-sums : (sizes : List ℕ) → 2 ≤ length rows → absolute_sum (subjects scores columns) < 2 ^ (127 / length rows) → IsJudged (ordered_network false sizes n)
+      → ((g : ℕ) (key : List ℤ) → IsReached (ordered_network false sizes n) g key → IsReached n g key) → MayBePacked (length rows) (127 / length rows) (ordered_network false sizes n)
+  packed-sums sizes some small judged reached = record {
+    room = omega (arith, h.few_rows);
+    within = omega arith;
+    few = omega (arith, h.few_rows);
+    narrow = bits-few (length rows) some;
+    fits = subst (λ i. (2 ^ (127 / length rows)) ^ i ≤ MAX + 1) (twice (length rows)) (bits-fit (length rows));
+    judged = judged;
+    each = λ g key r. (let k = reached-at g key (reached g key r) in
+        are-digits (2 ^ (127 / length rows)) (drop (length rows) key) (omega (arith, k.whole, small)) k.held);
+  }
+    where
+      twice : (k : ℕ) → k ≡ k + k - k
+      twice k = omega arith

@@ -1,9 +1,16 @@
 // Networks of rooms in whose keys groups are in order.
-ghost use Rattle.std.specs.Prelude.{◌≡◌};
+ghost use Rattle.std.specs.Prelude.{◌≡◌, ℕ, ℤ, Bool, List};
+ghost use Rattle.weights.specs.Conditional.{ConditionalTest};
+ghost use Rattle.weights.specs.declared.tails.Tail.{Tail};
+ghost use Rattle.networks.specs.Completions.{value_weights};
+ghost use Rattle.networks.specs.Follows.{Follows};
+ghost use Rattle.networks.specs.Judged.{judge_of};
+ghost use Rattle.networks.specs.Network.{IsReached};
 ghost use Rattle.room_network.specs.Plans.{Plan};
 ghost use Rattle.room_network.specs.RoomNetworks.{room_network};
 ghost use Rattle.ordered_groups.specs.OrderSteps.{IsInOrder};
 ghost use Rattle.ordered_groups.specs.OrderedNetworks.{AreItsRooms, MayBeOrdered};
+ghost use Rattle.ordered_groups.specs.OrderedNetworks.{ordered_network};
 
 use crate::keys::{put_groups_in_order, put_sums_in_order};
 use networks::{Roomed, Stages, Verdict, behind, front};
@@ -40,15 +47,28 @@ impl<R: Rooms, M: Measure> Model for InOrder<R, M> {
 
 impl<R: Rooms, M: Measure> InOrder<R, M> {
     /// A network with groups of these sizes in order, by sums too or by what remains alone, made of
-    /// it and of rooms like its own.
+    /// it and of rooms like its own. As much weight ends at each value, it follows the tests of its
+    /// rules that the network follows, and its keys are keys of the network.
     pub fn new(stages: RoomNetwork<R, M>, rooms: R, sizes: Vec<u64>, by_sums: bool) -> InOrder<R, M>
         requires rooms { let m = M.meaning stages.1 in
             AreItsRooms (R.plan rooms) (R.plan stages.0) m sizes.items }
-        requires ordered { let n = room_network (M.meaning stages.1) (R.plan stages.0).weight in
-            MayBeOrdered by_sums sizes.items n }
-        ensures { result ≡ (stages.0, stages.1, sizes.items, by_sums) }
+        requires ordered { let m = M.meaning stages.1 in
+            MayBeOrdered sizes.items (room_network m (R.plan stages.0).weight) m.judge }
+        ensures parts { result ≡ (stages.0, stages.1, sizes.items, by_sums) }
+        ensures ends { let n = room_network (M.meaning stages.1) (R.plan stages.0).weight in
+            (p : ℤ → Bool)
+            → value_weights (ordered_network by_sums sizes.items n) p ≡ value_weights n p }
+        ensures follows { let m = M.meaning stages.1 in
+            let n = room_network m (R.plan stages.0).weight in
+            (test : ConditionalTest) (tail : Tail) → m.judge ≡ judge_of test
+            → Follows test tail n → Follows test tail (ordered_network by_sums sizes.items n) }
+        ensures reached { let n = room_network (M.meaning stages.1) (R.plan stages.0).weight in
+            (g : ℕ) (key : List ℤ)
+            → IsReached (ordered_network by_sums sizes.items n) g key → IsReached n g key }
     {
-        let _count = rooms.stages();
+        let _lawful = stages.stages();
+        let _roomed = stages.room_width();
+        let _sound = rooms.stages();
         InOrder {
             stages,
             rooms,
@@ -141,7 +161,6 @@ impl<R: Rooms, M: Measure> Roomed for InOrder<R, M> {
     ghost outlook_of = { λ s. (M.meaning s.1).outlook };
 
     fn room_width(&self) -> usize {
-        let _lawful = self.stages.stages();
         self.stages.room_width()
     }
 

@@ -16,7 +16,7 @@ use Rattle.ordered_groups.specs.OrderedNetworks.{ordered_network}
 use Rattle.ordered_groups.proofs.PlaceOrder.{order-stays}
 use Rattle.packed_keys.specs.PackedGroups.{plus_each, shift, shifting_step}
 use Rattle.packed_keys.specs.PackedKeys.{IsDigit, numeral, packed_network, unpacked}
-use Rattle.packed_keys.specs.PackedSteps.{AreDigits, IsPackedGroups}
+use Rattle.packed_keys.specs.PackedSteps.{AreDigits, IsPacked, IsPackedGroups}
 use Rattle.packed_keys.proofs.AddedDigits.{added-digits, length-plus, numeral-plus}
 use Rattle.packed_keys.proofs.DigitLists.{number-small}
 use Rattle.packed_keys.proofs.PackedParts.{in-arc, is-packed, next-digits, next-packed, parts-reached, read-parts}
@@ -55,6 +55,9 @@ module _ {plan : Plan} {m : Meaning} {sizes : List ℕ} {by_sums : Bool} {bits :
   abbrev k : ℕ
   k = (m.floor.width + m.slots) - m.floor.width
 
+  pub packed-of : IsPacked m.floor.width bits k (ordered_network by_sums sizes (room_network m plan.weight))
+  packed-of = record { slots_are = refl; may = i.may; long = i.ordered.ordered.lawful.long }
+
   kept : KeepsWidth m.floor
   kept = widths_kept i.rooms m i.ordered.sound i.ordered.its_rooms.housed
 
@@ -86,7 +89,7 @@ module _ {plan : Plan} {m : Meaning} {sizes : List ℕ} {by_sums : Bool} {bits :
     move = is-move g room partial c l r before h
 
     partial-long : length partial ≡ m.slots
-    partial-long = omega (arith, i.may.long g key r, length-append room partial, l)
+    partial-long = omega (arith, i.ordered.ordered.lawful.long g key r, length-append room partial, l)
 
     added-long : length added ≡ length partial
     added-long = i.adds.wide g room c partial move ∙ i.adds.steps ∙ sym partial-long
@@ -121,14 +124,14 @@ module _ {plan : Plan} {m : Meaning} {sizes : List ℕ} {by_sums : Bool} {bits :
     numbers-plus = ap (λ p. numeral (2 ^ bits) (map nat_abs p)) next-plus ∙ numeral-plus (2 ^ bits) partial added added-long each (i.adds.held g room c partial move)
 
     pub numbers-fit : numeral (2 ^ bits) (map nat_abs partial) + numeral (2 ^ bits) (map nat_abs added) ≤ MAX
-    numbers-fit = subst (λ s. s ≤ MAX) numbers-plus (number-small bits (drop w (o.next g key c)) (next-digits i.may g key c r before h))
+    numbers-fit = subst (λ s. s ≤ MAX) numbers-plus (number-small bits (drop w (o.next g key c)) (next-digits packed-of g key c r before h))
 
   abbrev packed_groups : Network
   packed_groups = packed_network m.floor.width bits (ordered_network by_sums sizes (room_network m plan.weight))
 
   pub in-digits : (g : ℕ) (room : List ℤ) (c : List ℕ) → IsArc packed_groups w g room c → g < m.floor.count → are_in_order sizes (m.floor.next g room c) ≡ true → AreDigits bits (m.step g room c)
   in-digits g room c v before stays =
-      let there : IsArc o w g room c = in-arc i.may g room c v in
+      let there : IsArc o w g room c = in-arc packed-of g room c v in
       step-digits g room there.partial c there.wide there.reached before there.allowed stays
 
   -- a step whose first number is 1 has a second one, which leads a partial on
@@ -139,11 +142,11 @@ module _ {plan : Plan} {m : Meaning} {sizes : List ℕ} {by_sums : Bool} {bits :
       let numbers : List ℤ = unpacked (2 ^ bits) k partial in
       let left : List ℤ = m.floor.next g room c in
       let added : List ℤ = m.step g room c in
-      let here : IsReached o g (room ++ numbers) = parts-reached i.may g room partial l r in
-      let allowed : Contains (o.choices g (room ++ numbers)) c = subst (λ key. Contains (o.choices g key) c) (read-parts i.may room partial l) h in
+      let here : IsReached o g (room ++ numbers) = parts-reached packed-of g room partial l r in
+      let allowed : Contains (o.choices g (room ++ numbers)) c = subst (λ key. Contains (o.choices g key) c) (read-parts packed-of room partial l) h in
       let both = shift-stays (2 ^ bits) (are_in_order sizes left) added (left ++ added) (ap (λ s. get_or s 0 (pos 0)) (sym e) ∙ one) in
-      let first : get_or partial 0 (pos 0) ≡ pos (numeral (2 ^ bits) (map nat_abs numbers)) = ap (λ p. get_or p 0 (pos 0)) (sym (is-packed i.may g room partial l r)) in
+      let first : get_or partial 0 (pos 0) ≡ pos (numeral (2 ^ bits) (map nat_abs numbers)) = ap (λ p. get_or p 0 (pos 0)) (sym (is-packed packed-of g room partial l r)) in
       let second : get_or step 1 (pos 0) ≡ pos (numeral (2 ^ bits) (map nat_abs added)) = ap (λ s. get_or s 1 (pos 0)) e ∙ both.1 in (
         rw (first, second) (numbers-fit g room numbers c l here before allowed both.0),
-        rw (first, second) (ap (λ n. pos n ∷ []) (sym (numbers-plus g room numbers c l here before allowed both.0)) ∙ sym (next-packed i.may g room partial c l r before allowed)),
+        rw (first, second) (ap (λ n. pos n ∷ []) (sym (numbers-plus g room numbers c l here before allowed both.0)) ∙ sym (next-packed packed-of g room partial c l r before allowed)),
       )

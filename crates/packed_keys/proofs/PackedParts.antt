@@ -1,24 +1,24 @@
 -- What the bodies of a packed network read of its keys, and what follows from its partials being digits.
 use Rattle.std.proofs.Common.{◌≡◌, ℕ, ◌+◌, ◌-◌, ◌^◌, ◌<◌, ◌≤◌, List, ◌++◌, drop, length, take, refl, sym, ◌∙◌, ap, subst, arith, length-append, length-drop}
-use Rattle.std.specs.Prelude.{ℤ}
+use Rattle.std.specs.Prelude.{ℤ, Bool}
 use Rattle.std.specs.List.{Contains}
 use Rattle.std.proofs.lemmas.List.{length-take, take-append-drop}
 use Rattle.weights.specs.Conditional.{ConditionalTest}
 use Rattle.weights.specs.declared.TheConstants.{MAX}
 use Rattle.weights.specs.declared.tails.Tail.{Tail}
-use Rattle.networks.specs.Completions.{total_weight}
+use Rattle.networks.specs.Completions.{total_weight, value_weights}
 use Rattle.networks.specs.Follows.{Follows}
 use Rattle.networks.specs.Laws.{IsLawful}
 use Rattle.networks.specs.Network.{Network, IsReached}
 use Rattle.networks.specs.Rooms.{IsArc, IsPlace, IsRoomed}
 use Rattle.networks.proofs.Steps.{reached-next}
 use Rattle.room_network.proofs.RoomKeys.{back_is, front_is}
-use Rattle.packed_keys.specs.PackedKeys.{MayBePacked, packed, packed_key, packed_network, unpacked, unpacked_key}
-use Rattle.packed_keys.specs.PackedSteps.{AreDigits}
+use Rattle.packed_keys.specs.PackedKeys.{packed, packed_key, packed_network, unpacked, unpacked_key}
+use Rattle.packed_keys.specs.PackedSteps.{AreDigits, IsPacked}
 use Rattle.packed_keys.proofs.DigitLists.{unpacked-packed}
-use Rattle.packed_keys.proofs.Rewriting.{reached, rewritten-follows, rewritten-lawful, rewritten-roomed, same-total}
+use Rattle.packed_keys.proofs.Rewriting.{reached, rewritten-follows, rewritten-lawful, rewritten-roomed, same-total, same-values}
 
-module _ {w bits : ℕ} {n : Network} (m : MayBePacked w bits n) where
+module _ {w bits slots : ℕ} {n : Network} (i : IsPacked w bits slots n) where
   abbrev k : ℕ
   k = n.width - w
 
@@ -29,10 +29,10 @@ module _ {w bits : ℕ} {n : Network} (m : MayBePacked w bits n) where
   read = unpacked_key w (2 ^ bits) k
 
   room-long : (g : ℕ) (key : List ℤ) → IsReached n g key → length (take w key) ≡ w
-  room-long g key r = length-take w key ∙ omega (arith, m.long g key r, m.within)
+  room-long g key r = length-take w key ∙ omega (arith, i.long g key r, i.may.within)
 
   partial-long : (g : ℕ) (key : List ℤ) → IsReached n g key → length (drop w key) ≡ k
-  partial-long g key r = length-drop w key ∙ ap (λ i. i - w) (m.long g key r)
+  partial-long g key r = length-drop w key ∙ ap (λ j. j - w) (i.long g key r)
 
   back : (g : ℕ) (key : List ℤ) → IsReached n g key → read (write key) ≡ key
   back g key r =
@@ -40,7 +40,7 @@ module _ {w bits : ℕ} {n : Network} (m : MayBePacked w bits n) where
       let part : List ℤ = packed (2 ^ bits) (drop w key) in
       ap (λ room. room ++ unpacked (2 ^ bits) k (drop w (write key))) (front_is w (take w key) part long)
       ∙ ap (λ p. take w key ++ unpacked (2 ^ bits) k p) (back_is w (take w key) part long)
-      ∙ ap (λ p. take w key ++ p) (unpacked-packed (2 ^ bits) k (drop w key) (partial-long g key r) (m.each g key r))
+      ∙ ap (λ p. take w key ++ p) (unpacked-packed (2 ^ bits) k (drop w key) (partial-long g key r) (i.may.each g key r))
       ∙ take-append-drop w key
 
   long : (g : ℕ) (key : List ℤ) → IsReached n g key → length (write key) ≡ w + 1
@@ -53,13 +53,16 @@ module _ {w bits : ℕ} {n : Network} (m : MayBePacked w bits n) where
   read-reached g key r = (reached n (w + 1) write read back g key r).0
 
   pub packed-lawful : IsLawful n → IsLawful (packed_network w bits n)
-  packed-lawful l = rewritten-lawful n (w + 1) write read back m.judged.judge m.judged.intervals (omega arith) (omega (arith, m.room)) long l
+  packed-lawful l = rewritten-lawful n (w + 1) write read back i.may.judged.judge i.may.judged.intervals (omega arith) (omega (arith, i.may.room)) long l
 
   pub packed-roomed : IsLawful n → IsRoomed n w → IsRoomed (packed_network w bits n) w
   packed-roomed l h = rewritten-roomed n (w + 1) write read back w (omega arith) kept l h
 
   pub packed-total : (g : ℕ) (key : List ℤ) → IsReached (packed_network w bits n) g key → total_weight (packed_network w bits n) g key ≡ total_weight n g (read key)
   packed-total g key r = same-total n (w + 1) write read back g key r
+
+  pub packed-values : (p : ℤ → Bool) → value_weights (packed_network w bits n) p ≡ value_weights n p
+  packed-values = same-values n (w + 1) write read back
 
   pub packed-follows : (test : ConditionalTest) (tail : Tail) → Follows test tail n → Follows test tail (packed_network w bits n)
   packed-follows test tail f = rewritten-follows n (w + 1) write read back test tail f
@@ -107,9 +110,9 @@ module _ {w bits : ℕ} {n : Network} (m : MayBePacked w bits n) where
   next-digits g key c r before o =
       let there : IsReached n (g + 1) (n.next g key c) = reached-next n g key c r before o in
       record {
-        each = m.each (g + 1) (n.next g key c) there;
-        fits = subst (λ i. (2 ^ bits) ^ i ≤ MAX + 1) (sym (partial-long (g + 1) (n.next g key c) there)) m.fits;
-        narrow = m.narrow;
+        each = i.may.each (g + 1) (n.next g key c) there;
+        fits = subst (λ j. (2 ^ bits) ^ j ≤ MAX + 1) (sym (partial-long (g + 1) (n.next g key c) there)) i.may.fits;
+        narrow = i.may.narrow;
       }
 
   -- and is packed
@@ -123,7 +126,7 @@ module _ {w bits : ℕ} {n : Network} (m : MayBePacked w bits n) where
 
   pub first-digits : AreDigits bits (drop w n.first)
   first-digits = record {
-    each = m.each 0 n.first refl;
-    fits = subst (λ i. (2 ^ bits) ^ i ≤ MAX + 1) (sym (partial-long 0 n.first refl)) m.fits;
-    narrow = m.narrow;
+    each = i.may.each 0 n.first refl;
+    fits = subst (λ j. (2 ^ bits) ^ j ≤ MAX + 1) (sym (partial-long 0 n.first refl)) i.may.fits;
+    narrow = i.may.narrow;
   }

@@ -61,6 +61,5 @@ pub record MayBePacked (w bits : ℕ) (n : Network) : Type 0 where
   pub narrow : bits ≤ 63
   pub fits : (2 ^ bits) ^ (n.width - w) ≤ MAX + 1
   pub judged : IsJudged n
-  pub long : (g : ℕ) (key : List ℤ) → IsReached n g key → length key ≡ n.width
   pub each : (g : ℕ) (key : List ℤ)
       → IsReached n g key → AllByRecursion (IsDigit (2 ^ bits)) (drop w key)

@@ -2,7 +2,7 @@
 use Rattle.std.specs.Prelude.{◌≡◌, ℕ, ◌+◌, ◌-◌, ◌^◌, ◌≤◌, ℤ, Bool, false, List, length}
 use Rattle.std.specs.List.{AllByRecursion}
 use Rattle.weights.specs.declared.TheConstants.{MAX}
-use Rattle.networks.specs.Network.{Network}
+use Rattle.networks.specs.Network.{Network, IsReached}
 use Rattle.room_network.specs.Meanings.{Meaning}
 use Rattle.room_network.specs.Plans.{Plan}
 use Rattle.room_network.specs.RoomNetworks.{room_network}
@@ -20,6 +20,7 @@ pub record AreDigits (bits : ℕ) (partial : List ℤ) : Type 0 where
 pub record IsPacked (w bits slots : ℕ) (n : Network) : Type 0 where
   pub slots_are : slots ≡ n.width - w
   pub may : MayBePacked w bits n
+  pub long : (g : ℕ) (key : List ℤ) → IsReached n g key → length key ≡ n.width
 
 -- groups of these sizes in order by what remains of them alone, with steps that add, and their sums
 -- in one number of digits of so many bits

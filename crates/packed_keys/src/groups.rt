@@ -1,12 +1,16 @@
 // Networks of groups in order whose sums stand in one number, which most choices only add to.
 ghost use Rattle.std.specs.Prelude.{◌≡◌, ◌+◌, ◌^◌, ◌≤◌, ◌+ℤ◌, false, true, get_or, length, pos};
-ghost use Rattle.std.specs.Prelude.{unsigned_abs};
+ghost use Rattle.std.specs.Prelude.{ℤ, Bool, unsigned_abs};
+ghost use Rattle.weights.specs.Conditional.{ConditionalTest};
 ghost use Rattle.weights.specs.declared.TheConstants.{MAX};
+ghost use Rattle.weights.specs.declared.tails.Tail.{Tail};
+ghost use Rattle.networks.specs.Completions.{value_weights};
+ghost use Rattle.networks.specs.Follows.{Follows};
 ghost use Rattle.room_network.specs.RoomNetworks.{room_network};
 ghost use Rattle.ordered_groups.specs.OrderedGroups.{are_in_order};
 ghost use Rattle.ordered_groups.specs.OrderedNetworks.{ordered_network};
 ghost use Rattle.packed_keys.specs.PackedGroups.{AddsSteps, shift};
-ghost use Rattle.packed_keys.specs.PackedKeys.{MayBePacked};
+ghost use Rattle.packed_keys.specs.PackedKeys.{MayBePacked, packed_network};
 ghost use Rattle.packed_keys.specs.PackedSteps.{AreDigits};
 
 use crate::digits::packed_number;
@@ -77,14 +81,26 @@ fn shifted(partial: &[i128], step: &[i128]) -> i128
 }
 
 impl<R: Rooms, M: Measure> PackedGroups<R, M> {
-    /// A network with its groups in order, by what remains of them alone, and their sums packed.
+    /// A network with its groups in order, by what remains of them alone, and their sums packed. As
+    /// much weight ends at each value, and it follows the tests that the network follows.
     pub fn new(ordered: InOrder<R, M>, bits: u32) -> PackedGroups<R, M>
         requires left { ordered.3 ≡ false }
         requires packed { let m = M.meaning ordered.1 in
             let n = room_network m (R.plan ordered.0).weight in
             MayBePacked m.floor.width bits (ordered_network ordered.3 ordered.2 n) }
         requires adds { AddsSteps (M.meaning ordered.1) }
-        ensures { result ≡ (ordered, bits) }
+        ensures parts { result ≡ (ordered, bits) }
+        ensures ends { let m = M.meaning ordered.1 in
+            let n = room_network m (R.plan ordered.0).weight in
+            let o = ordered_network ordered.3 ordered.2 n in
+            let q = packed_network m.floor.width bits o in
+            (p : ℤ → Bool) → value_weights q p ≡ value_weights o p }
+        ensures follows { let m = M.meaning ordered.1 in
+            let n = room_network m (R.plan ordered.0).weight in
+            let o = ordered_network ordered.3 ordered.2 n in
+            let q = packed_network m.floor.width bits o in
+            (test : ConditionalTest) (tail : Tail)
+            → Follows test tail o → Follows test tail q }
     {
         ordered.sound();
         PackedGroups {
@@ -94,8 +110,6 @@ impl<R: Rooms, M: Measure> PackedGroups<R, M> {
 }
 
 impl<R: Rooms, M: Measure> Stages for PackedGroups<R, M> {
-    ghost use Rattle.packed_keys.specs.PackedKeys.{packed_network};
-
     ghost network = { λ p. packed_network (M.meaning p.0.1).floor.width p.1
         (ordered_network p.0.3 p.0.2 (room_network (M.meaning p.0.1) (R.plan p.0.0).weight)) };
 

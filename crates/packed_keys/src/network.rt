@@ -1,5 +1,9 @@
 // Networks whose partials stand in one number.
-ghost use Rattle.std.specs.Prelude.{◌≡◌, ◌+◌, ◌-◌, ◌^◌, ◌≤◌, ◌++◌, drop, length};
+ghost use Rattle.std.specs.Prelude.{◌≡◌, ◌+◌, ◌-◌, ◌^◌, ◌≤◌, ◌++◌, ℤ, Bool, drop, length};
+ghost use Rattle.weights.specs.Conditional.{ConditionalTest};
+ghost use Rattle.weights.specs.declared.tails.Tail.{Tail};
+ghost use Rattle.networks.specs.Completions.{value_weights};
+ghost use Rattle.networks.specs.Follows.{Follows};
 ghost use Rattle.networks.specs.Network.{IsReached};
 ghost use Rattle.packed_keys.specs.PackedKeys.{MayBePacked, packed_key, packed_network};
 ghost use Rattle.packed_keys.specs.PackedKeys.{unpacked, unpacked_key};
@@ -59,11 +63,20 @@ fn unpack_key(width: usize, bits: u32, packed: &[i128], key: &mut [i128])
 }
 
 impl<S: Roomed> Packed<S> {
-    /// A network with its partials packed.
+    /// A network with its partials packed. As much weight ends at each value, and it follows the
+    /// tests that the network follows.
     pub fn new(stages: S, bits: u32) -> Packed<S>
         requires { MayBePacked (S.room_width stages) bits (S.Stages.network stages) }
-        ensures { result ≡ (stages, bits) }
+        ensures parts { result ≡ (stages, bits) }
+        ensures ends { let n = S.Stages.network stages in
+            let q = packed_network (S.room_width stages) bits n in
+            (p : ℤ → Bool) → value_weights q p ≡ value_weights n p }
+        ensures follows { let n = S.Stages.network stages in
+            let q = packed_network (S.room_width stages) bits n in
+            (test : ConditionalTest) (tail : Tail)
+            → Follows test tail n → Follows test tail q }
     {
+        let _lawful = stages.stages();
         let slots = stages.width() - stages.room_width();
         Packed {
             stages,

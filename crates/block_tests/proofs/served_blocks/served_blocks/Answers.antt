@@ -1,7 +1,6 @@
 use Rattle.std.proofs.Common.{◌≡◌, ◌<◌, ◌∙◌, ℕ, Bool, List, ap, subst, sym, true}
 use Rattle.networks.specs.declared.verdicts.Judge.{Judge}
 use Rattle.ordered_groups.specs.OrderedNetworks.{AreItsRooms, MayBeOrdered}
-use Rattle.ordered_groups.proofs.OrderedKeys.{may-be-ordered}
 use Rattle.block_tests.specs.Mirrors.{AreMirrors}
 use Rattle.block_tests.specs.Servings.{AreServings, all_servings, alike, served_sums, serving_network, serving_plan}
 use Rattle.block_tests.specs.Upright.{mirror_at}
@@ -26,10 +25,9 @@ rooms-given k vs judge a p s f j us e i =
     rw (f.sizes, f.treatments, f.items, f.judge_is, e, i)
     (treatments-housed k vs judge a p.1.servings.mirrors.items p.0.servings.treatments p.0.servings.items.items)
 
-order-given : (k : ℕ) (vs : List Serving) (judge : Judge) → AreServings k vs judge → (p : ServingRooms × ServedSums) (s : List ℕ) → Given k vs judge p s → MayBeOrdered true s (serving_network p.1.servings.treatments p.1.servings.items.items p.1.servings.mirrors.items p.1.servings.judge)
-order-given k vs judge a p s f =
-    rw (f.sizes, f.treatments, f.items, f.judge_is)
-    (may-be-ordered true (alike k) (serving_network k vs p.1.servings.mirrors.items judge) judge (treatments-turned k vs judge a p.1.servings.mirrors.items f.mirrors))
+order-given : (k : ℕ) (vs : List Serving) (judge : Judge) → AreServings k vs judge → (p : ServingRooms × ServedSums) (s : List ℕ) → Given k vs judge p s
+    → MayBeOrdered s (serving_network p.1.servings.treatments p.1.servings.items.items p.1.servings.mirrors.items p.1.servings.judge) p.1.servings.judge
+order-given k vs judge a p s f = rw (f.sizes, f.treatments, f.items, f.judge_is) (treatments-turned k vs judge a p.1.servings.mirrors.items f.mirrors)
 
 given : (c : After-new-stages) → Given c.args.treatments (all_servings c.args.blocks.now) c.args.judge c.new-stages.result c.in_ok-sizes.sizes.items
 given c =
@@ -56,4 +54,14 @@ returns-clause-even c = λ g h some.
     c.are_even-is_even.ensures
     (c.in_ok-summed.ensures.even g h
     (subst (λ ms. 0 < mirror_at ms g)
-    (ap (λ (s : ServingRooms × ServedSums × List ℕ × Bool). s.1.servings.mirrors.items) c.new-ordered.ensures ∙ ap (λ (p : ServingRooms × ServedSums). p.1.servings.mirrors.items) c.new-stages.ensures.parts) some))
+    (ap (λ (s : ServingRooms × ServedSums × List ℕ × Bool). s.1.servings.mirrors.items) c.new-ordered.ensures.parts ∙ ap (λ (p : ServingRooms × ServedSums). p.1.servings.mirrors.items) c.new-stages.ensures.parts) some))
+
+pub returns-clause-follows : goal.returns-clause-follows
+returns-clause-follows c =
+    let f = given (goal.at.returns-clause-follows c).After-new-stages in
+    rw (c.new-ordered.ensures.parts) (rw (f.sizes, f.treatments, f.items, f.judge_is) at c.new-ordered.ensures.follows)
+
+pub returns-clause-reached : goal.returns-clause-reached
+returns-clause-reached c =
+    let f = given (goal.at.returns-clause-reached c).After-new-stages in
+    rw (c.new-ordered.ensures.parts) (rw (f.sizes, f.treatments, f.items, f.judge_is) at c.new-ordered.ensures.reached)

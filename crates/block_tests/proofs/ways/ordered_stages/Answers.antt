@@ -6,13 +6,14 @@ use Rattle.networks.specs.Follows.{Follows}
 use Rattle.networks.specs.Judged.{judge_of}
 use Rattle.block_tests.specs.BlockTests.{BlockTests, block_counts, block_test}
 use Rattle.block_tests.specs.Mirrors.{AreEven, AreMirrors}
-use Rattle.block_tests.specs.Servings.{alike, all_servings, served_network}
+use Rattle.block_tests.specs.Servings.{alike, all_servings, served_network, serving_network}
 use Rattle.block_tests.specs.PreparedSteps.{AreFitting}
 use Rattle.block_tests.specs.Upright.{mirror_at}
 use Rattle.block_tests.specs.declared.kinds.BlockKind.TheVariants.{Cochran, Friedman}
 use Rattle.block_tests.proofs.PackedServings.{packed-sums}
 use Rattle.block_tests.proofs.ServingFollows.{tests-follow, tests-servings}
 use Rattle.block_tests.proofs.ways.ordered_stages.Goals as goal
+use Rattle.block_tests.proofs.ways.ordered_stages.Goals.{After-in_ok-stages}
 
 pub served_blocks-requires : goal.served_blocks-requires
 served_blocks-requires c = rw (c.treatments.ensures, c.blocks-2.ensures.blocks, c.requires.judge) (tests-servings c.args.test.now c.blocks-2.ensures.fitting c.requires.kind Greater)
@@ -20,7 +21,7 @@ served_blocks-requires c = rw (c.treatments.ensures, c.blocks-2.ensures.blocks, 
 -- mirrors that are made of a test's blocks
 record AreFor (tests : BlockTests) (mirrors : List ℕ) : Type 0 where
   mirrors_are : AreMirrors tests.blocks.treatments (all_servings (block_counts tests)) mirrors
-  follows : (t : Tail) → Follows (block_test tests) t (served_network tests.blocks.treatments (all_servings (block_counts tests)) mirrors (judge_of (block_test tests)))
+  follows : (t : Tail) → Follows (block_test tests) t (serving_network tests.blocks.treatments (all_servings (block_counts tests)) mirrors (judge_of (block_test tests)))
 
 made-for : (tests : BlockTests) → AreFitting tests → (tests.kind ≡ Friedman) ⊎ (tests.kind ≡ Cochran) → (k : ℕ) (blocks : List (List ℕ)) (mirrors : List ℕ) → k ≡ tests.blocks.treatments → blocks ≡ block_counts tests
     → AreMirrors k (all_servings blocks) mirrors → ((g : ℕ) → g < length (all_servings blocks) → 0 < mirror_at mirrors g → All AreEven blocks) → AreFor tests mirrors
@@ -31,14 +32,27 @@ made-for tests f kind k blocks mirrors e i m even =
       follows = λ t. tests-follow tests f kind t mirrors own (subst (λ (bs : List (List ℕ)). (g : ℕ) → g < length (all_servings bs) → 0 < mirror_at mirrors g → All AreEven bs) i even);
     }
 
+-- what is made for the test here
+made : (c : After-in_ok-stages) → AreFor c.args.test.now c.in_ok-stages.stages.1.servings.mirrors.items
+made c = made-for c.args.test.now c.blocks-2.ensures.fitting c.requires.kind c.treatments.result c.blocks-2.result.now c.in_ok-stages.stages.1.servings.mirrors.items c.treatments.ensures c.blocks-2.ensures.blocks c.in_ok-stages.ensures.mirrors c.in_ok-stages.ensures.even
+
+-- it follows the test with its treatments in order
+in-order : (c : After-in_ok-stages) (t : Tail)
+    → Follows (block_test c.args.test.now) t (served_network c.args.test.now.blocks.treatments (all_servings (block_counts c.args.test.now)) c.in_ok-stages.stages.1.servings.mirrors.items (judge_of (block_test c.args.test.now)))
+in-order c t =
+    rw (c.treatments.ensures, c.blocks-2.ensures.blocks, c.requires.judge) at (c.in_ok-stages.ensures.follows (block_test c.args.test.now) t c.requires.judge)
+    ((made c).follows t)
+
 pub returns-clause-follows : goal.returns-clause-follows
 returns-clause-follows c t =
     rw (c.in_ok-stages.ensures.sums, c.in_ok-stages.ensures.sizes ∙ ap alike c.treatments.ensures, c.in_ok-stages.ensures.treatments ∙ c.treatments.ensures, c.in_ok-stages.ensures.items ∙ ap all_servings c.blocks-2.ensures.blocks, c.in_ok-stages.ensures.judge ∙ c.requires.judge)
-    ((made-for c.args.test.now c.blocks-2.ensures.fitting c.requires.kind c.treatments.result c.blocks-2.result.now c.in_ok-stages.stages.1.servings.mirrors.items c.treatments.ensures c.blocks-2.ensures.blocks c.in_ok-stages.ensures.mirrors c.in_ok-stages.ensures.even).follows t)
+    (in-order (goal.at.returns-clause-follows c).After-in_ok-stages t)
 
 pub returns-clause-packs : goal.returns-clause-packs
 returns-clause-packs c room =
-    let it = made-for c.args.test.now c.blocks-2.ensures.fitting c.requires.kind c.treatments.result c.blocks-2.result.now c.in_ok-stages.stages.1.servings.mirrors.items c.treatments.ensures c.blocks-2.ensures.blocks c.in_ok-stages.ensures.mirrors c.in_ok-stages.ensures.even in
+    let here = (goal.at.returns-clause-packs c).After-in_ok-stages in
     let k : ℕ = c.args.test.now.blocks.treatments in
     rw (c.in_ok-stages.ensures.sums, c.in_ok-stages.ensures.sizes ∙ ap alike c.treatments.ensures, c.in_ok-stages.ensures.treatments ∙ c.treatments.ensures, c.in_ok-stages.ensures.items ∙ ap all_servings c.blocks-2.ensures.blocks, c.in_ok-stages.ensures.judge ∙ c.requires.judge)
-    (packed-sums k (all_servings (block_counts c.args.test.now)) (judge_of (block_test c.args.test.now)) (tests-servings c.args.test.now c.blocks-2.ensures.fitting c.requires.kind Greater) c.in_ok-stages.stages.1.servings.mirrors.items it.mirrors_are c.requires.some room (block_test c.args.test.now) Greater (it.follows Greater))
+    (packed-sums k (all_servings (block_counts c.args.test.now)) (judge_of (block_test c.args.test.now)) (tests-servings c.args.test.now c.blocks-2.ensures.fitting c.requires.kind Greater) c.in_ok-stages.stages.1.servings.mirrors.items (made here).mirrors_are c.requires.some room
+    (record { judge = judge_of (block_test c.args.test.now); intervals = (in-order here Greater).intervals })
+    (rw (c.treatments.ensures, c.blocks-2.ensures.blocks, c.requires.judge) at c.in_ok-stages.ensures.reached))

@@ -3,7 +3,7 @@ use Rattle.sample_reader.specs.Groups.{group_sizes}
 use Rattle.networks.specs.Follows.{Follows}
 use Rattle.label_network.specs.LabelNetwork.{IsMargin, label_network, over_rooms}
 use Rattle.label_network.specs.Meanings.{Meaning}
-use Rattle.ordered_groups.proofs.OrderedKeys.{AreTurned, may-be-ordered, ordered-follows}
+use Rattle.ordered_groups.specs.OrderedNetworks.{MayBeOrdered}
 use Rattle.k_sample_tests.specs.KruskalWallis.{ScoredGroups, kruskal_wallis_test, size_factors}
 use Rattle.k_sample_tests.specs.SumMeanings.{AreSums, sums_meaning}
 use Rattle.k_sample_tests.specs.RankSumSteps.{AreFitting}
@@ -21,7 +21,7 @@ module _ (samples : ScoredGroups) (m : RankSums) (f : AreFitting samples) (a : A
       let columns-are = ap (λ (x : Meaning). x.columns) a.meaning in
       margin samples f (sums_meaning m) columns rows columns-are rows-are (omega (arith, ap length rows-are, f.few_rows)) (c ∙ columns-are) (r ∙ rows-are)
 
-  turned : (sizes : List ℕ) → sizes ≡ group_sizes samples.groups → AreTurned sizes (label_network (sums_meaning m)) m.judge
+  turned : (sizes : List ℕ) → sizes ≡ group_sizes samples.groups → MayBeOrdered sizes (label_network (sums_meaning m)) m.judge
   turned sizes s = groups-turned m sizes (s ∙ sym rows-are) (a.factors ∙ ap size_factors (sym s))
 
 pub new-requires : goal.new-requires
@@ -53,19 +53,13 @@ new-ordered-requires-clause-rooms c =
 pub new-ordered-requires-clause-ordered : goal.new-ordered-requires-clause-ordered
 new-ordered-requires-clause-ordered c =
     let made = c.made-made.ensures in
-    let s = c.in_ok-stages.stages.1 in
-    may-be-ordered true c.in_ok-sizes.sizes.items (label_network (sums_meaning s)) s.judge
-    (turned c.args.problem.now s made.fitting c.in_ok-stages.ensures.sums c.in_ok-sizes.sizes.items (c.in_ok-sizes.ensures.items ∙ c.as_slice-groups.ensures ∙ made.sizes))
+    turned c.args.problem.now c.in_ok-stages.stages.1 made.fitting c.in_ok-stages.ensures.sums c.in_ok-sizes.sizes.items (c.in_ok-sizes.ensures.items ∙ c.as_slice-groups.ensures ∙ made.sizes)
 
 pub returns : goal.returns
 returns c t =
     let samples : ScoredGroups = c.args.problem.now in
-    let made = c.made-made.ensures in
-    let s = c.in_ok-stages.stages.1 in
     let sums = c.in_ok-stages.ensures.sums in
-    rw c.new-ordered.ensures
-    (ordered-follows true c.in_ok-sizes.sizes.items (label_network (sums_meaning s)) s.judge
-    (turned samples s made.fitting sums c.in_ok-sizes.sizes.items (c.in_ok-sizes.ensures.items ∙ c.as_slice-groups.ensures ∙ made.sizes))
-    (kruskal_wallis_test samples) t
+    rw c.new-ordered.ensures.parts
+    (c.new-ordered.ensures.follows (kruskal_wallis_test samples) t
     (ap (λ (m : Meaning). m.judge) sums.meaning)
     (subst (λ m. Follows (kruskal_wallis_test samples) t (label_network m)) (sym sums.meaning) (c.written_stages.ensures.follows t)))

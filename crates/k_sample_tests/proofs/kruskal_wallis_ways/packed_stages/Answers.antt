@@ -1,12 +1,18 @@
-use Rattle.std.proofs.Common.{◌≡◌, ◌∙◌, ◌*◌, ◌/◌, ap, arith, get_or, length, sym}
+use Rattle.std.proofs.Common.{◌≡◌, ◌∙◌, ◌*◌, ◌/◌, ap, arith, false, get_or, length, sym}
+use Rattle.weights.specs.declared.tails.Tail.{Tail}
+use Rattle.weights.specs.declared.tails.Tail.TheVariants.{Greater}
+use Rattle.networks.specs.Follows.{Follows}
+use Rattle.label_network.specs.LabelNetwork.{label_network}
+use Rattle.ordered_groups.specs.OrderedNetworks.{ordered_network}
 use Rattle.label_network.specs.Meanings.{Meaning}
 use Rattle.scores.specs.PlaceScores.{common_multiple}
 use Rattle.sample_reader.specs.Groups.{group_sizes}
-use Rattle.k_sample_tests.specs.KruskalWallis.{ScoredGroups}
-use Rattle.k_sample_tests.specs.SumMeanings.{AreSums}
-use Rattle.k_sample_tests.proofs.FittingCentred.{multiple-is, multiple-some, packed-seen, seen-adds, seen-ordered, seen-packed, size-parts, some-scores, square-within}
+use Rattle.k_sample_tests.specs.KruskalWallis.{ScoredGroups, kruskal_wallis_test}
+use Rattle.k_sample_tests.specs.SumMeanings.{AreSums, seen_meaning}
+use Rattle.k_sample_tests.proofs.FittingCentred.{multiple-is, multiple-some, seen-adds, seen-follows, seen-ordered, seen-packed, size-parts, some-scores, square-within}
 use Rattle.k_sample_tests.proofs.FittingKruskalWallis.{column-total, multiple-within}
 use Rattle.k_sample_tests.proofs.kruskal_wallis_ways.packed_stages.Goals as goal
+use Rattle.k_sample_tests.proofs.kruskal_wallis_ways.packed_stages.Goals.{After-new-ordered}
 
 pub overflow_mul-multiple : goal.overflow_mul-multiple
 overflow_mul-multiple c =
@@ -50,23 +56,29 @@ new-ordered-requires-clause-ordered c =
     let sums : AreSums c.args.problem.now c.in_ok-stages.stages.1.sums = rw (c.in_ok-stages.ensures.measure, c.new-seen.ensures) c.in_ok-sums.ensures in
     seen-ordered c.args.problem.now made.fitting c.in_ok-stages.stages.1 sums c.in_ok-sizes.sizes.items (c.in_ok-sizes.ensures.items ∙ c.as_slice-groups.ensures ∙ made.sizes)
 
+-- the network with its groups in order follows the test
+in-order : (c : After-new-ordered) (t : Tail) → Follows (kruskal_wallis_test c.args.problem.now) t (ordered_network false c.in_ok-sizes.sizes.items (label_network (seen_meaning c.in_ok-stages.stages.1)))
+in-order c t =
+    let made = c.made-made.ensures in
+    let sums : AreSums c.args.problem.now c.in_ok-stages.stages.1.sums = rw (c.in_ok-stages.ensures.measure, c.new-seen.ensures) c.in_ok-sums.ensures in
+    c.new-ordered.ensures.follows (kruskal_wallis_test c.args.problem.now) t (ap (λ (m : Meaning). m.judge) sums.meaning)
+    (seen-follows c.args.problem.now made.fitting c.in_ok-stages.stages.1 sums t)
+
 pub new-packed-requires-clause-packed : goal.new-packed-requires-clause-packed
 new-packed-requires-clause-packed c =
     let made = c.made-made.ensures in
     let sums : AreSums c.args.problem.now c.in_ok-stages.stages.1.sums = rw (c.in_ok-stages.ensures.measure, c.new-seen.ensures) c.in_ok-sums.ensures in
     let sizes = c.in_ok-sizes.ensures.items ∙ c.as_slice-groups.ensures ∙ made.sizes in
-    rw c.new-ordered.ensures (seen-packed c.args.problem.now made.fitting c.in_ok-stages.stages.1 sums c.in_ok-sizes.sizes.items sizes c.bits_for.result (c.bits_for.ensures ∙ ap (λ ns. 127 / length ns) (sym c.in_ok-sizes.ensures.items)) c.requires.small)
+    rw c.new-ordered.ensures.parts
+    (seen-packed c.args.problem.now made.fitting c.in_ok-stages.stages.1 sums c.in_ok-sizes.sizes.items sizes c.bits_for.result (c.bits_for.ensures ∙ ap (λ ns. 127 / length ns) (sym c.in_ok-sizes.ensures.items)) c.requires.small
+    Greater (in-order (goal.at.new-packed-requires-clause-packed c).After-new-ordered Greater) c.new-ordered.ensures.reached)
 
 pub new-packed-requires-clause-adds : goal.new-packed-requires-clause-adds
 new-packed-requires-clause-adds c =
     let made = c.made-made.ensures in
     let sums : AreSums c.args.problem.now c.in_ok-stages.stages.1.sums = rw (c.in_ok-stages.ensures.measure, c.new-seen.ensures) c.in_ok-sums.ensures in
-    rw c.new-ordered.ensures (seen-adds c.args.problem.now made.fitting c.in_ok-stages.stages.1 sums)
+    rw c.new-ordered.ensures.parts (seen-adds c.args.problem.now made.fitting c.in_ok-stages.stages.1 sums)
 
 pub returns : goal.returns
-returns c t =
-    let made = c.made-made.ensures in
-    let sums : AreSums c.args.problem.now c.in_ok-stages.stages.1.sums = rw (c.in_ok-stages.ensures.measure, c.new-seen.ensures) c.in_ok-sums.ensures in
-    let sizes = c.in_ok-sizes.ensures.items ∙ c.as_slice-groups.ensures ∙ made.sizes in
-    let may = seen-packed c.args.problem.now made.fitting c.in_ok-stages.stages.1 sums c.in_ok-sizes.sizes.items sizes c.bits_for.result (c.bits_for.ensures ∙ ap (λ ns. 127 / length ns) (sym c.in_ok-sizes.ensures.items)) c.requires.small in
-    rw (c.new-packed.ensures, c.new-ordered.ensures) (packed-seen c.args.problem.now made.fitting c.in_ok-stages.stages.1 sums c.in_ok-sizes.sizes.items sizes c.bits_for.result may t)
+returns c t = rw (c.new-packed.ensures.parts, c.new-ordered.ensures.parts)
+    (rw c.new-ordered.ensures.parts at (c.new-packed.ensures.follows (kruskal_wallis_test c.args.problem.now) t) (in-order (goal.at.returns c).After-new-ordered t))

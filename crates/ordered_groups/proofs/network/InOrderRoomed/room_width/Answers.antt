@@ -10,6 +10,4 @@ returns-clause-roomed g c =
     let i = c.self.invariant in
     let s = c.self.inside in
     let n : Network = room_network (g.M.Measure.meaning s.stages.1) (g.R.Rooms.plan s.stages.0).weight in
-    rw (← c.self.view_is)
-    (subst (IsRoomed (ordered_network s.by_sums s.sizes.items n)) (sym i.its_rooms.width)
-    (i.ordered.roomed c.stages-lawful.ensures.lawful (subst (IsRoomed n) i.its_rooms.width c.room_width.ensures.roomed)))
+    rw (← c.self.view_is) (subst (IsRoomed (ordered_network s.by_sums s.sizes.items n)) (sym i.its_rooms.width) i.ordered.roomed)

@@ -2,7 +2,7 @@ use Rattle.std.proofs.Common.{◌≡◌, ◌∙◌, ◌+◌, [], ◌∷◌, ap, 
 use mir.Syntax.{w128}
 use Rattle.std.proofs.lemmas.Int.{to_z-of_z}
 use Rattle.packed_keys.proofs.DigitLists.{set-only}
-use Rattle.packed_keys.proofs.GroupParts.{added-next, step-behind, step-long}
+use Rattle.packed_keys.proofs.GroupParts.{added-next, packed-of, step-behind, step-long}
 use Rattle.packed_keys.proofs.PackedParts.{one-number}
 use Rattle.packed_keys.proofs.groups.PackedGroupsRoomed.advance.Goals as goal
 
@@ -16,7 +16,7 @@ pub behind-requires : goal.behind-requires
 behind-requires g c = step-long c.args.self.now.0.2 c.args.self.now.1 _ _ c.args.step.now c.requires.step
 
 pub shifted-requires-clause-one : goal.shifted-requires-clause-one
-shifted-requires-clause-one g c = one-number (rw c.self.view_is at c.self.invariant).may c.args.stage c.args.room.now c.args.partial.now c.requires.room c.requires.reached
+shifted-requires-clause-one g c = one-number (packed-of (rw c.self.view_is at c.self.invariant)) c.args.stage c.args.room.now c.args.partial.now c.requires.room c.requires.reached
 
 pub shifted-requires-clause-fits : goal.shifted-requires-clause-fits
 shifted-requires-clause-fits g c =

@@ -6,7 +6,7 @@ use Rattle.packed_keys.proofs.network.Packed.read.Goals as goal
 
 pub unpack_key-requires-clause-packed : goal.unpack_key-requires-clause-packed
 unpack_key-requires-clause-packed g c =
-    packed-long c.self.invariant.may c.args._stage c.args.packed.now (rw (← c.self.view_is) at c.requires)
+    packed-long c.self.invariant c.args._stage c.args.packed.now (rw (← c.self.view_is) at c.requires)
     ∙ ap (λ w. w + 1) (sym c.room_width.ensures.width)
 
 pub returns-clause-reached : goal.returns-clause-reached
@@ -16,4 +16,4 @@ returns-clause-reached g c =
     let is : c.unpack_key.new.key ≡ unpacked_key w (2 ^ c.self.inside.bits) (n.width - w) c.args.packed.now = search rules in
     rw (← c.self.view_is)
     (subst (IsReached n c.args._stage) (sym is)
-    (read-reached c.self.invariant.may c.args._stage c.args.packed.now (rw (← c.self.view_is) at c.requires)))
+    (read-reached c.self.invariant c.args._stage c.args.packed.now (rw (← c.self.view_is) at c.requires)))

@@ -6,7 +6,7 @@ use Rattle.packed_keys.proofs.network.Packed.read_partial.Goals as goal
 
 pub only-requires : goal.only-requires
 only-requires g c =
-    one-number c.self.invariant.may c.args._stage c.args._room.now c.args.packed.now (rw (← c.self.view_is) at c.requires.place) (rw (← c.self.view_is) at c.requires.reached)
+    one-number c.self.invariant c.args._stage c.args._room.now c.args.packed.now (rw (← c.self.view_is) at c.requires.place) (rw (← c.self.view_is) at c.requires.reached)
 
 pub returns-clause-reached : goal.returns-clause-reached
 returns-clause-reached g c =
@@ -15,4 +15,4 @@ returns-clause-reached g c =
     let is : c.unpack.new.partial ≡ unpacked (2 ^ c.self.inside.bits) (n.width - w) c.args.packed.now = search rules in
     rw (← c.self.view_is)
     (subst (λ p. IsReached n c.args._stage (c.args._room.now ++ p)) (sym is)
-    (parts-reached c.self.invariant.may c.args._stage c.args._room.now c.args.packed.now (rw (← c.self.view_is) at c.requires.place) (rw (← c.self.view_is) at c.requires.reached)))
+    (parts-reached c.self.invariant c.args._stage c.args._room.now c.args.packed.now (rw (← c.self.view_is) at c.requires.place) (rw (← c.self.view_is) at c.requires.reached)))

@@ -18,10 +18,10 @@ packed_number-requires g c =
     let here : IsReached n c.args.stage (c.args.room.now ++ c.read_partial-here.result.now) = rw (← c.self.view_is) at c.read_partial-here.ensures.reached in
     let allowed : Contains (n.choices c.args.stage (c.args.room.now ++ c.read_partial-here.result.now)) c.args.choice.now =
     subst (λ (key : List ℤ). Contains (n.choices c.args.stage key) c.args.choice.now)
-    (read-parts c.self.invariant.may c.args.room.now c.args.partial.now room ∙ ap (λ p. c.args.room.now ++ p) (sym is))
+    (read-parts c.self.invariant c.args.room.now c.args.partial.now room ∙ ap (λ p. c.args.room.now ++ p) (sym is))
     (rw (← c.self.view_is) at c.requires.allowed) in
     rw c.advance.ensures
-    (next-digits c.self.invariant.may c.args.stage (c.args.room.now ++ c.read_partial-here.result.now) c.args.choice.now here (rw (← c.self.view_is) at c.requires.before) allowed)
+    (next-digits c.self.invariant c.args.stage (c.args.room.now ++ c.read_partial-here.result.now) c.args.choice.now here (rw (← c.self.view_is) at c.requires.before) allowed)
 
 pub returns : goal.returns
 returns g c =
@@ -33,11 +33,11 @@ returns g c =
     let is : c.read_partial-here.result.now ≡ unpacked (2 ^ bits) (n.width - w) c.args.partial.now = rw (← c.self.view_is) at c.read_partial-here.ensures.is in
     let allowed : Contains (n.choices c.args.stage (c.args.room.now ++ unpacked (2 ^ bits) (n.width - w) c.args.partial.now)) c.args.choice.now =
     subst (λ (key : List ℤ). Contains (n.choices c.args.stage key) c.args.choice.now)
-    (read-parts c.self.invariant.may c.args.room.now c.args.partial.now room)
+    (read-parts c.self.invariant c.args.room.now c.args.partial.now room)
     (rw (← c.self.view_is) at c.requires.allowed) in
     let next : w + length c.args.next.now ≡ w + 1 = rw (← c.self.view_is) at c.requires.next in
     rw (← c.self.view_is)
     (set-only c.args.next.now _ (omega (arith, next))
     ∙ ap (λ z. z ∷ []) (to_z-of_z w128 c.packed_number.result s ∙ c.packed_number.ensures)
     ∙ ap (packed (2 ^ bits)) (c.advance.ensures ∙ ap (λ p. drop w (n.next c.args.stage (c.args.room.now ++ p) c.args.choice.now)) is)
-    ∙ sym (next-packed c.self.invariant.may c.args.stage c.args.room.now c.args.partial.now c.args.choice.now room (rw (← c.self.view_is) at c.requires.reached) (rw (← c.self.view_is) at c.requires.before) allowed))
+    ∙ sym (next-packed c.self.invariant c.args.stage c.args.room.now c.args.partial.now c.args.choice.now room (rw (← c.self.view_is) at c.requires.reached) (rw (← c.self.view_is) at c.requires.before) allowed))

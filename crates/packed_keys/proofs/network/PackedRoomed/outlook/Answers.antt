@@ -3,4 +3,4 @@ use Rattle.packed_keys.proofs.network.PackedRoomed.outlook.Goals as goal
 
 pub outlook-requires-clause-place : goal.outlook-requires-clause-place
 outlook-requires-clause-place g c =
-    in-place c.self.invariant.may c.args.stage c.args.room.now (rw (← c.self.view_is) at c.requires.place)
+    in-place c.self.invariant c.args.stage c.args.room.now (rw (← c.self.view_is) at c.requires.place)

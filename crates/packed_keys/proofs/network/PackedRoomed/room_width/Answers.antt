@@ -4,4 +4,4 @@ use Rattle.packed_keys.proofs.network.PackedRoomed.room_width.Goals as goal
 pub returns-clause-roomed : goal.returns-clause-roomed
 returns-clause-roomed g c =
     rw (← c.self.view_is)
-    (packed-roomed c.self.invariant.may c.stages-lawful.ensures.lawful c.room_width.ensures.roomed)
+    (packed-roomed c.self.invariant c.stages-lawful.ensures.lawful c.room_width.ensures.roomed)

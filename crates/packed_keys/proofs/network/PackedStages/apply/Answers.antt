@@ -11,4 +11,4 @@ pack_key-requires-clause-digits g c =
     let allowed : Contains (n.choices c.args.stage c.read-here.result.now) c.args.choice.now =
     subst (λ (key : List ℤ). Contains (n.choices c.args.stage key) c.args.choice.now) (sym (rw (← c.self.view_is) at c.read-here.ensures.is)) (rw (← c.self.view_is) at c.requires.allowed) in
     rw (c.room_width.ensures.width, c.apply-weight.ensures.next)
-    (next-digits c.self.invariant.may c.args.stage c.read-here.result.now c.args.choice.now reached (rw (← c.self.view_is) at c.requires.before) allowed)
+    (next-digits c.self.invariant c.args.stage c.read-here.result.now c.args.choice.now reached (rw (← c.self.view_is) at c.requires.before) allowed)

@@ -10,4 +10,4 @@ returns g c =
     rw (← c.self.view_is)
     (c.rest.ensures
     ∙ ap (total_weight n c.args.stage) (rw (← c.self.view_is) at c.read-here.ensures.is)
-    ∙ sym (packed-total c.self.invariant.may c.args.stage c.args.key.now (rw (← c.self.view_is) at c.requires)))
+    ∙ sym (packed-total c.self.invariant c.args.stage c.args.key.now (rw (← c.self.view_is) at c.requires)))

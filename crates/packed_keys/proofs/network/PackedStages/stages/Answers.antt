@@ -4,4 +4,4 @@ use Rattle.packed_keys.proofs.network.PackedStages.stages.Goals as goal
 pub returns-clause-lawful : goal.returns-clause-lawful
 returns-clause-lawful g c =
     rw (← c.self.view_is)
-    (packed-lawful c.self.invariant.may c.stages.ensures.lawful)
+    (packed-lawful c.self.invariant c.stages.ensures.lawful)
