@@ -20,7 +20,7 @@ use Rattle.label_network.specs.LaterSums.{later_scores, part_sum, subjects}
 use Rattle.label_network.specs.Meanings.{sizes_in}
 use Rattle.label_network.specs.Meanings.{AreReached as LabelReached}
 use Rattle.label_network.proofs.OverRooms.{over_place, under_place}
-use Rattle.packed_keys.specs.PackedGroups.{AreHeld, plus_each}
+use Rattle.ordered_groups.specs.GroupSums.{AreHeld, plus_each}
 use Rattle.k_sample_tests.specs.CentredSums.{HasNarrowBoxes, from_middle}
 use Rattle.k_sample_tests.specs.RankSumSteps.{AreAddable, AreNarrow, IsSquaring, parts_of}
 use Rattle.k_sample_tests.specs.SumMeanings.{seen_meaning, sums_meaning}
@@ -29,9 +29,8 @@ use Rattle.k_sample_tests.proofs.CentredNarrows.{IsHeldPartial, held-at, reached
 use Rattle.k_sample_tests.proofs.CentredSquares.{taken-is}
 use Rattle.k_sample_tests.proofs.Corners.{corners}
 use Rattle.k_sample_tests.proofs.RankKeys.{end-long, long, partial_is, parts-small, size-within}
-use Rattle.packed_keys.proofs.AddedDigits.{length-plus}
+use Rattle.ordered_groups.proofs.GroupSums.{length-plus, plus-at}
 use Rattle.k_sample_tests.proofs.RankNarrows.{length-parts}
-use Rattle.k_sample_tests.proofs.RankWriting.{plus-at}
 
 -- ---- sums of squares
 

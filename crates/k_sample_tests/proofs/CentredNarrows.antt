@@ -20,10 +20,10 @@ use Rattle.label_network.specs.Meanings.{AreReached, IsMeasure, Meaning}
 use Rattle.label_network.proofs.Later.{fits-length, later-end, later-next}
 use Rattle.label_network.proofs.Narrowing.{IsLeft, IsNarrowing, measured, reached-kept}
 use Rattle.k_sample_tests.specs.CentredSums.{IsCentred, centred_meaning, from_middle, seen_highs, seen_lows}
-use Rattle.packed_keys.specs.PackedGroups.{AreHeld, plus_each}
+use Rattle.ordered_groups.specs.GroupSums.{AreHeld, plus_each}
 use Rattle.k_sample_tests.specs.RankSums.{score_parts}
 use Rattle.k_sample_tests.specs.RankSumSteps.{IsSquaring}
-use Rattle.packed_keys.proofs.AddedDigits.{length-plus}
+use Rattle.ordered_groups.proofs.GroupSums.{length-plus}
 use Rattle.k_sample_tests.proofs.RankNarrows.{IsPartial, column-size, highs-end, in-box, length-parts, lows-end, sizes-zeros}
 
 -- a box is as much narrower where all ends are moved alike

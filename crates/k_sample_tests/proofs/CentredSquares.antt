@@ -12,7 +12,7 @@ use Rattle.label_network.specs.LaterSums.{subjects}
 use Rattle.weights.specs.Numbers.{absolute_sum}
 use Rattle.weights.specs.declared.TheConstants.{MAX}
 use Rattle.k_sample_tests.specs.CentredSums.{AreParts, IsCentred, from_middle, middle_squares}
-use Rattle.packed_keys.specs.PackedGroups.{AreHeld, plus_each}
+use Rattle.ordered_groups.specs.GroupSums.{AreHeld, plus_each}
 
 pub taken-is : (n m : ℕ) → pos n *ℤ (pos 0 -ℤ pos m) ≡ pos 0 -ℤ pos (n * m)
 taken-is n m = grind (arith, ints)

@@ -29,7 +29,7 @@ use Rattle.scores.specs.PlaceScores.{common_multiple}
 use Rattle.k_sample_tests.specs.KruskalWallis.{size_factors}
 use Rattle.k_sample_tests.specs.SumMeanings.{sums_meaning}
 use Rattle.k_sample_tests.specs.CentredSums.{IsCentred, centred_meaning, from_middle}
-use Rattle.packed_keys.specs.PackedGroups.{plus_each}
+use Rattle.ordered_groups.specs.GroupSums.{plus_each}
 use Rattle.k_sample_tests.specs.RankSums.{score_parts, squares_meaning}
 use Rattle.k_sample_tests.specs.RankSumSteps.{IsSquaring}
 use Rattle.k_sample_tests.specs.declared.rank_sums.RankSums.{RankSums}
@@ -38,7 +38,7 @@ use Rattle.ordered_groups.specs.OrderedGroups.{IsTurn, same_at, turn}
 use Rattle.ordered_groups.specs.OrderedNetworks.{MayBeOrdered}
 use Rattle.ordered_groups.proofs.PlaceOrder.{back-key, front-key, swap-same}
 use Rattle.k_sample_tests.proofs.CentredNarrows.{centred_measure}
-use Rattle.packed_keys.proofs.AddedDigits.{length-plus}
+use Rattle.ordered_groups.proofs.GroupSums.{length-plus}
 use Rattle.k_sample_tests.proofs.RankNarrows.{length-parts, squares_measure}
 
 plus_each-swap : (i : ℕ) (p a : List ℤ) → length a ≡ length p → plus_each (swap_at i p) (swap_at i a) ≡ swap_at i (plus_each p a)

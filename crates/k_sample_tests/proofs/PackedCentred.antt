@@ -23,7 +23,8 @@ use Rattle.label_network.proofs.Later.{fits-length}
 use Rattle.label_network.proofs.Narrowing.{chosen, reached-left}
 use Rattle.label_network.proofs.OverRooms.{over_place}
 use Rattle.ordered_groups.specs.OrderedNetworks.{ordered_network}
-use Rattle.packed_keys.specs.PackedGroups.{AddsSteps, AreHeld, plus_each}
+use Rattle.ordered_groups.specs.GroupSums.{AreHeld, plus_each}
+use Rattle.packed_keys.specs.PackedGroups.{AddsSteps}
 use Rattle.packed_keys.specs.PackedKeys.{IsDigit, MayBePacked}
 use Rattle.packed_keys.proofs.Widths.{bits-few, bits-fit}
 use Rattle.k_sample_tests.specs.CentredSums.{IsCentred, centred_meaning}

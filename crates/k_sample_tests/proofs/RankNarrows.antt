@@ -25,8 +25,8 @@ use Rattle.label_network.proofs.Later.{fits-length, later-end, later-next, sizes
 use Rattle.label_network.proofs.LaterArcs.{part-arc}
 use Rattle.label_network.proofs.Narrowing.{IsLeft, IsNarrowing, measured, reached-kept, reached-left}
 use Rattle.label_network.proofs.LinearArcs.{part-none}
-use Rattle.packed_keys.specs.PackedGroups.{plus_each}
-use Rattle.packed_keys.proofs.AddedDigits.{length-plus}
+use Rattle.ordered_groups.specs.GroupSums.{plus_each}
+use Rattle.ordered_groups.proofs.GroupSums.{length-plus}
 use Rattle.k_sample_tests.specs.RankSums.{greatest_parts, least_parts, score_parts, squares_meaning}
 use Rattle.k_sample_tests.specs.RankSumSteps.{IsSquaring}
 

@@ -19,9 +19,9 @@ use Rattle.label_network.proofs.LaterArcs.{more-times}
 use Rattle.scores.specs.Scores.{labelled_sum}
 use Rattle.scores.proofs.LabelledSums.{labelled-none}
 use Rattle.k_sample_tests.specs.KruskalWallis.{group_sums}
-use Rattle.packed_keys.specs.PackedGroups.{plus_each}
+use Rattle.ordered_groups.specs.GroupSums.{plus_each}
 use Rattle.k_sample_tests.specs.RankSums.{score_parts, squares_meaning}
-use Rattle.packed_keys.proofs.AddedDigits.{length-plus}
+use Rattle.ordered_groups.proofs.GroupSums.{length-plus}
 use Rattle.k_sample_tests.proofs.RankNarrows.{length-parts}
 
 -- ---- one group

@@ -1,20 +1,13 @@
 -- Sums that are written place by place.
-use Rattle.std.proofs.Common.{◌≡◌, ℕ, zero, suc, ◌<◌, List, [], ◌∷◌, length, map, get_or, refl, ◌∙◌, ap, arith}
+use Rattle.std.proofs.Common.{◌≡◌, ℕ, ◌<◌, List, length, map, get_or, ◌∙◌, ap, arith}
 use Rattle.std.proofs.Math.Nat.{zero-add}
-use Rattle.std.specs.Prelude.{ℤ, pos, ◌+ℤ◌}
+use Rattle.std.specs.Prelude.{ℤ, pos}
 use Rattle.std.proofs.lemmas.List.{get_or-map}
 use Rattle.std.proofs.lemmas.List.FromFn.{get_or-range_with_len}
 use Rattle.weights.specs.Labellings.{labels}
 use Rattle.scores.specs.Scores.{labelled_sum}
 use Rattle.k_sample_tests.specs.KruskalWallis.{group_sums}
-use Rattle.packed_keys.specs.PackedGroups.{plus_each}
 use Rattle.k_sample_tests.proofs.RankValues.{length-labels}
-
-pub plus-at : (p a : List ℤ) (i : ℕ) → length a ≡ length p → i < length p → get_or (plus_each p a) i (pos 0) ≡ get_or p i (pos 0) +ℤ get_or a i (pos 0)
-plus-at [] a i l h = absurd (omega (arith, h))
-plus-at (p ∷ ps) [] i l h = absurd (omega (arith, l))
-plus-at (p ∷ ps) (a ∷ rest) zero l h = refl
-plus-at (p ∷ ps) (a ∷ rest) (suc i) l h = plus-at ps rest i (omega (arith, l)) (omega (arith, h))
 
 pub part-at : (f : ℕ → ℤ) (xs : List ℕ) (i : ℕ) → i < length xs → get_or (map f xs) i (pos 0) ≡ f (get_or xs i 0)
 part-at f xs i h = get_or-map f xs i 0 (pos 0) h

@@ -9,7 +9,7 @@ use Rattle.scores.specs.PlaceScores.{common_multiple}
 use Rattle.scores.specs.declared.kinds.ScoreKind.TheVariants.{Wilcoxon}
 use Rattle.sample_reader.specs.PooledSample.{paired_subjects}
 use Rattle.completion_bounds.specs.Boxes.{factored_squares}
-use Rattle.packed_keys.specs.PackedGroups.{plus_each}
+use Rattle.ordered_groups.specs.GroupSums.{plus_each}
 use Rattle.k_sample_tests.specs.CentredSums.{from_middle, middle_squares}
 use Rattle.k_sample_tests.specs.KruskalWallis.{ScoredGroups, kruskal_wallis_test}
 use Rattle.k_sample_tests.specs.Umbrella.{PeakedGroups, umbrella_test, used_pairs}

@@ -10,7 +10,7 @@ use Rattle.label_network.specs.LaterSums.{later_scores, subjects}
 use Rattle.label_network.specs.Meanings.{Meaning}
 use Rattle.weights.specs.Numbers.{absolute_sum}
 use Rattle.weights.specs.declared.TheConstants.{MAX}
-use Rattle.packed_keys.specs.PackedGroups.{AreHeld, plus_each}
+use Rattle.ordered_groups.specs.GroupSums.{AreHeld, plus_each}
 use Rattle.k_sample_tests.specs.RankSums.{greatest_parts, least_parts, score_parts, squares_meaning}
 
 -- what the middle takes from the sum of each group: as if each subject had so much less

@@ -12,7 +12,7 @@ use Rattle.label_network.specs.LabelNetwork.{label_network}
 use Rattle.label_network.specs.LaterSums.{greatest_sum, later_scores, least_sum}
 use Rattle.label_network.specs.Linear.{score_of}
 use Rattle.label_network.specs.Meanings.{Meaning}
-use Rattle.packed_keys.specs.PackedGroups.{plus_each}
+use Rattle.ordered_groups.specs.GroupSums.{plus_each}
 use Rattle.pooled_columns.specs.PooledColumns.{column_scores, column_sizes, pooled_values}
 use Rattle.k_sample_tests.specs.KruskalWallis.{ScoredGroups, kruskal_wallis_test, size_factors}
 

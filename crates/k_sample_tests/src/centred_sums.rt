@@ -8,7 +8,7 @@ ghost use Rattle.label_network.specs.LaterSums.{subjects};
 ghost use Rattle.label_network.specs.LabelNetwork.{over_rooms};
 ghost use Rattle.k_sample_tests.specs.CentredSums.{AreParts, HasNarrowBoxes, IsCentred, centred_meaning, middle_squares};
 ghost use Rattle.k_sample_tests.specs.RankSumSteps.{AreAddable, AreNarrow};
-ghost use Rattle.packed_keys.specs.PackedGroups.{AreHeld, plus_each};
+ghost use Rattle.ordered_groups.specs.GroupSums.{AreHeld, plus_each};
 ghost use Rattle.networks.specs.Judged.{rule_in, verdict_of};
 
 use crate::rank_sums::{RankSums, plus_each, score_parts};

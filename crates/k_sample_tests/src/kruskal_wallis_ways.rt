@@ -7,7 +7,7 @@ ghost use Rattle.networks.specs.Follows.{Follows};
 ghost use Rattle.networks.specs.Judged.{judge_of};
 ghost use Rattle.label_network.specs.LabelNetwork.{label_network};
 ghost use Rattle.ordered_groups.specs.OrderedNetworks.{ordered_network};
-ghost use Rattle.packed_keys.specs.PackedGroups.{AreHeld};
+ghost use Rattle.ordered_groups.specs.GroupSums.{AreHeld};
 ghost use Rattle.packed_keys.specs.PackedKeys.{packed_network};
 ghost use Rattle.pooled_columns.specs.PooledColumns.{column_scores, pooled_values};
 ghost use Rattle.k_sample_tests.specs.KruskalWallis.{kruskal_wallis_test, pooled_scores};

@@ -9,7 +9,7 @@ ghost use Rattle.room_network.specs.Meanings.{IsRoom};
 ghost use Rattle.label_network.specs.LabelNetwork.{over_rooms};
 ghost use Rattle.label_network.specs.Meanings.{sizes_in};
 ghost use Rattle.networks.specs.Judged.{rule_in, verdict_of};
-ghost use Rattle.packed_keys.specs.PackedGroups.{plus_each};
+ghost use Rattle.ordered_groups.specs.GroupSums.{plus_each};
 ghost use Rattle.k_sample_tests.specs.RankSums.{greatest_parts, least_parts, score_parts, squares_meaning};
 ghost use Rattle.k_sample_tests.specs.RankSumSteps.{AreAddable, AreEnough, AreRankSums, AreTabled, IsSquaring, parts_of};
 

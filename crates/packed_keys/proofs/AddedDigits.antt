@@ -1,14 +1,9 @@
 -- Digits that are added place by place: so are the numbers that have them.
-use Rattle.std.proofs.Common.{◌≡◌, ℕ, suc, ◌+◌, ◌*◌, List, [], ◌∷◌, length, map, refl, ◌∙◌, ap, arith}
+use Rattle.std.proofs.Common.{◌≡◌, ℕ, ◌+◌, ◌*◌, List, [], ◌∷◌, length, map, refl, ◌∙◌, ap, arith}
 use Rattle.std.specs.Prelude.{ℤ, pos, ◌+ℤ◌, nat_abs}
 use Rattle.std.specs.List.{AllByRecursion}
-use Rattle.packed_keys.specs.PackedGroups.{AreHeld, plus_each}
+use Rattle.ordered_groups.specs.GroupSums.{AreHeld, plus_each}
 use Rattle.packed_keys.specs.PackedKeys.{IsDigit, numeral}
-
-pub length-plus : (p a : List ℤ) → length a ≡ length p → length (plus_each p a) ≡ length p
-length-plus [] a l = refl
-length-plus (p ∷ ps) [] l = absurd (omega (arith, l))
-length-plus (p ∷ ps) (a ∷ rest) l = ap suc (length-plus ps rest (omega (arith, l)))
 
 size-plus : (p a : ℤ) → p ≡ pos (nat_abs p) → a ≡ pos (nat_abs a) → nat_abs (p +ℤ a) ≡ nat_abs p + nat_abs a
 size-plus p a h k = ap (λ z. nat_abs (z +ℤ a)) h ∙ ap (λ z. nat_abs (pos (nat_abs p) +ℤ z)) k

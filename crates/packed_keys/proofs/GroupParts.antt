@@ -11,13 +11,15 @@ use Rattle.room_network.specs.Plans.{Plan}
 use Rattle.room_network.specs.RoomNetworks.{room_network}
 use Rattle.room_network.proofs.RoomKeys.{KeepsWidth, back_is, front_is, is_allowed, is_key, weighed}
 use Rattle.room_network.proofs.RoomLaws.{widths_kept}
+use Rattle.ordered_groups.specs.GroupSums.{plus_each}
 use Rattle.ordered_groups.specs.OrderedGroups.{are_in_order, groups_in_order}
 use Rattle.ordered_groups.specs.OrderedNetworks.{ordered_network}
+use Rattle.ordered_groups.proofs.GroupSums.{length-plus}
 use Rattle.ordered_groups.proofs.PlaceOrder.{order-stays}
-use Rattle.packed_keys.specs.PackedGroups.{plus_each, shift, shifting_step}
+use Rattle.packed_keys.specs.PackedGroups.{shift, shifting_step}
 use Rattle.packed_keys.specs.PackedKeys.{IsDigit, numeral, packed_network, unpacked}
 use Rattle.packed_keys.specs.PackedSteps.{AreDigits, IsPacked, IsPackedGroups}
-use Rattle.packed_keys.proofs.AddedDigits.{added-digits, length-plus, numeral-plus}
+use Rattle.packed_keys.proofs.AddedDigits.{added-digits, numeral-plus}
 use Rattle.packed_keys.proofs.DigitLists.{number-small}
 use Rattle.packed_keys.proofs.PackedParts.{in-arc, is-packed, next-digits, next-packed, parts-reached, read-parts}
 

@@ -1,20 +1,10 @@
 -- Groups in order by what remains of them alone, with their sums in one number: a choice that
 -- leaves the groups in order only adds to that number.
-use Rattle.std.specs.Prelude.{◌≡◌, ℕ, ◌^◌, ℤ, pos, ◌+ℤ◌, nat_abs, Bool, if◌then◌else◌, List, [], ◌∷◌, ◌++◌, length}
-use Rattle.std.specs.List.{AllByRecursion}
+use Rattle.std.specs.Prelude.{◌≡◌, ℕ, ◌^◌, ℤ, pos, Bool, if◌then◌else◌, List, [], ◌∷◌, ◌++◌, length}
 use Rattle.room_network.specs.Meanings.{IsMove, Meaning}
+use Rattle.ordered_groups.specs.GroupSums.{AreHeld, plus_each}
 use Rattle.ordered_groups.specs.OrderedGroups.{are_in_order}
 use Rattle.packed_keys.specs.PackedKeys.{packed}
-
--- the sums, place by place
-abbrev pub plus_each : List ℤ → List ℤ → List ℤ
-plus_each [] added = []
-plus_each (p ∷ partial) [] = []
-plus_each (p ∷ partial) (a ∷ added) = (p +ℤ a) ∷ plus_each partial added
-
--- no number is negative
-abbrev pub AreHeld : List ℤ → Type 0
-AreHeld zs = AllByRecursion (λ z. z ≡ pos (nat_abs z)) zs
 
 -- A step has as many numbers as a partial, none of them negative, and a choice adds them to the
 -- partial's, place by place.

@@ -3,10 +3,9 @@ use Rattle.std.specs.Prelude.{pos}
 use mir.Syntax.{w32, w128}
 use mir.Val.{to_z, of_z}
 use Rattle.std.proofs.lemmas.Int.{to_z-of_z}
-use Rattle.packed_keys.specs.PackedGroups.{plus_each}
+use Rattle.ordered_groups.specs.GroupSums.{plus_each}
 use Rattle.label_network.proofs.Rows.{grown, written}
-use Rattle.packed_keys.proofs.AddedDigits.{length-plus}
-use Rattle.k_sample_tests.proofs.RankWriting.{plus-at}
+use Rattle.ordered_groups.proofs.GroupSums.{length-plus, plus-at}
 use Rattle.k_sample_tests.proofs.centred_sums.ends.Goals as goal
 
 pub narrow_plus-requires : goal.narrow_plus-requires

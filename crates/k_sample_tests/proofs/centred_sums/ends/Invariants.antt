@@ -1,5 +1,5 @@
 use Rattle.std.proofs.Common.{◌≡◌, take, length}
-use Rattle.packed_keys.specs.PackedGroups.{plus_each}
+use Rattle.ordered_groups.specs.GroupSums.{plus_each}
 use Rattle.k_sample_tests.proofs.centred_sums.ends.Given as goal
 
 abbrev pub invariant-loop-i : goal.invariant-loop-i

@@ -2,7 +2,7 @@ use Rattle.std.proofs.Common.{◌≡◌, ◌+◌, min, rules}
 use Rattle.std.specs.Prelude.{pos}
 use Rattle.completion_bounds.specs.Boxes.{greatest_squares, least_squares}
 use Rattle.networks.specs.Judged.{rule_in, verdict_of}
-use Rattle.packed_keys.specs.PackedGroups.{plus_each}
+use Rattle.ordered_groups.specs.GroupSums.{plus_each}
 use Rattle.k_sample_tests.proofs.CentredKeys.{capped-twice}
 use Rattle.k_sample_tests.proofs.centred_sums.CentredSums.wide_verdict.Goals as goal
 
