@@ -1,11 +1,9 @@
-use Rattle.std.proofs.Common.{◌∙◌, arith, get_or, rules, sym}
+use Rattle.std.proofs.Common.{◌∙◌, arith, get_or, rules}
 use Rattle.std.specs.Prelude.{pos}
 use mir.Syntax.{w32, w128}
 use mir.Val.{to_z, of_z}
 use Rattle.std.proofs.lemmas.Int.{to_z-of_z}
-use Rattle.ordered_groups.specs.GroupSums.{plus_each}
-use Rattle.label_network.proofs.Rows.{grown, written}
-use Rattle.ordered_groups.proofs.GroupSums.{length-plus, plus-at}
+use Rattle.ordered_groups.proofs.GroupSums.{all-sums, more-sums}
 use Rattle.k_sample_tests.proofs.centred_sums.ends.Goals as goal
 
 pub narrow_plus-requires : goal.narrow_plus-requires
@@ -17,9 +15,8 @@ loop-i-preserved c =
     let given = rw (to_z-of_z w128 (get_or c.args.partial.now c.loop-i.i (pos 0)) (search rules), to_z-of_z w128 (get_or c.args.added.now c.loop-i.i (pos 0)) (search rules)) at c.narrow_plus.ensures in
     record {
       long = search rules;
-      filled = grown c.loop-i.ends (plus_each c.args.partial.now c.args.added.now) c.loop-i.i (to_z w32 (of_z w32 c.narrow_plus.result)) (pos 0) (omega (arith, c.loop-i.invariant.long, c.loop-i-test.true)) (omega (arith, length-plus c.args.partial.now c.args.added.now c.requires.one_each, c.loop-i-test.true)) c.loop-i.invariant.filled
-          (to_z-of_z w32 c.narrow_plus.result (search rules) ∙ given ∙ sym (plus-at c.args.partial.now c.args.added.now c.loop-i.i c.requires.one_each c.loop-i-test.true));
+      filled = more-sums c.loop-i.ends c.args.partial.now c.args.added.now c.loop-i.i (to_z w32 (of_z w32 c.narrow_plus.result)) c.requires.one_each c.loop-i.invariant.long c.loop-i-test.true c.loop-i.invariant.filled (to_z-of_z w32 c.narrow_plus.result (search rules) ∙ given);
     }
 
 pub returns : goal.returns
-returns c = written c.loop-i.ends (plus_each c.args.partial.now c.args.added.now) c.loop-i.i (omega (arith, c.loop-i.invariant.long, c.loop-i-test.false)) (omega (arith, length-plus c.args.partial.now c.args.added.now c.requires.one_each, c.loop-i-test.false)) c.loop-i.invariant.filled
+returns c = all-sums c.loop-i.ends c.args.partial.now c.args.added.now c.loop-i.i c.requires.one_each c.loop-i.invariant.long (omega (arith, c.loop-i-test.false)) c.loop-i.invariant.filled
