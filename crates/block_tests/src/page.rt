@@ -6,7 +6,7 @@ ghost use Rattle.block_tests.specs.BlockSteps.{AreStages};
 
 use crate::block::Block;
 use crate::sums::{page_sum, page_sum_back};
-use enumerate::{Plain, next_labelling};
+use enumerate::{Framed, Plain, is_extreme_by, next_labelling};
 use networks::{Additive, Interval, Judge, SumValue};
 use stage_network::plain_spread;
 use std::alloc::Global;
@@ -51,11 +51,17 @@ impl Plain for Block {
         1
     }
 
+    fn extreme(&self, labels: &[u8], tail: Tail) -> bool {
+        is_extreme_by(&self.frame(), self.measure(labels, tail), tail)
+    }
+
     fn value(&self, labels: &[u8]) -> i128 {
         let _few = Block::first(self);
         page_sum(labels) as i128
     }
+}
 
+impl Framed for Block {
     fn frame(&self) -> Frame {
         let cells = Block::first(self);
         let statistic = page_sum(cells) as i128;

@@ -11,7 +11,7 @@ use crate::zelen::Zelen;
 use crate::zelen_measure::{ZelenMeasure, held};
 use crate::zelen_rooms::ZelenRooms;
 use crate::zelen_stages::ZelenStages;
-use enumerate::Plain;
+use enumerate::{Framed, Plain, is_extreme_by};
 use networks::Judge;
 use room_network::{Numbered, RoomNetwork};
 use stage_network::Prepared;
@@ -64,11 +64,17 @@ impl Plain for Zelen {
         1
     }
 
+    fn extreme(&self, labels: &[u8], tail: Tail) -> bool {
+        is_extreme_by(&self.frame(), self.measure(labels, tail), tail)
+    }
+
     fn value(&self, labels: &[u8]) -> i128 {
         self.member(labels);
         held(labels_weight(self.made().strata.as_slice(), labels))
     }
+}
 
+impl Framed for Zelen {
     fn frame(&self) -> Frame {
         self.made().frame
     }

@@ -3,7 +3,7 @@ ghost use Rattle.std.specs.Prelude.{◌≡◌};
 ghost use Rattle.weights.specs.Frames.{IsFrameOf};
 
 use crate::unweighted::UnweightedTest;
-use enumerate::Plain;
+use enumerate::{Framed, Plain, is_extreme_by};
 use networks::{Judge, TailSums};
 use stage_network::Prepared;
 use std::alloc::Global;
@@ -54,10 +54,16 @@ impl<T: UnweightedTest> Plain for Unweighted<T> {
         1
     }
 
+    fn extreme(&self, labels: &[u8], tail: Tail) -> bool {
+        is_extreme_by(&self.frame(), self.measure(labels, tail), tail)
+    }
+
     fn value(&self, labels: &[u8]) -> i128 {
         self.test.value(labels)
     }
+}
 
+impl<T: UnweightedTest> Framed for Unweighted<T> {
     fn frame(&self) -> Frame {
         self.test.sound();
         self.frame

@@ -1,7 +1,7 @@
 // One of two kinds of networks, or of tests.
 
 use crate::stages::{Roomed, Stages, Verdict};
-use enumerate::Plain;
+use enumerate::{Framed, Plain};
 use std::alloc::Global;
 use weights::{Bytes, Frame, NoMemory, Tail};
 
@@ -225,13 +225,22 @@ impl<A: Plain, B: Plain> Plain for OneOf<A, B> {
         }
     }
 
+    fn extreme(&self, labels: &[u8], tail: Tail) -> bool {
+        match self {
+            OneOf::First(a) => a.extreme(labels, tail),
+            OneOf::Second(b) => b.extreme(labels, tail),
+        }
+    }
+
     fn value(&self, labels: &[u8]) -> i128 {
         match self {
             OneOf::First(a) => a.value(labels),
             OneOf::Second(b) => b.value(labels),
         }
     }
+}
 
+impl<A: Framed, B: Framed> Framed for OneOf<A, B> {
     fn frame(&self) -> Frame {
         match self {
             OneOf::First(a) => a.frame(),
@@ -243,13 +252,6 @@ impl<A: Plain, B: Plain> Plain for OneOf<A, B> {
         match self {
             OneOf::First(a) => a.measure(labels, tail),
             OneOf::Second(b) => b.measure(labels, tail),
-        }
-    }
-
-    fn extreme(&self, labels: &[u8], tail: Tail) -> bool {
-        match self {
-            OneOf::First(a) => a.extreme(labels, tail),
-            OneOf::Second(b) => b.extreme(labels, tail),
         }
     }
 }

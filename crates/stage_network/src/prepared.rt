@@ -13,13 +13,13 @@ ghost use Rattle.networks.specs.Written.{AreWritten};
 use crate::first_tails::{first_among, first_asked};
 use crate::spreads::spread_by_rooms;
 use crate::sums::{tail_sum_by_rooms, tail_sums_by_rooms};
-use enumerate::Plain;
+use enumerate::Framed;
 use networks::{Roomed, Spread, Stages, TailSum, TailSums};
 use std::alloc::Global;
 use weights::{NoMemory, Tail, Tails};
 
 /// A test whose data are checked: all that is needed to answer it by both ways.
-pub trait Prepared: Plain {
+pub trait Prepared: Framed {
     /// Its networks.
     type Built: Roomed + Drop;
 

@@ -5,7 +5,7 @@ ghost use Rattle.stratified_tests.specs.StrataTests.{is_one_sided, tails_with};
 use crate::first_cell_stages::FirstCellStages;
 use crate::odds::labelling_weight;
 use crate::strata_test::StrataTest;
-use enumerate::{Plain, next_joined};
+use enumerate::{Framed, Plain, is_extreme_by, next_joined};
 use networks::AdditiveStages;
 use stage_network::Prepared;
 use std::alloc::Global;
@@ -49,10 +49,16 @@ impl Plain for StrataTest {
         labelling_weight(odds, self.made().strata.as_slice(), labels)
     }
 
+    fn extreme(&self, labels: &[u8], tail: Tail) -> bool {
+        is_extreme_by(&self.frame(), self.measure(labels, tail), tail)
+    }
+
     fn value(&self, labels: &[u8]) -> i128 {
         first_cells(self.made().strata.as_slice(), labels) as i128
     }
+}
 
+impl Framed for StrataTest {
     fn frame(&self) -> Frame {
         self.made().frame
     }

@@ -11,7 +11,7 @@ use crate::fisher_table::FisherTable;
 use crate::scaled::scaled_spread;
 use crate::sorted_sums::sorted_sum;
 use crate::turned::turned_of;
-use enumerate::Plain;
+use enumerate::Framed;
 use networks::{Spread, TailSum};
 use stage_network::{Prepared, spread_by_rooms, tail_sum_by_rooms};
 use std::alloc::Global;

@@ -19,7 +19,7 @@ use crate::sorted_weights::{SortedStages, sorted_stages};
 use crate::sums::{count_label, front, labelled_weight};
 use crate::weight_measure::{WeightMeasure, WeightStages};
 use completion_bounds::fall;
-use enumerate::{Plain, first_labelling, next_labelling};
+use enumerate::{Framed, Plain, first_labelling, is_extreme_by, next_labelling};
 use label_network::{LinearStages, label_stages, linear_stages};
 use networks::{Spread, Stages, TailSum, TailSums};
 use room_network::Numbered;
@@ -175,6 +175,10 @@ impl Plain for FisherTable {
         1
     }
 
+    fn extreme(&self, labels: &[u8], tail: Tail) -> bool {
+        is_extreme_by(&self.frame(), self.measure(labels, tail), tail)
+    }
+
     fn value(&self, labels: &[u8]) -> i128 {
         if self.made().two_by_two {
             self.first_cell(labels) as i128
@@ -182,7 +186,9 @@ impl Plain for FisherTable {
             self.rarity(labels)
         }
     }
+}
 
+impl Framed for FisherTable {
     fn frame(&self) -> Frame {
         self.facts();
         self.made().frame

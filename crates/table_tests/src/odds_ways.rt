@@ -8,7 +8,7 @@ use crate::odds_rooms::OddsRooms;
 use crate::odds_stages::OddsStages;
 use crate::odds_table::OddsTable;
 use crate::odds_weights::odds_weight;
-use enumerate::Plain;
+use enumerate::{Framed, Plain, is_extreme_by};
 use label_network::LinearMeasure;
 use networks::{Judge, Stages};
 use room_network::{Numbered, RoomNetwork};
@@ -37,10 +37,16 @@ impl Plain for OddsTable {
         odds_weight(self.odds(), fisher.row_sums()[0], fisher.first_cell(labels))
     }
 
+    fn extreme(&self, labels: &[u8], tail: Tail) -> bool {
+        is_extreme_by(&self.frame(), self.measure(labels, tail), tail)
+    }
+
     fn value(&self, labels: &[u8]) -> i128 {
         self.fisher().value(labels)
     }
+}
 
+impl Framed for OddsTable {
     fn frame(&self) -> Frame {
         let statistic = self.fisher().frame().statistic;
         Frame {

@@ -1,7 +1,7 @@
 // The sums of the signed rank test by two halves, as they are known by hand.
 use crate::tests::{EVERY_TAIL, same, same_lines, walked};
 use crate::{RankStages, SignedRanks};
-use enumerate::Plain;
+use enumerate::Framed;
 use halves::{completion_values, first_half, meeting_sums, tail_sums};
 use networks::{AdditiveStages, Judge, Roomed, Spread, Stages, TailSums};
 use stage_network::Prepared;

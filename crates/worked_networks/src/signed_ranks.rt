@@ -3,7 +3,7 @@ ghost use Rattle.std.specs.Prelude.{◌≡◌, ◌+◌, ◌*◌, ◌<◌, pos, l
 ghost use Rattle.networks.specs.Judged.{JudgeFits};
 ghost use Rattle.worked_networks.specs.SignedRanks.{rank_sum};
 
-use enumerate::{Plain, next_signs};
+use enumerate::{Framed, Plain, is_extreme_by, next_signs};
 use networks::{Additive, AdditiveStages, Interval, Judge, SumValue};
 use stage_network::Prepared;
 use std::alloc::Global;
@@ -121,10 +121,16 @@ impl Plain for SignedRanks {
         1
     }
 
+    fn extreme(&self, labels: &[u8], tail: Tail) -> bool {
+        is_extreme_by(&self.frame(), self.measure(labels, tail), tail)
+    }
+
     fn value(&self, labels: &[u8]) -> i128 {
         rank_sum(labels)
     }
+}
 
+impl Framed for SignedRanks {
     fn frame(&self) -> Frame {
         Frame {
             statistic: 8,

@@ -1,10 +1,11 @@
 // The public calls of `enumerate`.
-ghost use Rattle.std.specs.Prelude.{◌<◌, ◌^◌, ◌≡◌, ◌≤◌, All, Contains, IfOk, List, length, true, ℕ};
+ghost use Rattle.std.specs.Prelude.{◌<◌, ◌^◌, ◌≡◌, ◌≤◌, All, Contains, IfOk, List, length, pos, true, ℕ};
 ghost use Rattle.std.specs.List.{sum};
 ghost use Rattle.enumerate.specs.Walk.{BeginsWith, StepsThrough};
 ghost use Rattle.weights.specs.Conditional.{is_extreme, numerator, total};
 ghost use Rattle.weights.specs.Labellings.{labellings, sign_lists};
 ghost use Rattle.weights.specs.declared.TheConstants.{MAX};
+ghost use Rattle.worked_surface.specs.TwoSigns.{plus_signs, two_signs};
 
 use enumerate::Plain;
 use std::alloc::Global;
@@ -82,4 +83,56 @@ pub fn plain_tail<P: Plain>(alloc: Global, problem: &P, tail: Tail) -> Result<u1
     ensures { IfOk result (λ sum. sum ≡ numerator (P.test problem.now) tail) }
 {
     enumerate::plain_tail(alloc, problem, tail)
+}
+
+/// A test with the five calls of its own: of lists of two signs, of which two plus signs were
+/// observed.
+pub struct TwoSigns;
+
+// How many signs are plus.
+fn plus_signs(signs: &[u8]) -> i128
+    requires { length signs.now ≡ 2 }
+    ensures plus { result ≡ pos (plus_signs signs.now) }
+    ensures few { plus_signs signs.now ≤ 2 }
+{
+    signs.iter().filter(|sign| **sign == 1).count() as i128
+}
+
+impl Plain for TwoSigns {
+    ghost test = { λ _. two_signs };
+
+    fn first(&self, alloc: Global) -> Result<Bytes, NoMemory> {
+        let mut signs = Bytes::empty(alloc);
+        signs.push(0)?;
+        signs.push(0)?;
+        Ok(signs)
+    }
+
+    fn next(&self, labels: &mut Bytes) -> bool {
+        next_signs(labels.as_mut_slice())
+    }
+
+    fn weight(&self, _labels: &[u8]) -> u128 {
+        1
+    }
+
+    fn extreme(&self, labels: &[u8], tail: Tail) -> bool {
+        let plus = plus_signs(labels);
+        match tail {
+            Tail::Less => plus <= 2,
+            Tail::Greater => 2 <= plus,
+            Tail::Two => 1 <= (plus - 1).unsigned_abs(),
+        }
+    }
+
+    fn value(&self, labels: &[u8]) -> i128 {
+        plus_signs(labels)
+    }
+}
+
+/// How many of the four lists of two signs are extreme.
+pub fn tail_of_two_signs(alloc: Global, tail: Tail) -> Result<u128, NoMemory>
+    ensures { IfOk result (λ sum. sum ≡ numerator two_signs tail) }
+{
+    plain_tail(alloc, &TwoSigns, tail)
 }

@@ -10,7 +10,9 @@ ghost use Rattle.networks.specs.Opened.{opened_below};
 ghost use Rattle.node_pool.specs.Nodes.{weighted};
 ghost use Rattle.node_pool.specs.PoolSteps.{nodes_of};
 ghost use Rattle.stage_network.specs.FromKeys.{AreStarts};
+ghost use Rattle.worked_surface.specs.TwoSigns.{two_signs};
 
+use crate::enumerate_calls::TwoSigns;
 use enumerate::Plain;
 use stage_network::{
     Answer, Line, PrepareFault, Spread, Stages, TailSum, Verdict, Way, WideOf, Width,
@@ -136,6 +138,14 @@ pub fn plain_spread<P: Plain>(alloc: Global, problem: &P) -> Result<Spread, NoMe
     ensures weights { IfOk result WeightsFit }
 {
     stage_network::plain_spread(alloc, problem)
+}
+
+/// Each number of plus signs with how many lists of two signs have it.
+pub fn spread_of_two_signs(alloc: Global) -> Result<Spread, NoMemory>
+    ensures sums { IfOk result (IsSpreadOf (statistic_sums two_signs)) }
+    ensures weights { IfOk result WeightsFit }
+{
+    plain_spread(alloc, &TwoSigns)
 }
 
 /// No line.

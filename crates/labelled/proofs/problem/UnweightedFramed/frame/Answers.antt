@@ -1,4 +1,4 @@
-use Rattle.labelled.proofs.problem.UnweightedPlain.frame.Goals as goal
+use Rattle.labelled.proofs.problem.UnweightedFramed.frame.Goals as goal
 
 pub returns-clause-fits : goal.returns-clause-fits
 returns-clause-fits g c = rw (← c.self.view_is) c.sound.ensures.rules_fit

@@ -6,7 +6,7 @@ use Rattle.block_tests.specs.BlockNetworks.{arrangement_test}
 use Rattle.block_tests.specs.BlockTests.{page_sum}
 use Rattle.block_tests.proofs.Arranged.{length-first}
 use Rattle.block_tests.proofs.OneBlock.{arrangements-centred, arrangements-some, arrangements-total}
-use Rattle.block_tests.proofs.page.BlockPlain.frame.Goals as goal
+use Rattle.block_tests.proofs.page.BlockFramed.frame.Goals as goal
 
 pub page_sum-statistic-requires : goal.page_sum-statistic-requires
 page_sum-statistic-requires c =
