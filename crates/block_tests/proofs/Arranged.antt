@@ -18,7 +18,7 @@ use Rattle.enumerate.proofs.FirstLabelling.{ascending, ascending_begins}
 use Rattle.enumerate.proofs.Steps.{labellings_begin}
 use Rattle.enumerate.proofs.Walking.{Contains-first}
 use Rattle.networks.proofs.Swaps.{sum_by-swap_at, swap_at}
-use Rattle.block_tests.specs.BlockNetworks.{first_arrangement, greatest_cell, least_cell}
+use Rattle.block_tests.specs.BlockNetworks.{first_arrangement, greatest_block_cell, least_block_cell}
 
 -- ---- the first arrangement
 
@@ -88,13 +88,13 @@ both : (a b : ℕ) (xs : List ℕ) → AllByRecursion (λ z. a ≤ z) xs → All
 both a b [] l h = tt
 both a b (x ∷ xs) l h = ((l.0, h.0), both a b xs l.1 h.1)
 
-pub between-ends : (counts x : List ℕ) → IsLabelling counts x → AllByRecursion (λ z. (least_cell counts ≤ z) × (z ≤ greatest_cell counts)) x
+pub between-ends : (counts x : List ℕ) → IsLabelling counts x → AllByRecursion (λ z. (least_block_cell counts ≤ z) × (z ≤ greatest_block_cell counts)) x
 between-ends counts x l =
     let first : List ℕ = first_arrangement counts in
     let falls : NeverFalls first = subst NeverFalls (order-first counts x l) (falls_order x) in
-    all_from_SameCounts (λ z. (least_cell counts ≤ z) × (z ≤ greatest_cell counts)) first x
+    all_from_SameCounts (λ z. (least_block_cell counts ≤ z) × (z ≤ greatest_block_cell counts)) first x
     (λ i. sym (sum_by-first (λ v. cond (nat_eq v i) 1 0) counts x l))
-    (both (least_cell counts) (greatest_cell counts) first (from_least first falls) (to_greatest first falls))
+    (both (least_block_cell counts) (greatest_block_cell counts) first (from_least first falls) (to_greatest first falls))
 
 -- ---- arrangements of given cells
 

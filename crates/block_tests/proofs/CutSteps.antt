@@ -3,7 +3,7 @@ use Rattle.std.proofs.Common.{◌≡◌, ℕ, suc, ◌+◌, ◌*◌, ◌-◌, �
 use Rattle.std.specs.Prelude.{ℤ}
 use Rattle.std.specs.List.{All, AllByRecursion, concat}
 use Rattle.std.proofs.lemmas.List.Elements.{All-from_recursion}
-use Rattle.block_tests.specs.BlockTests.{added, cells_in, counts_in, cut, page_sum, treatment_sums}
+use Rattle.block_tests.specs.BlockTests.{added, cells_in, cell_counts, cut, page_sum, treatment_sums}
 use Rattle.block_tests.specs.declared.kinds.BlockKind.{BlockKind}
 use Rattle.block_tests.proofs.Rows.{left-after}
 use Rattle.block_tests.proofs.Staged.{all_weaker}
@@ -80,11 +80,11 @@ module _ (kind : BlockKind) (k n i : ℕ) (rest front later : List ℤ) (h : i <
   pub row-long : length front ≡ k
   row-long = ap length f ∙ front-long k n i rest h left
 
-  pub blocks-step : (made now all : List (List ℕ)) → now ≡ made ++ counts_in kind (length front) front ∷ [] → made ++ map (counts_in kind k) (cut k (n - i) rest) ≡ all → now ++ map (counts_in kind k) (cut k (n - (i + 1)) later) ≡ all
+  pub blocks-step : (made now all : List (List ℕ)) → now ≡ made ++ cell_counts kind (length front) front ∷ [] → made ++ map (cell_counts kind k) (cut k (n - i) rest) ≡ all → now ++ map (cell_counts kind k) (cut k (n - (i + 1)) later) ≡ all
   blocks-step made now all e so_far =
-      ap (λ xs. xs ++ map (counts_in kind k) (cut k (n - (i + 1)) later)) (e ∙ ap (λ m. made ++ counts_in kind m front ∷ []) row-long)
-      ∙ one-more made (counts_in kind k front) (map (counts_in kind k) (cut k (n - (i + 1)) later))
-      ∙ ap (λ rows. made ++ map (counts_in kind k) rows) (sym rows-next) ∙ so_far
+      ap (λ xs. xs ++ map (cell_counts kind k) (cut k (n - (i + 1)) later)) (e ∙ ap (λ m. made ++ cell_counts kind m front ∷ []) row-long)
+      ∙ one-more made (cell_counts kind k front) (map (cell_counts kind k) (cut k (n - (i + 1)) later))
+      ∙ ap (λ rows. made ++ map (cell_counts kind k) rows) (sym rows-next) ∙ so_far
 
   pub cells-step : (cells now all : List ℕ) → now ≡ cells ++ cells_in kind front → cells ++ concat (map (cells_in kind) (cut k (n - i) rest)) ≡ all → now ++ concat (map (cells_in kind) (cut k (n - (i + 1)) later)) ≡ all
   cells-step cells now all e so_far =

@@ -33,7 +33,7 @@ use Rattle.labelled.specs.UnweightedTests.{CanBeAnswered}
 use Rattle.labelled.proofs.UnweightedLaws.{can-be-answered}
 use Rattle.block_tests.specs.BlockNetworks.{addends_of, first_arrangement, line_addends, network_by, running_addends, square_addends}
 use Rattle.block_tests.specs.BlockSteps.{AreStages, IsSmall, IsWhole, cells_sum, ways_of}
-use Rattle.block_tests.specs.BlockTests.{BlockTests, TakesCells, block_counts, block_statistic, block_test, blocks_for, bound_of, cells_in, counts_in, cut, has_tail, measure, observed_cells, page_sum, rearrangements, rows, sides_of, square_sum, squared, treatment_sums}
+use Rattle.block_tests.specs.BlockTests.{BlockTests, TakesCells, block_counts, block_statistic, block_test, blocks_for, bound_of, cells_in, cell_counts, cut, has_tail, measure, observed_cells, page_sum, rearrangements, rows, sides_of, square_sum, squared, treatment_sums}
 use Rattle.block_tests.specs.PreparedSteps.{AreBlocks, AreFitting}
 use Rattle.block_tests.specs.declared.kinds.BlockKind.{BlockKind}
 use Rattle.block_tests.specs.declared.kinds.BlockKind.TheVariants.{Friedman, Page, Cochran}
@@ -163,14 +163,14 @@ module _ (tests : BlockTests) (b : AreBlocks tests) where
   rows-long = each-row tests.blocks.treatments tests.blocks.blocks tests.blocks.cells b.one_each
 
   each-whole : AllByRecursion (IsWhole tests.blocks.treatments) (block_counts tests)
-  each-whole = all_map (IsWhole tests.blocks.treatments) (counts_in tests.kind tests.blocks.treatments) (rows tests.blocks) (wholes (rows tests.blocks) rows-long (each-taken tests.kind tests.blocks.treatments tests.blocks.blocks tests.blocks.cells b.taken))
+  each-whole = all_map (IsWhole tests.blocks.treatments) (cell_counts tests.kind tests.blocks.treatments) (rows tests.blocks) (wholes (rows tests.blocks) rows-long (each-taken tests.kind tests.blocks.treatments tests.blocks.blocks tests.blocks.cells b.taken))
     where
-      wholes : (rs : List (List ℤ)) → AllByRecursion (λ row. length row ≡ tests.blocks.treatments) rs → AllByRecursion (TakesCells tests.kind) rs → AllByRecursion (λ row. IsWhole tests.blocks.treatments (counts_in tests.kind tests.blocks.treatments row)) rs
+      wholes : (rs : List (List ℤ)) → AllByRecursion (λ row. length row ≡ tests.blocks.treatments) rs → AllByRecursion (TakesCells tests.kind) rs → AllByRecursion (λ row. IsWhole tests.blocks.treatments (cell_counts tests.kind tests.blocks.treatments row)) rs
       wholes [] l t = tt
       wholes (r ∷ rs) l t = (row-whole tests.kind tests.blocks.treatments r b.at_most_eight l.0 t.0, wholes rs l.1 t.1)
 
   pub blocks-many : length (block_counts tests) ≡ tests.blocks.blocks
-  blocks-many = length-map (rows tests.blocks) (counts_in tests.kind tests.blocks.treatments) ∙ length-cut tests.blocks.treatments tests.blocks.blocks tests.blocks.cells
+  blocks-many = length-map (rows tests.blocks) (cell_counts tests.kind tests.blocks.treatments) ∙ length-cut tests.blocks.treatments tests.blocks.blocks tests.blocks.cells
 
   pub blocks-whole : AllByRecursion (IsWhole tests.blocks.treatments) (block_counts tests)
   blocks-whole = each-whole
@@ -212,12 +212,12 @@ module _ (tests : BlockTests) (b : AreBlocks tests) where
 
   -- ---- the bound
 
-  row-sums : (rs : List (List ℤ)) → AllByRecursion (λ row. length row ≡ tests.blocks.treatments) rs → AllByRecursion (TakesCells tests.kind) rs → cells_sum (map (counts_in tests.kind tests.blocks.treatments) rs) ≡ sum (concat (map (cells_in tests.kind) rs))
+  row-sums : (rs : List (List ℤ)) → AllByRecursion (λ row. length row ≡ tests.blocks.treatments) rs → AllByRecursion (TakesCells tests.kind) rs → cells_sum (map (cell_counts tests.kind tests.blocks.treatments) rs) ≡ sum (concat (map (cells_in tests.kind) rs))
   row-sums [] l t = refl
   row-sums (r ∷ rs) l t =
       omega (
         arith,
-        sum_by-cons (λ counts. sum (first_arrangement counts)) (counts_in tests.kind tests.blocks.treatments r) (map (counts_in tests.kind tests.blocks.treatments) rs),
+        sum_by-cons (λ counts. sum (first_arrangement counts)) (cell_counts tests.kind tests.blocks.treatments r) (map (cell_counts tests.kind tests.blocks.treatments) rs),
         row-sum tests.kind tests.blocks.treatments r b.at_most_eight l.0 t.0,
         row-sums rs l.1 t.1,
         sum_by-append (λ v. v) (cells_in tests.kind r) (concat (map (cells_in tests.kind) rs)),

@@ -16,7 +16,7 @@ use Rattle.midranks.proofs.TieLemmas.{past, less-from_test, same-from_test, test
 use Rattle.sample_reader.specs.Values.{IsBinary}
 use Rattle.block_tests.specs.BlockNetworks.{first_arrangement}
 use Rattle.block_tests.specs.BlockSteps.{IsWhole}
-use Rattle.block_tests.specs.BlockTests.{TakesCells, cells_below, cells_in, counts_in, cut}
+use Rattle.block_tests.specs.BlockTests.{TakesCells, cells_below, cells_in, cell_counts, cut}
 use Rattle.block_tests.specs.declared.kinds.BlockKind.{BlockKind}
 use Rattle.block_tests.specs.declared.kinds.BlockKind.TheVariants.{Friedman, Page, Cochran}
 use Rattle.block_tests.proofs.Arranged.{own-labelling, sum-counts, sum_by-first}
@@ -90,17 +90,17 @@ module _ (kind : BlockKind) (k : ℕ) (values : List ℤ) (narrow : k ≤ 8) (lo
   below : AllByRecursion (λ z. z < cells_below kind k) (cells_in kind values)
   below = subst (λ n. AllByRecursion (λ z. z < cells_below kind n) (cells_in kind values)) long (cells-below kind values taken)
 
-  pub row-whole : IsWhole k (counts_in kind k values)
+  pub row-whole : IsWhole k (cell_counts kind k values)
   row-whole = record {
     treatments = sum-counts (cells_below kind k) (cells_in kind values) below ∙ length-cells kind values ∙ long;
-    few = (let e : length (counts_in kind k values) ≡ cells_below kind k = length-counts_of (cells_below kind k) (cells_in kind values) in omega (arith, e, below-few kind k narrow));
+    few = (let e : length (cell_counts kind k values) ≡ cells_below kind k = length-counts_of (cells_below kind k) (cells_in kind values) in omega (arith, e, below-few kind k narrow));
   }
 
   pub row-small : AllByRecursion (λ z. z ≤ 16) (cells_in kind values)
   row-small = all_weaker (λ z. z < cells_below kind k) (λ z. z ≤ 16) (λ z h. omega (arith, h, below-few kind k narrow)) (cells_in kind values) below
 
-  pub row-sum : sum (first_arrangement (counts_in kind k values)) ≡ sum (cells_in kind values)
-  row-sum = sym (sum_by-first (λ v. v) (counts_in kind k values) (cells_in kind values) (own-labelling (cells_below kind k) (cells_in kind values) below))
+  pub row-sum : sum (first_arrangement (cell_counts kind k values)) ≡ sum (cells_in kind values)
+  row-sum = sym (sum_by-first (λ v. v) (cell_counts kind k values) (cells_in kind values) (own-labelling (cells_below kind k) (cells_in kind values) below))
 
 -- ---- the sum of midranks
 

@@ -20,7 +20,7 @@ use Rattle.networks.specs.SoundAddends.{AddsBetween, IsAdditive, IsSquared}
 use Rattle.networks.proofs.Flat.{AllAt}
 use Rattle.networks.proofs.Parts.{AreStages as AreParts, Pieces, summed}
 use Rattle.enumerate.proofs.JoinedMembers.{each-labelling}
-use Rattle.block_tests.specs.BlockNetworks.{block_at, first_arrangement, greatest_cell, least_cell, square_addends}
+use Rattle.block_tests.specs.BlockNetworks.{block_at, first_arrangement, greatest_block_cell, least_block_cell, square_addends}
 use Rattle.block_tests.specs.BlockSteps.{AreStages, IsSmall, IsWhole, cells_sum}
 use Rattle.block_tests.specs.BlockTests.{added, cut, square_sum, squared, treatment_sums}
 use Rattle.block_tests.proofs.Arranged.{between-ends, cells-swapped, first-labelling, sum_by-first}
@@ -39,7 +39,7 @@ wide_between bound k blocks judge g whole h =
     all_weaker (IsLabelling (block_at blocks g)) (AddsBetween (square_addends bound k blocks judge) g)
     (λ x l. record {
       wide = length-map x pos ∙ l.over.long ∙ (whole-at k blocks g whole h).treatments;
-      between = pos-between (least_cell (block_at blocks g)) (greatest_cell (block_at blocks g)) x (between-ends (block_at blocks g) x l);
+      between = pos-between (least_block_cell (block_at blocks g)) (greatest_block_cell (block_at blocks g)) x (between-ends (block_at blocks g) x l);
     }) (labellings (block_at blocks g)) (each-labelling (block_at blocks g))
 
 -- a cell is at most 16
@@ -55,8 +55,8 @@ cell-small counts i few = elim (cases_lt i (length (first_arrangement counts))) 
 stride-small : (bound k : ℕ) (blocks : List (List ℕ)) (judge : Judge) → All (IsWhole k) blocks → (g : ℕ) → g < length blocks → stride (square_addends bound k blocks judge) g ≤ 16
 stride-small bound k blocks judge whole g h =
     let few = (whole-at k blocks g whole h).few in
-    let least : least_cell (block_at blocks g) ≤ 16 = cell-small (block_at blocks g) 0 few in
-    let most : greatest_cell (block_at blocks g) ≤ 16 = cell-small (block_at blocks g) (length (first_arrangement (block_at blocks g)) - 1) few in
+    let least : least_block_cell (block_at blocks g) ≤ 16 = cell-small (block_at blocks g) 0 few in
+    let most : greatest_block_cell (block_at blocks g) ≤ 16 = cell-small (block_at blocks g) (length (first_arrangement (block_at blocks g)) - 1) few in
     omega (arith, least, most)
 
 -- what all stages add to a square
@@ -115,8 +115,8 @@ module _ (bound k : ℕ) (blocks : List (List ℕ)) (judge : Judge) (s : AreStag
 
   pub square_additive : IsAdditive (square_addends bound k blocks judge)
   square_additive =
-      let least = end-small k (length blocks) (over_stages (λ i. pos (least_cell (block_at blocks i))) (length blocks - 0) 0) s.narrow s.few (over-pos (λ i. least_cell (block_at blocks i)) (length blocks - 0) 0) (low-end) in
-      let most = end-small k (length blocks) (over_stages (λ i. pos (greatest_cell (block_at blocks i))) (length blocks - 0) 0) s.narrow s.few (over-pos (λ i. greatest_cell (block_at blocks i)) (length blocks - 0) 0) (high-end) in
+      let least = end-small k (length blocks) (over_stages (λ i. pos (least_block_cell (block_at blocks i))) (length blocks - 0) 0) s.narrow s.few (over-pos (λ i. least_block_cell (block_at blocks i)) (length blocks - 0) 0) (low-end) in
+      let most = end-small k (length blocks) (over_stages (λ i. pos (greatest_block_cell (block_at blocks i))) (length blocks - 0) 0) s.narrow s.few (over-pos (λ i. greatest_block_cell (block_at blocks i)) (length blocks - 0) 0) (high-end) in
       record {
         slots_some = s.some;
         slots_few = omega (arith, s.narrow);
@@ -131,11 +131,11 @@ module _ (bound k : ℕ) (blocks : List (List ℕ)) (judge : Judge) (s : AreStag
         high_fits = s.judge_fits _ (least-small _ bound most);
       }
     where
-      low-end : over_stages (λ i. pos (least_cell (block_at blocks i))) (length blocks - 0) 0 ≤ℤ pos (length blocks * 16)
-      low-end = (let e : length blocks - 0 ≡ length blocks = omega arith in rw e (over-stages-within (λ i. least_cell (block_at blocks i)) 16 (length blocks) (length blocks) 0 (λ g h. cell-small (block_at blocks g) 0 (whole-at k blocks g s.whole h).few) (omega arith)))
+      low-end : over_stages (λ i. pos (least_block_cell (block_at blocks i))) (length blocks - 0) 0 ≤ℤ pos (length blocks * 16)
+      low-end = (let e : length blocks - 0 ≡ length blocks = omega arith in rw e (over-stages-within (λ i. least_block_cell (block_at blocks i)) 16 (length blocks) (length blocks) 0 (λ g h. cell-small (block_at blocks g) 0 (whole-at k blocks g s.whole h).few) (omega arith)))
 
-      high-end : over_stages (λ i. pos (greatest_cell (block_at blocks i))) (length blocks - 0) 0 ≤ℤ pos (length blocks * 16)
-      high-end = (let e : length blocks - 0 ≡ length blocks = omega arith in rw e (over-stages-within (λ i. greatest_cell (block_at blocks i)) 16 (length blocks) (length blocks) 0 (λ g h. cell-small (block_at blocks g) (length (first_arrangement (block_at blocks g)) - 1) (whole-at k blocks g s.whole h).few) (omega arith)))
+      high-end : over_stages (λ i. pos (greatest_block_cell (block_at blocks i))) (length blocks - 0) 0 ≤ℤ pos (length blocks * 16)
+      high-end = (let e : length blocks - 0 ≡ length blocks = omega arith in rw e (over-stages-within (λ i. greatest_block_cell (block_at blocks i)) 16 (length blocks) (length blocks) 0 (λ g h. cell-small (block_at blocks g) (length (first_arrangement (block_at blocks g)) - 1) (whole-at k blocks g s.whole h).few) (omega arith)))
 
 -- ---- rearrangements
 

@@ -27,11 +27,11 @@ block_at blocks g = slice_index_or blocks g []
 abbrev pub first_arrangement : List ℕ → List ℕ
 first_arrangement counts = slice_index_or (labellings counts) 0 []
 
-abbrev pub least_cell : List ℕ → ℕ
-least_cell counts = slice_index (first_arrangement counts) 0
+abbrev pub least_block_cell : List ℕ → ℕ
+least_block_cell counts = slice_index (first_arrangement counts) 0
 
-abbrev pub greatest_cell : List ℕ → ℕ
-greatest_cell counts =
+abbrev pub greatest_block_cell : List ℕ → ℕ
+greatest_block_cell counts =
     slice_index (first_arrangement counts) (length (first_arrangement counts) - 1)
 
 -- ---- the sums of all treatments, and their squares
@@ -45,8 +45,8 @@ square_addends bound k blocks judge = record {
   later = λ g c. members_after c (labellings (block_at blocks g));
   weight = λ g c. 1;
   adds = λ g c. map pos c;
-  least = λ g. pos (least_cell (block_at blocks g));
-  most = λ g. pos (greatest_cell (block_at blocks g));
+  least = λ g. pos (least_block_cell (block_at blocks g));
+  most = λ g. pos (greatest_block_cell (block_at blocks g));
   sorted = true;
   value = Squares bound;
   judge = judge;

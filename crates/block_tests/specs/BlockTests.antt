@@ -56,11 +56,11 @@ cells_below Page k = 2 * k + 1
 cells_below Cochran k = 2
 
 -- how often each number below it is a cell of the block
-abbrev pub counts_in : BlockKind → ℕ → List ℤ → List ℕ
-counts_in kind k values = counts_of (cells_below kind k) (cells_in kind values)
+abbrev pub cell_counts : BlockKind → ℕ → List ℤ → List ℕ
+cell_counts kind k values = counts_of (cells_below kind k) (cells_in kind values)
 
 abbrev pub block_counts : BlockTests → List (List ℕ)
-block_counts tests = map (counts_in tests.kind tests.blocks.treatments) (rows tests.blocks)
+block_counts tests = map (cell_counts tests.kind tests.blocks.treatments) (rows tests.blocks)
 
 -- An arrangement of a block gives each treatment a cell, and each cell as often as it occurs there;
 -- so equal cells that change places are one arrangement. A rearrangement has one of each block,
@@ -125,10 +125,10 @@ sides_of Page n k = by_distance 2 (pos (n * k * squared (k + 1)))
 sides_of Cochran n k = one_sided
 
 -- doubled ranks have their squares over 4
-abbrev pub scale_of : BlockKind → ℕ
-scale_of Friedman = 4
-scale_of Page = 2
-scale_of Cochran = 1
+abbrev pub block_scale : BlockKind → ℕ
+block_scale Friedman = 4
+block_scale Page = 2
+block_scale Cochran = 1
 
 -- of blocks with these cells
 abbrev pub bound_of : BlockKind → ℕ → ℕ → List ℕ → ℕ
@@ -147,6 +147,6 @@ block_test tests =
       weight = unit_weight;
       has_tail = has_tail tests.kind;
       two_sided = sides_of tests.kind n k;
-      scale = scale_of tests.kind;
+      scale = block_scale tests.kind;
       bound = bound_of tests.kind n k (observed_cells tests);
     }

@@ -7,7 +7,7 @@ ghost use Rattle.record_reader.specs.declared.TheConstants.{MOST_ROWS};
 ghost use Rattle.sample_reader.specs.Data.{block_data_of};
 ghost use Rattle.block_tests.specs.BlockTests.{TakesCells, block_counts, block_statistic};
 ghost use Rattle.block_tests.specs.BlockTests.{block_test, blocks_for, bound_of};
-ghost use Rattle.block_tests.specs.BlockTests.{scale_of, sides_of};
+ghost use Rattle.block_tests.specs.BlockTests.{block_scale, sides_of};
 ghost use Rattle.block_tests.specs.BlockSteps.{IsSmall, ways_of};
 ghost use Rattle.block_tests.specs.PreparedSteps.{AreFitting, far_of};
 
@@ -96,7 +96,7 @@ fn bound_of(kind: BlockKind, blocks: u64, treatments: u64, cells: &[u8]) -> u128
 }
 
 fn scale_of(kind: BlockKind) -> u128
-    ensures { result ≡ scale_of kind }
+    ensures { result ≡ block_scale kind }
 {
     match kind {
         BlockKind::Friedman => 4,
@@ -129,7 +129,7 @@ fn frame_of(kind: BlockKind, blocks: u64, treatments: u64, cells: &[u8], total: 
     ensures { let statistic = block_statistic kind blocks treatments cells.now in
         result ≡ record {
           statistic = statistic;
-          scale = scale_of kind;
+          scale = block_scale kind;
           total = total;
           two = far_of (sides_of kind blocks treatments) statistic;
         } }

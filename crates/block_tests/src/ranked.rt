@@ -2,7 +2,7 @@
 ghost use Rattle.std.specs.Prelude.{◌≡◌, [], ◌*◌, ◌<◌, ◌≤◌, length, map, nat_abs, IfOk, OnOk, ◌++◌, ◌∷◌};
 ghost use Rattle.std.specs.List.{All, concat};
 ghost use Rattle.sample_reader.specs.Values.{IsBinary};
-ghost use Rattle.block_tests.specs.BlockTests.{TakesCells, cells_below, cells_in, counts_in, cut};
+ghost use Rattle.block_tests.specs.BlockTests.{TakesCells, cells_below, cells_in, cell_counts, cut};
 
 use crate::block::Block;
 use crate::kinds::BlockKind;
@@ -94,7 +94,7 @@ fn rank_block(
 ) -> Result<(), NoMemory>
     requires few { length values.now ≤ 8 }
     requires taken { TakesCells kind values.now }
-    ensures blocks { let counts = counts_in kind (length values.now) values.now in
+    ensures blocks { let counts = cell_counts kind (length values.now) values.now in
         OnOk result (ranked.new.blocks.items ≡ ranked.old.blocks.items ++ counts ∷ []) }
     ensures cells { let cells = cells_in kind values.now in
         OnOk result (ranked.new.cells ≡ ranked.old.cells ++ cells) }
@@ -119,7 +119,7 @@ pub(crate) fn rank_blocks(
     requires whole { length values.now ≡ blocks * treatments }
     requires taken { TakesCells kind values.now }
     ensures blocks { let rows = cut treatments blocks values.now in
-        IfOk result (λ ranked. ranked.blocks.items ≡ map (counts_in kind treatments) rows) }
+        IfOk result (λ ranked. ranked.blocks.items ≡ map (cell_counts kind treatments) rows) }
     ensures cells { let rows = cut treatments blocks values.now in
         IfOk result (λ ranked. ranked.cells ≡ concat (map (cells_in kind) rows)) }
 {

@@ -42,13 +42,13 @@ in_order_by labels_of reordered_to order samples =
     if is_order_of (labels_of samples) order then Ok (reordered_to order samples)
     else Err (refusal.Unfit option.Order)
 
-abbrev pub in_order : List (List ℕ) → GroupData → Result GroupData Refusal
-in_order = in_order_by (λ groups. groups.labels) reordered
+abbrev pub in_asked_order : List (List ℕ) → GroupData → Result GroupData Refusal
+in_asked_order = in_order_by (λ groups. groups.labels) reordered
 
 -- at most so many groups, in the order used
 abbrev pub groups_of : ℕ → Settings → List (List (List ℕ)) → Result GroupData Refusal
 groups_of most settings rows =
-    and_then (in_order settings.order)
+    and_then (in_asked_order settings.order)
     (with_fault layout_refusal (groups_in most settings.missing settings.picks rows))
 
 -- how many rows are left out

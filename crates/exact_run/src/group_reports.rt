@@ -5,7 +5,7 @@ ghost use Rattle.weights.specs.Results.{with_fault};
 ghost use Rattle.sample_reader.specs.Data.{data_of};
 ghost use Rattle.sample_reader.specs.GroupLayout.{groups_in};
 ghost use Rattle.run_outcome.specs.CauseSteps.{Fulfils, IsCauseOf};
-ghost use Rattle.exact_run.specs.GroupQuestions.{group_rows, groups_of, has_peak, in_order, kruskal_wallis_of, ordered_of, two_samples_of, umbrella_of};
+ghost use Rattle.exact_run.specs.GroupQuestions.{group_rows, groups_of, has_peak, in_asked_order, kruskal_wallis_of, ordered_of, two_samples_of, umbrella_of};
 ghost use Rattle.exact_run.specs.Layouts.{layout_refusal};
 
 use crate::layouts::{heading_for, layout_refusal};
@@ -48,9 +48,9 @@ fn groups_read(
 // The groups in the order that is asked, or the refusal of an order that does not fit.
 fn in_order(alloc: Global, groups: Groups, order: &Labels) -> Result<Groups, Refusal>
     ensures ok { IfOk result (λ ordered.
-        in_order order.now (data_of groups) ≡ Ok (data_of ordered)) }
+        in_asked_order order.now (data_of groups) ≡ Ok (data_of ordered)) }
     ensures as_many { IfOk result (λ ordered. length ordered.labels ≡ length groups.labels) }
-    ensures err { IfErr result (IsCauseOf (in_order order.now (data_of groups))) }
+    ensures err { IfErr result (IsCauseOf (in_asked_order order.now (data_of groups))) }
 {
     if order.len() == 0 {
         return Ok(groups);

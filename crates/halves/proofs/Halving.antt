@@ -13,7 +13,7 @@ use Rattle.networks.specs.declared.tail_sums.Kept.TheVariants.{All, Open}
 use Rattle.networks.specs.declared.tail_sums.TailSums.{TailSums}
 use Rattle.networks.specs.declared.verdicts.Judge.{Judge}
 use Rattle.networks.specs.Network.{Network, IsReached}
-use Rattle.networks.specs.Completions.{completions, path_weight, path_end, total_weight, extreme_weight, is_extreme, is_inside}
+use Rattle.networks.specs.Completions.{completions, path_weight, path_end, total_weight, extreme_weight, ends_inside, is_inside}
 use Rattle.networks.specs.Judged.{HasIntervals, rule_in, verdict_of}
 use Rattle.stage_network.specs.NodeSteps.{all_successors}
 use Rattle.networks.specs.Asked.{asked, asks}
@@ -112,7 +112,7 @@ module _ (n : Network) (judge : Judge) (h : HasIntervals n judge) (t : Tail) whe
   unfolding value_sum extreme_weight
   extreme-values g k r within =
       let p : ℤ → Bool = passes (rule_in judge t) in
-      sum_by-filter (path_weight n g k) (is_extreme n t g k) (completions n g k)
+      sum_by-filter (path_weight n g k) (ends_inside n t g k) (completions n g k)
       ∙ sum_by-same_where (λ cs. EndsBetween n judge h (h.low g k) (h.high g k) (path_end n g k cs)) _ (λ cs. path_weight n g k cs * once p (n.value (path_end n g k cs)))
       (λ cs ends. ap (λ b. cond b (path_weight n g k cs) 0) (end-passes (path_end n g k cs) ends.reached) ∙ when (p (n.value (path_end n g k cs))) (path_weight n g k cs))
       (completions n g k) (values_between n judge h g k r within)

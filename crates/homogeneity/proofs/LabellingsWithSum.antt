@@ -12,7 +12,7 @@ use Rattle.strata_cells.proofs.CellLaws.{by-cells, cell_lists}
 use Rattle.strata_cells.proofs.FirstCells.{cells-meet, cells-sum, term-within}
 use Rattle.homogeneity.specs.Zelen.{has_sum}
 use Rattle.homogeneity.specs.ZelenSteps.{CanHave}
-use Rattle.homogeneity.specs.ZelenNetwork.{greatest_choice, greatest_sum, least_choice, least_sum, number_with}
+use Rattle.homogeneity.specs.ZelenNetwork.{greatest_choice, greatest_first_cells, least_choice, least_first_cells, number_with}
 
 -- ---- over lists of first cells
 
@@ -52,14 +52,14 @@ none-in : (f : ℕ → ℕ) (low n : ℕ) → ((x : ℕ) → low ≤ x → x < l
 none-in f low n e = same-within f (λ x. 0) low n e ∙ sum_by-zero (range_with_len low n)
 
 -- no cells add up to less than their least sum, or to more than their greatest
-with-few : (strata : List Stratum) (done all : ℕ) (f : List ℕ → ℕ) → all < done + least_sum strata → with_sum strata done all f ≡ 0
+with-few : (strata : List Stratum) (done all : ℕ) (f : List ℕ → ℕ) → all < done + least_first_cells strata → with_sum strata done all f ≡ 0
 with-few [] done all f h = over-none (λ cells. cond (nat_eq (done + sum cells) all) (f cells) 0) ∙ ap (λ b. cond b (f []) 0) (ne_eqb (done + 0) all (λ e. omega (arith, e, h)))
 with-few (s ∷ strata) done all f h =
     with-step s strata done all f
     ∙ none-in (with_cell s strata done all f) (least_cell s) (greatest_cell s + 1 - least_cell s) (λ x l m.
     times-none (cell_weight s x) (with_sum strata (done + x) all (λ cells. f (x ∷ cells))) (with-few strata (done + x) all (λ cells. f (x ∷ cells)) (omega (arith, h, l, sum_by-cons least_cell s strata))))
 
-with-many : (strata : List Stratum) (done all : ℕ) (f : List ℕ → ℕ) → done + greatest_sum strata < all → with_sum strata done all f ≡ 0
+with-many : (strata : List Stratum) (done all : ℕ) (f : List ℕ → ℕ) → done + greatest_first_cells strata < all → with_sum strata done all f ≡ 0
 with-many [] done all f h = over-none (λ cells. cond (nat_eq (done + sum cells) all) (f cells) 0) ∙ ap (λ b. cond b (f []) 0) (ne_eqb (done + 0) all (λ e. omega (arith, e, h)))
 with-many (s ∷ strata) done all f h =
     with-step s strata done all f
@@ -71,7 +71,7 @@ with-many (s ∷ strata) done all f h =
 middle : (f : ℕ → ℕ) (l p q r : ℕ) → ((x : ℕ) → l ≤ x → x < l + p → f x ≡ 0) → ((x : ℕ) → l + p + q ≤ x → x < l + p + q + r → f x ≡ 0) → sum_by f (range_with_len l (p + (q + r))) ≡ sum_by f (range_with_len (l + p) q)
 middle f l p q r a b = omega (arith, divided f l p (q + r), none-in f l p a, divided f (l + p) q r, none-in f (l + p + q) r b)
 
-pub sums-meet : (strata : List Stratum) → least_sum strata ≤ greatest_sum strata
+pub sums-meet : (strata : List Stratum) → least_first_cells strata ≤ greatest_first_cells strata
 sums-meet [] = omega arith
 sums-meet (s ∷ strata) = omega (arith, sums-meet strata, cells-meet s, sum_by-cons least_cell s strata, sum_by-cons greatest_cell s strata)
 
@@ -101,8 +101,8 @@ ranged least most less more left a b c d = record {
 }
 
 module _ (s : Stratum) (strata : List Stratum) (left : ℕ) (can : CanHave (s ∷ strata) left) where
-  pub choice-range : IsRange (least_cell s) (greatest_cell s) (least_sum strata) (greatest_sum strata) left (least_choice s strata left) (greatest_choice s strata left)
-  choice-range = ranged (least_cell s) (greatest_cell s) (least_sum strata) (greatest_sum strata) left (cells-meet s) (sums-meet strata) (omega (arith, can.least, sum_by-cons least_cell s strata)) (omega (arith, can.most, sum_by-cons greatest_cell s strata))
+  pub choice-range : IsRange (least_cell s) (greatest_cell s) (least_first_cells strata) (greatest_first_cells strata) left (least_choice s strata left) (greatest_choice s strata left)
+  choice-range = ranged (least_cell s) (greatest_cell s) (least_first_cells strata) (greatest_first_cells strata) left (cells-meet s) (sums-meet strata) (omega (arith, can.least, sum_by-cons least_cell s strata)) (omega (arith, can.most, sum_by-cons greatest_cell s strata))
 
   -- what a choice leaves can be had of the later strata
   pub can-next : (x : ℕ) → least_choice s strata left ≤ x → x ≤ greatest_choice s strata left → CanHave strata (left - x)

@@ -5,7 +5,7 @@ use Rattle.std.proofs.lemmas.List.Sums.{sum_by-take-drop}
 use Rattle.strata_cells.specs.declared.stratum.Stratum.{Stratum}
 use Rattle.strata_cells.specs.Strata.{cell_weight, greatest_cell, least_cell, stratum_at, size}
 use Rattle.strata_cells.proofs.StrataSums.{next-drop, sum-step, small-at, subjects-few, sums-within}
-use Rattle.homogeneity.specs.ZelenNetwork.{greatest_choice, greatest_sum, least_choice, least_sum, number_with}
+use Rattle.homogeneity.specs.ZelenNetwork.{greatest_choice, greatest_first_cells, least_choice, least_first_cells, number_with}
 use Rattle.homogeneity.specs.ZelenSteps.{CanHave, IsLeft, least_left, most_left, AreAllLaterSums, AreNumbers, AreSummed, IsCountable, AreLaterSums, IsPast, AreSumRanges, StratumSeat, choice_from, choice_to, counted, counted_cell, kept_number}
 use Rattle.homogeneity.proofs.LabellingsWithSum.{can-next, choice-range, number-step, number_by, choice-left}
 use Rattle.std.specs.List.{range_with_len, sum_by}
@@ -24,10 +24,10 @@ module _ (strata : List Stratum) (sum : ℕ) (d : AreSummed strata sum) where
   drop-within : (f : Stratum → ℕ) (g : ℕ) → sum_by f (drop g strata) ≤ sum_by f strata
   drop-within f g = omega (arith, sum_by-take-drop f strata g)
 
-  pub least-few : (g : ℕ) → least_sum (drop g strata) ≤ 40000000000
+  pub least-few : (g : ℕ) → least_first_cells (drop g strata) ≤ 40000000000
   least-few g = omega (arith, drop-within least_cell g, sums-within least_cell size (λ s. omega arith) strata, subjects-few strata (recursion_from_All IsSmall strata d.small) d.few)
 
-  pub most-few : (g : ℕ) → greatest_sum (drop g strata) ≤ 40000000000
+  pub most-few : (g : ℕ) → greatest_first_cells (drop g strata) ≤ 40000000000
   most-few g = omega (arith, drop-within greatest_cell g, sums-within greatest_cell size (λ s. omega arith) strata, subjects-few strata (recursion_from_All IsSmall strata d.small) d.few)
 
   pub sum-few : sum ≤ 40000000000
@@ -37,8 +37,8 @@ module _ (strata : List Stratum) (sum : ℕ) (d : AreSummed strata sum) where
   pub end-is : (end : LaterSums) → end.least ≡ 0 → end.most ≡ 0 → end.first ≡ 0 → end.numbers ≡ 1 ∷ [] → AreLaterSums strata sum (length strata) end
   end-is end a b c e =
       let none : drop (length strata) strata ≡ [] = drop_of_length-le strata {i = length strata} (omega arith) in
-      let least : least_sum (drop (length strata) strata) ≡ 0 = ap least_sum none in
-      let most : greatest_sum (drop (length strata) strata) ≡ 0 = ap greatest_sum none in
+      let least : least_first_cells (drop (length strata) strata) ≡ 0 = ap least_first_cells none in
+      let most : greatest_first_cells (drop (length strata) strata) ≡ 0 = ap greatest_first_cells none in
       let first : least_left strata sum (length strata) ≡ 0 = omega (arith, least, most, d.can.most) in
       let last : most_left strata sum (length strata) ≡ 0 = omega (arith, least, most) in
       record {
@@ -111,10 +111,10 @@ module _ (strata : List Stratum) (sum : ℕ) (d : AreSummed strata sum) where
           ∙ sym (number-step s ts left can)
           ∙ ap (λ all. number_with all left) (sym (next-drop strata g before))
 
-    pub least-next : later.least + least_cell s ≡ least_sum (drop g strata)
+    pub least-next : later.least + least_cell s ≡ least_first_cells (drop g strata)
     least-next = omega (arith, i.least, sum-step least_cell strata g before)
 
-    pub most-next : later.most + greatest_cell s ≡ greatest_sum (drop g strata)
+    pub most-next : later.most + greatest_cell s ≡ greatest_first_cells (drop g strata)
     most-next = omega (arith, i.most, sum-step greatest_cell strata g before)
 
     pub stratum-seat : StratumSeat strata sum g later
@@ -127,7 +127,7 @@ module _ (strata : List Stratum) (sum : ℕ) (d : AreSummed strata sum) where
     }
 
     -- what can be left, as it is computed
-    pub ranges-are : (r : SumRanges) → r.least ≡ later.least + least_cell s → r.most ≡ later.most + greatest_cell s → r.first ≡ max (sum + r.most - greatest_sum strata) r.least → r.last ≡ min (sum + r.least - least_sum strata) r.most → AreSumRanges strata sum g later r
+    pub ranges-are : (r : SumRanges) → r.least ≡ later.least + least_cell s → r.most ≡ later.most + greatest_cell s → r.first ≡ max (sum + r.most - greatest_first_cells strata) r.least → r.last ≡ min (sum + r.least - least_first_cells strata) r.most → AreSumRanges strata sum g later r
     ranges-are r a b c e =
         let first : r.first ≡ least_left strata sum g = omega (arith, a, b, c, least-next, most-next) in
         let last : r.last ≡ most_left strata sum g = omega (arith, a, b, e, least-next, most-next) in

@@ -15,7 +15,7 @@ use Rattle.sample_reader.specs.declared.subjects.Subject.{Subject}
 use Rattle.label_network.specs.LaterSums.{subjects}
 use Rattle.pooled_columns.proofs.PooledValues.{Rises}
 use Rattle.pooled_columns.proofs.TieColumns.{grouped}
-use Rattle.homogeneity.specs.RankRooms.{column_ranks, columns_after, columns_of, left, second_of}
+use Rattle.homogeneity.specs.RankRooms.{column_ranks, columns_after, rank_columns, left, second_of}
 use Rattle.homogeneity.specs.RankSteps.{AreColumns, first_rank}
 use Rattle.homogeneity.specs.StratifiedRanks.{ranks_in, second_size, two_sizes}
 use Rattle.homogeneity.specs.declared.rank_columns.Column.{Column}
@@ -125,29 +125,29 @@ some-tie s h = by (tie_groups (values_of s)) refl
     by [] e = absurd (omega (arith, h, values-long s, ap values_in e))
     by (t ∷ ties) e = record { first = t; ties = ties; are = e; some = (subst (AllByRecursion (λ t. 0 < t.count)) e (groups-counts (values_of s))).1 }
 
-pub first-left : (s : List Subject) (strata : List (List Subject)) → 1 ≤ length s → left (columns_of (s ∷ strata)) ≡ length s
+pub first-left : (s : List Subject) (strata : List (List Subject)) → 1 ≤ length s → left (rank_columns (s ∷ strata)) ≡ length s
 first-left s strata h =
     let some : HasTie s = some-tie s h in
-    ap (λ ties. left (columns_after (second_size s) 0 ties ++ columns_of strata)) some.are
-    ∙ left-after (second_size s) 0 some.first some.ties (columns_of strata)
+    ap (λ ties. left (columns_after (second_size s) 0 ties ++ rank_columns strata)) some.are
+    ∙ left-after (second_size s) 0 some.first some.ties (rank_columns strata)
     ∙ ap values_in (sym some.are) ∙ values-long s
 
-first-second : (s : List Subject) (strata : List (List Subject)) → 1 ≤ length s → second_of (columns_of (s ∷ strata)) ≡ second_size s
-first-second s strata h = ap (λ ties. second_of (columns_after (second_size s) 0 ties ++ columns_of strata)) (some-tie s h).are
+first-second : (s : List Subject) (strata : List (List Subject)) → 1 ≤ length s → second_of (rank_columns (s ∷ strata)) ≡ second_size s
+first-second s strata h = ap (λ ties. second_of (columns_after (second_size s) 0 ties ++ rank_columns strata)) (some-tie s h).are
 
-pub second-within : (strata : List (List Subject)) → AllByRecursion IsStratum strata → second_of (columns_of strata) ≤ left (columns_of strata)
+pub second-within : (strata : List (List Subject)) → AllByRecursion IsStratum strata → second_of (rank_columns strata) ≤ left (rank_columns strata)
 second-within [] all = omega arith
 second-within (s ∷ strata) all = omega (arith, first-left s strata all.0.some, first-second s strata all.0.some, all.0.level)
 
-pub columns-sound : (strata : List (List Subject)) → AllByRecursion IsStratum strata → AreColumns (columns_of strata)
+pub columns-sound : (strata : List (List Subject)) → AllByRecursion IsStratum strata → AreColumns (rank_columns strata)
 columns-sound [] all = tt
-columns-sound (s ∷ strata) all = sound-after (second_size s) 0 (tie_groups (values_of s)) (columns_of strata) (omega (arith, values-long s, all.0.few)) (groups-counts (values_of s)) (columns-sound strata all.1) (second-within strata all.1)
+columns-sound (s ∷ strata) all = sound-after (second_size s) 0 (tie_groups (values_of s)) (rank_columns strata) (omega (arith, values-long s, all.0.few)) (groups-counts (values_of s)) (columns-sound strata all.1) (second-within strata all.1)
 
-pub columns-ranks : (strata : List (List Subject)) → AllByRecursion IsStratum strata → map pos (column_ranks (columns_of strata)) ≡ map pos (concat (map ranks_in strata))
+pub columns-ranks : (strata : List (List Subject)) → AllByRecursion IsStratum strata → map pos (column_ranks (rank_columns strata)) ≡ map pos (concat (map ranks_in strata))
 columns-ranks [] all = refl
 columns-ranks (s ∷ strata) all =
-    ranks-after (second_size s) 0 (tie_groups (values_of s)) (columns_of strata)
-    ∙ ap (λ zs. zs ++ map pos (column_ranks (columns_of strata))) (stratum-ranks (values_of s) all.0.rises)
+    ranks-after (second_size s) 0 (tie_groups (values_of s)) (rank_columns strata)
+    ∙ ap (λ zs. zs ++ map pos (column_ranks (rank_columns strata))) (stratum-ranks (values_of s) all.0.rises)
     ∙ ap (λ zs. map pos (ranks_in s) ++ zs) (columns-ranks strata all.1)
     ∙ sym (appended (ranks_in s) (concat (map ranks_in strata)))
   where
@@ -155,24 +155,24 @@ columns-ranks (s ∷ strata) all =
     appended [] ys = refl
     appended (x ∷ xs) ys = ap (λ zs. pos x ∷ zs) (appended xs ys)
 
-pub columns-sizes : (strata : List (List Subject)) → AllByRecursion IsStratum strata → halves (left (columns_of strata)) (second_of (columns_of strata)) ∷ later_sizes (columns_of strata) ≡ map two_sizes strata ++ (0 ∷ 0 ∷ []) ∷ []
+pub columns-sizes : (strata : List (List Subject)) → AllByRecursion IsStratum strata → halves (left (rank_columns strata)) (second_of (rank_columns strata)) ∷ later_sizes (rank_columns strata) ≡ map two_sizes strata ++ (0 ∷ 0 ∷ []) ∷ []
 columns-sizes [] all = refl
 columns-sizes (s ∷ strata) all =
     let some : HasTie s = some-tie s all.0.some in
-    let own : halves (left (columns_of (s ∷ strata))) (second_size s) ≡ two_sizes s = own-sizes (two_sizes s) refl in
-    let later : later_sizes (columns_of (s ∷ strata)) ≡ halves (left (columns_of strata)) (second_of (columns_of strata)) ∷ later_sizes (columns_of strata) =
-    ap (λ ties. later_sizes (columns_after (second_size s) 0 ties ++ columns_of strata)) some.are ∙ sizes-after (second_size s) 0 some.first some.ties (columns_of strata) some.some in
-    ap (λ x. x ∷ later_sizes (columns_of (s ∷ strata))) (ap (halves (left (columns_of (s ∷ strata)))) (first-second s strata all.0.some) ∙ own) ∙ ap (λ xs. two_sizes s ∷ xs) (later ∙ columns-sizes strata all.1)
+    let own : halves (left (rank_columns (s ∷ strata))) (second_size s) ≡ two_sizes s = own-sizes (two_sizes s) refl in
+    let later : later_sizes (rank_columns (s ∷ strata)) ≡ halves (left (rank_columns strata)) (second_of (rank_columns strata)) ∷ later_sizes (rank_columns strata) =
+    ap (λ ties. later_sizes (columns_after (second_size s) 0 ties ++ rank_columns strata)) some.are ∙ sizes-after (second_size s) 0 some.first some.ties (rank_columns strata) some.some in
+    ap (λ x. x ∷ later_sizes (rank_columns (s ∷ strata))) (ap (halves (left (rank_columns (s ∷ strata)))) (first-second s strata all.0.some) ∙ own) ∙ ap (λ xs. two_sizes s ∷ xs) (later ∙ columns-sizes strata all.1)
   where
-    own-sizes : (sizes : List ℕ) → sizes ≡ two_sizes s → halves (left (columns_of (s ∷ strata))) (second_size s) ≡ two_sizes s
+    own-sizes : (sizes : List ℕ) → sizes ≡ two_sizes s → halves (left (rank_columns (s ∷ strata))) (second_size s) ≡ two_sizes s
     own-sizes sizes e =
-        let first : left (columns_of (s ∷ strata)) - second_size s ≡ slice_index (two_sizes s) 0 = omega (arith, first-left s strata all.0.some, all.0.level) in
+        let first : left (rank_columns (s ∷ strata)) - second_size s ≡ slice_index (two_sizes s) 0 = omega (arith, first-left s strata all.0.some, all.0.level) in
         ap (λ n. n ∷ second_size s ∷ []) first
 
-pub ranks-total : (strata : List (List Subject)) → sum (column_ranks (columns_of strata)) ≡ sum_by (λ s. length s * (length s + 1)) strata
+pub ranks-total : (strata : List (List Subject)) → sum (column_ranks (rank_columns strata)) ≡ sum_by (λ s. length s * (length s + 1)) strata
 ranks-total [] = refl
 ranks-total (s ∷ strata) =
-    let all = sum-after (second_size s) 0 (tie_groups (values_of s)) (columns_of strata) in
+    let all = sum-after (second_size s) 0 (tie_groups (values_of s)) (rank_columns strata) in
     let long : 0 + values_in (tie_groups (values_of s)) ≡ length s = omega (arith, values-long s) in
     let told = rw long at all in
     omega (arith, told, ranks-total strata, sum_by-cons (λ (s : List Subject). length s * (length s + 1)) s strata)

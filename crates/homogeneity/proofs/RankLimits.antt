@@ -28,7 +28,7 @@ use Rattle.room_network.proofs.RoomKeys.{plan_widths}
 use Rattle.room_network.proofs.RoomFollows.{room_follows}
 use Rattle.homogeneity.specs.RankMade.{AreLists, AreRanked, RanksFit, StrataFacts}
 use Rattle.homogeneity.specs.RankNetworks.{AreUsable, ranked_strata_network}
-use Rattle.homogeneity.specs.RankRooms.{column_ranks, columns_of, left, rank_meaning, rank_plan, rank_weight, second_of, ways_of}
+use Rattle.homogeneity.specs.RankRooms.{column_ranks, rank_columns, left, rank_meaning, rank_plan, rank_weight, second_of, ways_of}
 use Rattle.homogeneity.specs.RankSteps.{AreFitColumns, AreRankSums, later_ways}
 use Rattle.homogeneity.specs.StrataSteps.{ArePartsSound, part_centre, part_of, part_sizes, parts_total}
 use Rattle.homogeneity.specs.StratifiedRanks.{ranked_strata_test, ranks_in, second_size, strata_subjects, stratified_rank_test, two_sizes}
@@ -102,23 +102,23 @@ module _ (strata : List (List Subject)) (f : AreFitStrata strata) where
   centre = sum_by (λ s. second_size s * (length s + 1)) strata
 
   abbrev whole : ℕ
-  whole = sum (column_ranks (columns_of strata))
+  whole = sum (column_ranks (rank_columns strata))
 
   ranks-fit : whole + whole ≤ MAX
   ranks-fit = omega (arith, f.bound_fits, ranks-total strata)
 
-  total-is : ways_of (left (columns_of strata)) (second_of (columns_of strata)) * later_ways (columns_of strata) ≡ total test
+  total-is : ways_of (left (rank_columns strata)) (second_of (rank_columns strata)) * later_ways (rank_columns strata) ≡ total test
   total-is =
-      ap (λ n. ways_of (left (columns_of strata)) (second_of (columns_of strata)) * n) (sym (later-ways (columns_of strata)))
-      ∙ sym (number-more (halves (left (columns_of strata)) (second_of (columns_of strata))) (later_sizes (columns_of strata)))
+      ap (λ n. ways_of (left (rank_columns strata)) (second_of (rank_columns strata)) * n) (sym (later-ways (rank_columns strata)))
+      ∙ sym (number-more (halves (left (rank_columns strata)) (second_of (rank_columns strata))) (later_sizes (rank_columns strata)))
       ∙ ap number_joined (columns-sizes strata f.each)
       ∙ none-behind (map two_sizes strata) (λ xs. 1)
 
-  fit : AreFitColumns (columns_of strata)
-  fit = record { sound = sound-columns (columns_of strata) (columns-sound strata f.each); within = second-within strata f.each; total_fits = omega (arith, total-is, f.total_fits); ranks_fit = omega (arith, ranks-fit) }
+  fit : AreFitColumns (rank_columns strata)
+  fit = record { sound = sound-columns (rank_columns strata) (columns-sound strata f.each); within = second-within strata f.each; total_fits = omega (arith, total-is, f.total_fits); ranks_fit = omega (arith, ranks-fit) }
 
   ranks-absolute : absolute_sum (map pos (concat (map ranks_in strata))) ≡ whole
-  ranks-absolute = ap absolute_sum (sym (columns-ranks strata f.each)) ∙ absolutes (column_ranks (columns_of strata))
+  ranks-absolute = ap absolute_sum (sym (columns-ranks strata f.each)) ∙ absolutes (column_ranks (rank_columns strata))
 
   value-fits : (v : ℤ) → unsigned_abs v ≤ whole → RuleFits (Far 1 (pos centre) 0) v
   value-fits v h = far-fits 1 (pos centre) v (lit≤ tt) (omega (arith, h, ranks-fit, centre-within strata f.each, ranks-total strata))
@@ -136,17 +136,17 @@ module _ (strata : List (List Subject)) (f : AreFitStrata strata) where
   judge-at : (v : ℤ) → unsigned_abs v ≤ whole → JudgeFits (judge_of test) v
   judge-at v h = judge-fits test (judge_of test) refl v (λ tail. rule-fits test centred tail v (value-fits v h))
 
-  sums-fit : AreRankSums (columns_of strata) (judge_of test)
+  sums-fit : AreRankSums (rank_columns strata) (judge_of test)
   sums-fit = record { fit = fit; judge_fits = judge-at }
 
   follows : (tail : Tail) → Follows test tail (ranked_strata_network strata)
   follows tail =
-      room_follows (rank_meaning (columns_of strata) (judge_of test)) (rank_weight (columns_of strata)) (plan_widths (rank_plan (columns_of strata)) (plan_sound (columns_of strata) fit))
-      (rank_measure (columns_of strata) fit (judge_of test)) test tail (second_counts (columns_of strata))
+      room_follows (rank_meaning (rank_columns strata) (judge_of test)) (rank_weight (rank_columns strata)) (plan_widths (rank_plan (rank_columns strata)) (plan_sound (rank_columns strata) fit))
+      (rank_measure (rank_columns strata) fit (judge_of test)) test tail (second_counts (rank_columns strata))
       (record { judge_is = refl; gives = gives strata f.each; values = λ xs m. measured-is test refl tail xs ∙ statistic-is strata f.each (judge_of test) xs })
 
   total-some : 1 ≤ total test
-  total-some = omega (arith, total-is, mul-le-mul (ways-some (left (columns_of strata)) (second_of (columns_of strata))) (later-some (columns_of strata)))
+  total-some = omega (arith, total-is, mul-le-mul (ways-some (left (rank_columns strata)) (second_of (rank_columns strata))) (later-some (rank_columns strata)))
 
 -- ---- samples
 
@@ -192,6 +192,6 @@ pub value-apart : (ranks : List ℤ) (labels : List ℕ) (centre : ℕ) → abso
 value-apart ranks labels centre h k = far-fits 1 (pos centre) (labelled_sum 1 ranks labels) (lit≤ tt) (omega (arith, labelled-within 1 ranks labels, h, k))
 
 -- the network of the rooms and the measure that are built
-pub network-same : (strata : List (List Subject)) (rooms measured : List Column) (judge : Judge) → rooms ≡ columns_of strata → measured ≡ columns_of strata → judge ≡ judge_of (ranked_strata_test strata)
+pub network-same : (strata : List (List Subject)) (rooms measured : List Column) (judge : Judge) → rooms ≡ rank_columns strata → measured ≡ rank_columns strata → judge ≡ judge_of (ranked_strata_test strata)
     → room_network (rank_meaning measured judge) (rank_weight rooms) ≡ ranked_strata_network strata
 network-same strata rooms measured judge a b e = rw (a, b, e) refl

@@ -13,7 +13,7 @@ use Rattle.networks.specs.declared.verdicts.Judge.{Judge}
 use Rattle.room_network.specs.Meanings.{partial_after, way_value}
 use Rattle.room_network.specs.Plans.{Gives, alone}
 use Rattle.homogeneity.specs.OneCount.{chosen}
-use Rattle.homogeneity.specs.RankRooms.{column_at, column_ranks, columns_of, rank_floor, rank_meaning, rank_plan, second_of}
+use Rattle.homogeneity.specs.RankRooms.{column_at, column_ranks, rank_columns, rank_floor, rank_meaning, rank_plan, second_of}
 use Rattle.room_network.specs.Numbers.{so_far}
 use Rattle.homogeneity.specs.StratifiedRanks.{ranked_strata_test, two_sizes}
 use Rattle.homogeneity.specs.declared.rank_columns.Column.{Column}
@@ -76,10 +76,10 @@ once : (n : ℕ) → n ≡ 1 * n
 once n = omega arith
 
 module _ (strata : List (List Subject)) (all : AllByRecursion IsStratum strata) where
-  pub gives : Gives (rank_plan (columns_of strata)) (joined_labellings (map two_sizes strata)) (λ xs. 1) (second_counts (columns_of strata))
+  pub gives : Gives (rank_plan (rank_columns strata)) (joined_labellings (map two_sizes strata)) (λ xs. 1) (second_counts (rank_columns strata))
   gives = record {
     law = λ f.
-        (let columns : List Column = columns_of strata in
+        (let columns : List Column = rank_columns strata in
         let e : length columns - 0 ≡ length columns = omega arith in
         let g : List ℕ → ℕ = λ xs. f (second_counts columns xs) in
         ap (λ m. gather (alone (rank_plan columns)) m 0 (pos (second_of columns) ∷ []) f) e
@@ -89,5 +89,5 @@ module _ (strata : List (List Subject)) (all : AllByRecursion IsStratum strata) 
         ∙ sum_by-same g (λ xs. 1 * g xs) (λ xs. once (g xs)) (joined_labellings (map two_sizes strata)));
   }
 
-  pub statistic-is : (judge : Judge) (xs : List ℕ) → (ranked_strata_test strata).statistic xs ≡ way_value (rank_meaning (columns_of strata) judge) (second_counts (columns_of strata) xs)
-  statistic-is judge xs = ap (λ zs. labelled_sum 1 zs xs) (sym (columns-ranks strata all)) ∙ sym (value-is (columns_of strata) judge xs)
+  pub statistic-is : (judge : Judge) (xs : List ℕ) → (ranked_strata_test strata).statistic xs ≡ way_value (rank_meaning (rank_columns strata) judge) (second_counts (rank_columns strata) xs)
+  statistic-is judge xs = ap (λ zs. labelled_sum 1 zs xs) (sym (columns-ranks strata all)) ∙ sym (value-is (rank_columns strata) judge xs)

@@ -14,7 +14,7 @@ use Rattle.strata_cells.specs.Strata.{cell_weight, cells_in, cells_of, cells_wei
 use Rattle.strata_cells.proofs.CellLaws.{by-cells, cell_lists}
 use Rattle.strata_cells.proofs.FirstCells.{cells-meet, cells-same, cells-sum, rows-sum, row_labellings, left-within, right-within, weight-some}
 use Rattle.networks.proofs.Elements.{term-le-sum_by}
-use Rattle.homogeneity.specs.Zelen.{has_sum, observed_labels, rarity}
+use Rattle.homogeneity.specs.Zelen.{has_sum, observed_strata_labels, rarity}
 use Rattle.homogeneity.proofs.LabellingsWithSum.{over-none, over-step, over_cells}
 use Rattle.std.proofs.Math.Nat.{mul-le-mul}
 use Rattle.std.proofs.lemmas.List.{drop_min}
@@ -101,7 +101,7 @@ module _ (strata : List Stratum) (labels : List ℕ) where
   cells = cells_of strata labels
 
   abbrev given : ℕ
-  given = first_cells strata (observed_labels strata)
+  given = first_cells strata (observed_strata_labels strata)
 
   -- the same first cells have the same sum
   same-sum : first_cells strata labels ≡ given → (other : List ℕ) (b : Bool) → pointwise nat_eq cells (cells_of strata other) ≡ b → cond (has_sum strata given other) (one_if b) 0 ≡ one_if b

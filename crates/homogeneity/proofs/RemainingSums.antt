@@ -6,7 +6,7 @@ use Rattle.strata_cells.specs.declared.stratum.Stratum.{Stratum}
 use Rattle.strata_cells.specs.Strata.{cell_weight, greatest_cell, least_cell, stratum_at}
 use Rattle.strata_cells.proofs.FirstCells.{cells-meet, right-within, weight-some}
 use Rattle.strata_cells.proofs.StrataSums.{next-drop, sum-step}
-use Rattle.homogeneity.specs.ZelenNetwork.{greatest_choice, greatest_sum, least_choice, least_sum, number_with}
+use Rattle.homogeneity.specs.ZelenNetwork.{greatest_choice, greatest_first_cells, least_choice, least_first_cells, number_with}
 use Rattle.homogeneity.specs.ZelenSteps.{CanHave, IsLeft, least_left, most_left}
 use Rattle.homogeneity.proofs.LabellingsWithSum.{choice-range, number_by, sums-meet, number-term}
 
@@ -49,12 +49,12 @@ ends-meet sum all_least all_most front_least front_most least most a b c d e f =
 
 module _ (strata : List Stratum) (sum : ℕ) (can : CanHave strata sum) where
   abbrev Remains : ℕ → ℕ → ℕ → Type 0
-  Remains least most left = CanRemain sum (least_sum strata) (greatest_sum strata) least most left
+  Remains least most left = CanRemain sum (least_first_cells strata) (greatest_first_cells strata) least most left
 
-  remains : (g left : ℕ) → IsLeft strata sum g left → Remains (least_sum (drop g strata)) (greatest_sum (drop g strata)) left
+  remains : (g left : ℕ) → IsLeft strata sum g left → Remains (least_first_cells (drop g strata)) (greatest_first_cells (drop g strata)) left
   remains g left i = record { low = i.least; high = i.most }
 
-  is-left : (g left : ℕ) → Remains (least_sum (drop g strata)) (greatest_sum (drop g strata)) left → IsLeft strata sum g left
+  is-left : (g left : ℕ) → Remains (least_first_cells (drop g strata)) (greatest_first_cells (drop g strata)) left → IsLeft strata sum g left
   is-left g left w = record { least = w.low; most = w.high }
 
   pub left-can : (g left : ℕ) → IsLeft strata sum g left → CanHave (drop g strata) left
@@ -67,7 +67,7 @@ module _ (strata : List Stratum) (sum : ℕ) (can : CanHave strata sum) where
   only-first left i = omega (arith, i.least, i.most, can.least, can.most)
 
   pub left-meet : (g : ℕ) → least_left strata sum g ≤ most_left strata sum g
-  left-meet g = ends-meet sum (least_sum strata) (greatest_sum strata) (least_sum (take g strata)) (greatest_sum (take g strata)) (least_sum (drop g strata)) (greatest_sum (drop g strata)) can.least can.most (sum_by-take-drop least_cell strata g) (sum_by-take-drop greatest_cell strata g) (sums-meet (take g strata)) (sums-meet (drop g strata))
+  left-meet g = ends-meet sum (least_first_cells strata) (greatest_first_cells strata) (least_first_cells (take g strata)) (greatest_first_cells (take g strata)) (least_first_cells (drop g strata)) (greatest_first_cells (drop g strata)) can.least can.most (sum_by-take-drop least_cell strata g) (sum_by-take-drop greatest_cell strata g) (sums-meet (take g strata)) (sums-meet (drop g strata))
 
   module _ (g : ℕ) (before : g < length strata) where
     abbrev here : Stratum
@@ -76,10 +76,10 @@ module _ (strata : List Stratum) (sum : ℕ) (can : CanHave strata sum) where
     abbrev later : List Stratum
     later = drop (g + 1) strata
 
-    least-on : least_sum (drop g strata) ≡ least_cell here + least_sum later
+    least-on : least_first_cells (drop g strata) ≡ least_cell here + least_first_cells later
     least-on = sum-step least_cell strata g before
 
-    most-on : greatest_sum (drop g strata) ≡ greatest_cell here + greatest_sum later
+    most-on : greatest_first_cells (drop g strata) ≡ greatest_cell here + greatest_first_cells later
     most-on = sum-step greatest_cell strata g before
 
     pub can-here : (left : ℕ) → IsLeft strata sum g left → CanHave (here ∷ later) left
@@ -87,13 +87,13 @@ module _ (strata : List Stratum) (sum : ℕ) (can : CanHave strata sum) where
 
     pub left-next : (left x : ℕ) → IsLeft strata sum g left → least_choice here later left ≤ x → x ≤ greatest_choice here later left → IsLeft strata sum (g + 1) (left - x)
     left-next left x i l h =
-        is-left (g + 1) (left - x) (remain-after sum (least_sum strata) (greatest_sum strata) (least_cell here) (greatest_cell here) (least_sum later) (greatest_sum later) left x can.least can.most (rw (least-on, most-on) at (remains g left i)) l h)
+        is-left (g + 1) (left - x) (remain-after sum (least_first_cells strata) (greatest_first_cells strata) (least_cell here) (greatest_cell here) (least_first_cells later) (greatest_first_cells later) left x can.least can.most (rw (least-on, most-on) at (remains g left i)) l h)
 
-    front-meets : least_sum strata + greatest_sum (drop g strata) ≤ greatest_sum strata + least_sum (drop g strata)
+    front-meets : least_first_cells strata + greatest_first_cells (drop g strata) ≤ greatest_first_cells strata + least_first_cells (drop g strata)
     front-meets = omega (arith, sum_by-take-drop least_cell strata g, sum_by-take-drop greatest_cell strata g, sums-meet (take g strata))
 
-    left-before : (left : ℕ) → IsLeft strata sum (g + 1) left → HadMore sum (least_sum strata) (greatest_sum strata) (least_cell here) (greatest_cell here) (least_sum later) (greatest_sum later) left
-    left-before left i = had-more sum (least_sum strata) (greatest_sum strata) (least_cell here) (greatest_cell here) (least_sum later) (greatest_sum later) left can.least can.most (cells-meet here) (rw (least-on, most-on) at front-meets) (remains (g + 1) left i)
+    left-before : (left : ℕ) → IsLeft strata sum (g + 1) left → HadMore sum (least_first_cells strata) (greatest_first_cells strata) (least_cell here) (greatest_cell here) (least_first_cells later) (greatest_first_cells later) left
+    left-before left i = had-more sum (least_first_cells strata) (greatest_first_cells strata) (least_cell here) (greatest_cell here) (least_first_cells later) (greatest_first_cells later) left can.least can.most (cells-meet here) (rw (least-on, most-on) at front-meets) (remains (g + 1) left i)
 
     -- no number is greater than that of one more stratum
     number-before : (left : ℕ) → IsLeft strata sum (g + 1) left → ((more : ℕ) → IsLeft strata sum g more → number_with (drop g strata) more ≤ number_with strata sum) → number_with later left ≤ number_with strata sum

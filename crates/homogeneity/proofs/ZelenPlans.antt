@@ -22,7 +22,7 @@ use Rattle.strata_cells.proofs.CellLaws.{by-cells}
 use Rattle.strata_cells.proofs.FirstCells.{cells-sum, left-within, own-cells, weight-some}
 use Rattle.strata_cells.proofs.StrataSums.{drop-head, next-drop}
 use Rattle.homogeneity.specs.OneCount.{choices_between, chosen, remaining}
-use Rattle.homogeneity.specs.Zelen.{has_sum, observed_labels, observed_sum_labellings}
+use Rattle.homogeneity.specs.Zelen.{has_sum, observed_strata_labels, observed_sum_labellings}
 use Rattle.homogeneity.specs.ZelenNetwork.{greatest_choice, least_choice, lesser_weights, number_with, own_sum, zelen_floor, zelen_meaning, zelen_numbers, zelen_plan, zelen_weights}
 use Rattle.homogeneity.specs.ZelenSteps.{AreSummed, CanHave, IsLeft, ZelenChoice, ZelenSeat}
 use Rattle.homogeneity.proofs.LabellingsWithSum.{can-next, choice-range, number-is, number_by, over-none, with-choices, with_cell, with_sum, number-term}
@@ -220,7 +220,7 @@ module _ (strata : List Stratum) (can : CanHave strata (own_sum strata)) where
   pub zelen_gives : Gives (zelen_plan strata (own_sum strata)) (observed_sum_labellings strata) unit_weight (λ xs. cut (cells_of strata xs))
   zelen_gives = record {
     law = λ f. (let all : ℕ = own_sum strata in
-        let given : ℕ = first_cells strata (observed_labels strata) in
+        let given : ℕ = first_cells strata (observed_strata_labels strata) in
         ap (λ m. gather (alone (zelen_plan strata all)) m 0 (pos all ∷ []) f) (let e : length strata - 0 ≡ length strata = omega arith in e)
         ∙ ways-from strata all strata 0 all 0 all f refl (omega arith) (omega arith) can
         ∙ sym (by-cells strata (λ cells. cond (nat_eq (0 + sum cells) all) (f (cut cells)) 0))

@@ -26,7 +26,7 @@ use Rattle.strata_cells.specs.StrataLimits.{AreSmall}
 use Rattle.strata_cells.proofs.CellLaws.{cells_of-joined}
 use Rattle.strata_cells.proofs.FirstCells.{own-cell, own-cells, own-long}
 use Rattle.strata_cells.proofs.StrataSums.{sums-within}
-use Rattle.homogeneity.specs.Zelen.{has_sum, observed_labels, observed_sum_labellings, observed_sum_test, rarity}
+use Rattle.homogeneity.specs.Zelen.{has_sum, observed_strata_labels, observed_sum_labellings, observed_sum_test, rarity}
 use Rattle.homogeneity.specs.ZelenNetwork.{number_with, observed_sum_network, own_sum, zelen_meaning, zelen_weights}
 use Rattle.homogeneity.specs.SumSteps.{AreSized}
 use Rattle.homogeneity.specs.ZelenMade.{AreObserved, IsMember}
@@ -40,11 +40,11 @@ use Rattle.homogeneity.proofs.LesserWeights.{number-some}
 -- ---- the labels as they are
 
 -- the first cells of the strata as they are
-pub observed-cells : (strata : List Stratum) → cells_of strata (observed_labels strata) ≡ map (λ (s : Stratum). s.a) strata
+pub observed-cells : (strata : List Stratum) → cells_of strata (observed_strata_labels strata) ≡ map (λ (s : Stratum). s.a) strata
 observed-cells [] = refl
 observed-cells (s ∷ strata) =
-    cells_of-joined s strata (own_labels s) (observed_labels strata) (own-long s)
-    ∙ ap (λ x. x ∷ cells_of strata (observed_labels strata)) (own-cell s) ∙ ap (λ xs. s.a ∷ xs) (observed-cells strata)
+    cells_of-joined s strata (own_labels s) (observed_strata_labels strata) (own-long s)
+    ∙ ap (λ x. x ∷ cells_of strata (observed_strata_labels strata)) (own-cell s) ∙ ap (λ xs. s.a ∷ xs) (observed-cells strata)
 
 pub own-cells_are : (strata : List Stratum) → AreCells strata (map (λ (s : Stratum). s.a) strata)
 own-cells_are [] = tt
@@ -69,7 +69,7 @@ module _ (strata : List Stratum) where
   pub members-are : length (observed_sum_labellings strata) ≡ number_with strata (own_sum strata)
   members-are =
       sym (sum_by-one (observed_sum_labellings strata))
-      ∙ sum_by-filter (λ r. 1) (has_sum strata (first_cells strata (observed_labels strata))) (strata_labellings strata)
+      ∙ sum_by-filter (λ r. 1) (has_sum strata (first_cells strata (observed_strata_labels strata))) (strata_labellings strata)
       ∙ ap (λ n. sum_by (λ r. cond (has_sum strata n r) 1 0) (strata_labellings strata)) (own-cells strata)
 
   pub total-is : total (observed_sum_test strata) ≡ number_with strata (own_sum strata)
@@ -88,16 +88,16 @@ module _ (strata : List Stratum) where
 
   rarity-member : (r : List ℕ) → Contains (observed_sum_labellings strata) r → rarity strata r ≡ cells_weight strata (cells_of strata r)
   rarity-member r m =
-      let given : ℕ = first_cells strata (observed_labels strata) in
+      let given : ℕ = first_cells strata (observed_strata_labels strata) in
       let both = filtered_from (has_sum strata given) r (strata_labellings strata) m in
       rarity-is strata r both.0 (eqb-true (first_cells strata r) given both.1)
 
   cells-member : (r : List ℕ) → Contains (observed_sum_labellings strata) r → AreCells strata (cells_of strata r)
-  cells-member r m = member-cells strata r (filtered_from (has_sum strata (first_cells strata (observed_labels strata))) r (strata_labellings strata) m).0
+  cells-member r m = member-cells strata r (filtered_from (has_sum strata (first_cells strata (observed_strata_labels strata))) r (strata_labellings strata) m).0
 
-  pub observed-is : rarity strata (observed_labels strata) ≡ cells_weight strata (map (λ (s : Stratum). s.a) strata)
+  pub observed-is : rarity strata (observed_strata_labels strata) ≡ cells_weight strata (map (λ (s : Stratum). s.a) strata)
   observed-is =
-      rarity-by strata (observed_labels strata) (subst (AreCells strata) (sym (observed-cells strata)) (own-cells_are strata)) refl
+      rarity-by strata (observed_strata_labels strata) (subst (AreCells strata) (sym (observed-cells strata)) (own-cells_are strata)) refl
       ∙ ap (cells_weight strata) (observed-cells strata)
 
   -- ---- rules
@@ -105,7 +105,7 @@ module _ (strata : List Stratum) where
   rule-fits : (tail : Tail) (v : ℤ) → RuleFits (rule_of (observed_sum_test strata) tail) v
   rule-fits Less v = at_most-fits (observed_statistic (observed_sum_test strata)) v
   rule-fits Greater v = at_least-fits (observed_statistic (observed_sum_test strata)) v
-  rule-fits Two v = at_most-fits (pos (rarity strata (observed_labels strata))) v
+  rule-fits Two v = at_most-fits (pos (rarity strata (observed_strata_labels strata))) v
 
   judge-fits : (t : Tail) (v : ℤ) → RuleFits (rule_in (judge_of (observed_sum_test strata)) t) v
   judge-fits Less v = rule-fits Less v
@@ -138,7 +138,7 @@ module _ (strata : List Stratum) (fits : number_with strata (own_sum strata) ≤
   rarity-few r = omega (arith, count_by-le-length (λ other. pointwise nat_eq (cells_of strata r) (cells_of strata other)) (observed_sum_labellings strata), members-are strata, fits)
 
   pub observed-weight : cells_weight strata (map (λ (s : Stratum). s.a) strata) ≤ MAX
-  observed-weight = omega (arith, rarity-few (observed_labels strata), observed-is strata)
+  observed-weight = omega (arith, rarity-few (observed_strata_labels strata), observed-is strata)
 
 -- ---- what is kept
 
@@ -165,7 +165,7 @@ observed strata made tables sum_is sized frame fits = record {
 
 pub member : (strata : List Stratum) → number_with strata (own_sum strata) ≤ MAX → (r : List ℕ) → Contains (observed_sum_labellings strata) r → IsMember strata r
 member strata fits r m = record {
-  labelled = (filtered_from (has_sum strata (first_cells strata (observed_labels strata))) r (strata_labellings strata) m).0;
+  labelled = (filtered_from (has_sum strata (first_cells strata (observed_strata_labels strata))) r (strata_labellings strata) m).0;
   fits = omega (arith, rarity-few strata fits r, rarity-member strata r m);
   rarity_is = sym (rarity-member strata r m);
 }

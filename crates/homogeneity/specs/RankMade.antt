@@ -10,7 +10,7 @@ use Rattle.sample_reader.specs.StrataGroups.{StrataGroupData}
 use Rattle.networks.specs.Judged.{judge_of}
 use Rattle.labelled.specs.UnweightedTests.{CanBeAnswered}
 use Rattle.homogeneity.specs.RankNetworks.{AreUsable, ranked_strata_network}
-use Rattle.homogeneity.specs.RankRooms.{columns_of}
+use Rattle.homogeneity.specs.RankRooms.{rank_columns}
 use Rattle.homogeneity.specs.RankSteps.{AreFitColumns, AreRankSums}
 use Rattle.homogeneity.specs.StrataSteps.{ArePartsSound, part_centre, part_of}
 use Rattle.homogeneity.specs.StrataSteps.{part_sizes, parts_total}
@@ -33,7 +33,7 @@ samples_of strata labels places members values = record {
 -- what is made of strata
 pub record AreLists (strata : List (List Subject)) (made : RankStrata) : Type 0 where
   pub parts : made.parts ≡ map part_of strata
-  pub columns : made.columns ≡ columns_of strata
+  pub columns : made.columns ≡ rank_columns strata
   pub ranks : made.ranks ≡ map pos (concat (map ranks_in strata))
   pub labels : made.labels ≡ concat (map labels_of strata)
 

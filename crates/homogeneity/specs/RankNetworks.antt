@@ -10,13 +10,13 @@ use Rattle.sample_reader.specs.declared.subjects.Subject.{Subject}
 use Rattle.networks.specs.Judged.{judge_of}
 use Rattle.networks.specs.Network.{Network}
 use Rattle.room_network.specs.RoomNetworks.{room_network}
-use Rattle.homogeneity.specs.RankRooms.{columns_of, rank_meaning, rank_weight}
+use Rattle.homogeneity.specs.RankRooms.{rank_columns, rank_meaning, rank_weight}
 use Rattle.homogeneity.specs.StratifiedRanks.{ranked_strata_test, strata_subjects}
 
 abbrev pub ranked_strata_network : List (List Subject) → Network
 ranked_strata_network strata =
-    room_network (rank_meaning (columns_of strata) (judge_of (ranked_strata_test strata)))
-    (rank_weight (columns_of strata))
+    room_network (rank_meaning (rank_columns strata) (judge_of (ranked_strata_test strata)))
+    (rank_weight (rank_columns strata))
 
 -- one network for all tails
 abbrev pub stratified_rank_network : StrataGroupData → Tail → Network

@@ -29,12 +29,12 @@ columns_after second before (t ∷ ties) = record {
   second = second;
 } ∷ columns_after second (before + t.count) ties
 
-abbrev pub columns_in : List Subject → List Column
-columns_in stratum = columns_after (second_size stratum) 0 (tie_groups (values_of stratum))
+abbrev pub stratum_columns : List Subject → List Column
+stratum_columns stratum = columns_after (second_size stratum) 0 (tie_groups (values_of stratum))
 
-abbrev pub columns_of : List (List Subject) → List Column
-columns_of [] = []
-columns_of (s ∷ strata) = columns_in s ++ columns_of strata
+abbrev pub rank_columns : List (List Subject) → List Column
+rank_columns [] = []
+rank_columns (s ∷ strata) = stratum_columns s ++ rank_columns strata
 
 abbrev pub column_at : List Column → ℕ → Column
 column_at columns g =

@@ -12,8 +12,8 @@ use Rattle.strata_cells.specs.declared.stratum.Stratum.{Stratum}
 use Rattle.strata_cells.specs.Strata.{cells_of, first_cells, own_labels, strata_labellings, strata_of}
 
 -- the labels of the strata as they are
-abbrev pub observed_labels : List Stratum → List ℕ
-observed_labels strata = concat (map own_labels strata)
+abbrev pub observed_strata_labels : List Stratum → List ℕ
+observed_strata_labels strata = concat (map own_labels strata)
 
 -- whether the first cells that labels give add up to a sum
 abbrev pub has_sum : List Stratum → ℕ → List ℕ → Bool
@@ -22,7 +22,8 @@ has_sum strata sum labels = nat_eq (first_cells strata labels) sum
 -- the labellings of the strata whose first cells add up to what the observed ones add up to
 abbrev pub observed_sum_labellings : List Stratum → List (List ℕ)
 observed_sum_labellings strata =
-    filter (has_sum strata (first_cells strata (observed_labels strata))) (strata_labellings strata)
+    filter (has_sum strata (first_cells strata (observed_strata_labels strata)))
+    (strata_labellings strata)
 
 -- how many of them give the same first cell as a labelling in every stratum
 abbrev pub rarity : List Stratum → List ℕ → ℕ
@@ -40,7 +41,7 @@ abbrev pub observed_sum_test : List Stratum → ConditionalTest
 observed_sum_test strata = record {
   reference = observed_sum_labellings strata;
   statistic = λ labels. pos (rarity strata labels);
-  observed = observed_labels strata;
+  observed = observed_strata_labels strata;
   weight = unit_weight;
   has_tail = is_two;
   two_sided = by_rarity (rarity strata);

@@ -20,18 +20,18 @@ use Rattle.homogeneity.specs.Zelen.{has_sum, observed_sum_test}
 abbrev pub own_sum : List Stratum → ℕ
 own_sum strata = sum_by (λ s. s.a) strata
 
-abbrev pub least_sum : List Stratum → ℕ
-least_sum strata = sum_by least_cell strata
+abbrev pub least_first_cells : List Stratum → ℕ
+least_first_cells strata = sum_by least_cell strata
 
-abbrev pub greatest_sum : List Stratum → ℕ
-greatest_sum strata = sum_by greatest_cell strata
+abbrev pub greatest_first_cells : List Stratum → ℕ
+greatest_first_cells strata = sum_by greatest_cell strata
 
 -- the first cells of a stratum after which the later ones can have the rest of a sum
 abbrev pub least_choice : Stratum → List Stratum → ℕ → ℕ
-least_choice s later sum = max (least_cell s) (sum - greatest_sum later)
+least_choice s later sum = max (least_cell s) (sum - greatest_first_cells later)
 
 abbrev pub greatest_choice : Stratum → List Stratum → ℕ → ℕ
-greatest_choice s later sum = min (greatest_cell s) (sum - least_sum later)
+greatest_choice s later sum = min (greatest_cell s) (sum - least_first_cells later)
 
 abbrev pub zelen_floor : List Stratum → ℕ → Floor
 zelen_floor strata sum = record {

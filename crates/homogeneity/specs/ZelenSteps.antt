@@ -12,27 +12,27 @@ use Rattle.strata_cells.specs.declared.stratum.Stratum.{Stratum}
 use Rattle.strata_cells.specs.Strata.{cell_weight, greatest_cell, least_cell, stratum_at}
 use Rattle.strata_cells.specs.StrataLimits.{AreSmall, IsSmall}
 use Rattle.homogeneity.specs.OneCount.{IsOneCount, chosen, remaining}
-use Rattle.homogeneity.specs.ZelenNetwork.{greatest_choice, greatest_sum, least_choice}
-use Rattle.homogeneity.specs.ZelenNetwork.{least_sum, lesser_weight, lesser_weights, number_with, zelen_plan}
+use Rattle.homogeneity.specs.ZelenNetwork.{greatest_choice, greatest_first_cells, least_choice}
+use Rattle.homogeneity.specs.ZelenNetwork.{least_first_cells, lesser_weight, lesser_weights, number_with, zelen_plan}
 use Rattle.homogeneity.specs.declared.later_sums.LaterSums.{LaterSums}
 use Rattle.homogeneity.specs.declared.later_sums.SumRanges.{SumRanges}
 
 -- a sum that first cells of strata can have
 pub record CanHave (strata : List Stratum) (sum : ℕ) : Type 0 where
-  pub least : least_sum strata ≤ sum
-  pub most : sum ≤ greatest_sum strata
+  pub least : least_first_cells strata ≤ sum
+  pub most : sum ≤ greatest_first_cells strata
 
 -- what can be left of a sum before stratum g, where the strata before it and those from it on have
 -- their least and their greatest first cells
 abbrev pub least_left : List Stratum → ℕ → ℕ → ℕ
 least_left strata sum g =
     let later = drop g strata in
-    max (sum + greatest_sum later - greatest_sum strata) (least_sum later)
+    max (sum + greatest_first_cells later - greatest_first_cells strata) (least_first_cells later)
 
 abbrev pub most_left : List Stratum → ℕ → ℕ → ℕ
 most_left strata sum g =
     let later = drop g strata in
-    min (sum + least_sum later - least_sum strata) (greatest_sum later)
+    min (sum + least_first_cells later - least_first_cells strata) (greatest_first_cells later)
 
 pub record IsLeft (strata : List Stratum) (sum g left : ℕ) : Type 0 where
   pub least : least_left strata sum g ≤ left
@@ -40,8 +40,8 @@ pub record IsLeft (strata : List Stratum) (sum g left : ℕ) : Type 0 where
 
 -- what is kept of the strata from g on
 pub record AreLaterSums (strata : List Stratum) (sum g : ℕ) (later : LaterSums) : Type 0 where
-  pub least : later.least ≡ least_sum (drop g strata)
-  pub most : later.most ≡ greatest_sum (drop g strata)
+  pub least : later.least ≡ least_first_cells (drop g strata)
+  pub most : later.most ≡ greatest_first_cells (drop g strata)
   pub first : later.first ≡ least_left strata sum g
   pub long : length later.numbers ≡ most_left strata sum g + 1 - least_left strata sum g
   pub each : (left : ℕ) → IsLeft strata sum g left
@@ -84,8 +84,8 @@ pub record IsZelenMeasure (strata : List Stratum) (lesser : List ℕ) (judge : J
 -- of a stratum, by what is kept of those after it: their sums and its own are those from it on, and
 -- no sum passes a limit
 pub record StratumSeat (strata : List Stratum) (sum g : ℕ) (later : LaterSums) : Type 0 where
-  pub least : later.least + least_cell (stratum_at strata g) ≡ least_sum (drop g strata)
-  pub most : later.most + greatest_cell (stratum_at strata g) ≡ greatest_sum (drop g strata)
+  pub least : later.least + least_cell (stratum_at strata g) ≡ least_first_cells (drop g strata)
+  pub most : later.most + greatest_cell (stratum_at strata g) ≡ greatest_first_cells (drop g strata)
   pub least_small : later.least + least_cell (stratum_at strata g) < 2 ^ 62
   pub most_small : later.most + greatest_cell (stratum_at strata g) < 2 ^ 62
   pub sum_small : sum < 2 ^ 62
@@ -173,8 +173,8 @@ pub record IsPast (s : Stratum) (later : LaterSums) (first last : ℕ) : Type 0 
 -- what the strata from g on can have, and what can be left for them, each of which is countable
 pub record AreSumRanges (strata : List Stratum) (sum g : ℕ) (later : LaterSums) (ranges : SumRanges)
     : Type 0 where
-  pub least : ranges.least ≡ least_sum (drop g strata)
-  pub most : ranges.most ≡ greatest_sum (drop g strata)
+  pub least : ranges.least ≡ least_first_cells (drop g strata)
+  pub most : ranges.most ≡ greatest_first_cells (drop g strata)
   pub first : ranges.first ≡ least_left strata sum g
   pub last : ranges.last ≡ most_left strata sum g
   pub meet : ranges.first ≤ ranges.last

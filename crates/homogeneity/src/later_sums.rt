@@ -3,7 +3,7 @@
 ghost use Rattle.std.specs.Prelude.{◌≡◌, ℕ, [], ◌∷◌, ◌+◌, ◌<◌, ◌≤◌, ◌^◌, length, IfOk, MatchOption, SomeIff};
 ghost use Rattle.weights.specs.declared.TheConstants.{MAX};
 ghost use Rattle.strata_cells.specs.StrataLimits.{AreSmall, IsSmall};
-ghost use Rattle.homogeneity.specs.ZelenNetwork.{greatest_sum, least_sum, number_with};
+ghost use Rattle.homogeneity.specs.ZelenNetwork.{greatest_first_cells, least_first_cells, number_with};
 ghost use Rattle.homogeneity.specs.ZelenSteps.{AreAllLaterSums, AreLaterSums, AreNumbers};
 ghost use Rattle.homogeneity.specs.ZelenSteps.{AreSumRanges, AreSummed, IsCountable};
 ghost use Rattle.homogeneity.specs.ZelenSteps.{IsKept, IsPast, StratumSeat};
@@ -38,8 +38,8 @@ pub(crate) struct SumRanges {
 // The least sum of the first cells of strata.
 fn least_sum(strata: &[Stratum]) -> u64
     requires small { AreSmall strata.now }
-    requires fits { least_sum strata.now < 2 ^ 62 }
-    ensures { result ≡ least_sum strata.now }
+    requires fits { least_first_cells strata.now < 2 ^ 62 }
+    ensures { result ≡ least_first_cells strata.now }
 {
     let mut all = 0;
     for stratum in strata {
@@ -51,8 +51,8 @@ fn least_sum(strata: &[Stratum]) -> u64
 // And the greatest.
 fn greatest_sum(strata: &[Stratum]) -> u64
     requires small { AreSmall strata.now }
-    requires fits { greatest_sum strata.now < 2 ^ 62 }
-    ensures { result ≡ greatest_sum strata.now }
+    requires fits { greatest_first_cells strata.now < 2 ^ 62 }
+    ensures { result ≡ greatest_first_cells strata.now }
 {
     let mut all = 0;
     for stratum in strata {
@@ -150,8 +150,8 @@ fn ranges_of(
 ) -> SumRanges
     requires summed { AreSummed strata.now sum }
     requires place { place < length strata.now }
-    requires least { all_least ≡ least_sum strata.now }
-    requires most { all_most ≡ greatest_sum strata.now }
+    requires least { all_least ≡ least_first_cells strata.now }
+    requires most { all_most ≡ greatest_first_cells strata.now }
     requires later { AreLaterSums strata.now sum (place + 1) later.now }
     ensures { AreSumRanges strata.now sum place later.now result }
 {
@@ -180,8 +180,8 @@ fn sums_from(
 ) -> Result<Option<LaterSums>, NoMemory>
     requires summed { AreSummed strata.now sum }
     requires place { place < length strata.now }
-    requires least { all_least ≡ least_sum strata.now }
-    requires most { all_most ≡ greatest_sum strata.now }
+    requires least { all_least ≡ least_first_cells strata.now }
+    requires most { all_most ≡ greatest_first_cells strata.now }
     requires later { AreLaterSums strata.now sum (place + 1) later.now }
     ensures { IfOk result (λ found. MatchOption found (MAX < number_with strata.now sum)
         (AreLaterSums strata.now sum place)) }

@@ -13,7 +13,7 @@ use Rattle.networks.specs.Network.{IsReached}
 use Rattle.networks.specs.Laws.{IsLawful}
 use Rattle.networks.specs.Judged.{HasIntervals, rule_in}
 use Rattle.networks.specs.PartialSums.{plus, kept}
-use Rattle.networks.specs.Addends.{Addends, additive_network, first_sum, high, high_end, least_to_come, low, low_end, most_to_come, square, totals, value_of, zeros}
+use Rattle.networks.specs.Addends.{Addends, additive_network, first_sum, high, high_end, least_sum_to_come, low, low_end, most_sum_to_come, square, totals, sum_value_of, zeros}
 use Rattle.networks.specs.SoundAddends.{AddsBetween, IsAdditive, IsMeasured}
 use Rattle.networks.proofs.Apart.{none_apart}
 use Rattle.networks.proofs.Swaps.{IsEvenAt, sum_by-swap_at, swap_at}
@@ -40,7 +40,7 @@ first-between l h (x ∷ xs) e w = w.0
 
 module _ (a : Addends) (s : IsAdditive a) where
   low-arc : (v : SumValue) → IsMeasured a v → (g : ℕ) (k : List ℤ) (c : List ℕ) → IsReached (additive_network a) g k → g < a.count → Contains ((additive_network a).choices g k) c
-      → low_end v (least_to_come a g) k ≤ℤ low_end v (least_to_come a (g + 1)) (kept a.sorted (plus k (a.adds g c)))
+      → low_end v (least_sum_to_come a g) k ≤ℤ low_end v (least_sum_to_come a (g + 1)) (kept a.sorted (plus k (a.adds g c)))
   low-arc First one g k c r h m =
       let w : AddsBetween a g c = choice_between a s g k c h m in
       let b : (a.least g ≤ℤ first_sum (a.adds g c)) × (first_sum (a.adds g c) ≤ℤ a.most g) = first-between (a.least g) (a.most g) (a.adds g c) (w.wide ∙ one) w.between in
@@ -48,18 +48,18 @@ module _ (a : Addends) (s : IsAdditive a) where
   low-arc (Squares bound) q g k c r h m = (let up = squares_rise a s bound q g k c r h m in omega (arith, ints, up))
 
   high-arc : (v : SumValue) → IsMeasured a v → (g : ℕ) (k : List ℤ) (c : List ℕ) → IsReached (additive_network a) g k → g < a.count → Contains ((additive_network a).choices g k) c
-      → high_end v (most_to_come a (g + 1)) (kept a.sorted (plus k (a.adds g c))) ≤ℤ high_end v (most_to_come a g) k
+      → high_end v (most_sum_to_come a (g + 1)) (kept a.sorted (plus k (a.adds g c))) ≤ℤ high_end v (most_sum_to_come a g) k
   high-arc First one g k c r h m =
       let w : AddsBetween a g c = choice_between a s g k c h m in
       let b : (a.least g ≤ℤ first_sum (a.adds g c)) × (first_sum (a.adds g c) ≤ℤ a.most g) = first-between (a.least g) (a.most g) (a.adds g c) (w.wide ∙ one) w.between in
       omega (arith, ints, b.1, over_stages-step a.most a.count g h, first-next a.sorted k (a.adds g c) (reached_length a g k r ∙ one) (w.wide ∙ one))
   high-arc (Squares bound) q g k c r h m = (let down = squares_fall a s bound q g k c r h m in omega (arith, ints, down))
 
-  low-last : (v : SumValue) → IsMeasured a v → (k : List ℤ) → IsReached (additive_network a) a.count k → low_end v (least_to_come a a.count) k ≡ value_of v k
+  low-last : (v : SumValue) → IsMeasured a v → (k : List ℤ) → IsReached (additive_network a) a.count k → low_end v (least_sum_to_come a a.count) k ≡ sum_value_of v k
   low-last First one k r = omega (arith, ints, over_stages-none a.least a.count)
   low-last (Squares bound) q k r = ap pos (least_at_end a s bound q k)
 
-  high-last : (v : SumValue) → IsMeasured a v → (k : List ℤ) → IsReached (additive_network a) a.count k → high_end v (most_to_come a a.count) k ≡ value_of v k
+  high-last : (v : SumValue) → IsMeasured a v → (k : List ℤ) → IsReached (additive_network a) a.count k → high_end v (most_sum_to_come a a.count) k ≡ sum_value_of v k
   high-last First one k r = omega (arith, ints, over_stages-none a.most a.count)
   high-last (Squares bound) q k r =
       let most_of : sum_by square k ≤ bound = squares_bounded a s bound q k r in
@@ -77,7 +77,7 @@ module _ (a : Addends) (s : IsAdditive a) where
   }
 
   -- the value does not see the order of the sums
-  even-value : (v : SumValue) → IsMeasured a v → IsEvenAt a.slots (value_of v)
+  even-value : (v : SumValue) → IsMeasured a v → IsEvenAt a.slots (sum_value_of v)
   even-value First one i k l = ap first_sum (alone i k (l ∙ one))
     where
       alone : (i : ℕ) (k : List ℤ) → length k ≡ 1 → swap_at i k ≡ k
@@ -87,7 +87,7 @@ module _ (a : Addends) (s : IsAdditive a) where
       alone i (x ∷ y ∷ ys) e = absurd (omega arith)
   even-value (Squares bound) q i k l = ap pos (sum_by-swap_at square i k)
 
-  pub value_even : IsEvenAt a.slots (value_of a.value)
+  pub value_even : IsEvenAt a.slots (sum_value_of a.value)
   value_even = even-value a.value s.measured
 
   weighty_arc : (g : ℕ) (k : List ℤ) (c : List ℕ) → Contains ((additive_network a).choices g k) c → 1 ≤ a.weight g c

@@ -10,7 +10,7 @@ use Rattle.weights.proofs.Filters.{filter-map, filter-flat_map}
 use Rattle.networks.specs.Completions.{total_weight, ending_weight, value_weights, path_weight}
 use Rattle.networks.proofs.Steps.{passing, passing-step, all_paths, all-step}
 use Rattle.networks.specs.PartialSums.{plus, kept}
-use Rattle.networks.specs.Addends.{Addends, additive_network, value_of, zeros, totals}
+use Rattle.networks.specs.Addends.{Addends, additive_network, sum_value_of, zeros, totals}
 use Rattle.networks.proofs.Parts.{Pieces, gathered, product_weight, summed, AreStages}
 use Rattle.networks.proofs.Swaps.{IsEvenAt, even-kept, length-plus, length-kept, plus-swap, swap_at}
 
@@ -62,13 +62,13 @@ module _ (a : Addends) (ps : Pieces) (p : List ℤ → Bool) where
       ∙ sym (gathered-cons ps p g k part parts)
 
 -- for every test of the value
-pub bridge : (a : Addends) (ps : Pieces) (parts : List (List (List ℕ))) → length parts ≡ a.count → AreStages a ps 0 parts → (a.sorted ≡ true → IsEvenAt a.slots (value_of a.value))
-    → (p : ℤ → Bool) → value_weights (additive_network a) p ≡ gathered ps (λ k. p (value_of a.value k)) 0 (zeros a) parts
+pub bridge : (a : Addends) (ps : Pieces) (parts : List (List (List ℕ))) → length parts ≡ a.count → AreStages a ps 0 parts → (a.sorted ≡ true → IsEvenAt a.slots (sum_value_of a.value))
+    → (p : ℤ → Bool) → value_weights (additive_network a) p ≡ gathered ps (λ k. p (sum_value_of a.value k)) 0 (zeros a) parts
 unfolding ending_weight
 bridge a ps parts e stages even p =
     let all : a.count - 0 ≡ length parts = omega arith in
-    ap (λ m. passing (additive_network a) (λ k. p (value_of a.value k)) m 0 (zeros a)) all
-    ∙ bridge_from a ps (λ k. p (value_of a.value k)) (λ s i k l. ap p (even s i k l)) 0 (zeros a) parts (omega arith) (length-replicate a.slots (pos 0)) stages
+    ap (λ m. passing (additive_network a) (λ k. p (sum_value_of a.value k)) m 0 (zeros a)) all
+    ∙ bridge_from a ps (λ k. p (sum_value_of a.value k)) (λ s i k l. ap p (even s i k l)) 0 (zeros a) parts (omega arith) (length-replicate a.slots (pos 0)) stages
 
 -- the weight of all completions is the product of the stages' totals
 

@@ -8,7 +8,7 @@ use Rattle.weights.proofs.Sums.{sum_by-filter, sum_by-same_where, sum_by-map}
 use Rattle.weights.proofs.Filters.{filter-map, all_weaker}
 use Rattle.weights.proofs.Members.{all_fronts}
 use Rattle.networks.specs.Completions.{value_weights, path_weight, paths}
-use Rattle.networks.specs.Addends.{Addends, additive_network, value_of, zeros, totals}
+use Rattle.networks.specs.Addends.{Addends, additive_network, sum_value_of, zeros, totals}
 use Rattle.networks.proofs.Parts.{Pieces, gathered, product_weight, summed, AreStages}
 use Rattle.networks.proofs.Swaps.{IsEvenAt}
 use Rattle.networks.proofs.Bridge.{bridge, bridge_from, totals_from}
@@ -35,15 +35,15 @@ filter-every (x ∷ xs) = ap (λ ys. x ∷ ys) (filter-every xs)
 -- The form that a test cites: its reference set is the product with its members joined, and what it measures and weighs of one is
 -- the value of the sums and the product of the weights.
 pub record IsJoined (a : Addends) (ps : Pieces) (P : ℕ → List ℕ → Type 0) (measured : List ℕ → ℤ) (weight : List ℕ → ℕ) : Type 0 where
-  pub measures : (xs : List (List ℕ)) → AllAt P 0 xs → measured (concat xs) ≡ value_of a.value (summed ps.added 0 (zeros a) xs)
+  pub measures : (xs : List (List ℕ)) → AllAt P 0 xs → measured (concat xs) ≡ sum_value_of a.value (summed ps.added 0 (zeros a) xs)
   pub weighs : (xs : List (List ℕ)) → AllAt P 0 xs → weight (concat xs) ≡ product_weight ps.mass 0 xs
 
 module _ (a : Addends) (ps : Pieces) (P : ℕ → List ℕ → Type 0) (measured : List ℕ → ℤ) (weight : List ℕ → ℕ) (j : IsJoined a ps P measured weight) where
-  gathered_flat : (parts : List (List (List ℕ))) → AllParts P 0 parts → (p : ℤ → Bool) → gathered ps (λ k. p (value_of a.value k)) 0 (zeros a) parts ≡ sum_by weight (filter (λ r. p (measured r)) (map concat (product parts)))
+  gathered_flat : (parts : List (List (List ℕ))) → AllParts P 0 parts → (p : ℤ → Bool) → gathered ps (λ k. p (sum_value_of a.value k)) 0 (zeros a) parts ≡ sum_by weight (filter (λ r. p (measured r)) (map concat (product parts)))
   gathered_flat parts all p =
       let first = zeros a in
-      sum_by-filter (product_weight ps.mass 0) (λ xs. p (value_of a.value (summed ps.added 0 first xs))) (product parts)
-      ∙ sum_by-same_where (AllAt P 0) (λ xs. cond (p (value_of a.value (summed ps.added 0 first xs))) (product_weight ps.mass 0 xs) 0) (λ xs. cond (p (measured (concat xs))) (weight (concat xs)) 0)
+      sum_by-filter (product_weight ps.mass 0) (λ xs. p (sum_value_of a.value (summed ps.added 0 first xs))) (product parts)
+      ∙ sum_by-same_where (AllAt P 0) (λ xs. cond (p (sum_value_of a.value (summed ps.added 0 first xs))) (product_weight ps.mass 0 xs) 0) (λ xs. cond (p (measured (concat xs))) (weight (concat xs)) 0)
       (λ xs h. ap (λ z. cond (p z) (product_weight ps.mass 0 xs) 0) (sym (j.measures xs h)) ∙ ap (λ n. cond (p (measured (concat xs))) n 0) (sym (j.weighs xs h)))
       (product parts) (members_hold P 0 parts all)
       ∙ sym (sum_by-filter (λ xs. weight (concat xs)) (λ xs. p (measured (concat xs))) (product parts))
@@ -51,7 +51,7 @@ module _ (a : Addends) (ps : Pieces) (P : ℕ → List ℕ → Type 0) (measured
       ∙ ap (sum_by weight) (sym (filter-map (λ r. p (measured r)) concat (product parts)))
 
   -- for every test of the value
-  pub ends_flat : (parts : List (List (List ℕ))) → length parts ≡ a.count → AreStages a ps 0 parts → (a.sorted ≡ true → IsEvenAt a.slots (value_of a.value)) → AllParts P 0 parts
+  pub ends_flat : (parts : List (List (List ℕ))) → length parts ≡ a.count → AreStages a ps 0 parts → (a.sorted ≡ true → IsEvenAt a.slots (sum_value_of a.value)) → AllParts P 0 parts
       → (p : ℤ → Bool) → value_weights (additive_network a) p ≡ sum_by weight (filter (λ r. p (measured r)) (map concat (product parts)))
   ends_flat parts e stages even all p = bridge a ps parts e stages even p ∙ gathered_flat parts all p
 

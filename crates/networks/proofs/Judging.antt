@@ -15,7 +15,7 @@ use Rattle.weights.proofs.Members.{Contains-here}
 use Rattle.networks.specs.declared.stages.Verdict.TheVariants.{Inside, Outside, Undecided}
 use Rattle.networks.specs.declared.verdicts.Judge.{Judge}
 use Rattle.networks.specs.Network.{Network, IsReached}
-use Rattle.networks.specs.Completions.{completions, path_end, path_weight, is_inside, is_extreme, extreme_weight, ending_weight}
+use Rattle.networks.specs.Completions.{completions, path_end, path_weight, is_inside, ends_inside, extreme_weight, ending_weight}
 use Rattle.networks.specs.Judged.{offset, far_verdict, rule_in, verdict_of, HasIntervals, JudgeFits}
 use Rattle.networks.proofs.Steps.{completions-keep, reached-next}
 
@@ -148,15 +148,15 @@ module _ (n : Network) (judge : Judge) (h : HasIntervals n judge) where
 
   -- the laws of verdicts, for every tail
 
-  pub intervals-inside : (t : Tail) (g : ℕ) (k : List ℤ) → IsReached n g k → g ≤ n.count → n.verdict t g k ≡ Inside → AllByRecursion (λ cs. is_extreme n t g k cs ≡ true) (completions n g k)
+  pub intervals-inside : (t : Tail) (g : ℕ) (k : List ℤ) → IsReached n g k → g ≤ n.count → n.verdict t g k ≡ Inside → AllByRecursion (λ cs. ends_inside n t g k cs ≡ true) (completions n g k)
   intervals-inside t g k r l e =
-      all_weaker (λ cs. EndsBetween (h.low g k) (h.high g k) (path_end n g k cs)) (λ cs. is_extreme n t g k cs ≡ true)
+      all_weaker (λ cs. EndsBetween (h.low g k) (h.high g k) (path_end n g k cs)) (λ cs. ends_inside n t g k cs ≡ true)
       (λ cs w. end_extreme t (path_end n g k cs) w.reached ∙ verdict-inside (rule_in judge t) (h.low g k) (h.high g k) (n.value (path_end n g k cs)) w.above w.below (sym (h.verdicts t g k r) ∙ e))
       (completions n g k) (values_between g k r l)
 
-  pub intervals-outside : (t : Tail) (g : ℕ) (k : List ℤ) → IsReached n g k → g ≤ n.count → n.verdict t g k ≡ Outside → AllByRecursion (λ cs. is_extreme n t g k cs ≡ false) (completions n g k)
+  pub intervals-outside : (t : Tail) (g : ℕ) (k : List ℤ) → IsReached n g k → g ≤ n.count → n.verdict t g k ≡ Outside → AllByRecursion (λ cs. ends_inside n t g k cs ≡ false) (completions n g k)
   intervals-outside t g k r l e =
-      all_weaker (λ cs. EndsBetween (h.low g k) (h.high g k) (path_end n g k cs)) (λ cs. is_extreme n t g k cs ≡ false)
+      all_weaker (λ cs. EndsBetween (h.low g k) (h.high g k) (path_end n g k cs)) (λ cs. ends_inside n t g k cs ≡ false)
       (λ cs w. end_extreme t (path_end n g k cs) w.reached ∙ verdict-outside (rule_in judge t) (h.low g k) (h.high g k) (n.value (path_end n g k cs)) w.above w.below (sym (h.verdicts t g k r) ∙ e))
       (completions n g k) (values_between g k r l)
 
@@ -168,7 +168,7 @@ module _ (n : Network) (judge : Judge) (h : HasIntervals n judge) where
   unfolding extreme_weight ending_weight
   extreme-passes t =
       ap (sum_by (path_weight n 0 n.first))
-      (filter-where (λ cs. EndsBetween (h.low 0 n.first) (h.high 0 n.first) (path_end n 0 n.first cs)) (is_extreme n t 0 n.first) (λ cs. passes (rule_in judge t) (n.value (path_end n 0 n.first cs)))
+      (filter-where (λ cs. EndsBetween (h.low 0 n.first) (h.high 0 n.first) (path_end n 0 n.first cs)) (ends_inside n t 0 n.first) (λ cs. passes (rule_in judge t) (n.value (path_end n 0 n.first cs)))
       (λ cs w. end_extreme t (path_end n 0 n.first cs) w.reached) (completions n 0 n.first) (values_between 0 n.first refl (omega arith)))
 
   -- a reached key's interval lies in that of the first key

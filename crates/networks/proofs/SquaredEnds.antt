@@ -8,7 +8,7 @@ use Rattle.std.proofs.lemmas.List.Sums.{sum_by-cons}
 use Rattle.std.proofs.Math.Nat.{mul-le-mul}
 use Rattle.networks.specs.Network.{IsReached}
 use Rattle.networks.specs.PartialSums.{plus, kept}
-use Rattle.networks.specs.Addends.{Addends, additive_network, over_stages, over_earlier, least_to_come, most_to_come, square, raised_squares}
+use Rattle.networks.specs.Addends.{Addends, additive_network, over_stages, over_earlier, least_sum_to_come, most_sum_to_come, square, raised_squares}
 use Rattle.networks.specs.SoundAddends.{AddsBetween, IsAdditive, IsSquared}
 use Rattle.networks.proofs.Swaps.{all_kept, sum_by-kept}
 use Rattle.networks.proofs.AdditiveKeys.{over_stages-step, over_stages-none, allowed-before, reached_length, choice_between}
@@ -118,9 +118,9 @@ module _ (a : Addends) (s : IsAdditive a) (bound : ℕ) (q : IsSquared a bound) 
   pub squares_bounded : (k : List ℤ) → IsReached (additive_network a) a.count k → sum_by square k ≤ bound
   squares_bounded k r = omega (arith, squares-≤-square k, ap (λ m. m * m) (reached-magnitude a.count k r), q.bounded)
 
-  pub squares_rise : (g : ℕ) (k : List ℤ) (c : List ℕ) → IsReached (additive_network a) g k → g < a.count → Contains ((additive_network a).choices g k) c → raised_squares (least_to_come a g) k ≤ raised_squares (least_to_come a (g + 1)) (kept a.sorted (plus k (a.adds g c)))
+  pub squares_rise : (g : ℕ) (k : List ℤ) (c : List ℕ) → IsReached (additive_network a) g k → g < a.count → Contains ((additive_network a).choices g k) c → raised_squares (least_sum_to_come a g) k ≤ raised_squares (least_sum_to_come a (g + 1)) (kept a.sorted (plus k (a.adds g c)))
   squares_rise g k c r h m =
-      let t = least_to_come a (g + 1) in
+      let t = least_sum_to_come a (g + 1) in
       let w : AddsBetween a g c = choice_between a s g k c h m in
       omega (
         arith,
@@ -129,9 +129,9 @@ module _ (a : Addends) (s : IsAdditive a) (bound : ℕ) (q : IsSquared a bound) 
         sum_by-kept (λ z. square (z +ℤ t)) a.sorted (plus k (a.adds g c)),
       )
 
-  pub squares_fall : (g : ℕ) (k : List ℤ) (c : List ℕ) → IsReached (additive_network a) g k → g < a.count → Contains ((additive_network a).choices g k) c → raised_squares (most_to_come a (g + 1)) (kept a.sorted (plus k (a.adds g c))) ≤ raised_squares (most_to_come a g) k
+  pub squares_fall : (g : ℕ) (k : List ℤ) (c : List ℕ) → IsReached (additive_network a) g k → g < a.count → Contains ((additive_network a).choices g k) c → raised_squares (most_sum_to_come a (g + 1)) (kept a.sorted (plus k (a.adds g c))) ≤ raised_squares (most_sum_to_come a g) k
   squares_fall g k c r h m =
-      let t = most_to_come a (g + 1) in
+      let t = most_sum_to_come a (g + 1) in
       let w : AddsBetween a g c = choice_between a s g k c h m in
       omega (
         arith,
@@ -141,8 +141,8 @@ module _ (a : Addends) (s : IsAdditive a) (bound : ℕ) (q : IsSquared a bound) 
       )
 
   -- at the last stage nothing is to come
-  pub least_at_end : (k : List ℤ) → raised_squares (least_to_come a a.count) k ≡ sum_by square k
+  pub least_at_end : (k : List ℤ) → raised_squares (least_sum_to_come a a.count) k ≡ sum_by square k
   least_at_end k = ap (λ d. raised_squares d k) (over_stages-none a.least a.count) ∙ unraised k
 
-  pub most_at_end : (k : List ℤ) → raised_squares (most_to_come a a.count) k ≡ sum_by square k
+  pub most_at_end : (k : List ℤ) → raised_squares (most_sum_to_come a a.count) k ≡ sum_by square k
   most_at_end k = ap (λ d. raised_squares d k) (over_stages-none a.most a.count) ∙ unraised k

@@ -6,7 +6,7 @@ use Rattle.std.proofs.lemmas.List.Elements.{recursion_from_All, All-weaker, All-
 use Rattle.weights.specs.declared.tails.Tail.{Tail}
 use Rattle.networks.specs.declared.stages.Verdict.TheVariants.{Inside, Outside}
 use Rattle.networks.specs.Network.{Network, IsReached}
-use Rattle.networks.specs.Completions.{paths, completions, path_weight, path_end, is_inside, is_extreme, total_weight, extreme_weight}
+use Rattle.networks.specs.Completions.{paths, completions, path_weight, path_end, is_inside, ends_inside, total_weight, extreme_weight}
 use Rattle.weights.proofs.Sums.{sum_by-filter-≤}
 pub use Rattle.weights.proofs.Sums.{sum_by-same, sum_by-scaled, sum_by-map, sum_by-flat_map}
 use Rattle.weights.proofs.Filters.{all_append, all_map, all_weaker}
@@ -69,7 +69,7 @@ extreme_weight-step n t g k h =
 
 pub extreme-le-total : (n : Network) (t : Tail) (g : ℕ) (k : List ℤ) → extreme_weight n t g k ≤ total_weight n g k
 unfolding total_weight extreme_weight
-extreme-le-total n t g k = sum_by-filter-≤ (path_weight n g k) (is_extreme n t g k) (completions n g k)
+extreme-le-total n t g k = sum_by-filter-≤ (path_weight n g k) (ends_inside n t g k) (completions n g k)
 
 -- at the last stage there is the empty completion, of weight 1
 pub total_weight-last : (n : Network) (k : List ℤ) → total_weight n n.count k ≡ 1
@@ -106,12 +106,12 @@ pub completions-keep : (n : Network) (P : ℕ → List ℤ → Type 0) → IsKep
 completions-keep n P kept g k r h p = paths-keep n P kept (n.count - g) g k (omega arith) r p
 
 -- a verdict that each arc keeps is sound
-pub inside_from_arcs : (n : Network) (t : Tail) → IsKept n (λ g k. n.verdict t g k ≡ Inside) → (g : ℕ) (k : List ℤ) → IsReached n g k → g ≤ n.count → n.verdict t g k ≡ Inside → AllByRecursion (λ cs. is_extreme n t g k cs ≡ true) (completions n g k)
+pub inside_from_arcs : (n : Network) (t : Tail) → IsKept n (λ g k. n.verdict t g k ≡ Inside) → (g : ℕ) (k : List ℤ) → IsReached n g k → g ≤ n.count → n.verdict t g k ≡ Inside → AllByRecursion (λ cs. ends_inside n t g k cs ≡ true) (completions n g k)
 inside_from_arcs n t kept g k r h v =
-    all_weaker (λ cs. n.verdict t n.count (path_end n g k cs) ≡ Inside) (λ cs. is_extreme n t g k cs ≡ true) (λ cs e. ap is_inside e) (completions n g k)
+    all_weaker (λ cs. n.verdict t n.count (path_end n g k cs) ≡ Inside) (λ cs. ends_inside n t g k cs ≡ true) (λ cs e. ap is_inside e) (completions n g k)
     (completions-keep n (λ g k. n.verdict t g k ≡ Inside) kept g k r h v)
 
-pub outside_from_arcs : (n : Network) (t : Tail) → IsKept n (λ g k. n.verdict t g k ≡ Outside) → (g : ℕ) (k : List ℤ) → IsReached n g k → g ≤ n.count → n.verdict t g k ≡ Outside → AllByRecursion (λ cs. is_extreme n t g k cs ≡ false) (completions n g k)
+pub outside_from_arcs : (n : Network) (t : Tail) → IsKept n (λ g k. n.verdict t g k ≡ Outside) → (g : ℕ) (k : List ℤ) → IsReached n g k → g ≤ n.count → n.verdict t g k ≡ Outside → AllByRecursion (λ cs. ends_inside n t g k cs ≡ false) (completions n g k)
 outside_from_arcs n t kept g k r h v =
-    all_weaker (λ cs. n.verdict t n.count (path_end n g k cs) ≡ Outside) (λ cs. is_extreme n t g k cs ≡ false) (λ cs e. ap is_inside e) (completions n g k)
+    all_weaker (λ cs. n.verdict t n.count (path_end n g k cs) ≡ Outside) (λ cs. ends_inside n t g k cs ≡ false) (λ cs e. ap is_inside e) (completions n g k)
     (completions-keep n (λ g k. n.verdict t g k ≡ Outside) kept g k r h v)

@@ -36,11 +36,11 @@ over_stages f zero g = pos 0
 over_stages f (suc m) g = f g +ℤ over_stages f m (g + 1)
 
 -- what the stages from g on add to a sum, at least and at most
-abbrev pub least_to_come : Addends → ℕ → ℤ
-least_to_come a g = over_stages a.least (a.count - g) g
+abbrev pub least_sum_to_come : Addends → ℕ → ℤ
+least_sum_to_come a g = over_stages a.least (a.count - g) g
 
-abbrev pub most_to_come : Addends → ℕ → ℤ
-most_to_come a g = over_stages a.most (a.count - g) g
+abbrev pub most_sum_to_come : Addends → ℕ → ℤ
+most_sum_to_come a g = over_stages a.most (a.count - g) g
 
 abbrev pub first_sum : List ℤ → ℤ
 first_sum k = slice_index_or k 0 (pos 0)
@@ -53,9 +53,9 @@ abbrev pub raised_squares : ℤ → List ℤ → ℕ
 raised_squares s k = sum_by (λ z. square (z +ℤ s)) k
 
 -- what is measured of the last sums
-abbrev pub value_of : SumValue → List ℤ → ℤ
-value_of First k = first_sum k
-value_of (Squares bound) k = pos (sum_by square k)
+abbrev pub sum_value_of : SumValue → List ℤ → ℤ
+sum_value_of First k = first_sum k
+sum_value_of (Squares bound) k = pos (sum_by square k)
 
 -- the least value that sums end at where each is still raised by s at least
 abbrev pub low_end : SumValue → ℤ → List ℤ → ℤ
@@ -68,10 +68,10 @@ high_end First s k = first_sum k +ℤ s
 high_end (Squares bound) s k = pos (min bound (raised_squares s k))
 
 abbrev pub low : Addends → ℕ → List ℤ → ℤ
-low a g k = low_end a.value (least_to_come a g) k
+low a g k = low_end a.value (least_sum_to_come a g) k
 
 abbrev pub high : Addends → ℕ → List ℤ → ℤ
-high a g k = high_end a.value (most_to_come a g) k
+high a g k = high_end a.value (most_sum_to_come a g) k
 
 abbrev pub zeros : Addends → List ℤ
 zeros a = replicate a.slots (pos 0)
@@ -87,7 +87,7 @@ additive_network a = record {
   weight = λ g k c. a.weight g c;
   next = λ g k c. kept a.sorted (plus k (a.adds g c));
   verdict = λ t g k. verdict_of (rule_in a.judge t) (low a g k) (high a g k);
-  value = value_of a.value;
+  value = sum_value_of a.value;
 }
 
 -- the choices that are still to come at a stage: from c on, or none

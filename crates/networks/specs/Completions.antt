@@ -37,8 +37,8 @@ is_inside Outside = false
 is_inside Undecided = false
 
 -- a completion is extreme for a tail where the verdict at its end is inside
-abbrev pub is_extreme : Network → Tail → ℕ → List ℤ → List (List ℕ) → Bool
-is_extreme n t g k cs = is_inside (n.verdict t n.count (path_end n g k cs))
+abbrev pub ends_inside : Network → Tail → ℕ → List ℤ → List (List ℕ) → Bool
+ends_inside n t g k cs = is_inside (n.verdict t n.count (path_end n g k cs))
 
 -- the summed weight of all completions of a key
 unfoldable pub total_weight : Network → ℕ → List ℤ → ℕ
@@ -47,7 +47,7 @@ total_weight n g k = sum_by (path_weight n g k) (completions n g k)
 -- the summed weight of its extreme completions
 unfoldable pub extreme_weight : Network → Tail → ℕ → List ℤ → ℕ
 extreme_weight n t g k =
-    sum_by (path_weight n g k) (filter (is_extreme n t g k) (completions n g k))
+    sum_by (path_weight n g k) (filter (ends_inside n t g k) (completions n g k))
 
 -- the summed weight of the completions of the first key that end at a key which passes
 unfoldable pub ending_weight : Network → (List ℤ → Bool) → ℕ

@@ -6,13 +6,13 @@ use Rattle.weights.specs.declared.TheConstants.{MAX}
 use Rattle.networks.specs.declared.stages.Verdict.{Verdict}
 use Rattle.networks.specs.declared.stages.Verdict.TheVariants.{Inside, Outside, Undecided}
 use Rattle.networks.specs.Network.{Network, IsReached}
-use Rattle.networks.specs.Completions.{completions, total_weight, is_extreme}
+use Rattle.networks.specs.Completions.{completions, total_weight, ends_inside}
 
 -- each completion of each key that gets this verdict is extreme, or each is not
 abbrev pub IsSound : Network → Verdict → Bool → Type 0
 IsSound n v extreme =
     (t : Tail) (g : ℕ) (k : List ℤ) → IsReached n g k → g ≤ n.count → n.verdict t g k ≡ v
-    → AllByRecursion (λ cs. is_extreme n t g k cs ≡ extreme) (completions n g k)
+    → AllByRecursion (λ cs. ends_inside n t g k cs ≡ extreme) (completions n g k)
 
 pub record IsLawful (n : Network) : Type 0 where
   -- a key has 1 to 16 numbers

@@ -54,7 +54,7 @@ pub fn only(tail: Tail) -> Tails
 }
 
 impl Verdict {
-    // Whether neither is known.
+    /// Whether neither is known.
     #[inline(always)]
     pub fn is_undecided(self) -> bool
         ensures { result ≡ is_undecided self }

@@ -7,7 +7,7 @@ use Rattle.piece_texts.specs.declared.piece.Piece.{Piece}
 use Rattle.piece_texts.specs.declared.piece.PieceSum.{PieceSum}
 use Rattle.piece_texts.specs.declared.reader.Step.{Step}
 use Rattle.piece_texts.specs.declared.reader.Step.TheVariants.{Outside, AtName, AtParts, AtPart, AtCount, InHead, AtTail}
-use Rattle.piece_texts.specs.PieceTexts.{IsName, IsHead, IsPiece, TailFits, SumFits, HasNoFeed, ended, line_count, sums_text, tail_line, piece_text}
+use Rattle.piece_texts.specs.PieceTexts.{IsName, IsHead, IsPiece, TailFits, SumFits, HasNoFeed, ended, line_count, sums_text, piece_tail_line, piece_text}
 use Rattle.piece_texts.specs.FieldSteps.{IsAfter, IsTail, tail_words}
 use Rattle.piece_texts.specs.Places.{unknown}
 use Rattle.piece_texts.specs.ReaderSteps.{Reading, fresh, with_tail, Leads}
@@ -32,13 +32,13 @@ to_tails d = to_count (line_count d.head) d ++ d.head
 
 -- the lines of its tails
 abbrev pub tail_lines : Piece → List ℕ
-tail_lines d = (tail_line (codes "less ") d.less ++ tail_line (codes "greater ") d.greater) ++ tail_line (codes "two ") d.two
+tail_lines d = (piece_tail_line (codes "less ") d.less ++ piece_tail_line (codes "greater ") d.greater) ++ piece_tail_line (codes "two ") d.two
 
 pub grown : (d : Piece) → (to_tails d ++ tail_lines d) ++ ended (codes "end") ≡ piece_text d
 grown d =
-    let less : List ℕ = tail_line (codes "less ") d.less in
-    let greater : List ℕ = tail_line (codes "greater ") d.greater in
-    let two : List ℕ = tail_line (codes "two ") d.two in
+    let less : List ℕ = piece_tail_line (codes "less ") d.less in
+    let greater : List ℕ = piece_tail_line (codes "greater ") d.greater in
+    let two : List ℕ = piece_tail_line (codes "two ") d.two in
     ap (λ t. t ++ ended (codes "end"))
     (sym (append_assoc (to_tails d) (less ++ greater) two) ∙ ap (λ t. t ++ two) (sym (append_assoc (to_tails d) less greater)))
 

@@ -5,7 +5,7 @@ use Rattle.std.specs.Fmt.{digits}
 use Rattle.piece_texts.specs.declared.piece.Piece.{Piece}
 use Rattle.piece_texts.specs.declared.piece.PieceSum.{PieceSum}
 use Rattle.piece_texts.specs.PieceTexts.{piece_text, all_digits}
-use Rattle.piece_texts.specs.Merges.{foreign_at, doubled_at, is_missing, unequal_at, merged_number, less_of, greater_of}
+use Rattle.piece_texts.specs.Merges.{foreign_at, doubled_at, lacks_piece, unequal_at, merged_number, less_of, greater_of}
 
 abbrev head : List ℕ
 head = codes "test ranksum\ngroup 3 x\ngroup 3 y\nstatistic 30/2\ntotal 20\n"
@@ -58,10 +58,10 @@ not_asked = refl
 closed_once : merged_number greater_of (part 1 (sums 5 2) ∷ part 0 (sums 5 3) ∷ []) ≡ Some 10
 closed_once = refl
 
-first_missing : is_missing (part 1 (sums 0 0) ∷ []) 0 ≡ true
+first_missing : lacks_piece (part 1 (sums 0 0) ∷ []) 0 ≡ true
 first_missing = refl
 
-none_missing : is_missing both 1 ≡ false
+none_missing : lacks_piece both 1 ≡ false
 none_missing = refl
 
 twice : doubled_at (part 0 (sums 0 1) ∷ part 0 (sums 0 1) ∷ []) 1 ≡ true

@@ -28,8 +28,8 @@ foreign_at pieces i = is_foreign (piece_at pieces 0) (piece_at pieces i)
 abbrev pub doubled_at : List Piece → ℕ → Bool
 doubled_at pieces i = occurs (piece_at pieces i).part (take i (parts_of pieces))
 
-abbrev pub is_missing : List Piece → ℕ → Bool
-is_missing pieces part = not (occurs part (parts_of pieces))
+abbrev pub lacks_piece : List Piece → ℕ → Bool
+lacks_piece pieces part = not (occurs part (parts_of pieces))
 
 -- a tail is asked in one of two pieces alone, or its closed sums differ
 abbrev pub tail_differs : Option PieceSum → Option PieceSum → Bool
@@ -85,19 +85,19 @@ abbrev pub IsUndoubled : List Piece → Type 0
 IsUndoubled pieces = IsOneRun pieces × NoneBelow (doubled_at pieces) (length pieces)
 
 abbrev pub IsComplete : List Piece → Type 0
-IsComplete pieces = IsUndoubled pieces × NoneBelow (is_missing pieces) (piece_at pieces 0).parts
+IsComplete pieces = IsUndoubled pieces × NoneBelow (lacks_piece pieces) (piece_at pieces 0).parts
 
 abbrev pub IsMergeable : List Piece → Type 0
 IsMergeable pieces = IsComplete pieces × NoneBelow (unequal_at pieces) (length pieces)
 
 -- a tail's number: its closed sum and the sums of all pieces, where it is asked
-abbrev pub number_of : Option PieceSum → ℕ → Option ℕ
-number_of None sum = None
-number_of (Some s) sum = Some sum
+abbrev pub number_told : Option PieceSum → ℕ → Option ℕ
+number_told None sum = None
+number_told (Some s) sum = Some sum
 
 abbrev pub merged_number : (Piece → Option PieceSum) → List Piece → Option ℕ
 merged_number tail pieces =
-    number_of (tail (piece_at pieces 0)) (summed_to tail pieces (length pieces))
+    number_told (tail (piece_at pieces 0)) (summed_to tail pieces (length pieces))
 
 pub record IsMerged (pieces : List Piece) (merged : Merged) : Type 0 where
   pub head : merged.head ≡ (piece_at pieces 0).head
@@ -113,7 +113,7 @@ MergeGives pieces (Err (Foreign k)) = IsFirstPiece (foreign_at pieces) (length p
 MergeGives pieces (Err (Doubled k)) =
     IsOneRun pieces × IsFirstPiece (doubled_at pieces) (length pieces) k
 MergeGives pieces (Err (Missing part)) =
-    IsUndoubled pieces × IsFirst (is_missing pieces) (piece_at pieces 0).parts part
+    IsUndoubled pieces × IsFirst (lacks_piece pieces) (piece_at pieces 0).parts part
 MergeGives pieces (Err (Unequal k)) =
     IsComplete pieces × IsFirstPiece (unequal_at pieces) (length pieces) k
 MergeGives pieces (Err NoMemory) = ⊤

@@ -19,9 +19,9 @@ abbrev pub sums_text : PieceSum → List ℕ
 sums_text s = decimal s.closed ++ 32 ∷ decimal s.sum
 
 -- the line of a tail, and nothing of a tail that is not asked
-abbrev pub tail_line : List ℕ → Option PieceSum → List ℕ
-tail_line words None = []
-tail_line words (Some s) = ended (words ++ sums_text s)
+abbrev pub piece_tail_line : List ℕ → Option PieceSum → List ℕ
+piece_tail_line words None = []
+piece_tail_line words (Some s) = ended (words ++ sums_text s)
 
 -- the text of a piece: which part of which run it is, the lines of its head behind their count, and
 -- its tails
@@ -33,9 +33,9 @@ piece_text p =
     ++ ended (codes "part " ++ decimal p.part)
     ++ ended (codes "head " ++ decimal (line_count p.head))
     ++ p.head
-    ++ tail_line (codes "less ") p.less
-    ++ tail_line (codes "greater ") p.greater
-    ++ tail_line (codes "two ") p.two
+    ++ piece_tail_line (codes "less ") p.less
+    ++ piece_tail_line (codes "greater ") p.greater
+    ++ piece_tail_line (codes "two ") p.two
     ++ ended (codes "end")
 
 -- a lower-case hexadecimal digit

@@ -1,7 +1,7 @@
 // The first piece of another run, the first that is doubled, and the first part that is missing.
 ghost use Rattle.std.specs.Prelude.{◌≡◌, ◌<◌, ◌≤◌, length, take};
 ghost use Rattle.piece_texts.specs.Places.{FoundFirst};
-ghost use Rattle.piece_texts.specs.Merges.{is_foreign, foreign_at, doubled_at, is_missing, occurs, parts_of};
+ghost use Rattle.piece_texts.specs.Merges.{is_foreign, foreign_at, doubled_at, lacks_piece, occurs, parts_of};
 
 use crate::piece::{Piece, Pieces};
 
@@ -51,7 +51,7 @@ pub(crate) fn first_doubled(pieces: &Pieces) -> Option<usize>
 
 // The least part that does not occur.
 pub(crate) fn first_missing(pieces: &Pieces, parts: u64) -> Option<u64>
-    ensures { FoundFirst (is_missing pieces.now) parts result }
+    ensures { FoundFirst (lacks_piece pieces.now) parts result }
 {
     for part in 0..parts {
         if !occurs_before(pieces, pieces.len(), part) {

@@ -1,6 +1,6 @@
 // Pieces of one run put together again.
 ghost use Rattle.std.specs.Prelude.{◌≡◌, ◌<◌, length, OnOk};
-ghost use Rattle.piece_texts.specs.Merges.{MergeGives, AllAddUp, number_of};
+ghost use Rattle.piece_texts.specs.Merges.{MergeGives, AllAddUp, number_told};
 
 use crate::comparing::{first_doubled, first_foreign, first_missing};
 use crate::piece::{PieceSum, Pieces};
@@ -45,7 +45,7 @@ pub enum MergeFault {
 
 // A tail's number, where it is asked.
 fn number_of(tail: Option<PieceSum>, sum: u128) -> Option<u128>
-    ensures { result ≡ number_of tail sum }
+    ensures { result ≡ number_told tail sum }
 {
     match tail {
         Some(_) => Some(sum),

@@ -1,6 +1,6 @@
 // The text of a piece.
 ghost use Rattle.std.specs.Prelude.{◌≡◌, ◌++◌, IfOk, OnOk};
-ghost use Rattle.piece_texts.specs.PieceTexts.{ended, sums_text, tail_line, piece_text};
+ghost use Rattle.piece_texts.specs.PieceTexts.{ended, sums_text, piece_tail_line, piece_text};
 
 use crate::lines::line_count;
 use crate::piece::{Piece, PieceSum};
@@ -39,7 +39,7 @@ fn push_sums(text: &mut Bytes, words: &[u8], sums: PieceSum) -> Result<(), NoMem
 
 // Adds the line of a tail, where it is asked.
 fn push_tail(text: &mut Bytes, words: &[u8], tail: Option<PieceSum>) -> Result<(), NoMemory>
-    ensures { OnOk result (text.new ≡ text.old ++ tail_line words.now tail) }
+    ensures { OnOk result (text.new ≡ text.old ++ piece_tail_line words.now tail) }
 {
     match tail {
         Some(sums) => push_sums(text, words, sums),

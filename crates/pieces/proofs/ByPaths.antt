@@ -8,7 +8,7 @@ use Rattle.weights.specs.declared.tails.Tail.{Tail}
 use Rattle.networks.specs.declared.stages.Verdict.{Verdict}
 use Rattle.networks.specs.declared.stages.Verdict.TheVariants.{Inside, Outside, Undecided}
 use Rattle.networks.specs.Network.{Network, IsReached}
-use Rattle.networks.specs.Completions.{completions, paths, path_weight, is_extreme, is_inside, total_weight, extreme_weight}
+use Rattle.networks.specs.Completions.{completions, paths, path_weight, ends_inside, is_inside, total_weight, extreme_weight}
 use Rattle.networks.specs.Laws.{IsLawful}
 use Rattle.networks.specs.Opened.{is_open}
 use Rattle.networks.proofs.Steps.{sum_by-same, sum_by-scaled, sum_by-map, sum_by-flat_map, filter-map, filter-flat_map, reached-next}
@@ -104,19 +104,19 @@ module _ (n : Network) (t : Tail) where
 
   -- the extreme completions that meet open keys alone, and then one that passes
   abbrev open_part : (List ℤ → Bool) → ℕ → ℕ → ℕ → List ℤ → ℕ
-  open_part p m e g k = sum_by (path_weight n g k) (filter (λ cs. is_extreme n t g k cs && (stays_open n t m g k cs && p (met n m g k cs))) (paths n e g k))
+  open_part p m e g k = sum_by (path_weight n g k) (filter (λ cs. ends_inside n t g k cs && (stays_open n t m g k cs && p (met n m g k cs))) (paths n e g k))
 
   abbrev pub passing_extreme : (List ℤ → Bool) → ℕ → List ℤ → ℕ
   passing_extreme p h j = cond (p j) (extreme_weight n t h j) 0
 
-  extreme-is : (e g : ℕ) (k : List ℤ) → g + e ≡ n.count → sum_by (path_weight n g k) (filter (is_extreme n t g k) (paths n e g k)) ≡ extreme_weight n t g k
+  extreme-is : (e g : ℕ) (k : List ℤ) → g + e ≡ n.count → sum_by (path_weight n g k) (filter (ends_inside n t g k) (paths n e g k)) ≡ extreme_weight n t g k
   unfolding extreme_weight
-  extreme-is e g k is = let same : e ≡ n.count - g = omega (arith, is) in ap (λ j. sum_by (path_weight n g k) (filter (is_extreme n t g k) (paths n j g k))) same
+  extreme-is e g k is = let same : e ≡ n.count - g = omega (arith, is) in ap (λ j. sum_by (path_weight n g k) (filter (ends_inside n t g k) (paths n j g k))) same
 
   open_parts : (p : List ℤ → Bool) (m e g h : ℕ) (k : List ℤ) → m ≤ e → g + e ≡ n.count → g + m ≡ h → open_part p m e g k ≡ openly n t m g (passing_extreme p h) k
   open_parts p zero e g h k le is at =
       let same : h ≡ g = omega (arith, at) in
-      with-last (path_weight n g k) (is_extreme n t g k) (paths n e g k) (is_open n t g k && p k)
+      with-last (path_weight n g k) (ends_inside n t g k) (paths n e g k) (is_open n t g k && p k)
       ∙ ap (λ j. cond (is_open n t g k && p k) j 0) (extreme-is e g k is)
       ∙ cond-and (is_open n t g k) (p k) (extreme_weight n t g k)
       ∙ rw same refl
@@ -127,8 +127,8 @@ module _ (n : Network) (t : Tail) where
       let le' : m ≤ e = omega (arith, le) in
       let is' : (g + 1) + e ≡ n.count = omega (arith, is) in
       let at' : (g + 1) + m ≡ h = omega (arith, at) in
-      paths-step n e g k (path_weight n g k) (λ cs. is_extreme n t g k cs && (stays_open n t (suc m) g k cs && p (met n (suc m) g k cs))) (n.weight g k) (λ c cs. path_weight n (g + 1) (n.next g k c) cs) (λ c cs. refl)
-      ∙ sum_by-same _ _ (λ c. ap (λ j. n.weight g k c * j) (with-inner (path_weight n (g + 1) (n.next g k c)) (is_extreme n t (g + 1) (n.next g k c)) (paths n e (g + 1) (n.next g k c)) (stays_open n t m (g + 1) (n.next g k c)) (λ cs. p (met n m (g + 1) (n.next g k c) cs)) o)) (n.choices g k)
+      paths-step n e g k (path_weight n g k) (λ cs. ends_inside n t g k cs && (stays_open n t (suc m) g k cs && p (met n (suc m) g k cs))) (n.weight g k) (λ c cs. path_weight n (g + 1) (n.next g k c) cs) (λ c cs. refl)
+      ∙ sum_by-same _ _ (λ c. ap (λ j. n.weight g k c * j) (with-inner (path_weight n (g + 1) (n.next g k c)) (ends_inside n t (g + 1) (n.next g k c)) (paths n e (g + 1) (n.next g k c)) (stays_open n t m (g + 1) (n.next g k c)) (λ cs. p (met n m (g + 1) (n.next g k c) cs)) o)) (n.choices g k)
       ∙ cond-out o (n.weight g k) inner (n.choices g k)
       ∙ ap (λ j. cond o j 0) (sum_by-same _ _ (λ c. ap (λ j. n.weight g k c * j) (open_parts p m e (g + 1) h (n.next g k c) le' is' at')) (n.choices g k))
 
@@ -142,7 +142,7 @@ module _ (n : Network) (t : Tail) where
 
   -- the extreme completions that meet an inside key at one of m + 1 stages
   abbrev pub inside_part : ℕ → ℕ → ℕ → List ℤ → ℕ
-  inside_part m e g k = sum_by (path_weight n g k) (filter (λ cs. is_extreme n t g k cs && meets_inside n t m g k cs) (paths n e g k))
+  inside_part m e g k = sum_by (path_weight n g k) (filter (λ cs. ends_inside n t g k cs && meets_inside n t m g k cs) (paths n e g k))
 
   meets : (m g : ℕ) (k : List ℤ) (cs : List (List ℕ)) → n.verdict t g k ≡ Inside → meets_inside n t m g k cs ≡ true
   meets zero g k cs v = rw v refl
@@ -152,20 +152,20 @@ module _ (n : Network) (t : Tail) where
   -- all that are extreme, from an inside key on
   pub inside-here : (m e g : ℕ) (k : List ℤ) → g + e ≡ n.count → n.verdict t g k ≡ Inside → inside_part m e g k ≡ extreme_weight n t g k
   inside-here m e g k is v =
-      ap (sum_by (path_weight n g k)) (filter-same (λ cs. is_extreme n t g k cs && meets_inside n t m g k cs) (is_extreme n t g k) (λ cs. ap (λ b. is_extreme n t g k cs && b) (meets m g k cs v) ∙ and_true (is_extreme n t g k cs)) (paths n e g k))
+      ap (sum_by (path_weight n g k)) (filter-same (λ cs. ends_inside n t g k cs && meets_inside n t m g k cs) (ends_inside n t g k) (λ cs. ap (λ b. ends_inside n t g k cs && b) (meets m g k cs v) ∙ and_true (ends_inside n t g k cs)) (paths n e g k))
       ∙ extreme-is e g k is
 
   -- and from another those that meet one later
   pub none-inside : (e g : ℕ) (k : List ℤ) → is_inside (n.verdict t g k) ≡ false → inside_part zero e g k ≡ 0
   none-inside e g k v =
-      with-last (path_weight n g k) (is_extreme n t g k) (paths n e g k) (is_inside (n.verdict t g k))
+      with-last (path_weight n g k) (ends_inside n t g k) (paths n e g k) (is_inside (n.verdict t g k))
       ∙ rw v refl
 
   pub inside-later : (m e g : ℕ) (k : List ℤ) → is_inside (n.verdict t g k) ≡ false → inside_part (suc m) (suc e) g k ≡ sum_by (λ c. n.weight g k c * inside_part m e (g + 1) (n.next g k c)) (n.choices g k)
   inside-later m e g k v =
-      paths-step n e g k (path_weight n g k) (λ cs. is_extreme n t g k cs && meets_inside n t (suc m) g k cs) (n.weight g k) (λ c cs. path_weight n (g + 1) (n.next g k c) cs) (λ c cs. refl)
+      paths-step n e g k (path_weight n g k) (λ cs. ends_inside n t g k cs && meets_inside n t (suc m) g k cs) (n.weight g k) (λ c cs. path_weight n (g + 1) (n.next g k c) cs) (λ c cs. refl)
       ∙ sum_by-same _ _ (λ c. ap (λ j. n.weight g k c * j)
-      (with-or (path_weight n (g + 1) (n.next g k c)) (is_extreme n t (g + 1) (n.next g k c)) (paths n e (g + 1) (n.next g k c)) (is_inside (n.verdict t g k)) v (meets_inside n t m (g + 1) (n.next g k c)))) (n.choices g k)
+      (with-or (path_weight n (g + 1) (n.next g k c)) (ends_inside n t (g + 1) (n.next g k c)) (paths n e (g + 1) (n.next g k c)) (is_inside (n.verdict t g k)) v (meets_inside n t m (g + 1) (n.next g k c)))) (n.choices g k)
 
   closing_inside : (m g : ℕ) (k : List ℤ) → n.verdict t g k ≡ Inside → closing n t m g k ≡ total_weight n g k
   closing_inside zero g k v = rw v refl
@@ -187,11 +187,11 @@ module _ (n : Network) (t : Tail) where
   -- no more than all that is extreme
   pub open-le : (p : List ℤ → Bool) (m : ℕ) → open_sum n t m p ≤ extreme_weight n t 0 n.first
   unfolding open_sum extreme_weight
-  open-le p m = both (path_weight n 0 n.first) (is_extreme n t 0 n.first) (λ cs. stays_open n t m 0 n.first cs && p (met n m 0 n.first cs)) (completions n 0 n.first)
+  open-le p m = both (path_weight n 0 n.first) (ends_inside n t 0 n.first) (λ cs. stays_open n t m 0 n.first cs && p (met n m 0 n.first cs)) (completions n 0 n.first)
 
   pub closed-le : (m : ℕ) → closed_sum n t m ≤ extreme_weight n t 0 n.first
   unfolding closed_sum extreme_weight
-  closed-le m = both (path_weight n 0 n.first) (is_extreme n t 0 n.first) (meets_inside n t m 0 n.first) (completions n 0 n.first)
+  closed-le m = both (path_weight n 0 n.first) (ends_inside n t 0 n.first) (meets_inside n t m 0 n.first) (completions n 0 n.first)
 
   by_verdict : (P : Type 0) (v : Verdict) → (v ≡ Inside → P) → (v ≡ Outside → P) → (v ≡ Undecided → P) → P
   by_verdict P Inside i o u = i refl
@@ -206,7 +206,7 @@ module _ (n : Network) (t : Tail) where
 
     settled_outside : (m e g : ℕ) (k : List ℤ) → IsReached n g k → g + e ≡ n.count → n.verdict t g k ≡ Outside → inside_part m e g k ≡ closing n t m g k
     settled_outside m e g k r is v =
-        let less : inside_part m e g k ≤ 0 = omega (arith, both (path_weight n g k) (is_extreme n t g k) (meets_inside n t m g k) (paths n e g k), extreme-is e g k is, outside-sum n l t g k r (omega (arith, is)) v) in
+        let less : inside_part m e g k ≤ 0 = omega (arith, both (path_weight n g k) (ends_inside n t g k) (meets_inside n t m g k) (paths n e g k), extreme-is e g k is, outside-sum n l t g k r (omega (arith, is)) v) in
         omega (arith, less, closing_outside m g k v)
 
     undecided_first : (e g : ℕ) (k : List ℤ) → n.verdict t g k ≡ Undecided → inside_part zero e g k ≡ closing n t zero g k

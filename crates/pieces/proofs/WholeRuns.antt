@@ -16,7 +16,7 @@ use Rattle.piece_texts.specs.declared.merging.MergeFault.{MergeFault}
 use Rattle.piece_texts.specs.declared.merging.MergeFault.TheVariants.{Foreign, Doubled, Missing, Unequal, NoMemory}
 use Rattle.piece_texts.specs.PieceTexts.{IsPiece}
 use Rattle.piece_texts.specs.Places.{piece_at, NoneBelow, IsFirst}
-use Rattle.piece_texts.specs.Merges.{less_of, greater_of, two_of, summed_to, sum_of, closed_of, over_parts, number_of, merged_number, AddsUp, AllAddUp, IsComplete, IsMergeable, IsMerged, MergeGives, foreign_at, doubled_at, is_missing, unequal_at, tail_differs, passes_total}
+use Rattle.piece_texts.specs.Merges.{less_of, greater_of, two_of, summed_to, sum_of, closed_of, over_parts, number_told, merged_number, AddsUp, AllAddUp, IsComplete, IsMergeable, IsMerged, MergeGives, foreign_at, doubled_at, lacks_piece, unequal_at, tail_differs, passes_total}
 use Rattle.piece_texts.proofs.EachPart.{all-add-up}
 use Rattle.pieces.specs.Cuts.{closed_sum, cut_stage, piece_sum}
 use Rattle.pieces.specs.Undivided.{AreSumsOf, IsUndivided, IsDivided, AreOfOneRun, OkOrNoMemory}
@@ -44,7 +44,7 @@ module _ (tail : Piece → Option PieceSum) (pieces : List Piece) (some : 0 < le
       ∙ sums.add
 
   whole-tail : AddsUp tail pieces → merged_number tail pieces ≡ Some (extreme_weight n t 0 n.first)
-  whole-tail up = ap (λ s. number_of s (summed_to tail pieces (length pieces))) first ∙ ap Some (whole up)
+  whole-tail up = ap (λ s. number_told s (summed_to tail pieces (length pieces))) first ∙ ap Some (whole up)
 
 pub undivided : (pieces : List Piece) (m : Merged) → 0 < length pieces → AllAddUp pieces → IsMerged pieces m → IsUndivided pieces m
 undivided pieces m some up is = record {
@@ -115,7 +115,7 @@ only-memory : (pieces : List Piece) (r : Result Merged MergeFault) → IsMergeab
 only-memory pieces (Ok m) able g = tt
 only-memory pieces (Err (Foreign k)) able g = refuses (foreign_at pieces) (length pieces) g.place g.first able.0.0.0
 only-memory pieces (Err (Doubled k)) able g = refuses (doubled_at pieces) (length pieces) g.1.place g.1.first able.0.0.1
-only-memory pieces (Err (Missing i)) able g = refuses (is_missing pieces) (piece_at pieces 0).parts i g.1 able.0.1
+only-memory pieces (Err (Missing i)) able g = refuses (lacks_piece pieces) (piece_at pieces 0).parts i g.1 able.0.1
 only-memory pieces (Err (Unequal k)) able g = refuses (unequal_at pieces) (length pieces) g.1.place g.1.first able.1
 only-memory pieces (Err NoMemory) able g = tt
 

@@ -8,7 +8,7 @@ use Rattle.weights.proofs.Members.{Contains-filter}
 use Rattle.node_pool.specs.Nodes.{key_cmp}
 use Rattle.networks.specs.declared.stages.Verdict.{Verdict}
 use Rattle.networks.specs.declared.stages.Verdict.TheVariants.{Inside, Outside, Undecided}
-use Rattle.networks.specs.Completions.{extreme_weight, is_extreme, is_inside, over_arcs, path_weight, paths}
+use Rattle.networks.specs.Completions.{extreme_weight, ends_inside, is_inside, over_arcs, path_weight, paths}
 use Rattle.networks.specs.Laws.{IsLawful}
 use Rattle.networks.specs.Network.{Network, IsReached}
 use Rattle.networks.specs.Opened.{is_open, is_undecided, reached_openly}
@@ -29,7 +29,7 @@ extreme-last : (n : Network) (t : Tail) (k : List ℤ) → extreme_weight n t n.
 unfolding extreme_weight
 extreme-last n t k =
     let none : n.count - n.count ≡ 0 = omega arith in
-    ap (λ m. sum_by (path_weight n n.count k) (filter (is_extreme n t n.count k) (paths n m n.count k))) none
+    ap (λ m. sum_by (path_weight n n.count k) (filter (ends_inside n t n.count k) (paths n m n.count k))) none
     ∙ by (is_inside (n.verdict t n.count k))
   where
     by : (b : Bool) → sum_by (path_weight n n.count k) (cond b ([] ∷ []) []) ≡ cond b 1 0

@@ -9,7 +9,7 @@ use Rattle.weights.specs.declared.tails.Tail.{Tail}
 use Rattle.node_pool.specs.Nodes.{Node, key_cmp, key_eq, keys, is_held, weighted}
 use Rattle.node_pool.specs.PoolSteps.{nodes_of}
 use Rattle.networks.specs.Network.{Network}
-use Rattle.networks.specs.Completions.{paths, completions, path_weight, is_inside, is_extreme, extreme_weight}
+use Rattle.networks.specs.Completions.{paths, completions, path_weight, is_inside, ends_inside, extreme_weight}
 use Rattle.stage_network.specs.FromKeys.{AreStarts}
 use Rattle.networks.specs.Opened.{is_open, reached_openly}
 use Rattle.piece_texts.specs.declared.piece.PieceSum.{PieceSum}
@@ -40,13 +40,13 @@ met n (suc m) g k (c ∷ cs) = met n m (g + 1) (n.next g k c) cs
 -- or before
 unfoldable pub closed_sum : Network → Tail → ℕ → ℕ
 closed_sum n t g = sum_by (path_weight n 0 n.first)
-    (filter (λ cs. is_extreme n t 0 n.first cs && meets_inside n t g 0 n.first cs)
+    (filter (λ cs. ends_inside n t 0 n.first cs && meets_inside n t g 0 n.first cs)
     (completions n 0 n.first))
 
 -- that of those that meet open keys alone at the stages up to g, the last of which passes
 unfoldable pub open_sum : Network → Tail → ℕ → (List ℤ → Bool) → ℕ
 open_sum n t g p = sum_by (path_weight n 0 n.first)
-    (filter (λ cs. is_extreme n t 0 n.first cs
+    (filter (λ cs. ends_inside n t 0 n.first cs
     && (stays_open n t g 0 n.first cs && p (met n g 0 n.first cs))) (completions n 0 n.first))
 
 -- a run is divided at the stage that was asked for, or at the last where there are not so many

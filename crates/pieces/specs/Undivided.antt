@@ -10,7 +10,7 @@ use Rattle.piece_texts.specs.declared.merging.Merged.{Merged}
 use Rattle.piece_texts.specs.declared.merging.MergeFault.{MergeFault}
 use Rattle.piece_texts.specs.declared.merging.MergeFault.TheVariants.{Foreign, Doubled, Missing, Unequal, NoMemory}
 use Rattle.piece_texts.specs.Places.{piece_at, NoneBelow}
-use Rattle.piece_texts.specs.Merges.{less_of, greater_of, two_of, doubled_at, is_missing}
+use Rattle.piece_texts.specs.Merges.{less_of, greater_of, two_of, doubled_at, lacks_piece}
 use Rattle.pieces.specs.Cuts.{PiecesAddUp, piece_sum}
 
 -- of a tail, each piece has the sums of its part of a run over this network, divided at this stage
@@ -43,7 +43,7 @@ pub record AreOfOneRun (pieces : List Piece) : Type 0 where
   pub same_parts : AllByRecursion (λ (p : Piece). p.parts ≡ (piece_at pieces 0).parts) pieces
   pub same_head : AllByRecursion (λ (p : Piece). p.head ≡ (piece_at pieces 0).head) pieces
   pub once : NoneBelow (doubled_at pieces) (length pieces)
-  pub each : NoneBelow (is_missing pieces) (piece_at pieces 0).parts
+  pub each : NoneBelow (lacks_piece pieces) (piece_at pieces 0).parts
   pub less : IsDivided less_of pieces
   pub greater : IsDivided greater_of pieces
   pub two : IsDivided two_of pieces

@@ -9,7 +9,7 @@ use Rattle.settings.specs.WholeRuns.{whole}
 use Rattle.settings.specs.declared.settings.Settings.{Settings}
 use Rattle.piece_texts.specs.declared.merging.Merged.{Merged}
 use Rattle.piece_texts.specs.declared.piece.Piece.{Piece}
-use Rattle.piece_texts.specs.Merges.{MergeGives, doubled_at, greater_of, is_missing, less_of, merged_number, occurs, parts_of, two_of}
+use Rattle.piece_texts.specs.Merges.{MergeGives, doubled_at, greater_of, lacks_piece, less_of, merged_number, occurs, parts_of, two_of}
 use Rattle.piece_texts.specs.Places.{NoneBelow, piece_at, unknown}
 use Rattle.pieces.specs.Undivided.{AreOfOneRun}
 use Rattle.pieces.proofs.WholeRuns.{one-run-mergeable}
@@ -75,7 +75,7 @@ module _ (questions : Questions) (settings : Settings) (file bytes : List ℕ) (
       ap (λ p. occurs p.part (take i (parts_of pieces))) (place-is order i low)
       ∙ ap (λ ps. occurs (get_or order i 0) (take i ps)) (parts-are order)
       ∙ none-before order all.once i (omega (arith, low, length-map order piece_of)) in
-      let each : NoneBelow (is_missing pieces) parts.piece.parts = λ part low.
+      let each : NoneBelow (lacks_piece pieces) parts.piece.parts = λ part low.
       let there = all.each part low in
       let here : part ≡ get_or order there.0 0 = sym there.2 ∙ get_or_default order there.0 part 0 there.1 in
       ap (λ ps. not (occurs part ps)) (parts-are order) ∙ ap not (contained-occurs part order there.0 there.1 here) in

@@ -23,8 +23,8 @@ use Rattle.settings.specs.declared.tails.TailChoice.TheVariants as choice
 use Rattle.piece_texts.specs.declared.merging.Merged.{Merged}
 use Rattle.piece_texts.specs.declared.piece.Piece.{Piece}
 use Rattle.piece_texts.specs.declared.piece.PieceSum.{PieceSum}
-use Rattle.piece_texts.specs.Merges.{MergeGives, greater_of, less_of, merged_number, number_of, summed_to, two_of}
-use Rattle.piece_texts.specs.PieceTexts.{IsPiece, TailFits, ended, line_count, piece_text, tail_line}
+use Rattle.piece_texts.specs.Merges.{MergeGives, greater_of, less_of, merged_number, number_told, summed_to, two_of}
+use Rattle.piece_texts.specs.PieceTexts.{IsPiece, TailFits, ended, line_count, piece_text, piece_tail_line}
 use Rattle.piece_texts.specs.ReadPieces.{AreTexts}
 use Rattle.piece_texts.proofs.EachPart.{all-add-up}
 use Rattle.pieces.specs.Cuts.{piece_sum}
@@ -93,7 +93,7 @@ middle front text a b c d =
 head-within : (p : Piece) → length p.head ≤ length (piece_text p)
 head-within p =
     let first = ended (codes "piece 1") ++ ended (codes "name " ++ p.name) ++ ended (codes "parts " ++ decimal p.parts) ++ ended (codes "part " ++ decimal p.part) in
-    middle (first ++ ended (codes "head " ++ decimal (line_count p.head))) p.head (tail_line (codes "less ") p.less) (tail_line (codes "greater ") p.greater) (tail_line (codes "two ") p.two) (ended (codes "end"))
+    middle (first ++ ended (codes "head " ++ decimal (line_count p.head))) p.head (piece_tail_line (codes "less ") p.less) (piece_tail_line (codes "greater ") p.greater) (piece_tail_line (codes "two ") p.two) (ended (codes "end"))
 
 lines-within : (text : List ℕ) → line_count text ≤ length text
 lines-within [] = omega arith
@@ -217,7 +217,7 @@ module _ (questions : Questions) (settings : Settings) (file bytes : List ℕ) (
       let n = question.network tail in
       undivided n tail parts.piece.at (sums-of get tail first rest (serves refl) each) ∙ ap Some (is-numerator tail (serves refl))
   told-sum get tail false first rest number serves each is undivided =
-      is ∙ ap (λ found. number_of found (summed_to get (map own (first ∷ rest)) (length (map own (first ∷ rest))))) (each first)
+      is ∙ ap (λ found. number_told found (summed_to get (map own (first ∷ rest)) (length (map own (first ∷ rest))))) (each first)
 
   abbrev report : List ℕ
   report = report_text (title.Test settings.test) question.sizes question.dropped question.extra (answer_of question.test (open_keys question.network) answer.tails (way_of settings.nodes)) false None

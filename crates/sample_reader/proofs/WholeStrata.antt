@@ -8,7 +8,7 @@ use Rattle.record_reader.specs.Layouts.{MayPick, field_fault, read_in, text_of, 
 use Rattle.record_reader.proofs.LayoutLemmas.{IsRead, and_then-ok, picked-many, read_in-ok, with_fault-ok, with_rows-keep, with_value-ok}
 use Rattle.sample_reader.specs.GroupLayout.{Subjects, different, with_subject_field}
 use Rattle.sample_reader.specs.Kept.{AreWholeInStrata}
-use Rattle.sample_reader.specs.StrataGroups.{StrataSubjects, no_strata, strata_layout, strata_shape, with_stratum, with_subjects}
+use Rattle.sample_reader.specs.StrataGroups.{StrataSubjects, no_strata, strata_groups_layout, strata_groups_shape, with_stratum, with_subjects}
 use Rattle.sample_reader.specs.Values.{label_in}
 use Rattle.sample_reader.proofs.WholeGroups.{one_subject}
 
@@ -36,16 +36,16 @@ one_more rows s t have strata labels values few = record {
   few = few;
 }
 
-one_row : (number rows : ℕ) (fields : List ℕ) (row : List (List ℕ)) (s t : StrataSubjects) → length fields ≡ 3 → HaveRows rows s → with_fields strata_layout number row 0 fields s ≡ Ok t → HaveRows (rows + 1) t
+one_row : (number rows : ℕ) (fields : List ℕ) (row : List (List ℕ)) (s t : StrataSubjects) → length fields ≡ 3 → HaveRows rows s → with_fields strata_groups_layout number row 0 fields s ≡ Ok t → HaveRows (rows + 1) t
 one_row number rows [] row s t three have e = absurd (omega arith)
 one_row number rows (a ∷ []) row s t three have e = absurd (omega arith)
 one_row number rows (a ∷ b ∷ []) row s t three have e = absurd (omega arith)
 one_row number rows (a ∷ b ∷ c ∷ []) row s t three have e =
-    let first = and_then-ok (with_fields strata_layout number row 1 (b ∷ c ∷ [])) _ t e in
+    let first = and_then-ok (with_fields strata_groups_layout number row 1 (b ∷ c ∷ [])) _ t e in
     let stratum = with_value-ok (with_stratum s) (label_in (text_of row a)) first.0 (with_fault-ok (field_fault number a) _ first.0 first.1) in
-    let second = and_then-ok (with_fields strata_layout number row 2 (c ∷ [])) _ t first.2 in
+    let second = and_then-ok (with_fields strata_groups_layout number row 2 (c ∷ [])) _ t first.2 in
     let labelled = with_value-ok (with_subjects first.0) (with_subject_field 2 0 (text_of row b) first.0.subjects) second.0 (with_fault-ok (field_fault number b) _ second.0 second.1) in
-    let third = and_then-ok (with_fields strata_layout number row 3 []) _ t second.2 in
+    let third = and_then-ok (with_fields strata_groups_layout number row 3 []) _ t second.2 in
     let valued = with_value-ok (with_subjects second.0) (with_subject_field 2 1 (text_of row c) second.0.subjects) third.0 (with_fault-ok (field_fault number c) _ third.0 third.1) in
     let all : third.0 ≡ t = let k = third.2 in cc in
     let same : first.0.subjects ≡ s.subjects = sym (ap (λ u. u.subjects) stratum.2) in
@@ -55,12 +55,12 @@ one_row number rows (a ∷ b ∷ c ∷ []) row s t three have e =
     rw (← all, ← valued.2) (one_more rows s (with_subjects second.0 valued.0) have strata_are said.0 said.1 said.2)
 one_row number rows (a ∷ b ∷ c ∷ d ∷ fields) row s t three have e = absurd (omega arith)
 
-whole : (missing : Missing) (picks : Picks) (rows : List (List (List ℕ))) (so_far : StrataSubjects) (fields : List ℕ) → MayPick 3 3 picks → IsRead strata_layout missing picks rows so_far fields → AreWholeInStrata so_far
+whole : (missing : Missing) (picks : Picks) (rows : List (List (List ℕ))) (so_far : StrataSubjects) (fields : List ℕ) → MayPick 3 3 picks → IsRead strata_groups_layout missing picks rows so_far fields → AreWholeInStrata so_far
 whole missing picks rows so_far fields may read =
-    let many = picked-many strata_shape picks (length read.header) fields may read.fields_are in
+    let many = picked-many strata_groups_shape picks (length read.header) fields may read.fields_are in
     let three : length fields ≡ 3 = omega (arith, many.0, many.1) in
     let none : HaveRows 0 no_strata = record { strata = refl; labels = refl; values = refl; few = omega arith } in
-    let kept = with_rows-keep strata_layout missing (length read.header) fields HaveRows (λ number n row s t have e. one_row number n fields row s t three have e)
+    let kept = with_rows-keep strata_groups_layout missing (length read.header) fields HaveRows (λ number n row s t have e. one_row number n fields row s t three have e)
     2 0 read.rest no_strata so_far (omega arith) none read.rows_say in
     let two : length (different so_far.subjects.labels) ≡ 2 = let test = read.enough in let few = kept.holds.few in grind (arith, nat_tests) in
     record {
@@ -74,5 +74,5 @@ whole missing picks rows so_far fields may read =
       one_stratum_each = kept.holds.strata ∙ sym kept.holds.values;
     }
 
-pub strata-whole : (missing : Missing) (picks : Picks) (rows : List (List (List ℕ))) (so_far : StrataSubjects) → MayPick 3 3 picks → read_in strata_layout missing picks rows ≡ Ok so_far → AreWholeInStrata so_far
-strata-whole missing picks rows so_far may e = let read = read_in-ok strata_layout missing picks rows so_far e in whole missing picks rows so_far read.0 may read.1
+pub strata-whole : (missing : Missing) (picks : Picks) (rows : List (List (List ℕ))) (so_far : StrataSubjects) → MayPick 3 3 picks → read_in strata_groups_layout missing picks rows ≡ Ok so_far → AreWholeInStrata so_far
+strata-whole missing picks rows so_far may e = let read = read_in-ok strata_groups_layout missing picks rows so_far e in whole missing picks rows so_far read.0 may read.1

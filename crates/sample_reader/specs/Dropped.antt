@@ -6,7 +6,7 @@ use Rattle.record_reader.specs.Layouts.{MayPick, dropped_rows}
 use Rattle.sample_reader.specs.CellLayouts.{block_layout, pair_layout}
 use Rattle.sample_reader.specs.GroupLayout.{group_layout}
 use Rattle.sample_reader.specs.Sequences.{sequence_layout}
-use Rattle.sample_reader.specs.StrataGroups.{strata_layout}
+use Rattle.sample_reader.specs.StrataGroups.{strata_groups_layout}
 use Rattle.sample_reader.specs.Twins.{twin_layout}
 use Rattle.sample_reader.specs.Values.{binary_in, value_in}
 use Rattle.sample_reader.specs.declared.layout.Layout.{Layout}
@@ -30,6 +30,6 @@ dropped_of Pairs = dropped_rows pair_layout Drop
 dropped_of Groups = dropped_rows (group_layout MOST_LABELS) Drop
 dropped_of Blocks = dropped_rows (block_layout value_in) Drop
 dropped_of BinaryBlocks = dropped_rows (block_layout binary_in) Drop
-dropped_of StrataGroups = dropped_rows strata_layout Drop
+dropped_of StrataGroups = dropped_rows strata_groups_layout Drop
 dropped_of Twins = dropped_rows twin_layout Drop
 dropped_of Sequence = dropped_rows sequence_layout Drop

@@ -52,12 +52,13 @@ abbrev pub is_missing_in_strata : ℕ → List ℕ → Bool
 is_missing_in_strata place text =
     if place == 0 then is_missing_label text else is_missing_field (place - 1) text
 
-abbrev pub strata_shape : Shape
-strata_shape = record { narrowest = 3; widest = 3; too_wide = FieldCount; most_rows = MOST_ROWS }
+abbrev pub strata_groups_shape : Shape
+strata_groups_shape =
+    record { narrowest = 3; widest = 3; too_wide = FieldCount; most_rows = MOST_ROWS }
 
-abbrev pub strata_layout : Layout StrataSubjects
-strata_layout = record {
-  shape = strata_shape;
+abbrev pub strata_groups_layout : Layout StrataSubjects
+strata_groups_layout = record {
+  shape = strata_groups_shape;
   start = no_strata;
   with_field = with_strata_field;
   is_missing = is_missing_in_strata;
@@ -80,4 +81,4 @@ stratified so_far =
 abbrev pub strata_groups_in : Missing → Picks → List (List (List ℕ))
     → Result StrataGroupData LayoutFault
 strata_groups_in missing picks rows =
-    with_value stratified (read_in strata_layout missing picks rows)
+    with_value stratified (read_in strata_groups_layout missing picks rows)

@@ -114,9 +114,9 @@ impl StrataSoFar {
 pub(crate) struct StrataLayout;
 
 impl Layout<StrataSoFar> for StrataLayout {
-    ghost use Rattle.sample_reader.specs.StrataGroups.{strata_layout};
+    ghost use Rattle.sample_reader.specs.StrataGroups.{strata_groups_layout};
 
-    ghost meaning = { λ _. strata_layout };
+    ghost meaning = { λ _. strata_groups_layout };
 
     fn shape(&self) -> Shape {
         Shape {

@@ -7,7 +7,7 @@ use Rattle.std.proofs.Math.Nat.{mul-le-mul_left, mul-div_cancel_left, pow-le-pow
 use Rattle.std.proofs.lemmas.Nat.{pow-add, pow_pos}
 use Rattle.std.proofs.lemmas.List.Sums.{sum_by-cons, sum_by-take-drop}
 use Rattle.label_network.proofs.Rows.{write-more}
-use Rattle.sequence_tests.specs.CountCodes.{marks, with_count, last_mark, code, first_count, later_bits, counts_in, counts_of_code}
+use Rattle.sequence_tests.specs.CountCodes.{marks, with_count_bits, last_mark, code, first_count, later_bits, counts_in, counts_of_code}
 
 pub sum-first : (x : ℕ) (xs : List ℕ) → sum (x ∷ xs) ≡ x + sum xs
 sum-first x xs = sum_by-cons (λ v. v) x xs
@@ -124,7 +124,7 @@ read-code m xs long few = ap (counts_in m) (code-marks xs) ∙ read-marks m xs (
 
 -- what the bodies ask
 
-pub marks-at : (xs : List ℕ) (i : ℕ) → i < length xs → with_count (get_or xs i 0) (marks (drop (i + 1) xs)) ≡ marks (drop i xs)
+pub marks-at : (xs : List ℕ) (i : ℕ) → i < length xs → with_count_bits (get_or xs i 0) (marks (drop (i + 1) xs)) ≡ marks (drop i xs)
 marks-at xs i h = let split : drop i xs ≡ get_or xs i 0 ∷ drop (i + 1) xs = rw add-one (drop-cons xs i 0 h) in sym (ap marks split)
 
 pub marks-small : (xs : List ℕ) (i : ℕ) → sum xs ≤ 120 → marks (drop i xs) < 2 ^ 120

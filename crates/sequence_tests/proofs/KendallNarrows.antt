@@ -16,7 +16,7 @@ use Rattle.room_network.specs.Meanings.{AreReached, IsMeasure}
 use Rattle.room_network.specs.Plans.{alone}
 use Rattle.room_network.specs.Numbers.{IsNumber, IsOutcome, so_far}
 use Rattle.room_network.specs.declared.numbers.Operation.TheVariants.{Sum}
-use Rattle.sequence_tests.specs.KendallNetwork.{added, kendall_meaning, kendall_numbers, open_pairs, pairs_among, concordant_pairs, concordance}
+use Rattle.sequence_tests.specs.KendallNetwork.{concordance_added, kendall_meaning, kendall_numbers, open_pairs, pairs_among, concordant_pairs, concordance}
 use Rattle.sequence_tests.specs.KendallRooms.{counts_left, kendall_floor, kendall_plan}
 use Rattle.sequence_tests.specs.KendallSteps.{AreKendallCounts, IsKendall}
 use Rattle.sequence_tests.proofs.CodeLaws.{sum-first}
@@ -68,7 +68,7 @@ module _ (columns rows : List ℕ) (judge : Judge) where
     chosen : IsChoice (slice_index columns g) left c
     chosen = choice columns rows a g room r c o
 
-    pub added-few : unsigned_abs (added columns (length rows) g room c) ≤ 14400
+    pub added-few : unsigned_abs (concordance_added columns (length rows) g room c) ≤ 14400
     added-few = omega (arith, ints, concordance-low c (minus left c), concordance-high c (minus left c), mul-le-mul (choice-few columns rows a g room r c o) (after-few columns rows a g room r c o))
 
     placed : sum c * sum (minus left c) ≡ slice_index columns g * sum (drop (g + 1) columns)
@@ -80,10 +80,10 @@ module _ (columns rows : List ℕ) (judge : Judge) where
     narrower : open_pairs columns g ≡ sum c * sum (minus left c) + open_pairs columns (g + 1)
     narrower = rw placed (open-next columns g before)
 
-    pub rising : (s : ℤ) → (s +ℤ (pos 0 -ℤ pos (open_pairs columns g))) ≤ℤ ((s +ℤ added columns (length rows) g room c) +ℤ (pos 0 -ℤ pos (open_pairs columns (g + 1))))
+    pub rising : (s : ℤ) → (s +ℤ (pos 0 -ℤ pos (open_pairs columns g))) ≤ℤ ((s +ℤ concordance_added columns (length rows) g room c) +ℤ (pos 0 -ℤ pos (open_pairs columns (g + 1))))
     rising s = omega (arith, ints, narrower, concordance-low c (minus left c))
 
-    pub falling : (s : ℤ) → ((s +ℤ added columns (length rows) g room c) +ℤ pos (open_pairs columns (g + 1))) ≤ℤ (s +ℤ pos (open_pairs columns g))
+    pub falling : (s : ℤ) → ((s +ℤ concordance_added columns (length rows) g room c) +ℤ pos (open_pairs columns (g + 1))) ≤ℤ (s +ℤ pos (open_pairs columns g))
     falling s = omega (arith, ints, narrower, concordance-high c (minus left c))
 
   less-none : (s : ℤ) → s +ℤ (pos 0 -ℤ pos (open_pairs columns (length columns))) ≡ s

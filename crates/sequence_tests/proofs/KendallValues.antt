@@ -21,7 +21,7 @@ use Rattle.label_network.specs.LaterSums.{subjects}
 use Rattle.room_network.specs.Numbers.{so_far}
 use Rattle.label_network.proofs.Narrowing.{fits-self, minus-within}
 use Rattle.sequence_tests.specs.Kendall.{kendall_statistic, one_where_greater, one_where_less, over_pairs}
-use Rattle.sequence_tests.specs.KendallNetwork.{added, kendall_meaning, concordant_pairs, concordance}
+use Rattle.sequence_tests.specs.KendallNetwork.{concordance_added, kendall_meaning, concordant_pairs, concordance}
 use Rattle.sequence_tests.specs.KendallRooms.{room_of_counts}
 use Rattle.sequence_tests.proofs.Arranged.{arranged, minus-arranged, concordant-arranged}
 use Rattle.sequence_tests.proofs.CodeLaws.{sum-first}
@@ -188,9 +188,9 @@ module _ (columns rows : List ℕ) (judge : Judge) where
       let whole : sum r ≡ length xs = sum-counts_of (length xs) k xs (record { long = refl; below = a }) in
       let for : AreFor columns rows g r = record { long = length-counts_of k xs; whole = ap sum d ∙ sym long ∙ sym whole; few = omega (arith, whole, few) } in
       let next = next-is columns rows g r x for x_long both.0 ∙ ap room_of_counts both.1 in
-      let add : added columns k g (room_of_counts r) (arranged r x) ≡ pos (crossed one_where_less (take c xs) (drop c xs)) -ℤ pos (crossed one_where_greater (take c xs) (drop c xs)) =
+      let add : concordance_added columns k g (room_of_counts r) (arranged r x) ≡ pos (crossed one_where_less (take c xs) (drop c xs)) -ℤ pos (crossed one_where_greater (take c xs) (drop c xs)) =
       ap (λ s. concordance (arranged r x) (minus s (arranged r x))) (counts-are columns rows g r for) ∙ left-concordance r x x_long both.0 ∙ ap (concordance x) both.1 ∙ concordance-is (take c xs) (drop c xs) (all-take (λ x. x < k) c xs a) (all-drop (λ x. x < k) c xs a) in
-      let t : ℤ = added columns k g (room_of_counts r) (arranged r x) in
+      let t : ℤ = concordance_added columns k g (room_of_counts r) (arranged r x) in
       ap (λ room. so_far (partial_after (kendall_meaning columns rows judge) (g + 1) room ((so_far q +ℤ t) ∷ []) (moved (minus r x) (columns_of k cs (drop c xs))))) next
       ∙ ap (λ s. so_far (partial_after (kendall_meaning columns rows judge) (g + 1) (room_of_counts z) ((so_far q +ℤ t) ∷ []) (moved s (columns_of k cs (drop c xs))))) both.1
       ∙ value-from cs (g + 1) ((so_far q +ℤ t) ∷ []) (drop c xs) (sym (drop-drop 1 g columns) ∙ ap (drop 1) d) (omega (arith, enough, length-drop c xs)) (omega (arith, few, length-drop c xs)) (all-drop (λ x. x < k) c xs a)

@@ -13,7 +13,7 @@ use Rattle.weights.proofs.Sized.{first_and, length-minus}
 use Rattle.label_network.specs.Meanings.{AreReached, IsMeasure, Meaning}
 use Rattle.label_network.proofs.Narrowing.{IsLeft, IsNarrowing, measured, reached-kept, reached-left}
 use Rattle.sequence_tests.proofs.CodeLaws.{sum-first}
-use Rattle.sequence_tests.specs.RunNetwork.{begins_run, firsts_in, label_in, last_in, least_to_come, most_to_come, runs_meaning, runs_so_far, seconds_in}
+use Rattle.sequence_tests.specs.RunNetwork.{begins_run, firsts_in, chosen_label, last_in, least_to_come, most_to_come, runs_meaning, runs_so_far, seconds_in}
 
 pub sum-two : (a b : ℕ) → sum (a ∷ b ∷ []) ≡ a + b
 sum-two a b = omega (arith, sum-first a (b ∷ []), sum-first b [])
@@ -80,15 +80,15 @@ one_of a b (suc zero ∷ y ∷ []) o =
 one_of a b (suc (suc x) ∷ y ∷ []) o = absurd (omega (arith, o.whole, sum-two (suc (suc x)) y))
 
 -- from sizes and a choice to the next
-low-step : (last a b : ℕ) (c : List ℕ) → IsOne a b c → least_to_come last a b ≤ begins_run last (label_in c) + least_to_come (label_in c) (firsts_in (minus (a ∷ b ∷ []) c)) (seconds_in (minus (a ∷ b ∷ []) c))
+low-step : (last a b : ℕ) (c : List ℕ) → IsOne a b c → least_to_come last a b ≤ begins_run last (chosen_label c) + least_to_come (chosen_label c) (firsts_in (minus (a ∷ b ∷ []) c)) (seconds_in (minus (a ∷ b ∷ []) c))
 low-step last a b c (one_first h e) = let all : b - 0 ≡ b = omega arith in rw (e, all) (low-first last a b h)
 low-step last a b c (one_second h e) = let all : a - 0 ≡ a = omega arith in rw (e, all) (low-second last a b h)
 
-high-step : (last a b : ℕ) (c : List ℕ) → IsOne a b c → begins_run last (label_in c) + most_to_come (label_in c) (firsts_in (minus (a ∷ b ∷ []) c)) (seconds_in (minus (a ∷ b ∷ []) c)) ≤ most_to_come last a b
+high-step : (last a b : ℕ) (c : List ℕ) → IsOne a b c → begins_run last (chosen_label c) + most_to_come (chosen_label c) (firsts_in (minus (a ∷ b ∷ []) c)) (seconds_in (minus (a ∷ b ∷ []) c)) ≤ most_to_come last a b
 high-step last a b c (one_first h e) = let all : b - 0 ≡ b = omega arith in rw (e, all) (high-first last a b h)
 high-step last a b c (one_second h e) = let all : a - 0 ≡ a = omega arith in rw (e, all) (high-second last a b h)
 
-label-few : (a b : ℕ) (c : List ℕ) → IsOne a b c → label_in c ≤ 1
+label-few : (a b : ℕ) (c : List ℕ) → IsOne a b c → chosen_label c ≤ 1
 label-few a b c (one_first h e) = rw e (omega arith)
 label-few a b c (one_second h e) = rw e (omega arith)
 
@@ -130,11 +130,11 @@ module _ (a b : ℕ) (judge : Judge) where
   pub here : (g : ℕ) (r c : List ℕ) → g < length m.columns → IsChoice (slice_index m.columns g) r c → length r ≡ 2 → IsOne (firsts_in r) (seconds_in r) c
   here g r c h o e = one_of (firsts_in r) (seconds_in r) c (subst (λ s. IsChoice 1 s c) (two-of r e) (rw (one-each g h) at o))
 
-  lows : (last : ℕ) (r c : List ℕ) → length r ≡ 2 → IsOne (firsts_in r) (seconds_in r) c → least_to_come last (firsts_in r) (seconds_in r) ≤ begins_run last (label_in c) + least_to_come (label_in c) (firsts_in (minus r c)) (seconds_in (minus r c))
-  lows last r c e o = subst (λ s. least_to_come last (firsts_in r) (seconds_in r) ≤ begins_run last (label_in c) + least_to_come (label_in c) (firsts_in (minus s c)) (seconds_in (minus s c))) (sym (two-of r e)) (low-step last (firsts_in r) (seconds_in r) c o)
+  lows : (last : ℕ) (r c : List ℕ) → length r ≡ 2 → IsOne (firsts_in r) (seconds_in r) c → least_to_come last (firsts_in r) (seconds_in r) ≤ begins_run last (chosen_label c) + least_to_come (chosen_label c) (firsts_in (minus r c)) (seconds_in (minus r c))
+  lows last r c e o = subst (λ s. least_to_come last (firsts_in r) (seconds_in r) ≤ begins_run last (chosen_label c) + least_to_come (chosen_label c) (firsts_in (minus s c)) (seconds_in (minus s c))) (sym (two-of r e)) (low-step last (firsts_in r) (seconds_in r) c o)
 
-  highs : (last : ℕ) (r c : List ℕ) → length r ≡ 2 → IsOne (firsts_in r) (seconds_in r) c → begins_run last (label_in c) + most_to_come (label_in c) (firsts_in (minus r c)) (seconds_in (minus r c)) ≤ most_to_come last (firsts_in r) (seconds_in r)
-  highs last r c e o = subst (λ s. begins_run last (label_in c) + most_to_come (label_in c) (firsts_in (minus s c)) (seconds_in (minus s c)) ≤ most_to_come last (firsts_in r) (seconds_in r)) (sym (two-of r e)) (high-step last (firsts_in r) (seconds_in r) c o)
+  highs : (last : ℕ) (r c : List ℕ) → length r ≡ 2 → IsOne (firsts_in r) (seconds_in r) c → begins_run last (chosen_label c) + most_to_come (chosen_label c) (firsts_in (minus r c)) (seconds_in (minus r c)) ≤ most_to_come last (firsts_in r) (seconds_in r)
+  highs last r c e o = subst (λ s. begins_run last (chosen_label c) + most_to_come (chosen_label c) (firsts_in (minus s c)) (seconds_in (minus s c)) ≤ most_to_come last (firsts_in r) (seconds_in r)) (sym (two-of r e)) (high-step last (firsts_in r) (seconds_in r) c o)
 
   at_end : (r : List ℕ) → length r ≡ 2 → IsLeft m (length m.columns) r → (f : ℕ → ℕ → ℕ) → f 0 0 ≡ 0 → f (firsts_in r) (seconds_in r) ≡ 0
   at_end r e l f n =
@@ -153,7 +153,7 @@ module _ (a b : ℕ) (judge : Judge) where
           last = refl;
           label = omega (arith, label-few (firsts_in r) (seconds_in r) c one);
           runs = omega (arith, ints, k.runs);
-          few = omega (arith, ints, k.runs, begins-few (last_in p) (label_in c), k.few);
+          few = omega (arith, ints, k.runs, begins-few (last_in p) (chosen_label c), k.few);
         };
     rises = λ g r c p before l o k. omega (arith, ints, lows (last_in p) r c k.sizes (here g r c before o k.sizes));
     falls = λ g r c p before l o k. omega (arith, ints, highs (last_in p) r c k.sizes (here g r c before o k.sizes));

@@ -8,7 +8,7 @@ use Rattle.weights.specs.Labellings.{counts_of}
 use Rattle.networks.specs.declared.verdicts.Judge.{Judge}
 use Rattle.label_network.proofs.Endings.{labelling_value, partial_after}
 use Rattle.label_network.specs.Meanings.{Meaning}
-use Rattle.sequence_tests.specs.RunNetwork.{begins_run, label_in, runs_meaning, runs_so_far}
+use Rattle.sequence_tests.specs.RunNetwork.{begins_run, chosen_label, runs_meaning, runs_so_far}
 use Rattle.sequence_tests.proofs.RunNarrows.{begins-few}
 use Rattle.sequence_tests.specs.Runs.{blocks, put_before, runs}
 
@@ -65,7 +65,7 @@ runs-are (x ∷ xs) a = omega (arith, first-begins x a.0, runs-from x xs)
 -- ---- the measure
 
 -- the count of one row for the second label is its label
-label-of : (x : ℕ) → x < 2 → label_in (counts_of 2 (x ∷ [])) ≡ x
+label-of : (x : ℕ) → x < 2 → chosen_label (counts_of 2 (x ∷ [])) ≡ x
 label-of zero h = refl
 label-of (suc zero) h = refl
 label-of (suc (suc n)) h = absurd (omega (arith, h))

@@ -6,14 +6,14 @@ use Rattle.std.specs.Int.Count.{count_trailing_zeros}
 use Rattle.std.specs.List.{sum}
 
 -- the bits of the units of a count, before the bits of later ones
-abbrev pub with_count : ℕ → ℕ → ℕ
-with_count zero bits = bits
-with_count (suc c) bits = 2 ^ c * (1 + 2 * bits)
+abbrev pub with_count_bits : ℕ → ℕ → ℕ
+with_count_bits zero bits = bits
+with_count_bits (suc c) bits = 2 ^ c * (1 + 2 * bits)
 
 -- the bits of all units
 abbrev pub marks : List ℕ → ℕ
 marks [] = 0
-marks (c ∷ counts) = with_count c (marks counts)
+marks (c ∷ counts) = with_count_bits c (marks counts)
 
 -- the bit of the last of some units
 abbrev pub last_mark : ℕ → ℕ

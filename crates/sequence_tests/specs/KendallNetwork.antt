@@ -38,13 +38,13 @@ abbrev pub open_pairs : List ℕ → ℕ → ℕ
 open_pairs columns g = pairs_among (drop g columns)
 
 -- what a choice adds
-abbrev pub added : List ℕ → ℕ → ℕ → List ℤ → List ℕ → ℤ
-added columns m g room c = concordance c (minus (counts_left columns m g room) c)
+abbrev pub concordance_added : List ℕ → ℕ → ℕ → List ℤ → List ℕ → ℤ
+concordance_added columns m g room c = concordance c (minus (counts_left columns m g room) c)
 
 abbrev pub kendall_numbers : List ℕ → List ℕ → Judge → Numbers (List ℤ)
 kendall_numbers columns rows judge = record {
   operation = Sum;
-  step = λ g room c. added columns (length rows) g room c;
+  step = λ g room c. concordance_added columns (length rows) g room c;
   least = λ g room. pos 0 -ℤ pos (open_pairs columns g);
   greatest = λ g room. pos (open_pairs columns g);
   judge = judge;

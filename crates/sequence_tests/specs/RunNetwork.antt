@@ -20,8 +20,8 @@ abbrev pub runs_so_far : List ℤ → ℤ
 runs_so_far p = get_or p 1 (pos 0)
 
 -- a choice for one row has a count of 1 for its label
-abbrev pub label_in : List ℕ → ℕ
-label_in c = get_or c 1 0
+abbrev pub chosen_label : List ℕ → ℕ
+chosen_label c = get_or c 1 0
 
 -- a label that differs from the one before begins a run
 abbrev pub begins_run : ℕ → ℕ → ℕ
@@ -72,7 +72,7 @@ runs_meaning a b judge = record {
   first = pos 2 ∷ pos 0 ∷ [];
   step = λ g r x. [];
   advance = λ g r x p.
-      pos (label_in x) ∷ (runs_so_far p +ℤ pos (begins_run (last_in p) (label_in x))) ∷ [];
+      pos (chosen_label x) ∷ (runs_so_far p +ℤ pos (begins_run (last_in p) (chosen_label x))) ∷ [];
   outlook = λ g r. runs_outlook (firsts_in r) (seconds_in r);
   value = runs_so_far;
   low = λ g r p. runs_so_far p +ℤ pos (least_to_come (last_in p) (firsts_in r) (seconds_in r));

@@ -2,7 +2,7 @@
 ghost use Rattle.std.specs.Prelude.{◌≡◌, ◌^◌, ◌<◌, ◌≤◌, length, pos};
 ghost use Rattle.std.specs.List.{sum};
 ghost use Rattle.sequence_tests.specs.CountCodes.{code, counts_of_code, first_count, last_mark};
-ghost use Rattle.sequence_tests.specs.CountCodes.{later_bits, with_count};
+ghost use Rattle.sequence_tests.specs.CountCodes.{later_bits, with_count_bits};
 
 use weights::total_of;
 
@@ -17,8 +17,8 @@ fn last_mark(units: u64) -> u128
 // The bits of the units of a count, before those of later counts.
 fn with_count(count: u64, later: u128) -> u128
     requires few { count ≤ 120 }
-    requires small { with_count count later < 2 ^ 120 }
-    ensures { result ≡ with_count count later }
+    requires small { with_count_bits count later < 2 ^ 120 }
+    ensures { result ≡ with_count_bits count later }
 {
     if count == 0 {
         later

@@ -9,8 +9,8 @@ use Rattle.sample_reader.specs.Groups.{GroupData}
 use Rattle.sample_reader.specs.PooledSample.{paired_subjects, values_of}
 
 -- the power of ten that makes all values whole
-abbrev pub places_of : GroupData → ℕ
-places_of groups = scale_of Raw groups.values
+abbrev pub decimal_places_of : GroupData → ℕ
+decimal_places_of groups = scale_of Raw groups.values
 
 -- the values with a label
 unfoldable pub labelled_values : ℕ → List ℤ → List ℕ → List ℤ

@@ -6,7 +6,7 @@ use Rattle.record_reader.specs.declared.TheConstants.{MOST_ROWS}
 use Rattle.sample_reader.specs.Groups.{GroupData}
 use Rattle.sample_reader.specs.Kept.{AreDifferences}
 use Rattle.networks.specs.Lines.{WeightsFit, line_sum}
-use Rattle.shift_limits.specs.Differences.{differences, places_of}
+use Rattle.shift_limits.specs.Differences.{differences, decimal_places_of}
 use Rattle.shift_limits.specs.LaterPairs.{labellings_below}
 use Rattle.shift_limits.specs.declared.differences.Differences.{Differences}
 
@@ -20,7 +20,7 @@ untied groups = record {
 
 -- the differences that are made of groups
 pub record AreMade (groups : GroupData) (made : Differences) : Type 0 where
-  pub places : made.places ≡ places_of groups
+  pub places : made.places ≡ decimal_places_of groups
   pub list : made.list.items ≡ differences groups
   pub some : 1 ≤ length (differences groups)
   pub in_range : AreDifferences (differences groups)

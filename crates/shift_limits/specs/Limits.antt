@@ -8,7 +8,7 @@ use Rattle.weights.specs.declared.TheConstants.{MAX}
 use Rattle.weights.specs.declared.limits.Limits.{Limits}
 use Rattle.weights.specs.declared.odds.Odds.{Odds}
 use Rattle.sample_reader.specs.Groups.{GroupData, group_sizes}
-use Rattle.shift_limits.specs.Differences.{difference_at, differences, middle_of, places_of}
+use Rattle.shift_limits.specs.Differences.{difference_at, differences, middle_of, decimal_places_of}
 use Rattle.shift_limits.specs.LaterPairs.{greatest_to, labellings_below, misses_at_most}
 use Rattle.shift_limits.specs.declared.faults.ShiftFault.{ShiftFault}
 use Rattle.shift_limits.specs.declared.faults.ShiftFault.TheVariants.{TooWide, NoMemory}
@@ -29,7 +29,7 @@ limits_of groups miss =
     let place = place_of_limits groups miss in
     record {
       differences = length list;
-      places = places_of groups;
+      places = decimal_places_of groups;
       middle = middle_of list;
       lower = limit_at place (difference_at list place);
       upper = limit_at place (difference_at list (length list + 1 - place));

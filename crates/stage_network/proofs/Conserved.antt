@@ -9,7 +9,7 @@ use Rattle.weights.specs.declared.tails.Tail.{Tail}
 use Rattle.networks.specs.declared.stages.Verdict.{Verdict}
 use Rattle.networks.specs.declared.stages.Verdict.TheVariants.{Inside, Outside, Undecided}
 use Rattle.node_pool.specs.Nodes.{Node, weighted}
-use Rattle.networks.specs.Completions.{is_inside, is_extreme, total_weight, extreme_weight, completions, path_weight}
+use Rattle.networks.specs.Completions.{is_inside, ends_inside, total_weight, extreme_weight, completions, path_weight}
 use Rattle.networks.specs.Laws.{IsLawful}
 use Rattle.networks.specs.Network.{Network, IsReached}
 use Rattle.stage_network.specs.NodeSteps.{successor, successors, closed_part, closed_weight, AllReached}
@@ -34,11 +34,11 @@ open_part n g here a = cond (is_open_for_some n g a.key) (a.weight * here a.key)
 -- a verdict's word on the sums
 pub inside-sum : (n : Network) → IsLawful n → (t : Tail) (g : ℕ) (k : List ℤ) → IsReached n g k → g ≤ n.count → n.verdict t g k ≡ Inside → extreme_weight n t g k ≡ total_weight n g k
 unfolding total_weight extreme_weight
-inside-sum n l t g k r h v = ap (sum_by (path_weight n g k)) (filter_all (is_extreme n t g k) (completions n g k) (l.inside t g k r h v))
+inside-sum n l t g k r h v = ap (sum_by (path_weight n g k)) (filter_all (ends_inside n t g k) (completions n g k) (l.inside t g k r h v))
 
 pub outside-sum : (n : Network) → IsLawful n → (t : Tail) (g : ℕ) (k : List ℤ) → IsReached n g k → g ≤ n.count → n.verdict t g k ≡ Outside → extreme_weight n t g k ≡ 0
 unfolding extreme_weight
-outside-sum n l t g k r h v = ap (sum_by (path_weight n g k)) (filter_none (is_extreme n t g k) (completions n g k) (l.outside t g k r h v))
+outside-sum n l t g k r h v = ap (sum_by (path_weight n g k)) (filter_none (ends_inside n t g k) (completions n g k) (l.outside t g k r h v))
 
 -- by the verdict at a node, and whether it is open for some tail
 by_verdict : (some : Bool) (v : Verdict) (w e total : ℕ) → (is_undecided v ≡ true → some ≡ true) → (v ≡ Inside → e ≡ total) → (v ≡ Outside → e ≡ 0) → w * e ≡ cond (cond some false (is_inside v)) (w * total) 0 + cond some (w * e) 0

@@ -5,7 +5,7 @@ use Rattle.std.specs.List.{AllByRecursion}
 use Rattle.std.proofs.lemmas.List.{get_or-drop, get_or-take}
 use Rattle.std.proofs.lemmas.List.Elements.{All-from_recursion, recursion_from_All}
 use Rattle.strata_cells.specs.declared.stratum.Stratum.{Stratum}
-use Rattle.strata_cells.specs.Strata.{strata_in, strata_of, stratum_of}
+use Rattle.strata_cells.specs.Strata.{strata_of_cells, strata_of, stratum_of}
 use Rattle.strata_cells.specs.StrataLimits.{IsSmall}
 use Rattle.strata_cells.proofs.StrataSums.{past-drop}
 
@@ -16,7 +16,7 @@ drops m (suc n) (x ∷ xs) = drops m n xs ∙ ap (λ i. drop i (x ∷ xs)) (let 
 
 -- strata that are read
 pub record IsRead (cells : List ℕ) (n : ℕ) (strata : List Stratum) : Type 0 where
-  pub reading : strata ++ strata_in (length cells / 4 - n) (drop (4 * n) cells) ≡ strata_of cells
+  pub reading : strata ++ strata_of_cells (length cells / 4 - n) (drop (4 * n) cells) ≡ strata_of cells
 
 module _ (cells : List ℕ) where
   pub stratum-is : (n : ℕ) → stratum_of (take 4 (drop (4 * n) cells)) ≡ record { a = get_or cells (4 * n) 0; b = get_or cells (4 * n + 1) 0; c = get_or cells (4 * n + 2) 0; d = get_or cells (4 * n + 3) 0 }
@@ -30,12 +30,12 @@ module _ (cells : List ℕ) where
       let left : length cells / 4 - n ≡ suc (length cells / 4 - (n + 1)) = omega (arith, h) in
       let on : drop 4 (drop (4 * n) cells) ≡ drop (4 * (n + 1)) cells = drops 4 (4 * n) cells ∙ ap (λ i. drop i cells) (let e : 4 * n + 4 ≡ 4 * (n + 1) = omega arith in e) in
       record {
-        reading = append_assoc strata (stratum_of (take 4 (drop (4 * n) cells)) ∷ []) (strata_in (length cells / 4 - (n + 1)) (drop (4 * (n + 1)) cells))
-            ∙ ap (λ rest. strata ++ stratum_of (take 4 (drop (4 * n) cells)) ∷ strata_in (length cells / 4 - (n + 1)) rest) (sym on)
-            ∙ ap (λ m. strata ++ strata_in m (drop (4 * n) cells)) (sym left) ∙ s.reading;
+        reading = append_assoc strata (stratum_of (take 4 (drop (4 * n) cells)) ∷ []) (strata_of_cells (length cells / 4 - (n + 1)) (drop (4 * (n + 1)) cells))
+            ∙ ap (λ rest. strata ++ stratum_of (take 4 (drop (4 * n) cells)) ∷ strata_of_cells (length cells / 4 - (n + 1)) rest) (sym on)
+            ∙ ap (λ m. strata ++ strata_of_cells m (drop (4 * n) cells)) (sym left) ∙ s.reading;
       }
 
-strata-many : (n : ℕ) (cells : List ℕ) → length (strata_in n cells) ≡ n
+strata-many : (n : ℕ) (cells : List ℕ) → length (strata_of_cells n cells) ≡ n
 strata-many zero cells = refl
 strata-many (suc n) cells = ap suc (strata-many n (drop 4 cells))
 
@@ -45,7 +45,7 @@ strata-few cells h = omega (arith, strata-many (length cells / 4) cells, few (le
     few : (n : ℕ) → n ≤ 4 * 10000 → n / 4 ≤ 10000
     few n h = omega (arith, h)
 
-small-in : (n : ℕ) (cells : List ℕ) → ((i : ℕ) → get_or cells i 0 ≤ 1000000) → AllByRecursion IsSmall (strata_in n cells)
+small-in : (n : ℕ) (cells : List ℕ) → ((i : ℕ) → get_or cells i 0 ≤ 1000000) → AllByRecursion IsSmall (strata_of_cells n cells)
 small-in zero cells h = tt
 small-in (suc n) cells h =
     let at : (i : ℕ) → i < 4 → get_or (take 4 cells) i 0 ≤ 1000000 = λ i l. rw (get_or-take 4 cells i 0 l) (h i) in

@@ -16,12 +16,12 @@ stratum_of cells = record {
 }
 
 -- so many strata, four cells for each
-abbrev pub strata_in : ℕ → List ℕ → List Stratum
-strata_in zero cells = []
-strata_in (suc n) cells = stratum_of (take 4 cells) ∷ strata_in n (drop 4 cells)
+abbrev pub strata_of_cells : ℕ → List ℕ → List Stratum
+strata_of_cells zero cells = []
+strata_of_cells (suc n) cells = stratum_of (take 4 cells) ∷ strata_of_cells n (drop 4 cells)
 
 abbrev pub strata_of : List ℕ → List Stratum
-strata_of cells = strata_in (length cells / 4) cells
+strata_of cells = strata_of_cells (length cells / 4) cells
 
 -- how many subjects a stratum has, in all, in each row, and in its first column
 abbrev pub size : Stratum → ℕ

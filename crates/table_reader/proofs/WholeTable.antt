@@ -12,7 +12,7 @@ use Rattle.record_reader.proofs.LayoutLemmas.{IsRead, and_then-ok, picked-many, 
 use Rattle.table_reader.proofs.Places.{behind_first}
 use Rattle.table_reader.specs.Counts.{count_in}
 use Rattle.table_reader.specs.Kept.{HasShape}
-use Rattle.table_reader.specs.TableLayout.{RowCounts, no_rows, table_layout, table_shape, tabled, with_count}
+use Rattle.table_reader.specs.TableLayout.{RowCounts, no_rows, table_layout, table_shape, tabled, with_cell}
 
 -- either kind of table has at least two columns
 pub at_least_two : (two_by_two : Bool) → (table_shape two_by_two).narrowest ≡ 2
@@ -26,7 +26,7 @@ module _ (shape : Shape) where
   more_fields number place [] row s t behind e = let same : s ≡ t = cc in rw (← same) (omega arith, omega arith)
   more_fields number place (field ∷ fields) row s t behind e =
       let first = and_then-ok (with_fields (table_layout shape) number row (place + 1) fields) _ t e in
-      let cell = with_value-ok (with_count place s) (count_in (text_of row field)) first.0 (with_fault-ok (field_fault number field) _ first.0 first.1) in
+      let cell = with_value-ok (with_cell place s) (count_in (text_of row field)) first.0 (with_fault-ok (field_fault number field) _ first.0 first.1) in
       let one : length first.0.cells ≡ length s.cells + 1 = sym (ap (λ t. length t.cells) cell.2) ∙ length_push s.cells cell.0 in
       let as_many : first.0.rows ≡ s.rows = sym (ap (λ t. t.rows) cell.2) ∙ cond-false (place == 0) (s.rows + 1) s.rows (behind_first place behind) in
       let rest = more_fields number (place + 1) fields row first.0 t (omega (arith, behind)) first.2 in
@@ -37,7 +37,7 @@ module _ (shape : Shape) where
   one_row number [] row s t some e = absurd (omega (arith, some))
   one_row number (field ∷ fields) row s t some e =
       let first = and_then-ok (with_fields (table_layout shape) number row 1 fields) _ t e in
-      let cell = with_value-ok (with_count 0 s) (count_in (text_of row field)) first.0 (with_fault-ok (field_fault number field) _ first.0 first.1) in
+      let cell = with_value-ok (with_cell 0 s) (count_in (text_of row field)) first.0 (with_fault-ok (field_fault number field) _ first.0 first.1) in
       let one : length first.0.cells ≡ length s.cells + 1 = sym (ap (λ t. length t.cells) cell.2) ∙ length_push s.cells cell.0 in
       let one_more : first.0.rows ≡ s.rows + 1 = sym (ap (λ t. t.rows) cell.2) in
       let rest = more_fields number 1 fields row first.0 t (omega arith) first.2 in

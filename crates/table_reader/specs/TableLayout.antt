@@ -19,8 +19,8 @@ abbrev pub no_rows : RowCounts
 no_rows = record { rows = 0; cells = [] }
 
 -- the rows with one count more, by its place in its row: the first one begins a row
-abbrev pub with_count : ℕ → RowCounts → ℕ → RowCounts
-with_count place table count = record {
+abbrev pub with_cell : ℕ → RowCounts → ℕ → RowCounts
+with_cell place table count = record {
   rows = if place == 0 then table.rows + 1 else table.rows;
   cells = table.cells ++ count ∷ [];
 }
@@ -46,7 +46,7 @@ abbrev pub table_layout : Shape → Layout RowCounts
 table_layout shape = record {
   shape = shape;
   start = no_rows;
-  with_field = λ place text table. with_value (with_count place table) (count_in text);
+  with_field = λ place text table. with_value (with_cell place table) (count_in text);
   is_missing = λ place text. false;
   is_enough = λ table. nat_le 2 table.rows;
 }

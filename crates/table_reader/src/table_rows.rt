@@ -4,7 +4,7 @@ ghost use Rattle.record_reader.specs.Answers.{IsFaultOf};
 ghost use Rattle.record_reader.specs.Layouts.{MayPick};
 ghost use Rattle.table_reader.specs.Data.{table_data_of};
 ghost use Rattle.table_reader.specs.Kept.{HasShape};
-ghost use Rattle.table_reader.specs.TableLayout.{no_rows, table_in, table_shape, tabled, with_count};
+ghost use Rattle.table_reader.specs.TableLayout.{no_rows, table_in, table_shape, tabled, with_cell};
 ghost use Rattle.table_reader.specs.declared.TheConstants.{MOST_COUNT};
 
 use crate::counts::count_in;
@@ -47,7 +47,7 @@ impl RowsSoFar {
     // These with one count more, by its place in its row.
     fn with_count(self, place: usize, count: u64) -> Result<RowsSoFar, NoMemory>
         requires { count ≤ MOST_COUNT }
-        ensures { IfOk result (λ more. more ≡ with_count place self count) }
+        ensures { IfOk result (λ more. more ≡ with_cell place self count) }
     {
         let RowsSoFar { rows, mut cells } = self;
         cells.push(count)?;

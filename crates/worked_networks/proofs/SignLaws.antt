@@ -9,7 +9,7 @@ use Rattle.weights.specs.declared.tails.Tail.TheVariants.{Less, Greater, Two}
 use Rattle.weights.specs.Frames.{IsShown, RulesFit}
 use Rattle.weights.specs.Labellings.{sign_lists}
 use Rattle.weights.specs.Rules.{RuleFits, measured, rule_of}
-use Rattle.networks.specs.Addends.{value_of}
+use Rattle.networks.specs.Addends.{sum_value_of}
 use Rattle.networks.specs.SoundAddends.{IsAdditive}
 use Rattle.networks.specs.declared.verdicts.Judge.{Judge}
 use Rattle.networks.specs.Follows.{Follows}
@@ -91,7 +91,7 @@ stage : (judge : Judge) (g : ℕ) → IsStage (worked_addends judge) worked_piec
 unfolding worked_pieces
 stage judge g = record { same = λ f. refl; closed = λ s i f. cc; wide = (refl, (refl, tt)) }
 
-joined : (xs : List (List ℕ)) → AllAt IsSign 0 xs → pos (rank_sum (concat xs)) ≡ value_of (worked_addends (judge_of worked_test)).value (summed worked_pieces.added 0 (pos 0 ∷ []) xs)
+joined : (xs : List (List ℕ)) → AllAt IsSign 0 xs → pos (rank_sum (concat xs)) ≡ sum_value_of (worked_addends (judge_of worked_test)).value (summed worked_pieces.added 0 (pos 0 ∷ []) xs)
 unfolding worked_pieces
 joined [] h = refl
 joined ((a ∷ []) ∷ []) h = ap pos (omega arith)

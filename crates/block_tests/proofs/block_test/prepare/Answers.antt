@@ -4,7 +4,7 @@ use Rattle.std.specs.Prelude.{ℕ, List, ℤ}
 use Rattle.sample_reader.specs.Data.{block_data_of}
 use Rattle.weights.specs.declared.TheConstants.{MAX}
 use Rattle.weights.proofs.Centred.{framed, not-wide, total-wide}
-use Rattle.block_tests.specs.BlockTests.{BlockTests, block_counts, block_statistic, block_test, blocks_for, bound_of, cells_in, counts_in, cut, observed_cells}
+use Rattle.block_tests.specs.BlockTests.{BlockTests, block_counts, block_statistic, block_test, blocks_for, bound_of, cells_in, cell_counts, cut, observed_cells}
 use Rattle.block_tests.specs.BlockSteps.{ways_of}
 use Rattle.block_tests.specs.PreparedSteps.{AreBlocks, AreFitting, IsPrepared, far_of, tests_of}
 use Rattle.block_tests.specs.declared.kinds.BlockKind.{BlockKind}
@@ -15,8 +15,8 @@ fitting : (tests : BlockTests) → AreBlocks tests → ways_of (block_counts tes
 fitting tests b fits = record { blocks = b; total_fits = omega (arith, total-is tests, fits) }
 
 -- what was ranked, of the values that were read
-ranked-blocks : (kind : BlockKind) (n k : ℕ) (read values : List ℤ) (made : List (List ℕ)) → read ≡ values → made ≡ map (counts_in kind k) (cut k n read) → made ≡ block_counts (tests_of kind n k values)
-ranked-blocks kind n k read values made e r = r ∙ ap (λ vs. map (counts_in kind k) (cut k n vs)) e
+ranked-blocks : (kind : BlockKind) (n k : ℕ) (read values : List ℤ) (made : List (List ℕ)) → read ≡ values → made ≡ map (cell_counts kind k) (cut k n read) → made ≡ block_counts (tests_of kind n k values)
+ranked-blocks kind n k read values made e r = r ∙ ap (λ vs. map (cell_counts kind k) (cut k n vs)) e
 
 ranked-cells : (kind : BlockKind) (n k : ℕ) (read values : List ℤ) (cells : List ℕ) → read ≡ values → cells ≡ concat (map (cells_in kind) (cut k n read)) → cells ≡ observed_cells (tests_of kind n k values)
 ranked-cells kind n k read values cells e r = r ∙ ap (λ vs. concat (map (cells_in kind) (cut k n vs))) e

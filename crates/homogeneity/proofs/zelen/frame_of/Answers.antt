@@ -6,7 +6,7 @@ use Rattle.std.proofs.lemmas.Int.{to_z-of_z}
 use Rattle.weights.specs.declared.rules.Rule.TheVariants.{AtMost}
 use Rattle.weights.specs.declared.TheConstants.{MAX}
 use Rattle.strata_cells.specs.declared.stratum.Stratum.{Stratum}
-use Rattle.homogeneity.specs.Zelen.{observed_labels, rarity}
+use Rattle.homogeneity.specs.Zelen.{observed_strata_labels, rarity}
 use Rattle.homogeneity.proofs.ZelenTests.{members-are, observed-is, observed-weight, total-is}
 use Rattle.homogeneity.proofs.zelen.frame_of.Goals as goal
 
@@ -20,7 +20,7 @@ pub returns : goal.returns
 returns c =
     let strata : List Stratum = c.args.strata.now in
     let fits : FitsSigned w128 c.held-weight.result = search rules in
-    let weight : to_z w128 (of_z w128 c.held-weight.result) ≡ pos (rarity strata (observed_labels strata)) = to_z-of_z w128 c.held-weight.result fits ∙ c.held-weight.ensures ∙ ap pos (c.own_weight.ensures ∙ sym (observed-is strata)) in
+    let weight : to_z w128 (of_z w128 c.held-weight.result) ≡ pos (rarity strata (observed_strata_labels strata)) = to_z-of_z w128 c.held-weight.result fits ∙ c.held-weight.ensures ∙ ap pos (c.own_weight.ensures ∙ sym (observed-is strata)) in
     record {
       statistic = weight;
       scale = c.requires.total ∙ sym (members-are strata);
