@@ -1,5 +1,5 @@
 -- What is said of every name of a test alike.
-use Rattle.std.proofs.Common.{◌≡◌, true, false, refl}
+use Rattle.std.proofs.Common.{◌≡◌, ℕ, true, false, refl}
 use Rattle.settings.specs.Meaning.{command_for}
 use Rattle.settings.specs.Names.{test_word}
 use Rattle.settings.specs.declared.command_line.CommandLine.TheVariants as command
@@ -10,11 +10,11 @@ use Rattle.piece_texts.proofs.FreeLines.{no_feed}
 use Rattle.run_outcome.specs.Questions.{is_shift}
 
 -- where the words of a name are those of a test, they are the settings, and the name is no shift
-pub of-test : (name : TestName) (own settings : Settings) → command_for name own ≡ command.Test settings → (settings ≡ own) × (is_shift name ≡ false)
-of-test test.Drill own settings e = absurd cc
-of-test test.Shift own settings e = absurd cc
-of-test test.Merge own settings e = absurd cc
-of-test _ own settings e = (cc, refl)
+pub of-test : (number : ℕ) (name : TestName) (own settings : Settings) → command_for number name own ≡ command.Test settings → (settings ≡ own) × (is_shift name ≡ false)
+of-test number test.Drill own settings e = absurd cc
+of-test number test.Shift own settings e = absurd cc
+of-test number test.Merge own settings e = absurd cc
+of-test number _ own settings e = (cc, refl)
 
 -- what holds of a shift holds of each name that is one
 pub of-shift : (P : TestName → Type 0) → P test.Shift → (name : TestName) → is_shift name ≡ true → P name

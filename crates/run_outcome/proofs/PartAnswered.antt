@@ -4,7 +4,7 @@ use Rattle.std.specs.Prelude.{IfSome, OnOk, option_map}
 use Rattle.std.specs.Option.{ok_or}
 use Rattle.weights.specs.Results.{and_then, with_value}
 use Rattle.record_reader.specs.Records.{records_of}
-use Rattle.settings.specs.Meaning.{command_for, command_of, is_complete, is_help, meaning_for, meaning_of, meaning_of_given, meaning_of_test, paired, settings_of}
+use Rattle.settings.specs.Meaning.{command_for, command_of, is_complete, is_help, made_number, meaning_for, meaning_of, meaning_of_given, meaning_of_test, paired, settings_of}
 use Rattle.settings.specs.Tests.{test_named}
 use Rattle.settings.specs.Words.{WordsSoFar, none_given, with_words}
 use Rattle.settings.specs.declared.command_line.CommandLine.TheVariants as command
@@ -76,9 +76,9 @@ written-text questions settings (Some file) text took is answers written = (text
 
 -- ---- the words of a test ask for no shift
 
-no-shift : (name : TestName) (own settings : Settings) → own.test ≡ name → command_for name own ≡ command.Test settings → is_shift settings.test ≡ false
-no-shift name own settings is e =
-    let test = of-test name own settings e in
+no-shift : (number : ℕ) (name : TestName) (own settings : Settings) → own.test ≡ name → command_for number name own ≡ command.Test settings → is_shift settings.test ≡ false
+no-shift number name own settings is e =
+    let test = of-test number name own settings e in
     ap (λ (s : Settings). is_shift s.test) test.0 ∙ ap is_shift is ∙ test.1
 
 from-next : {S T F : Type 0} (next : S → Result T F) (r : Result S F) (y : T) → and_then next r ≡ Ok y → (x : S) × (next x ≡ Ok y)
@@ -92,10 +92,10 @@ from-change change (Err fault) y e = absurd cc
 of-name : (given : WordsSoFar) (name : TestName) (settings : Settings) → meaning_for given name ≡ Ok (command.Test settings) → is_shift settings.test ≡ false
 of-name given name settings e = by (is_complete name given) e
   where
-    by : (b : Bool) → cond b (with_value command_of (and_then paired (settings_of given name))) (Err Form) ≡ Ok (command.Test settings) → is_shift settings.test ≡ false
+    by : (b : Bool) → cond b (with_value (command_of (made_number given)) (and_then paired (settings_of given name))) (Err Form) ≡ Ok (command.Test settings) → is_shift settings.test ≡ false
     by true e =
-        let own = from-change command_of (and_then paired (settings_of given name)) (command.Test settings) e in
-        no-shift own.0.test own.0 settings refl own.1
+        let own = from-change (command_of (made_number given)) (and_then paired (settings_of given name)) (command.Test settings) e in
+        no-shift (made_number given) own.0.test own.0 settings refl own.1
     by false e = absurd cc
 
 of-words : (words : List (List ℕ)) (settings : Settings) → and_then meaning_of_given (with_words words none_given) ≡ Ok (command.Test settings) → is_shift settings.test ≡ false

@@ -4,7 +4,7 @@ ghost use Rattle.settings.specs.Faults.{Meets};
 ghost use Rattle.weights.specs.Results.{and_then};
 ghost use Rattle.settings.specs.Help.{help};
 ghost use Rattle.std.specs.List.{list_all, list_any};
-ghost use Rattle.settings.specs.Meaning.{command_of, has_needed, has_whole_piece, is_complete, is_given, is_help, meaning_of, meaning_of_given, settings_of};
+ghost use Rattle.settings.specs.Meaning.{command_of, has_needed, has_whole_piece, is_complete, is_given, is_help, made_number, meaning_of, meaning_of_given, settings_of};
 ghost use Rattle.settings.specs.Words.{none_given, with_words};
 ghost use Rattle.settings.specs.WordSteps.{IsSound, given_in};
 ghost use Rattle.settings.specs.Options.{listed_names, settings_without_options, with_options};
@@ -14,7 +14,7 @@ ghost use Rattle.settings.specs.RunWords.{piece_begun};
 
 use crate::clap_line::{clap_line, matches_in};
 use crate::names::{FLAGS, OPTIONS, OptionName, PIECE_OPTIONS, TestName, UsageFault};
-use crate::settings::{FileName, Settings};
+use crate::settings::{FileName, Settings, made_number};
 use crate::words::{WordsSoFar, words_given};
 use clap::ArgMatches;
 use std::alloc::Global;
@@ -110,7 +110,7 @@ fn command_given(alloc: Global, given: &WordsSoFar<'_>) -> Result<CommandLine, U
         return Err(UsageFault::Form);
     }
     let settings = settings_of(alloc, given, test, word)?.paired()?;
-    Ok(command_of(settings))
+    Ok(command_of(given, settings))
 }
 
 // Whether the words are `--help` alone.
@@ -131,6 +131,16 @@ impl<'a> WordsSoFar<'a> {
         match self.file {
             Some(file) => file,
             None => "",
+        }
+    }
+
+    // The number of made data that is given, or 0.
+    fn made_number(&self) -> u64
+        ensures { result ≡ made_number (given_in self.now) }
+    {
+        match self.value_of(OptionName::Number) {
+            Some(text) => made_number(text).unwrap_or(0),
+            None => 0,
         }
     }
 
@@ -260,11 +270,11 @@ fn with_matches(
 }
 
 // The command that settings stand for.
-fn command_of(settings: Settings) -> CommandLine
-    ensures { result ≡ command_of settings }
+fn command_of(given: &WordsSoFar<'_>, settings: Settings) -> CommandLine
+    ensures { result ≡ command_of (made_number (given_in given.now)) settings }
 {
     match settings.test {
-        TestName::Drill => CommandLine::Drill(settings.number),
+        TestName::Drill => CommandLine::Drill(given.made_number()),
         TestName::Shift => CommandLine::Shift(settings),
         TestName::Merge => CommandLine::Merge(settings.file),
         _ => CommandLine::Test(settings),

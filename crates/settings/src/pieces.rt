@@ -11,7 +11,7 @@ ghost use Rattle.settings.specs.declared.names.UsageFault.TheVariants as fault;
 
 use crate::lists::{ListForm, number_of};
 use crate::names::{OPTIONS, OptionName, TestName, UsageFault};
-use crate::settings::put;
+use crate::settings::put_found;
 use crate::words::WordsSoFar;
 use std::alloc::Global;
 use weights::{Bytes, NoMemory};
@@ -63,14 +63,14 @@ impl PieceOf {
             MeetsAs (λ unit. self.new) (ok_or more (fault.Value name)) result }
     {
         match name {
-            OptionName::Stage => put(&mut self.at, number_of(name, STAGE, text)),
+            OptionName::Stage => put_found(&mut self.at, name, number_of(STAGE, text)),
             OptionName::Parts => {
                 self.part = 0;
-                put(&mut self.parts, number_of(name, PARTS, text))
+                put_found(&mut self.parts, name, number_of(PARTS, text))
             }
-            OptionName::Part => match number_of(name, PART, text) {
-                Ok(part) => self.set_part(part),
-                Err(fault) => Err(fault),
+            OptionName::Part => match number_of(PART, text) {
+                Some(part) => self.set_part(part),
+                None => Err(UsageFault::Value(name)),
             },
             _ => Err(UsageFault::Value(name)),
         }

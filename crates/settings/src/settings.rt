@@ -4,7 +4,7 @@ ghost use Rattle.std.specs.Option.{ok_or};
 ghost use Rattle.settings.specs.Faults.{MeetsAs};
 ghost use Rattle.settings.specs.Meaning.{paired};
 ghost use Rattle.settings.specs.Options.{form_of, raised, settings_without_options, with_option, with_piece};
-ghost use Rattle.settings.specs.Values.{column_scores_form, number_form, peak_form, row_scores_form};
+ghost use Rattle.settings.specs.Values.{column_scores_form, number_form, number_of, peak_form, row_scores_form};
 ghost use Rattle.settings.specs.WordSteps.{text_of};
 ghost use Rattle.settings.specs.declared.names.OptionName.TheVariants as option;
 
@@ -79,8 +79,6 @@ pub struct Settings {
     pub picks: Picks,
     /// The byte between two fields: a comma by default, a semicolon or a tab.
     pub separator: u8,
-    /// The number of made data, where the test is of such data; else 0.
-    pub number: u64,
     /// The odds ratio that rearrangements are weighed by; none by default, which weighs all alike.
     pub odds: Option<Odds>,
     /// What becomes of a row with a missing field; by default it is a fault.
@@ -152,7 +150,6 @@ impl Settings {
             column_scores: Nums64::empty(alloc),
             picks: Picks::Natural,
             separator: b',',
-            number: 0,
             odds: None,
             missing: Missing::Refuse,
             miss: DEFAULT_MISS,
@@ -224,7 +221,7 @@ impl Settings {
             OptionName::Tail => put_found(&mut self.tail, name, TailChoice::named(text)),
             OptionName::Scores => put_found(&mut self.scores, name, scores_of(text)),
             OptionName::Order => put(&mut self.order, order_of(alloc, text)),
-            OptionName::Peak => put(&mut self.peak, number_of(name, PEAK, text)),
+            OptionName::Peak => put_found(&mut self.peak, name, number_of(PEAK, text)),
             OptionName::RowScores => {
                 put(
                     &mut self.row_scores,
@@ -239,7 +236,10 @@ impl Settings {
             }
             OptionName::Columns => self.set_columns(alloc, text),
             OptionName::Separator => put_found(&mut self.separator, name, separator_of(text)),
-            OptionName::Number => put(&mut self.number, number_of(name, NUMBER, text)),
+            OptionName::Number => match made_number(text) {
+                Some(_) => Ok(()),
+                None => Err(UsageFault::Value(name)),
+            },
             OptionName::Odds => self.set_odds(text),
             OptionName::Missing => put_found(&mut self.missing, name, missing_of(text)),
             OptionName::Miss => put_found(&mut self.miss, name, miss_of(text)),
@@ -303,8 +303,15 @@ impl Settings {
     }
 }
 
+// The number of made data that a text writes. No settings hold it.
+pub(crate) fn made_number(text: &str) -> Option<u64>
+    ensures { result ≡ number_of number_form text.now }
+{
+    number_of(NUMBER, text)
+}
+
 // Puts a value in its place, where there is one.
-pub(crate) fn put<T: Drop>(place: &mut T, value: Result<T, UsageFault>) -> Result<(), UsageFault>
+fn put<T: Drop>(place: &mut T, value: Result<T, UsageFault>) -> Result<(), UsageFault>
     ensures { MeetsAs (λ unit. place.new) value result }
 {
     match value {
@@ -317,7 +324,11 @@ pub(crate) fn put<T: Drop>(place: &mut T, value: Result<T, UsageFault>) -> Resul
 }
 
 // Puts the value of an option in its place, where its text has one.
-fn put_found<T: Drop>(place: &mut T, name: OptionName, value: Option<T>) -> Result<(), UsageFault>
+pub(crate) fn put_found<T: Drop>(
+    place: &mut T,
+    name: OptionName,
+    value: Option<T>,
+) -> Result<(), UsageFault>
     ensures { MeetsAs (λ unit. place.new) (ok_or value (UsageFault.Value name)) result }
 {
     match value {

@@ -1,8 +1,11 @@
 // The public calls of `settings`.
-ghost use Rattle.std.specs.Prelude.{[], ◌++◌, ◌<◌, ◌↔◌, ◌∷◌, ◌≡◌, IfOk, IsTrue, OnErr, OnOk, length, map, slice_set, string_bytes, true};
+ghost use Rattle.std.specs.Prelude.{None, [], ◌++◌, ◌<◌, ◌↔◌, ◌∷◌, ◌≡◌, IfOk, IsTrue, OnErr, OnOk, length, map, slice_set, string_bytes, true};
 ghost use Rattle.settings.specs.Faults.{Meets};
 ghost use Rattle.settings.specs.Meaning.{is_help, meaning_of};
 ghost use Rattle.std.specs.Prelude.{IsSome};
+ghost use Rattle.record_reader.specs.declared.missing.Missing.TheVariants as ways;
+ghost use Rattle.scores.specs.declared.kinds.ScoreKind.TheVariants as kinds;
+ghost use Rattle.settings.specs.declared.tails.TailChoice.TheVariants as tails;
 
 use record_reader::Picks;
 use sample_reader::{Labels, Missing};
@@ -26,6 +29,66 @@ pub fn file_text(name: &FileName) -> &str
     ensures { result.now ≡ name.now }
 {
     name.as_str()
+}
+
+/// The settings of a test of these data, by their fields. There are seventeen, and no other.
+pub fn settings_of(
+    alloc: Global,
+    test: TestName,
+    file: FileName,
+    order: Labels,
+    picks: Picks,
+    piece: Option<PieceOf>,
+) -> Settings
+    ensures { result ≡ record {
+      test = test;
+      file = file;
+      tail = tails.Two;
+      scores = kinds.Wilcoxon;
+      order = order;
+      peak = 0;
+      row_scores = [];
+      column_scores = [];
+      picks = picks;
+      separator = 59;
+      odds = None;
+      missing = ways.Drop;
+      miss = record { above = 1; below = 20 };
+      distribution = true;
+      plain = false;
+      nodes = false;
+      piece = piece;
+    } }
+{
+    Settings {
+        test,
+        file,
+        tail: TailChoice::Two,
+        scores: ScoreKind::Wilcoxon,
+        order,
+        peak: 0,
+        row_scores: no_numbers(alloc),
+        column_scores: no_numbers(alloc),
+        picks,
+        separator: b';',
+        odds: None,
+        missing: Missing::Drop,
+        miss: Odds {
+            above: 1,
+            below: 20,
+        },
+        distribution: true,
+        plain: false,
+        nodes: false,
+        piece,
+    }
+}
+
+/// The command of a test with these settings.
+pub fn command_of(settings: Settings) -> CommandLine
+    ensures { result ≡ CommandLine.Test settings }
+{
+    CommandLine::Test(settings)
 }
 
 /// The test of settings.

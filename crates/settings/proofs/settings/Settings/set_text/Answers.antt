@@ -1,6 +1,6 @@
 use Rattle.std.proofs.Common.{ap, List, option_map, refl, ℕ}
 use Rattle.settings.specs.Options.{form_of}
-use Rattle.settings.specs.Values.{column_scores_form, miss_of, missing_of, number_form, number_of, numbers_of, order_of, peak_form, row_scores_form, scores_of, separator_of, tail_of}
+use Rattle.settings.specs.Values.{column_scores_form, miss_of, missing_of, number_of, numbers_of, order_of, peak_form, row_scores_form, scores_of, separator_of, tail_of}
 use Rattle.settings.specs.declared.names.OptionName.{OptionName}
 use Rattle.settings.specs.declared.names.OptionName.TheVariants.{Order}
 use Rattle.settings.proofs.PutAs.{put_found, put_read}
@@ -40,7 +40,7 @@ returns-in-Order c =
 pub returns-in-Peak : goal.returns-in-Peak
 returns-in-Peak c =
     let wanted = λ (name : OptionName). (form_of name).set c.args.text.now c.args.self.now in
-    put_read (λ value. record c.args.self.now { peak = value }) c.args.name (wanted c.args.name) (number_of peak_form c.args.text.now) c.number_of.result c.put-in-Peak.new.place c.put-in-Peak.result (ap wanted c.in-Peak.is) c.number_of.ensures c.put-in-Peak.ensures
+    put_found (λ value. record c.args.self.now { peak = value }) c.args.name (wanted c.args.name) (number_of peak_form c.args.text.now) c.number_of.result c.put_found-in-Peak.new.place c.put_found-in-Peak.result (ap wanted c.in-Peak.is) c.number_of.ensures c.put_found-in-Peak.ensures
 
 pub returns-in-RowScores : goal.returns-in-RowScores
 returns-in-RowScores c =
@@ -51,8 +51,3 @@ pub returns-in-ColumnScores : goal.returns-in-ColumnScores
 returns-in-ColumnScores c =
     let wanted = λ (name : OptionName). (form_of name).set c.args.text.now c.args.self.now in
     put_read (λ value. record c.args.self.now { column_scores = value }) c.args.name (wanted c.args.name) (numbers_of column_scores_form c.args.text.now) c.numbers_of-in-ColumnScores.result c.put-in-ColumnScores.new.place c.put-in-ColumnScores.result (ap wanted c.in-ColumnScores.is) c.numbers_of-in-ColumnScores.ensures.numbers c.put-in-ColumnScores.ensures
-
-pub returns-in-Number : goal.returns-in-Number
-returns-in-Number c =
-    let wanted = λ (name : OptionName). (form_of name).set c.args.text.now c.args.self.now in
-    put_read (λ value. record c.args.self.now { number = value }) c.args.name (wanted c.args.name) (number_of number_form c.args.text.now) c.number_of-in-Number.result c.put-in-Number.new.place c.put-in-Number.result (ap wanted c.in-Number.is) c.number_of-in-Number.ensures c.put-in-Number.ensures
