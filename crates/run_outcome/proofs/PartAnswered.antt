@@ -4,7 +4,7 @@ use Rattle.std.specs.Prelude.{IfSome, OnOk, option_map}
 use Rattle.std.specs.Option.{ok_or}
 use Rattle.weights.specs.Results.{and_then, with_value}
 use Rattle.record_reader.specs.Records.{records_of}
-use Rattle.settings.specs.Meaning.{command_for, command_of, is_complete, is_help, made_number, meaning_for, meaning_of, meaning_of_given, meaning_of_test, paired, settings_of}
+use Rattle.settings.specs.Meaning.{command_for, command_of, is_complete, is_help, made_number, meaning_for, meaning_of, meaning_of_given, meaning_of_test, paired_options, settings_of}
 use Rattle.settings.specs.Tests.{test_named}
 use Rattle.settings.specs.Words.{WordsSoFar, none_given, with_words}
 use Rattle.settings.specs.declared.command_line.CommandLine.TheVariants as command
@@ -92,9 +92,9 @@ from-change change (Err fault) y e = absurd cc
 of-name : (given : WordsSoFar) (name : TestName) (settings : Settings) → meaning_for given name ≡ Ok (command.Test settings) → is_shift settings.test ≡ false
 of-name given name settings e = by (is_complete name given) e
   where
-    by : (b : Bool) → cond b (with_value (command_of (made_number given)) (and_then paired (settings_of given name))) (Err Form) ≡ Ok (command.Test settings) → is_shift settings.test ≡ false
+    by : (b : Bool) → cond b (with_value (command_of (made_number given)) (and_then paired_options (settings_of given name))) (Err Form) ≡ Ok (command.Test settings) → is_shift settings.test ≡ false
     by true e =
-        let own = from-change (command_of (made_number given)) (and_then paired (settings_of given name)) (command.Test settings) e in
+        let own = from-change (command_of (made_number given)) (and_then paired_options (settings_of given name)) (command.Test settings) e in
         no-shift (made_number given) own.0.test own.0 settings refl own.1
     by false e = absurd cc
 

@@ -4,7 +4,7 @@ ghost use Rattle.std.specs.List.{flat_map};
 ghost use Rattle.std.specs.Option.{ok_or};
 ghost use Rattle.settings.specs.Faults.{MeetsAs};
 ghost use Rattle.settings.specs.Pieces.{part_form, parts_form, piece_with, stage_form, within_parts};
-ghost use Rattle.settings.specs.RunWords.{piece_begun, run_words, told, told_value};
+ghost use Rattle.settings.specs.RunWords.{piece_begun, run_words, told_word, told_value};
 ghost use Rattle.settings.specs.WordSteps.{given_in, text_of};
 ghost use Rattle.settings.specs.declared.names.OptionName.TheVariants as option;
 ghost use Rattle.settings.specs.declared.names.UsageFault.TheVariants as fault;
@@ -123,7 +123,7 @@ impl WordsSoFar<'_> {
     // Adds each of these options with its value, where it is told.
     fn push_all(&self, words: &mut Bytes, options: &[OptionName]) -> Result<(), NoMemory>
         ensures { let uses = (given_in self.now).uses in OnOk result
-            (words.new ≡ words.old ++ flat_map (told uses) options.now) }
+            (words.new ≡ words.old ++ flat_map (told_word uses) options.now) }
     {
         for option in options {
             self.push_told(words, *option)?;
@@ -133,7 +133,8 @@ impl WordsSoFar<'_> {
 
     // Adds an option with its value, where it is told.
     fn push_told(&self, words: &mut Bytes, option: OptionName) -> Result<(), NoMemory>
-        ensures { OnOk result (words.new ≡ words.old ++ told (given_in self.now).uses option) }
+        ensures { OnOk result
+            (words.new ≡ words.old ++ told_word (given_in self.now).uses option) }
     {
         match option {
             OptionName::Part => Ok(()),

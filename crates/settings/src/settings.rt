@@ -2,7 +2,7 @@
 ghost use Rattle.std.specs.Prelude.{◌≡◌, IfOk, Some};
 ghost use Rattle.std.specs.Option.{ok_or};
 ghost use Rattle.settings.specs.Faults.{MeetsAs};
-ghost use Rattle.settings.specs.Meaning.{paired};
+ghost use Rattle.settings.specs.Meaning.{paired_options};
 ghost use Rattle.settings.specs.Options.{form_of, raised, settings_without_options, with_option, with_piece};
 ghost use Rattle.settings.specs.Values.{column_scores_form, number_form, number_of, peak_form, row_scores_form};
 ghost use Rattle.settings.specs.WordSteps.{text_of};
@@ -203,7 +203,7 @@ impl Settings {
 
     // Where its options go together: by odds no two-sided test is made.
     pub(crate) fn paired(self) -> Result<Settings, UsageFault>
-        ensures { result ≡ paired self }
+        ensures { result ≡ paired_options self }
     {
         if self.odds.is_some() && matches!(self.tail, TailChoice::Two) {
             return Err(UsageFault::Pairing(OptionName::Tail, self.test));

@@ -1,6 +1,6 @@
 use Rattle.std.proofs.Common.{ap, List, option_map, refl, ℕ}
 use Rattle.settings.specs.Options.{form_of}
-use Rattle.settings.specs.Values.{column_scores_form, miss_of, missing_of, number_of, numbers_of, order_of, peak_form, row_scores_form, scores_of, separator_of, tail_of}
+use Rattle.settings.specs.Values.{column_scores_form, miss_of, missing_of, number_of, numbers_of, order_of, peak_form, row_scores_form, scores_of, separator_of, tail_choice_of}
 use Rattle.settings.specs.declared.names.OptionName.{OptionName}
 use Rattle.settings.specs.declared.names.OptionName.TheVariants.{Order}
 use Rattle.settings.proofs.PutAs.{put_found, put_read}
@@ -9,7 +9,7 @@ use Rattle.settings.proofs.settings.Settings.set_text.Goals as goal
 pub returns-in-Tail : goal.returns-in-Tail
 returns-in-Tail c =
     let wanted = λ (name : OptionName). (form_of name).set c.args.text.now c.args.self.now in
-    put_found (λ value. record c.args.self.now { tail = value }) c.args.name (wanted c.args.name) (tail_of c.args.text.now) c.named.result c.put_found.new.place c.put_found.result (ap wanted c.in-Tail.is) c.named.ensures c.put_found.ensures
+    put_found (λ value. record c.args.self.now { tail = value }) c.args.name (wanted c.args.name) (tail_choice_of c.args.text.now) c.named.result c.put_found.new.place c.put_found.result (ap wanted c.in-Tail.is) c.named.ensures c.put_found.ensures
 
 pub returns-in-Scores : goal.returns-in-Scores
 returns-in-Scores c =
