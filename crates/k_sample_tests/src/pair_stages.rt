@@ -2,13 +2,13 @@
 // type, and not of all that stands in it.
 
 use crate::pair_counts::PairCounts;
-use label_network::LabelStages;
+use label_network::LabelNetwork;
 use networks::{Roomed, Stages, Verdict};
 use room_network::Numbered;
 use weights::Tail;
 
 /// What stands in it: the pairs of labels.
-pub(crate) type PairLabels = LabelStages<Numbered<PairCounts>>;
+pub(crate) type PairLabels = LabelNetwork<Numbered<PairCounts>>;
 
 /// The network of a test of ordered groups.
 #[derive(Drop)]

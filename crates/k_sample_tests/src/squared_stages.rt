@@ -3,7 +3,7 @@
 
 use crate::centred_sums::CentredSums;
 use crate::rank_sums::RankSums;
-use label_network::{LabelRooms, LabelStages};
+use label_network::{LabelRooms, LabelNetwork};
 use networks::{Roomed, Stages, Verdict};
 use ordered_groups::InOrder;
 use packed_keys::PackedGroups;
@@ -16,7 +16,7 @@ pub(crate) type EqualGroups = PackedGroups<LabelRooms, CentredSums>;
 pub(crate) type OrderedSums = InOrder<LabelRooms, RankSums>;
 
 /// The network as it is written, with a number for each group.
-pub(crate) type WrittenSums = LabelStages<RankSums>;
+pub(crate) type WrittenSums = LabelNetwork<RankSums>;
 
 /// A network of a test of Kruskal and Wallis.
 #[derive(Drop)]

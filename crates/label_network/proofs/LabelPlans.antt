@@ -65,7 +65,7 @@ module _ (columns rows : List ℕ) where
         ∙ sum_by-same _ _ (λ xs. once (f (columns_of (length rows) columns xs))) (labellings rows);
   }
 
-  reached_stage : (g : ℕ) (room : List ℤ) → IsReached (alone plan) g room → g ≤ length columns
+  pub reached_stage : (g : ℕ) (room : List ℤ) → IsReached (alone plan) g room → g ≤ length columns
   reached_stage zero room r = omega arith
   reached_stage (suc g) room (j, c, r, before, o, e) = omega (arith, before)
 
@@ -87,16 +87,20 @@ module _ (columns rows : List ℕ) where
           left = rw (sizes, ← add-one) (left-next columns rows level g (sizes_in j) c before (left_room g j r).left (chosen (slice_index columns g) (sizes_in j) c (is_allowed plan g j c before o)));
         }
 
-    -- what remains of a room weighs as many labellings as its sizes have
+    -- the tables of what remains weigh as much as its sizes have labellings
+    pub tables_left : (g : ℕ) (room : List ℤ) → IsReached (alone plan) g room → sum_by table_weight (tables (drop g columns) (sizes_in room)) ≡ number_of_labellings (sizes_in room)
+    tables_left g room r =
+        sum_by-same table_weight (λ w. table_weight w * 1) (λ w. sym (mul-one (table_weight w))) (tables (drop g columns) (sizes_in room))
+        ∙ grouping (drop g columns) (sizes_in room) (λ w. 1) (left_room g room r).left.whole
+        ∙ sum_by-one (labellings (sizes_in room))
+
     pub rest_is : (g : ℕ) (room : List ℤ) → IsReached (alone plan) g room → total_weight (alone plan) g room ≡ number_of_labellings (sizes_in room)
     unfolding total_weight
     rest_is g room r =
-        let h : IsLeftRoom g room = left_room g room r in
         let here : g ≤ length columns = reached_stage g room r in
-        ap (sum_by (path_weight (alone plan) g room)) (ap (paths (alone plan) (length columns - g) g) h.held ∙ paths_are (length columns - g) g (sizes_in room) (omega (arith, here)))
-        ∙ sum_by-same (path_weight (alone plan) g room) (λ w. table_weight w * 1) (λ w. way_weight_is g room w ∙ sym (mul-one (table_weight w))) (tables (drop g columns) (sizes_in room))
-        ∙ grouping (drop g columns) (sizes_in room) (λ w. 1) h.left.whole
-        ∙ sum_by-one (labellings (sizes_in room))
+        ap (sum_by (path_weight (alone plan) g room)) (ap (paths (alone plan) (length columns - g) g) (left_room g room r).held ∙ paths_are (length columns - g) g (sizes_in room) (omega (arith, here)))
+        ∙ sum_by-same (path_weight (alone plan) g room) table_weight (λ w. way_weight_is g room w) (tables (drop g columns) (sizes_in room))
+        ∙ tables_left g room r
 
     enough : (g : ℕ) (room : List ℤ) → IsReached (alone plan) g room → g < length columns → slice_index columns g ≤ sum (sizes_in room)
     enough g room r before =
@@ -106,7 +110,7 @@ module _ (columns rows : List ℕ) where
     first_is : (g : ℕ) (room : List ℤ) → IsReached (alone plan) g room → g < length columns → plan.floor.choices g room ≡ least (slice_index columns g) (sizes_in room) ∷ plan.floor.later g room (least (slice_index columns g) (sizes_in room))
     first_is g room r before = least-first (slice_index columns g) (sizes_in room) (enough g room r before)
 
-    some_way : (g : ℕ) (room : List ℤ) → IsReached (alone plan) g room → g < length columns → plan.floor.choices g room ≢ []
+    pub some_way : (g : ℕ) (room : List ℤ) → IsReached (alone plan) g room → g < length columns → plan.floor.choices g room ≢ []
     some_way g room r before e = let first = first_is g room r before in absurd (cc (first, e))
 
   pub label_plan_sound : IsLabelled columns rows → IsPlan plan

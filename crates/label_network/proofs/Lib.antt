@@ -34,6 +34,8 @@ pub mod Sizes
 pub mod LabelPlans
 pub mod LabelEnds
 pub mod OverRooms
+pub mod MeasuredNetworks
+pub mod IntervalMeasures
 pub mod LinearKeys
 pub mod LabelFollows
 pub mod Vectors

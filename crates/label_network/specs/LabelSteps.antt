@@ -6,10 +6,12 @@ use Rattle.weights.specs.declared.TheConstants.{MAX}
 use Rattle.weights.specs.Grouped.{choices, fits}
 use Rattle.weights.specs.Labellings.{number_of_labellings}
 use Rattle.networks.specs.Completions.{total_weight}
+use Rattle.networks.specs.Network.{IsReached}
 use Rattle.room_network.specs.Plans.{alone}
 use Rattle.label_network.specs.ChoiceOrder.{later_choices}
 use Rattle.label_network.specs.LabelRooms.{IsLabelled, label_plan}
 use Rattle.label_network.specs.Meanings.{sizes_in}
+use Rattle.label_network.specs.Measures.{AreMargins, AreReached, IsMeasure, Measured, measured_network, partial_of, remaining_of}
 
 -- the first choice, which takes as little as it can from each row in turn
 abbrev pub least : ℕ → List ℕ → List ℕ
@@ -69,3 +71,17 @@ pub record ChoiceSeat (columns : List ℕ) (width g : ℕ) (room : List ℤ) (c 
   pub fitting : fits c (sizes_in room) ≡ true
   pub held : IsHeld width c
   pub small : number_of_labellings c ≤ MAX
+
+-- what the network of a measure keeps
+pub record IsSeated (m : Measured) (columns rows : List ℕ) : Type 0 where
+  pub margins : AreMargins m columns rows
+  pub sound : IsMeasure m
+
+-- what is known of the two parts of a key that is reached
+pub record AreParts (m : Measured) (columns rows : List ℕ) (g : ℕ) (k r p : List ℤ) : Type 0 where
+  pub remaining_is : r ≡ remaining_of m k
+  pub partial_is : p ≡ partial_of m k
+  pub room : IsReached (alone (label_plan columns rows)) g r
+  pub reached : AreReached m g r p
+  pub total : total_weight (alone (label_plan columns rows)) g r
+      ≡ total_weight (measured_network m) g k

@@ -2,6 +2,7 @@ pub mod Meanings
 pub mod ChoiceOrder
 pub mod LabelRooms
 pub mod LabelNetwork
+pub mod Measures
 pub mod LaterSums
 pub mod LaterTables
 pub mod Linear

@@ -4,21 +4,27 @@
 
 mod added;
 mod binomials;
+mod by_intervals;
 mod choice_order;
 mod ends;
 mod keys;
 mod later_scores;
 mod linear;
 mod linear_network;
+mod measure;
+mod measured;
 mod network;
 mod rooms;
 
 pub use binomials::Binomials;
+pub use by_intervals::ByIntervals;
 pub use choice_order::{first_counts, next_counts};
 pub use ends::End;
 pub use keys::{read_sizes, rest_in, take_away, weight_in, write_sizes};
 pub use later_scores::LaterScores;
 pub use linear::{LinearMeasure, score_choice};
 pub use linear_network::{LinearStages, linear_stages};
-pub use network::{LabelStages, label_stages};
+pub use measure::Measure;
+pub use measured::LabelStages;
+pub use network::{LabelNetwork, label_stages};
 pub use rooms::LabelRooms;

@@ -7,14 +7,14 @@ ghost use Rattle.label_network.specs.LabelNetwork.{label_network};
 ghost use Rattle.label_network.specs.Linear.{IsLinear, linear_meaning};
 
 use crate::linear::LinearMeasure;
-use crate::network::{LabelStages, label_stages};
+use crate::network::{LabelNetwork, label_stages};
 use networks::{Judge, Roomed, Stages, Verdict};
 use room_network::Numbered;
 use std::alloc::Global;
 use weights::{NoMemory, Tail};
 
 // What stands in it.
-type Labels = LabelStages<Numbered<LinearMeasure>>;
+type Labels = LabelNetwork<Numbered<LinearMeasure>>;
 
 /// The network of a sum over the cells of a table of row score times column score times count.
 #[derive(Drop)]

@@ -15,7 +15,7 @@ use weights::NoMemory;
 
 /// The network of a measure of labels: a key has the sizes that remain, its room, and then the
 /// measure's partial.
-pub type LabelStages<M> = RoomNetwork<LabelRooms, M>;
+pub type LabelNetwork<M> = RoomNetwork<LabelRooms, M>;
 
 /// The network of a measure with these columns (how many subjects each has) and rows (how many
 /// subjects get each label). There are 2 to 8 rows, at most 16 of rows and slots, and at most
@@ -29,7 +29,7 @@ pub fn label_stages<M: Measure + Drop>(
     columns: &[u64],
     rows: &[u64],
     measure: M,
-) -> Result<LabelStages<M>, NoMemory>
+) -> Result<LabelNetwork<M>, NoMemory>
     requires { IsMargin (M.meaning measure) columns.now rows.now }
     ensures measure { IfOk result (λ stages. stages.1 ≡ measure) }
     ensures values { IfOk result (λ stages.

@@ -2,12 +2,12 @@
 // of all that stands in it.
 
 use crate::run_measure::RunMeasure;
-use label_network::LabelStages;
+use label_network::LabelNetwork;
 use networks::{Roomed, Stages, Verdict};
 use weights::Tail;
 
 /// What stands in it: the number of runs over labels.
-pub(crate) type RunLabels = LabelStages<RunMeasure>;
+pub(crate) type RunLabels = LabelNetwork<RunMeasure>;
 
 /// The network of the runs test.
 #[derive(Drop)]

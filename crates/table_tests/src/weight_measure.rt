@@ -13,7 +13,7 @@ ghost use Rattle.table_tests.specs.WeightSteps.{IsWeightRoom, IsWeightStep, Weig
 use crate::fillings::{later_highs, least_over};
 use crate::fisher_table::held;
 use completion_bounds::fall;
-use label_network::{Binomials, LabelStages, read_sizes};
+use label_network::{Binomials, LabelNetwork, read_sizes};
 use networks::{Interval, Judge};
 use room_network::{NumberMeasure, Numbered, Operation};
 use std::alloc::Global;
@@ -41,7 +41,7 @@ pub struct WeightMeasure {
 
 /// The network of a table's weight: a key has the sizes that remain, and then the product of the
 /// columns' weights so far.
-pub type WeightStages = LabelStages<Numbered<WeightMeasure>>;
+pub type WeightStages = LabelNetwork<Numbered<WeightMeasure>>;
 
 /// The columns from a stage on.
 pub(crate) fn later_columns(columns: &[u64], stage: usize) -> &[u64]

@@ -1,1 +1,2 @@
+pub mod FirstColumn
 pub mod TwoSigns

@@ -10,6 +10,7 @@ pub mod enumerate_calls;
 pub mod exact_run_calls;
 pub mod homogeneity_calls;
 pub mod k_sample_tests_calls;
+pub mod label_network_calls;
 pub mod midranks_calls;
 pub mod node_pool_calls;
 pub mod number_text_calls;
