@@ -7,7 +7,7 @@ ghost use Rattle.weights.specs.declared.TheConstants.{MAX};
 ghost use Rattle.label_network.specs.LabelSteps.{IsHeld, AreBinomials, capped};
 
 use std::alloc::Global;
-use weights::{MAX, NoMemory, multinomial, total_of};
+use weights::{MAX, NoMemory, binomial, multinomial, total_of};
 
 // How many entries a table has at most. Two rows whose total fits need fewer.
 const TABLE_ROOM: usize = 1 << 17;
@@ -98,6 +98,16 @@ fn by_division(counts: &[u64]) -> u128
     }
 }
 
+fn chosen_of(n: u64, k: u64) -> u128
+    requires { binomial n k ≤ MAX }
+    ensures { result ≡ binomial n k }
+{
+    match binomial(n, k) {
+        Some(ways) => ways,
+        None => 0,
+    }
+}
+
 impl Binomials {
     fn new(alloc: Global, most: usize, width: usize) -> Result<Binomials, NoMemory>
         requires some { 1 ≤ width }
@@ -134,6 +144,21 @@ impl Binomials {
     {
         let few = if k < self.width as u64 { k } else { n - k };
         self.table[n as usize * self.width + few as usize]
+    }
+
+    /// In how many ways k of n can be chosen, where k or what is left is few.
+    #[inline(always)]
+    pub fn ways(&self, n: u64, k: u64) -> u128
+        requires fewer { k ≤ n }
+        requires held { self.now.width ≤ k → n - k < self.now.width }
+        requires fits { binomial n k ≤ MAX }
+        ensures { result ≡ binomial n k }
+    {
+        if n < self.most as u64 {
+            self.choose(n, k)
+        } else {
+            chosen_of(n, k)
+        }
     }
 
     fn by_table(&self, counts: &[u64], whole: u64) -> u128

@@ -1,10 +1,9 @@
 -- What the choices of a column come to with what they leave: the tables of two columns.
-use Rattle.std.proofs.Common.{◌≡◌, ℕ, ◌+◌, ◌-◌, ◌*◌, ◌≤◌, List, [], ◌∷◌, ◌++◌, map, filter, Bool, true, false, cond, refl, sym, ◌∙◌, ap, subst, arith, nat_eq, nat_le, mul_assoc, append_assoc, mul-one}
-use Rattle.std.specs.Prelude.{ℤ, pos, ◌^◌, ◌<◌, if◌then◌else◌}
+use Rattle.std.proofs.Common.{◌≡◌, ℕ, ◌+◌, ◌-◌, ◌*◌, ◌≤◌, List, [], ◌∷◌, filter, Bool, true, false, cond, refl, sym, ◌∙◌, ap, arith, nat_eq, nat_le, mul_assoc, mul-one}
+use Rattle.std.specs.Prelude.{ℤ, pos}
 use Rattle.std.specs.List.{sum, sum_by, AllByRecursion, Contains}
 use Rattle.std.specs.Cmp.Lexicographic.{pointwise}
 use Rattle.std.proofs.lemmas.Bool.{leb-true}
-use Rattle.std.proofs.lemmas.List.{append-nil}
 use Rattle.std.proofs.lemmas.List.Sums.{sum_by-cons}
 use Rattle.std.proofs.Math.Nat.{mul-le-mul_left}
 use Rattle.weights.specs.declared.lines.Line.{Line}
@@ -16,25 +15,20 @@ use Rattle.weights.proofs.Chosen.{one_if}
 use Rattle.weights.proofs.FirstLabel.{number_of_labellings-positive}
 use Rattle.weights.proofs.GroupingLaw.{by_columns, by_columns-step, grouping}
 use Rattle.weights.proofs.Members.{Contains-filter, same_refl}
-use Rattle.weights.proofs.Sized.{first_and, length-minus, sum-minus}
+use Rattle.weights.proofs.Sized.{first_and, sum-minus}
 use Rattle.weights.proofs.Sums.{sum_by-map, sum_by-one, sum_by-same, sum_by-same_where, sum_by-scaled}
 use Rattle.completion_bounds.specs.Fillings.{falling, is_at_least}
-use Rattle.completion_bounds.proofs.TableWeights.{labellings-parts, sum-falling, within}
+use Rattle.completion_bounds.proofs.TableWeights.{sum-falling}
 use Rattle.networks.proofs.Elements.{term-le-sum_by}
 use Rattle.networks.proofs.Elements.{all_filter}
-use Rattle.label_network.specs.ChoiceOrder.{later_choices}
-use Rattle.label_network.specs.LabelSteps.{least}
 use Rattle.label_network.specs.Meanings.{sizes_in}
 use Rattle.label_network.proofs.ChoiceSwaps.{labellings-swap}
-use Rattle.label_network.proofs.LabelPlans.{sizes-back}
-use Rattle.label_network.proofs.Narrowing.{chosen, fits-self, minus-within}
-use Rattle.label_network.proofs.Rows.{length-abs, length-pos}
-use Rattle.label_network.proofs.Sizes.{fewer-labellings, held-within, sizes-of_pos}
+use Rattle.label_network.proofs.Narrowing.{chosen, fits-self}
+use Rattle.label_network.proofs.Sizes.{held-within}
 use Rattle.sorted_tables.specs.ChoiceLines.{choice_line, choice_lines}
 use Rattle.sorted_tables.specs.GatheredChoices.{gathered, gathered_weight, is_gathered}
 use Rattle.sorted_tables.specs.SortedSteps.{ChoiceSeat, IsGatheredChoice, IsRoomFor}
-use Rattle.sorted_tables.proofs.GatheredChoices.{first-gathered, later-each}
-use Rattle.sorted_tables.proofs.GatheredSums.{choice-among, labellings-gathered, left-gathered, once, sum-weights}
+use Rattle.sorted_tables.proofs.GatheredSums.{labellings-gathered, left-gathered, once, sum-weights}
 use Rattle.sorted_tables.proofs.Reordering.{even-order}
 
 -- the number of labellings does not see the order of the sizes
@@ -141,13 +135,11 @@ module _ (a : ℕ) (r : List ℕ) (enough : a ≤ sum r) where
       ∙ sum_by-same _ _ (λ y. mul-one (gathered_weight r y * number_of_labellings (minus r y))) (filter (is_gathered r) (choices a r))
       ∙ gathered-ways
 
--- as they are listed
-
 pub record StandsFor (column : ℕ) (r x : List ℕ) : Type 0 where
   pub choice : IsChoice column r x
   pub stands : is_gathered r x ≡ true
 
-stand-for : (column : ℕ) (r : List ℕ) (xs : List (List ℕ)) → AllByRecursion (IsChoice column r) xs → AllByRecursion (StandsFor column r) (filter (is_gathered r) xs)
+pub stand-for : (column : ℕ) (r : List ℕ) (xs : List (List ℕ)) → AllByRecursion (IsChoice column r) xs → AllByRecursion (StandsFor column r) (filter (is_gathered r) xs)
 stand-for column r [] a = tt
 stand-for column r (x ∷ xs) a = by (is_gathered r x) refl a.0 (stand-for column r xs a.1)
   where
@@ -155,68 +147,16 @@ stand-for column r (x ∷ xs) a = by (is_gathered r x) refl a.0 (stand-for colum
     by true e o rest = (record { choice = o; stands = e }, rest)
     by false e o rest = rest
 
--- the choices that are still to come
-abbrev pub still : ℕ → List ℕ → Bool → List ℕ → List (List ℕ)
-still column r more x = if more then x ∷ filter (is_gathered r) (later_choices column r x) else []
-
-pub record IsListing (column : ℕ) (r : List ℕ) (lines : List Line) (more : Bool) (x : List ℕ) : Type 0 where
-  pub listed : lines ++ map (choice_line r) (still column r more x) ≡ choice_lines column r
-  pub each : AllByRecursion (StandsFor column r) (still column r more x)
-
-module _ (column : ℕ) (r : List ℕ) where
-  pub listing-first : column ≤ sum r → (x : List ℕ) → x ≡ least column r → IsListing column r [] true x
-  listing-first h x e =
-      let all : filter (is_gathered r) (choices column r) ≡ still column r true x = first-gathered column r h ∙ ap (λ y. still column r true y) (sym e) in
-      record {
-        listed = ap (map (choice_line r)) (sym all);
-        each = subst (AllByRecursion (StandsFor column r)) all (stand-for column r (choices column r) (choices-each column r));
-      }
-
-  pub listing-next : (lines : List Line) (x y : List ℕ) (more : Bool) (line : Line) (new : List Line) → IsListing column r lines true x → line ≡ choice_line r x → new ≡ lines ++ line ∷ [] → filter (is_gathered r) (later_choices column r x) ≡ still column r more y → IsListing column r new more y
-  listing-next lines x y more line new is one pushed later = record {
-    listed =
-        ap (λ ls. ls ++ map (choice_line r) (still column r more y)) (pushed ∙ ap (λ l. lines ++ l ∷ []) one)
-        ∙ append_assoc lines (choice_line r x ∷ []) (map (choice_line r) (still column r more y))
-        ∙ ap (λ xs. lines ++ choice_line r x ∷ map (choice_line r) xs) (sym later)
-        ∙ is.listed;
-    each = subst (AllByRecursion (StandsFor column r)) later (stand-for column r (later_choices column r x) (later-each column r x is.each.0.choice));
-  }
-
-  pub listing-done : (lines : List Line) (x : List ℕ) → IsListing column r lines false x → lines ≡ choice_lines column r
-  listing-done lines x is = sym (append-nil lines) ∙ is.listed
-
--- what is known of a choice, and of the room that it leaves
+-- what is known of a choice
 pub choice-seat : (width column : ℕ) (room : List ℤ) (x : List ℕ) → IsRoomFor width column room → IsGatheredChoice column room x → ChoiceSeat width column room x
 choice-seat width column room x h o =
     let sizes : List ℕ = sizes_in room in
     let left : List ℕ = minus sizes x in
     let c : IsChoice column sizes x = chosen column sizes x o.allowed in
-    let inside : fits left sizes ≡ true = minus-within sizes x sizes c.fitting (fits-self sizes) in
-    let read : sizes_in (map pos left) ≡ left = sizes-back left in
-    let small : sum left < 2 ^ 64 = omega (arith, h.small, sum-minus sizes x c.fitting) in
     let line : gathered_weight sizes x * number_of_labellings left ≤ MAX = omega (arith, line-fits column sizes h.enough x o.allowed o.gathered, h.fits) in
     record {
       whole = sym c.whole;
       fitting = c.fitting;
       held = held-within width sizes x c.fitting h.held;
-      few = omega (arith, fewer-labellings x sizes c.fitting, h.fits);
       gathered_few = omega (arith, mul-le-mul_left (gathered_weight sizes x) (number_of_labellings-positive left), line);
-      product_few = omega (arith, labellings-parts sizes x (within column sizes x c), h.fits);
-      line_few = line;
-      read = read;
-      left = record {
-        few = omega (arith, length-pos left, length-minus sizes x, length-abs room, h.few);
-        sizes = sizes-of_pos left small (map pos left) refl;
-        small = rw read small;
-        held = rw read (held-within width sizes left inside h.held);
-        fits = rw read (omega (arith, fewer-labellings left sizes inside, h.fits));
-        enough = omega arith;
-      };
     }
-
--- the choice that is listed next is one that stands for others
-pub listing-choice : (column : ℕ) (room : List ℤ) (lines : List Line) (x : List ℕ) → IsListing column (sizes_in room) lines true x → IsGatheredChoice column room x
-listing-choice column room lines x is = record {
-  allowed = choice-among column (sizes_in room) x is.each.0.choice;
-  gathered = is.each.0.stands;
-}

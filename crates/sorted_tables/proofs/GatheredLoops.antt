@@ -11,15 +11,11 @@ use Rattle.std.proofs.Math.Nat.{mul-div_cancel, mul-le-mul_left, mul-le-mul_righ
 use Rattle.weights.specs.Grouped.{fits}
 use Rattle.weights.proofs.ChoiceLists.{IsChoice}
 use Rattle.sorted_tables.specs.GatheredChoices.{is_gathered}
-use Rattle.sorted_tables.specs.SortedSteps.{gathered_count, run, stands_again}
+use Rattle.sorted_tables.specs.SortedSteps.{gathered_count, run, run_from, stands_again}
 use Rattle.sorted_tables.proofs.GatheredForms.{Rise, rise-drop, risen-gathered}
 use Rattle.sorted_tables.proofs.GatheredClasses.{alike, gathered-step, number_gathered, run-within}
 
--- how many rows from the first on have its size, and how many of these get as much
-abbrev pub run_from : List ℕ → ℕ
-run_from [] = 0
-run_from (q ∷ rs) = run q rs + 1
-
+-- how many rows from the first on have its size and get as much
 abbrev pub alike_from : List ℕ → List ℕ → ℕ
 alike_from [] x = 0
 alike_from (q ∷ rs) [] = 0

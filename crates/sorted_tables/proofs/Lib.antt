@@ -11,3 +11,6 @@ pub mod RaisedLoops
 pub mod SortedWays
 pub mod SortedPlans
 pub mod ChoiceSums
+pub mod FrontLines
+pub mod RowOrders
+pub mod WholeLists

@@ -10,12 +10,12 @@ use Rattle.weights.proofs.ChoiceLists.{IsChoice}
 use Rattle.weights.proofs.Filters.{all_weaker}
 use Rattle.label_network.specs.ChoiceOrder.{later_choices}
 use Rattle.sorted_tables.specs.GatheredChoices.{is_gathered}
-use Rattle.sorted_tables.specs.SortedSteps.{raised, run, stands_again}
+use Rattle.sorted_tables.specs.SortedSteps.{fits_behind, raised, run, run_from, stands_again}
 use Rattle.label_network.proofs.ChoiceMoves.{fits-drop, put_back}
 use Rattle.sorted_tables.proofs.GatheredChoices.{later-each}
 use Rattle.sorted_tables.proofs.GatheredForms.{Rise, less-not, risen-gathered}
-use Rattle.sorted_tables.proofs.GatheredLoops.{run-at, run-long, run_from}
-use Rattle.sorted_tables.proofs.RisingChoices.{AnyIs, IsLeast, after-choice, fits_behind, kept-after, kept_from, least-is, none-behind, raised_after, raised_or, filter-same_where}
+use Rattle.sorted_tables.proofs.GatheredLoops.{run-at, run-long}
+use Rattle.sorted_tables.proofs.RisingChoices.{AnyIs, IsLeast, after-choice, kept-after, kept_from, least-is, none-behind, raised_after, raised_or, filter-same_where}
 
 -- ---- the rows after the one that takes one more
 

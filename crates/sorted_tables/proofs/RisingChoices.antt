@@ -15,7 +15,7 @@ use Rattle.weights.proofs.Sized.{first_and, sum-minus}
 use Rattle.label_network.specs.ChoiceOrder.{later_choices}
 use Rattle.label_network.proofs.LaterChoices.{choices-none}
 use Rattle.sorted_tables.specs.GatheredChoices.{gets_less, is_gathered}
-use Rattle.sorted_tables.specs.SortedSteps.{raised, run}
+use Rattle.sorted_tables.specs.SortedSteps.{fits_behind, kept, raised, run}
 use Rattle.sorted_tables.proofs.GatheredChoices.{later-each}
 use Rattle.sorted_tables.proofs.GatheredForms.{Rise, gathered-risen, less-here, less-not, less-parts, risen-gathered}
 use Rattle.weights.proofs.Ranges.{range-split}
@@ -29,15 +29,11 @@ filter-cut true p [] = refl
 filter-cut true p (x ∷ xs) = filter-cut true p xs
 filter-cut false p xs = refl
 
-flat_map-none : {X Y : Type 0} (P : X → Type 0) (f : X → List Y) → ((x : X) → P x → f x ≡ []) → (xs : List X) → AllByRecursion P xs → flat_map f xs ≡ []
+pub flat_map-none : {X Y : Type 0} (P : X → Type 0) (f : X → List Y) → ((x : X) → P x → f x ≡ []) → (xs : List X) → AllByRecursion P xs → flat_map f xs ≡ []
 flat_map-none P f e [] a = refl
 flat_map-none P f e (x ∷ xs) a = rw (e x a.0, flat_map-none P f e xs a.1) refl
 
--- counts that stand behind a row
-abbrev pub fits_behind : ℕ → ℕ → List ℕ → List ℕ → Bool
-fits_behind q a rs y = is_gathered (q ∷ rs) (a ∷ y)
-
-one-more : (q a r b : ℕ) (rs y : List ℕ) → length y ≡ length rs → fits_behind q a (r ∷ rs) (b ∷ y) ≡ (not (gets_less r b q a) && fits_behind r b rs y)
+pub one-more : (q a r b : ℕ) (rs y : List ℕ) → length y ≡ length rs → fits_behind q a (r ∷ rs) (b ∷ y) ≡ (not (gets_less r b q a) && fits_behind r b rs y)
 one-more q a r b rs y l = elim (cases_Bool (gets_less r b q a)) [
   | inl e ↦ rw e (elim (cases_Bool (fits_behind q a (r ∷ rs) (b ∷ y))) [
     | inl f ↦ absurd (both_ways (gets_less r b q a) (risen-gathered (q ∷ r ∷ rs) (a ∷ b ∷ y) (omega (arith, l)) f).0 e)
@@ -62,21 +58,18 @@ fronts-kept q a r b rs ys all =
     by true = refl
     by false = refl
 
--- the choices of a column that fit behind a row
-abbrev pub kept : ℕ → ℕ → ℕ → List ℕ → List (List ℕ)
-kept q a c rs = filter (fits_behind q a rs) (choices c rs)
-
+-- those of the choices kept behind a row that begin with a count
 abbrev pub kept_front : ℕ → ℕ → ℕ → ℕ → List ℕ → ℕ → List (List ℕ)
 kept_front q a c r rs b = cond (gets_less r b q a) [] (map (λ y. b ∷ y) (kept r b (c - b) rs))
 
 -- those that begin with a count of a range
-abbrev kept_with : ℕ → ℕ → ℕ → ℕ → List ℕ → ℕ → ℕ → List (List ℕ)
+abbrev pub kept_with : ℕ → ℕ → ℕ → ℕ → List ℕ → ℕ → ℕ → List (List ℕ)
 kept_with q a c r rs from many = flat_map (kept_front q a c r rs) (range_with_len from many)
 
 long-choices : (c : ℕ) (rs : List ℕ) → AllByRecursion (λ y. length y ≡ length rs) (choices c rs)
 long-choices c rs = all_weaker (IsChoice c rs) (λ y. length y ≡ length rs) (λ y o. o.long) (choices c rs) (choices-each c rs)
 
-kept-range : (q a c r : ℕ) (rs : List ℕ) (from many : ℕ) → filter (fits_behind q a (r ∷ rs)) (flat_map (λ b. map (λ y. b ∷ y) (choices (c - b) rs)) (range_with_len from many)) ≡ kept_with q a c r rs from many
+pub kept-range : (q a c r : ℕ) (rs : List ℕ) (from many : ℕ) → filter (fits_behind q a (r ∷ rs)) (flat_map (λ b. map (λ y. b ∷ y) (choices (c - b) rs)) (range_with_len from many)) ≡ kept_with q a c r rs from many
 kept-range q a c r rs from many =
     filter-flat_map (fits_behind q a (r ∷ rs)) (λ b. map (λ y. b ∷ y) (choices (c - b) rs)) (range_with_len from many)
     ∙ flat_map-same _ (kept_front q a c r rs) (λ b. fronts-kept q a r b rs (choices (c - b) rs) (long-choices (c - b) rs)) (range_with_len from many)
@@ -85,14 +78,14 @@ kept-range q a c r rs from many =
 kept-none : (q a c : ℕ) (rs : List ℕ) → sum rs < c → kept q a c rs ≡ []
 kept-none q a c rs h = ap (filter (fits_behind q a rs)) (choices-none c rs h)
 
-no-front : (q a c r b : ℕ) (rs : List ℕ) → kept r b (c - b) rs ≡ [] → kept_front q a c r rs b ≡ []
+pub no-front : (q a c r b : ℕ) (rs : List ℕ) → kept r b (c - b) rs ≡ [] → kept_front q a c r rs b ≡ []
 no-front q a c r b rs e = rw e (by (gets_less r b q a))
   where
     by : (t : Bool) → cond t [] (map (λ y. b ∷ y) []) ≡ []
     by true = refl
     by false = refl
 
-kept-few : (q a c : ℕ) (rs : List ℕ) → c < a * run q rs → kept q a c rs ≡ []
+pub kept-few : (q a c : ℕ) (rs : List ℕ) → c < a * run q rs → kept q a c rs ≡ []
 kept-few q a c [] h = absurd (omega (arith, h))
 kept-few q a c (r ∷ rs) h =
     kept-range q a c r rs 0 (min c r + 1)
@@ -182,11 +175,11 @@ later-kept q a c r b rs x o e =
     (fronts-kept q a r b rs (later_choices (c - b) rs x) (all_weaker (IsChoice (c - b) rs) (λ y. length y ≡ length rs) (λ y p. p.long) (later_choices (c - b) rs x) (later-each (c - b) rs x o)) ∙ ap (λ t. cond t [] (map (λ y. b ∷ y) (filter (fits_behind r b rs) (later_choices (c - b) rs x)))) e)
     ∙ ap (λ ys. map (λ y. b ∷ y) (filter (fits_behind r b rs) (later_choices (c - b) rs x)) ++ ys) (kept-range q a c r rs (b + 1) (min c r - b))
 
-kept-split : (q a c r : ℕ) (rs : List ℕ) (s n k : ℕ) → kept_with q a c r rs s (n + k) ≡ kept_with q a c r rs s n ++ kept_with q a c r rs (s + n) k
+pub kept-split : (q a c r : ℕ) (rs : List ℕ) (s n k : ℕ) → kept_with q a c r rs s (n + k) ≡ kept_with q a c r rs s n ++ kept_with q a c r rs (s + n) k
 kept-split q a c r rs s n k = ap (flat_map (kept_front q a c r rs)) (range-split s n k) ∙ flat_map-append (kept_front q a c r rs) (range_with_len s n) (range_with_len (s + n) k)
 
 -- the first one is a choice
-raised-choice : (q a c : ℕ) (rs : List ℕ) → a ≤ q → a * run q rs ≤ c → c ≤ sum rs → IsChoice c rs (raised q a c rs)
+pub raised-choice : (q a c : ℕ) (rs : List ℕ) → a ≤ q → a * run q rs ≤ c → c ≤ sum rs → IsChoice c rs (raised q a c rs)
 raised-choice q a c [] h few most = record { long = refl; whole = omega (arith, most); fitting = refl }
 raised-choice q a c (r ∷ rs) h few most =
     let b : ℕ = max (cond (nat_eq r q) a 0) (c - sum rs) in

@@ -1,4 +1,5 @@
 pub mod ChoiceLines
+pub mod FrontSteps
 pub mod GatheredChoices
 pub mod SortedRooms
 pub mod SortedSteps

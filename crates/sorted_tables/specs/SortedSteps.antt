@@ -1,8 +1,8 @@
 -- What the bodies of sorted rooms keep, and words for them.
-use Rattle.std.specs.Prelude.{◌≡◌, ℕ, suc, ◌+◌, ◌-◌, ◌*◌, ◌^◌, ◌<◌, ◌≤◌, ◌&&◌, ℤ, pos, Bool, List, [], ◌∷◌, get_or, length, map, max, nat_eq, nat_lt, slice_index, true, if◌then◌else◌}
-use Rattle.std.specs.List.{count_by, sum, Contains}
+use Rattle.std.specs.Prelude.{◌≡◌, ℕ, suc, ◌+◌, ◌-◌, ◌*◌, ◌^◌, ◌<◌, ◌≤◌, ◌&&◌, ℤ, Bool, List, [], ◌∷◌, get_or, length, max, nat_eq, nat_lt, slice_index, true, if◌then◌else◌}
+use Rattle.std.specs.List.{count_by, filter, sum, Contains}
 use Rattle.weights.specs.declared.TheConstants.{MAX}
-use Rattle.weights.specs.Grouped.{choices, fits, minus}
+use Rattle.weights.specs.Grouped.{choices, fits}
 use Rattle.weights.specs.Labellings.{number_of_labellings}
 use Rattle.completion_bounds.specs.Fillings.{falling}
 use Rattle.networks.specs.Completions.{total_weight}
@@ -40,6 +40,23 @@ raised size least total (row ∷ rows) =
     let count = max (if nat_eq row size then least else 0) (total - sum rows) in
     count ∷ raised row count (total - count) rows
 
+-- how many rows from the first one on have its size
+abbrev pub run_from : List ℕ → ℕ
+run_from [] = 0
+run_from (size ∷ rows) = run size rows + 1
+
+-- in how many orders rows of equal size may stand
+abbrev pub row_orders : List ℕ → ℕ
+row_orders [] = 1
+row_orders (size ∷ rows) = run_from (size ∷ rows) * row_orders rows
+
+-- whether counts fit behind a row of a size that gets so many, and the choices that do
+abbrev pub fits_behind : ℕ → ℕ → List ℕ → List ℕ → Bool
+fits_behind size count rows x = is_gathered (size ∷ rows) (count ∷ x)
+
+abbrev pub kept : ℕ → ℕ → ℕ → List ℕ → List (List ℕ)
+kept size count column rows = filter (fits_behind size count rows) (choices column rows)
+
 -- a room of few enough labellings, and a column of no more subjects
 pub record IsRoomFor (width column : ℕ) (room : List ℤ) : Type 0 where
   pub few : length room ≤ 8
@@ -64,15 +81,9 @@ pub record RoomSeat (columns rows : List ℕ) (width g : ℕ) (room : List ℤ) 
   pub first : g < length columns → let x = least (slice_index columns g) (sizes_in room) in
       (sorted_floor columns rows).choices g room ≡ x ∷ (sorted_floor columns rows).later g room x
 
--- and of such a choice for it, and of the room that it leaves
+-- and of such a choice for it
 pub record ChoiceSeat (width column : ℕ) (room : List ℤ) (x : List ℕ) : Type 0 where
   pub whole : column ≡ sum x
   pub fitting : fits x (sizes_in room) ≡ true
   pub held : IsHeld width x
-  pub few : number_of_labellings x ≤ MAX
   pub gathered_few : gathered_weight (sizes_in room) x ≤ MAX
-  pub product_few : number_of_labellings x * number_of_labellings (minus (sizes_in room) x) ≤ MAX
-  pub line_few : let left = number_of_labellings (minus (sizes_in room) x) in
-      gathered_weight (sizes_in room) x * left ≤ MAX
-  pub read : sizes_in (map pos (minus (sizes_in room) x)) ≡ minus (sizes_in room) x
-  pub left : IsRoomFor width 0 (map pos (minus (sizes_in room) x))

@@ -1,52 +1,13 @@
 // The choices of a column, each with what it leaves of the sizes.
 ghost use Rattle.std.specs.Prelude.{◌≡◌, IfOk};
-ghost use Rattle.weights.specs.Grouped.{minus};
-ghost use Rattle.weights.specs.Labellings.{number_of_labellings};
 ghost use Rattle.label_network.specs.Meanings.{sizes_in};
-ghost use Rattle.sorted_tables.specs.ChoiceLines.{choice_line, choice_lines};
-ghost use Rattle.sorted_tables.specs.SortedSteps.{ChoiceSeat, IsGatheredChoice, IsRoomFor};
+ghost use Rattle.sorted_tables.specs.ChoiceLines.{choice_lines};
+ghost use Rattle.sorted_tables.specs.SortedSteps.{IsRoomFor};
 
-use crate::gathering::{next_gathered, weight_gathered};
-use label_network::{Binomials, first_counts, rest_in, take_away, weight_in};
+use crate::fronts::{Front, list_behind, orders_of};
+use label_network::{Binomials, read_sizes};
 use std::alloc::Global;
-use weights::{Line, NoMemory};
-
-// What is known of a choice. It does nothing.
-#[inline(always)]
-pub(crate) fn choice_seat(_binomials: &Binomials, _column: u64, _room: &[i128], _choice: &[u64])
-    requires room { IsRoomFor _binomials.now.width _column _room.now }
-    requires choice { IsGatheredChoice _column _room.now _choice.now }
-    ensures { ChoiceSeat _binomials.now.width _column _room.now _choice.now }
-{}
-
-// How many labellings there are of what a choice leaves.
-fn left_of(binomials: &Binomials, column: u64, room: &[i128], choice: &[u64]) -> u128
-    requires room { IsRoomFor binomials.now.width column room.now }
-    requires choice { IsGatheredChoice column room.now choice.now }
-    ensures { result ≡ number_of_labellings (minus (sizes_in room.now) choice.now) }
-{
-    choice_seat(binomials, column, room, choice);
-    let mut numbers = [0i128; 8];
-    let left = &mut numbers[..room.len()];
-    take_away(room, choice, left);
-    rest_in(binomials, left)
-}
-
-// A choice with what it leaves.
-fn line_of(binomials: &Binomials, column: u64, room: &[i128], choice: &[u64]) -> Line
-    requires room { IsRoomFor binomials.now.width column room.now }
-    requires choice { IsGatheredChoice column room.now choice.now }
-    ensures { result ≡ choice_line (sizes_in room.now) choice.now }
-{
-    choice_seat(binomials, column, room, choice);
-    let left = left_of(binomials, column, room, choice);
-    let here = weight_in(binomials, column, choice);
-    let all = weight_gathered(binomials, column, room, choice);
-    Line {
-        value: (here * left) as i128,
-        weight: all * left,
-    }
-}
+use weights::{Line, NoMemory, total_of};
 
 /// The choices of a column that stand for others, each with what it leaves of a room's sizes.
 pub(crate) fn list_choices(
@@ -58,14 +19,19 @@ pub(crate) fn list_choices(
     requires { IsRoomFor binomials.now.width column room.now }
     ensures { IfOk result (λ lines. lines.items ≡ choice_lines column (sizes_in room.now)) }
 {
+    let mut numbers = [0u64; 8];
+    let rows = &mut numbers[..room.len()];
+    read_sizes(room, rows);
+    let none = Front {
+        size: 0,
+        count: 0,
+        alike: 0,
+        orders: 1,
+        column,
+        others: total_of(rows) - column,
+        ways: 1,
+    };
     let mut lines = Vec::new(alloc);
-    let mut counts = [0u64; 8];
-    let choice = &mut counts[..room.len()];
-    first_counts(column, room, choice);
-    let mut more = true;
-    while more {
-        lines.push(line_of(binomials, column, room, choice))?;
-        more = next_gathered(column, room, choice);
-    }
+    list_behind(binomials, orders_of(rows), rows, none, &mut lines)?;
     Ok(lines)
 }

@@ -14,7 +14,7 @@ use label_network::{Binomials, read_sizes, weight_in};
 use weights::total_of;
 
 // Whether there is a row after this one, of the same number.
-fn goes_on(numbers: &[u64], i: usize) -> bool
+pub(crate) fn goes_on(numbers: &[u64], i: usize) -> bool
     requires { i < length numbers.now }
     ensures { result ≡ stands_again numbers.now i }
 {
@@ -23,7 +23,7 @@ fn goes_on(numbers: &[u64], i: usize) -> bool
 
 // How many rows of one kind there are from a row on, by those after it.
 #[inline(always)]
-fn count_on(goes_on: bool, count: u64) -> u64
+pub(crate) fn count_on(goes_on: bool, count: u64) -> u64
     requires { count ≤ 8 }
     ensures { result ≡ if goes_on then count + 1 else 1 }
 {
@@ -42,7 +42,7 @@ fn both_go_on(rows: &[u64], counts: &[u64], i: usize) -> bool
 
 // What a row gets at least, by the one before it.
 #[inline(always)]
-fn floor_of(size: u64, before: u64, count: u64) -> u64
+pub(crate) fn floor_of(size: u64, before: u64, count: u64) -> u64
     ensures { result ≡ if nat_eq size before then count else 0 }
 {
     if size == before { count } else { 0 }

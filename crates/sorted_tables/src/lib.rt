@@ -4,6 +4,7 @@
 #![tactic(auto)]
 
 mod choice_lines;
+mod fronts;
 mod gathering;
 mod orders;
 mod rooms;

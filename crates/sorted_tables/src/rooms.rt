@@ -8,15 +8,23 @@ ghost use Rattle.label_network.specs.LabelRooms.{IsLabelled};
 ghost use Rattle.label_network.specs.Meanings.{sizes_in};
 ghost use Rattle.sorted_tables.specs.ChoiceLines.{choice_lines};
 ghost use Rattle.sorted_tables.specs.SortedRooms.{GivesTables, sorted_floor, sorted_plan};
-ghost use Rattle.sorted_tables.specs.SortedSteps.{AreSorted, IsGatheredChoice, RoomSeat};
+ghost use Rattle.sorted_tables.specs.SortedSteps.{AreSorted, ChoiceSeat, IsGatheredChoice, IsRoomFor, RoomSeat};
 
-use crate::choice_lines::{choice_seat, list_choices};
+use crate::choice_lines::list_choices;
 use crate::gathering::{next_gathered, weight_gathered};
 use crate::orders::fall_away;
 use label_network::{Binomials, first_counts, rest_in, write_sizes};
 use room_network::Rooms;
 use std::alloc::Global;
 use weights::{Line, NoMemory};
+
+// What is known of a choice. It does nothing.
+#[inline(always)]
+fn choice_seat(_binomials: &Binomials, _column: u64, _room: &[i128], _choice: &[u64])
+    requires room { IsRoomFor _binomials.now.width _column _room.now }
+    requires choice { IsGatheredChoice _column _room.now _choice.now }
+    ensures { ChoiceSeat _binomials.now.width _column _room.now _choice.now }
+{}
 
 /// Labels over columns, as [`LabelRooms`](label_network::LabelRooms), but the sizes that remain
 /// after a choice stand in falling order. A choice is for the sizes in the order in which they
