@@ -3,7 +3,7 @@
 
 use crate::centred_sums::CentredSums;
 use crate::rank_sums::RankSums;
-use label_network::{LabelRooms, LabelNetwork};
+use label_network::{LabelNetwork, LabelRooms};
 use networks::{Roomed, Stages, Verdict};
 use ordered_groups::InOrder;
 use packed_keys::PackedGroups;

@@ -6,7 +6,7 @@ use Rattle.weights.specs.Grouped.{choices, columns_of, minus}
 use Rattle.weights.specs.Labellings.{labellings, number_of_labellings}
 use Rattle.networks.specs.declared.stages.Verdict.{Verdict}
 use Rattle.networks.specs.declared.stages.Verdict.TheVariants.{Inside, Outside, Undecided}
-use Rattle.networks.specs.Completions.{is_extreme, path_end}
+use Rattle.networks.specs.Completions.{ends_inside, path_end}
 use Rattle.networks.specs.Laws.{IsSound}
 use Rattle.networks.specs.Network.{Network, IsReached}
 use Rattle.room_network.specs.Meanings.{Meaning as RoomMeaning, verdict_at}
@@ -104,7 +104,7 @@ passing_labellings m p =
 abbrev pub extreme_labellings : Measured → Tail → ℕ
 extreme_labellings m t =
     let n = measured_network m in
-    length (filter (λ xs. is_extreme n t 0 n.first (completion_of m xs)) (labellings m.rows))
+    length (filter (λ xs. ends_inside n t 0 n.first (completion_of m xs)) (labellings m.rows))
 
 -- a measure by intervals of rooms, those of labels over these columns and rows
 abbrev pub by_intervals : List ℕ → List ℕ → RoomMeaning → Measured

@@ -6,7 +6,7 @@ use Rattle.std.proofs.lemmas.Bool.{cases_lt, le-ltb, lt-ltb}
 use Rattle.weights.specs.declared.tails.Tail.{Tail}
 use Rattle.networks.specs.declared.stages.Verdict.{Verdict}
 use Rattle.networks.specs.declared.stages.Verdict.TheVariants.{Inside, Outside, Undecided}
-use Rattle.networks.specs.Completions.{completions, is_extreme, is_inside}
+use Rattle.networks.specs.Completions.{completions, ends_inside, is_inside}
 use Rattle.networks.specs.Laws.{IsSound}
 use Rattle.networks.specs.Network.{Network}
 use Rattle.label_network.specs.Meanings.{sizes_in}
@@ -33,7 +33,7 @@ module _ (columns rows : List ℕ) (least : ℤ) where
     | inr past ↦ ended (omega (arith, past, within)) e
   ]
     where
-      ended : g ≡ length columns → n.verdict t g k ≡ v → AllByRecursion (λ cs. is_extreme n t g k cs ≡ extreme) (completions n g k)
+      ended : g ≡ length columns → n.verdict t g k ≡ v → AllByRecursion (λ cs. ends_inside n t g k cs ≡ extreme) (completions n g k)
       ended last e =
           let none : length columns - length columns ≡ 0 = omega arith in
           rw (last, none) (ap is_inside (rw last at e) ∙ is, tt)
