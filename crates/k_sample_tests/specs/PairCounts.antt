@@ -11,7 +11,7 @@ use Rattle.networks.specs.Network.{Network}
 use Rattle.room_network.specs.Numbers.{Numbers}
 use Rattle.room_network.specs.declared.numbers.Operation.TheVariants.{Sum}
 use Rattle.label_network.specs.LabelNetwork.{label_network}
-use Rattle.label_network.specs.Meanings.{Meaning, number_meaning}
+use Rattle.label_network.specs.Meanings.{Meaning, number_over_columns}
 use Rattle.pooled_columns.specs.PooledColumns.{column_sizes, pooled_values}
 use Rattle.k_sample_tests.specs.declared.used_pairs.UsedPair.{UsedPair}
 use Rattle.k_sample_tests.specs.Umbrella.{PeakedGroups, umbrella_test, used_pairs}
@@ -49,7 +49,7 @@ pairs_numbers pairs rows judge = record {
 
 abbrev pub pairs_meaning : List UsedPair → List ℕ → List ℕ → Judge → Meaning
 pairs_meaning pairs rows columns judge =
-    number_meaning columns rows (pairs_numbers pairs rows judge)
+    number_over_columns columns rows (pairs_numbers pairs rows judge)
 
 abbrev pub umbrella_meaning : PeakedGroups → Meaning
 umbrella_meaning samples =

@@ -10,7 +10,7 @@ use Rattle.label_network.proofs.Endings.{table_value}
 use Rattle.label_network.proofs.Endings.{partial_after as label_after}
 use Rattle.label_network.specs.LabelNetwork.{over_rooms, over_sizes}
 use Rattle.label_network.specs.LabelRooms.{label_floor}
-use Rattle.label_network.specs.Meanings.{Meaning, IsPlace, number_meaning, sizes_in}
+use Rattle.label_network.specs.Meanings.{Meaning, IsPlace, number_over_columns, sizes_in}
 use Rattle.label_network.specs.Meanings.{AreReached as LabelReached, IsMeasure as IsLabelMeasure}
 use Rattle.label_network.proofs.LabelPlans.{sizes-back}
 
@@ -60,15 +60,15 @@ module _ (m : Meaning) where
 -- a measure of one number, over sizes
 module _ (columns rows : List ℕ) (n : Numbers (List ℕ)) where
   abbrev over : RoomMeaning
-  over = over_rooms (number_meaning columns rows n)
+  over = over_rooms (number_over_columns columns rows n)
 
-  pub over_number : IsLabelMeasure (number_meaning columns rows n)
+  pub over_number : IsLabelMeasure (number_over_columns columns rows n)
       → ((g : ℕ) (room : List ℤ) (c : List ℕ) (p : List ℤ) → IsMove over g room c p → Fits n.operation (so_far p) (n.step g (sizes_in room) c))
       → ((g : ℕ) (room p : List ℤ) → AreReached over g room p → IsOutcome n.operation n.judge (so_far p) (n.least g (sizes_in room)))
       → ((g : ℕ) (room p : List ℤ) → AreReached over g room p → IsOutcome n.operation n.judge (so_far p) (n.greatest g (sizes_in room)))
       → IsNumber (label_floor columns rows) (over_sizes n)
   over_number narrows steps lows highs = record {
-    narrows = over_measure (number_meaning columns rows n) narrows;
+    narrows = over_measure (number_over_columns columns rows n) narrows;
     steps = steps;
     lows = lows;
     highs = highs;

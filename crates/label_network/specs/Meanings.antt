@@ -30,8 +30,8 @@ pub record Meaning : Type 0 where
   pub judge : Judge
 
 -- what is one number, a sum or a product over the columns
-abbrev pub number_meaning : List ℕ → List ℕ → Numbers (List ℕ) → Meaning
-number_meaning columns rows n = record {
+abbrev pub number_over_columns : List ℕ → List ℕ → Numbers (List ℕ) → Meaning
+number_over_columns columns rows n = record {
   columns = columns;
   rows = rows;
   slots = 1;

@@ -7,7 +7,7 @@ use Rattle.weights.specs.Labellings.{number_of_labellings}
 use Rattle.completion_bounds.specs.Fillings.{greatest_weight, least_weight, product_by}
 use Rattle.room_network.specs.Numbers.{Numbers}
 use Rattle.room_network.specs.declared.numbers.Operation.TheVariants.{Product}
-use Rattle.label_network.specs.Meanings.{Meaning, number_meaning}
+use Rattle.label_network.specs.Meanings.{Meaning, number_over_columns}
 
 -- by what the later columns multiply it, at least: each fills the greatest remaining rows first
 abbrev pub least_factor : List ℕ → ℕ → List ℕ → ℕ
@@ -29,4 +29,4 @@ weight_numbers columns judge = record {
 }
 
 abbrev pub weight_meaning : List ℕ → List ℕ → Judge → Meaning
-weight_meaning rows columns judge = number_meaning columns rows (weight_numbers columns judge)
+weight_meaning rows columns judge = number_over_columns columns rows (weight_numbers columns judge)

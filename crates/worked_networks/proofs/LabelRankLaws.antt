@@ -23,7 +23,7 @@ use Rattle.room_network.specs.declared.numbers.Operation.TheVariants.{Sum}
 use Rattle.label_network.specs.LabelNetwork.{over_rooms, over_sizes}
 use Rattle.label_network.specs.LabelRooms.{label_floor}
 use Rattle.label_network.specs.LabelSteps.{AreSizes}
-use Rattle.label_network.specs.Meanings.{Meaning, number_meaning, sizes_in}
+use Rattle.label_network.specs.Meanings.{Meaning, number_over_columns, sizes_in}
 use Rattle.label_network.proofs.Narrowing.{IsNarrowing, chosen, measured, reached-kept}
 use Rattle.label_network.proofs.OverRooms.{over_number, over_place, over_reached}
 use Rattle.label_network.proofs.Rows.{length-abs}
@@ -149,7 +149,7 @@ one-number g r p s = ap length s.partial
 
 module _ (judge : Judge) where
   abbrev m : Meaning
-  m = number_meaning six samples (rank_numbers judge)
+  m = number_over_columns six samples (rank_numbers judge)
 
   narrowing : IsNarrowing m IsSeat
   narrowing = record {
