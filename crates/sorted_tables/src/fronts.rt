@@ -137,7 +137,9 @@ fn least_of(front: Front, size: u64) -> u64
     floor_of(size, front.size, front.count).max(front.column.saturating_sub(later))
 }
 
-// Lists the choices that begin with a front: those with each count of the next row in turn.
+// Lists the choices that begin with a front.
+#[cycle(listing)]
+#[inline(always)]
 pub(crate) fn list_behind(
     binomials: &Binomials,
     orders: u64,
@@ -150,8 +152,25 @@ pub(crate) fn list_behind(
 {
     if rows.len() <= 1 {
         lines.push(last_line(binomials, orders, rows, front))?;
-        return Ok(());
+        Ok(())
+    } else {
+        list_next(binomials, orders, rows, front, lines)
     }
+}
+
+// Those with each count of the next row in turn, where it is not the last one.
+#[cycle(listing)]
+fn list_next(
+    binomials: &Binomials,
+    orders: u64,
+    rows: &[u64],
+    front: Front,
+    lines: &mut Vec<Line>,
+) -> Result<(), NoMemory>
+    requires front { IsFront binomials.now.width orders rows.now front }
+    requires more { 1 < length rows.now }
+    ensures { OnOk result (lines.new.items ≡ lines.old.items ++ front_lines orders front rows.now) }
+{
     let size = rows[0];
     let most = size.min(front.column / run_of(rows));
     let mut count = least_of(front, size);
