@@ -5,7 +5,7 @@ ghost use Rattle.weights.specs.Conditional.{numerator};
 ghost use Rattle.networks.specs.Judged.{judge_of};
 ghost use Rattle.worked_networks.specs.LabelRanks.{first_ranks, last_ranks, rank_test};
 
-use label_network::{label_stages, read_sizes};
+use label_network::{ByIntervals, LabelStages, label_stages, read_sizes};
 use networks::{Interval, Judge, TailSum};
 use room_network::{NumberMeasure, Numbered, Operation};
 use stage_network::tail_sum;
@@ -80,6 +80,19 @@ impl NumberMeasure for LabelRanks {
     }
 }
 
+// The measure, with the rules of the test.
+fn rank_measure() -> Numbered<LabelRanks>
+    ensures { result.judge ≡ judge_of rank_test }
+{
+    Numbered::new(LabelRanks {
+        judge: Judge {
+            less: Rule::AtMost(30),
+            greater: Rule::AtLeast(30),
+            two: Rule::Far(6, 126, 54),
+        },
+    })
+}
+
 /// A tail of the test whose second sample has the three greatest ranks: what the network of labels
 /// sums is the numerator.
 ///
@@ -89,12 +102,21 @@ impl NumberMeasure for LabelRanks {
 pub fn tail_by_labels(alloc: Global, tail: Tail) -> Result<TailSum, NoMemory>
     ensures { IfOk result (λ found. found.sum ≡ numerator rank_test tail) }
 {
-    let judge = Judge {
-        less: Rule::AtMost(30),
-        greater: Rule::AtLeast(30),
-        two: Rule::Far(6, 126, 54),
-    };
-    let measure = Numbered::new(LabelRanks { judge });
-    let stages = label_stages(alloc, &[1; 6], &[3, 3], measure)?;
+    let stages = label_stages(alloc, &[1; 6], &[3, 3], rank_measure())?;
+    tail_sum(alloc, &stages, tail)
+}
+
+/// The same, by a network that knows of the measure no more than that its verdicts are sound.
+///
+/// # Errors
+///
+/// [`NoMemory`] where there is no memory for the measure or the network.
+pub fn tail_by_measure(alloc: Global, tail: Tail) -> Result<TailSum, NoMemory>
+    ensures { IfOk result (λ found. found.sum ≡ numerator rank_test tail) }
+{
+    let columns = Vec::from_array(alloc, [1; 6])?;
+    let rows = Vec::from_array(alloc, [3, 3])?;
+    let measure = ByIntervals::new(columns, rows, rank_measure());
+    let stages = LabelStages::new(alloc, &[1; 6], &[3, 3], measure)?;
     tail_sum(alloc, &stages, tail)
 }

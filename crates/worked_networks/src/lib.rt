@@ -16,6 +16,6 @@ mod tests;
 pub use blocks::Blocks;
 pub use draws::{DrawRooms, WhiteBalls, drawing_law, white_draws};
 pub use from_lines::{OneSided, one_sided};
-pub use label_ranks::{LabelRanks, tail_by_labels};
+pub use label_ranks::{LabelRanks, tail_by_labels, tail_by_measure};
 pub use ranks::Ranks;
 pub use signed_ranks::{RankStages, SignedRanks};

@@ -1,6 +1,7 @@
 // What the networks and the tests come to, by hand.
 use crate::{
-    Blocks, OneSided, RankStages, Ranks, SignedRanks, one_sided, tail_by_labels, white_draws,
+    Blocks, OneSided, RankStages, Ranks, SignedRanks, one_sided, tail_by_labels, tail_by_measure,
+    white_draws,
 };
 use distribution::{above, below, far};
 use networks::{AdditiveStages, Answer, OneOf, Roomed, Spread, Stages, TailSum, TailSums, Way};
@@ -70,6 +71,8 @@ fn two_and_two_subjects(rt: HostRuntime) -> Result<(), Fail> {
 fn three_and_three_labels(rt: HostRuntime) {
     comes_to(&rt, tail_by_labels(rt.alloc(), Tail::Greater), 1, 3);
     comes_to(&rt, tail_by_labels(rt.alloc(), Tail::Two), 2, 5);
+    comes_to(&rt, tail_by_measure(rt.alloc(), Tail::Greater), 1, 3);
+    comes_to(&rt, tail_by_measure(rt.alloc(), Tail::Two), 2, 5);
 }
 
 // Of the six ways to draw two balls four draw the white one. The key after it is closed.
