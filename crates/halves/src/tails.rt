@@ -15,8 +15,8 @@ use stage_network::{Width, row_sums, tail_sums_by_rooms, total_of, width_of};
 use std::alloc::Global;
 use weights::{Count, Narrow, NoMemory, Tails, Wide};
 
-// The sums in counts of one width, by rows of cells where these serve, or by two halves; None where
-// a number is too great.
+// The sums in counts of one width, by rows of cells where these serve and find memory, or by two
+// halves; None where a number is too great.
 fn quick_in<C: Count, S: Roomed>(
     alloc: Global,
     stages: &S,
@@ -32,7 +32,7 @@ fn quick_in<C: Count, S: Roomed>(
         IfOk result (λ some. IfSome some (λ all. (t : Tail) → asks tails t ≡ true
         → (sum_for all t).sum ≡ extreme_weight n t 0 n.first)) }
 {
-    if let Some(sums) = row_sums::<C, S>(alloc, stages, tails)? {
+    if let Ok(Some(sums)) = row_sums::<C, S>(alloc, stages, tails) {
         return Ok(Some(sums));
     }
     let half = first_half::<C, S>(alloc, stages, tails, total)?;

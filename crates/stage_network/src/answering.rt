@@ -11,10 +11,11 @@ ghost use Rattle.networks.specs.EachTail.{sum_for};
 
 use crate::first_tails::{first_among, first_asked};
 use crate::prepared::{Prepared, network_of};
+use crate::spreads::spread_by_rooms;
 use crate::sums::{tail_sum_by_rooms, tail_sums_by_rooms};
 use crate::walks::plain_spread;
 use enumerate::plain_tail;
-use networks::{Answer, Spread, TailSum, TailSums, Way};
+use networks::{Answer, Roomed, Spread, Stages, TailSum, TailSums, Way};
 use std::alloc::Global;
 use weights::{NoMemory, Tail, Tails};
 
@@ -93,8 +94,8 @@ fn one_by_one<P: Prepared>(
     Ok(TailSums { less, greater, two })
 }
 
-// The sums of the asked tails.
-fn sums_of<P: Prepared>(
+/// The sums of the asked tails.
+pub(crate) fn sums_of<P: Prepared>(
     alloc: Global,
     problem: &P,
     tails: Tails,
@@ -167,6 +168,32 @@ fn spread_by_walk<P: Prepared>(alloc: Global, problem: &P) -> Result<Spread, NoM
     Ok(found)
 }
 
+// By the network that runs for the first tail.
+fn spread_by_network<P: Prepared>(alloc: Global, problem: &P) -> Result<Spread, NoMemory>
+    ensures lines { IfOk result (λ spread. spread ≡ distribution (P.test problem.now)) }
+    ensures weights { IfOk result WeightsFit }
+    ensures rules { IfOk result (TailsFit (P.test problem.now)) }
+{
+    let _frame = problem.frame();
+    let tail = first_tail(problem);
+    let stages = network_of(alloc, problem, tail)?;
+    let _lawful = stages.stages();
+    let found = spread_by_rooms(alloc, &stages)?;
+    Ok(found)
+}
+
+// By the quick network, or, where this finds no memory, by that one.
+fn spread_of<P: Prepared>(alloc: Global, problem: &P) -> Result<Spread, NoMemory>
+    ensures lines { IfOk result (λ spread. spread ≡ distribution (P.test problem.now)) }
+    ensures weights { IfOk result WeightsFit }
+    ensures rules { IfOk result (TailsFit (P.test problem.now)) }
+{
+    match problem.quick_distribution(alloc) {
+        Ok(spread) => Ok(spread),
+        Err(NoMemory) => spread_by_network(alloc, problem),
+    }
+}
+
 /// The distribution of a test: each value that its statistic takes, by strictly ascending value,
 /// with the summed weight of the rearrangements that have it, by either way. Its weights sum to at
 /// most [`weights::MAX`], and the rule of no tail computes a number of a value that passes a limit.
@@ -176,7 +203,7 @@ pub fn distribution<P: Prepared>(alloc: Global, problem: &P, way: Way) -> Result
     ensures rules { IfOk result (TailsFit (P.test problem.now)) }
 {
     match way {
-        Way::Network => problem.quick_distribution(alloc),
+        Way::Network => spread_of(alloc, problem),
         Way::Plain => spread_by_walk(alloc, problem),
     }
 }

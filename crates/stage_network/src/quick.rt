@@ -1,15 +1,15 @@
-// The answer of a prepared test by its quick networks. Their keys are not those that are written
-// down, so none is counted.
+// The answer of a prepared test by its quick ways. Their keys are not those that are written down,
+// so none is counted.
 ghost use Rattle.std.specs.Prelude.{◌≡◌, ◌≤◌, true, IfOk};
 ghost use Rattle.weights.specs.declared.tails.Tail.{Tail};
 ghost use Rattle.networks.specs.Asked.{asks};
 ghost use Rattle.networks.specs.declared.answers.Way.TheVariants as way;
-ghost use Rattle.networks.specs.Follows.{HasTails, answer_of, tail_of, uncounted};
+ghost use Rattle.networks.specs.Follows.{AreNumerators, HasTails, answer_of, tail_of, uncounted};
 ghost use Rattle.networks.specs.EachTail.{sum_for};
 
-use crate::answering::where_asked;
+use crate::answering::{sums_of, where_asked};
 use crate::prepared::Prepared;
-use networks::{Answer, TailSum, TailSums};
+use networks::{Answer, TailSum, TailSums, Way};
 use std::alloc::Global;
 use weights::{NoMemory, Tails};
 
@@ -23,7 +23,24 @@ fn uncounted(found: TailSum) -> TailSum
     }
 }
 
-// The numerators of the asked tails, with no counts.
+// The numerators of the asked tails. Where the quick ways find no memory, the networks that the
+// open keys are counted in may: they need not hold as much at once.
+fn numerators_of<P: Prepared>(
+    alloc: Global,
+    problem: &P,
+    tails: Tails,
+) -> Result<TailSums, NoMemory>
+    requires { HasTails (P.test problem.now) tails }
+    ensures { IfOk result (AreNumerators (P.test problem.now) tails) }
+{
+    if let Ok(sums) = problem.numerators(alloc, tails) {
+        return Ok(sums);
+    }
+    let sums = sums_of(alloc, problem, tails, Way::Network)?;
+    Ok(sums)
+}
+
+// The same, with no counts.
 fn uncounted_sums<P: Prepared>(
     alloc: Global,
     problem: &P,
@@ -33,7 +50,7 @@ fn uncounted_sums<P: Prepared>(
     ensures { IfOk result (λ sums. (t : Tail) → asks tails t ≡ true
         → sum_for sums t ≡ tail_of (P.test problem.now) uncounted t way.Plain) }
 {
-    let sums = problem.numerators(alloc, tails)?;
+    let sums = numerators_of(alloc, problem, tails)?;
     Ok(TailSums {
         less: uncounted(sums.less),
         greater: uncounted(sums.greater),
@@ -42,7 +59,8 @@ fn uncounted_sums<P: Prepared>(
 }
 
 /// The answer of a test for tails that it has, where no key is to be counted: the numbers of
-/// `answer` by the plain way, by quick networks.
+/// `answer` by the plain way, by the quick ways, or, where these find no memory, by the networks of
+/// `answer`.
 pub fn quick_answer<P: Prepared>(
     alloc: Global,
     problem: &P,

@@ -96,13 +96,13 @@ fn spread_by_rows<C: Count, S: Roomed>(
     }
 }
 
-// The values in counts of one width: by rows of cells where these serve.
+// The values in counts of one width: by rows of cells where these serve and find memory.
 fn spread_in<C: Count, S: Roomed>(alloc: Global, stages: &S) -> Result<Spread, NoMemory>
     requires limit { let n = S.Stages.network stages.now in total_weight n 0 n.first ≤ C.LIMIT }
     ensures { IfOk result (IsSpreadOf (value_weights (S.Stages.network stages.now))) }
 {
     if stages.is_shift() {
-        if let Some(spread) = spread_by_rows::<C, S>(alloc, stages)? {
+        if let Ok(Some(spread)) = spread_by_rows::<C, S>(alloc, stages) {
             return Ok(spread);
         }
     }

@@ -14,7 +14,8 @@ use networks::{Kept, Roomed, Stages, TailSum, TailSums, Whole, only};
 use std::alloc::Global;
 use weights::{Count, Narrow, NoMemory, Tail, Tails, Wide};
 
-// The sums of the asked tails in counts of one width: by rows of cells where these serve.
+// The sums of the asked tails in counts of one width: by rows of cells where these serve and find
+// memory.
 fn sums_in<C: Count, S: Roomed>(
     alloc: Global,
     stages: &S,
@@ -27,7 +28,7 @@ fn sums_in<C: Count, S: Roomed>(
         IfOk result (λ all. (t : Tail) → (sum_for all t).opened ≡ opened_by_some n t n.count) }
 {
     if stages.is_shift() {
-        if let Some(sums) = row_sums::<C, S>(alloc, stages, tails)? {
+        if let Ok(Some(sums)) = row_sums::<C, S>(alloc, stages, tails) {
             return Ok(sums);
         }
     }
