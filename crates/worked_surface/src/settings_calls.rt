@@ -1,5 +1,5 @@
 // The public calls of `settings`.
-ghost use Rattle.std.specs.Prelude.{None, [], ◌++◌, ◌<◌, ◌↔◌, ◌∷◌, ◌≡◌, IfOk, IsTrue, OnErr, OnOk, length, map, slice_set, string_bytes, true};
+ghost use Rattle.std.specs.Prelude.{false, None, [], ◌++◌, ◌<◌, ◌↔◌, ◌∷◌, ◌≡◌, IfOk, IsTrue, OnErr, OnOk, length, map, slice_set, string_bytes, true};
 ghost use Rattle.settings.specs.Faults.{Meets};
 ghost use Rattle.settings.specs.Meaning.{is_help, meaning_of};
 ghost use Rattle.std.specs.Prelude.{IsSome};
