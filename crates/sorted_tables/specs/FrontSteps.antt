@@ -48,8 +48,8 @@ with_row front size count =
       ways = front.ways * (binomial front.column count * binomial front.others rest);
     }
 
--- the line of a front with a choice for the rows behind it, where rows of equal size may stand in so
--- many orders
+-- the line of a front with a choice for the rows behind it, where rows of equal size may stand
+-- in so many orders
 abbrev pub front_line : ℕ → Front → List ℕ → List ℕ → Line
 front_line orders front rows x =
     let ways = front.ways * split_ways rows x in

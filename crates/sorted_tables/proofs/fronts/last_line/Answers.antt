@@ -13,4 +13,5 @@ overflow_mul-result-2 c =
 
 pub returns : goal.returns
 returns c =
-    rw (to_z-of_z w128 c.value_of.result (record { sfits = c.value_of.type_inv }), c.value_of.ensures, c.last_alike-alike.ensures) (last-left c.args.rows.now c.requires.front c.requires.last).one
+    rw (to_z-of_z w128 c.value_of.result (record { sfits = c.value_of.type_inv }), c.value_of.ensures)
+    (rw (sym c.last_alike-alike.ensures) at (last-left c.args.rows.now c.requires.front c.requires.last)).one
