@@ -1,6 +1,6 @@
 -- Treatments may change places in every key of the network of servings.
 use Rattle.std.proofs.Common.{◌≡◌, ℕ, zero, suc, ◌+◌, ◌*◌, ◌<◌, List, [], ◌∷◌, ◌++◌, length, map, min, take, drop, replicate, Bool, true, false, cond, refl, sym, ◌∙◌, ap, subst, arith}
-use Rattle.std.specs.Prelude.{ℤ, pos, nat_abs}
+use Rattle.std.specs.Prelude.{ℤ, pos, nat_abs, ◌≤ℤ◌}
 use Rattle.std.specs.List.{sum_by, Contains}
 use Rattle.std.proofs.lemmas.List.{length-replicate}
 use Rattle.weights.specs.Grouped.{choices, minus}
@@ -10,12 +10,12 @@ use Rattle.networks.specs.declared.verdicts.Judge.{Judge}
 use Rattle.networks.specs.Network.{Network, IsReached}
 use Rattle.networks.specs.Judged.{HasIntervals}
 use Rattle.networks.specs.Completions.{over_arcs}
-use Rattle.networks.proofs.Folding.{IsTurned, over_allowed}
+use Rattle.networks.specs.Folded.{IsTurned}
+use Rattle.networks.proofs.Folding.{over_allowed}
 use Rattle.networks.proofs.Steps.{reached-next}
 use Rattle.networks.proofs.Swaps.{length-swap, map-swap, swap_at}
 use Rattle.room_network.specs.Meanings.{Meaning}
-use Rattle.room_network.proofs.RoomLaws.{room_intervals}
-use Rattle.room_network.proofs.RoomKeys.{choices_before, is_key}
+use Rattle.room_network.proofs.RoomKeys.{IsKey, choices_before, is_key, partial-next, room-next}
 use Rattle.label_network.specs.Meanings.{sizes_in}
 use Rattle.label_network.proofs.ChoiceSwaps.{minus-swap, swapped_choices, swapped_member}
 use Rattle.label_network.proofs.Narrowing.{chosen}
@@ -208,8 +208,31 @@ module _ (k : ℕ) (vs : List Serving) (judge : Judge) (a : AreServings k vs jud
   abbrev m : Meaning
   m = served_sums k vs mirrors judge
 
+  is-key : (g : ℕ) (key : List ℤ) → IsReached n g key → IsKey m one_each (serving_width k vs) g key
+  is-key g key r = is_key m one_each (serving_width k vs) g key r
+
+  rises : (g : ℕ) (key : List ℤ) (c : List ℕ) → IsReached n g key → g < n.count → Contains (n.choices g key) c → m.low g (room key) (partial key) ≤ℤ m.low (g + 1) (room (n.next g key c)) (partial (n.next g key c))
+  rises g key c r h o =
+      let here : IsKey m one_each (serving_width k vs) g key = is-key g key r in
+      rw (room-next m one_each (serving_width k vs) g key c here.long, partial-next m one_each (serving_width k vs) g key c here.long)
+      ((served_measure k vs judge a mirrors mirrors_are).low_rises g (room key) (partial key) c here.reached h (subst (λ cs. Contains cs c) (choices-at g key h) o))
+
+  falls : (g : ℕ) (key : List ℤ) (c : List ℕ) → IsReached n g key → g < n.count → Contains (n.choices g key) c → m.high (g + 1) (room (n.next g key c)) (partial (n.next g key c)) ≤ℤ m.high g (room key) (partial key)
+  falls g key c r h o =
+      let here : IsKey m one_each (serving_width k vs) g key = is-key g key r in
+      rw (room-next m one_each (serving_width k vs) g key c here.long, partial-next m one_each (serving_width k vs) g key c here.long)
+      ((served_measure k vs judge a mirrors mirrors_are).high_falls g (room key) (partial key) c here.reached h (subst (λ cs. Contains cs c) (choices-at g key h) o))
+
   abbrev intervals : HasIntervals n judge
-  intervals = room_intervals m one_each (serving_width k vs) (served_measure k vs judge a mirrors mirrors_are)
+  intervals = record {
+    low = λ g key. m.low g (room key) (partial key);
+    high = λ g key. m.high g (room key) (partial key);
+    verdicts = λ t g key r. refl;
+    low_rises = rises;
+    high_falls = falls;
+    low_ends = λ key r. (served_measure k vs judge a mirrors mirrors_are).low_ends (room key) (partial key) (is-key n.count key r).reached;
+    high_ends = λ key r. (served_measure k vs judge a mirrors mirrors_are).high_ends (room key) (partial key) (is-key n.count key r).reached;
+  }
 
   ends-turn : (f : ℕ → ℕ → ℕ) (i g : ℕ) (key : List ℤ) → IsReached n g key → over_ends f (ahead_at k vs g) (sizes_in (room (turn k i key))) (sizes_in (partial (turn k i key))) ≡ over_ends f (ahead_at k vs g) (sizes_in (room key)) (sizes_in (partial key))
   ends-turn f i g key r =

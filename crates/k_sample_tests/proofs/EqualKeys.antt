@@ -1,6 +1,6 @@
 -- Neighbouring groups of equal size may change places in every key of the network of their squared sums.
 use Rattle.std.proofs.Common.{◌≡◌, ℕ, zero, suc, ◌+◌, ◌*◌, ◌/◌, ◌<◌, List, [], ◌∷◌, ◌++◌, length, map, take, drop, min, replicate, true, refl, sym, ◌∙◌, ap, subst, arith}
-use Rattle.std.specs.Prelude.{ℤ, pos, nat_abs, slice_index, ◌+ℤ◌, ◌-ℤ◌, ◌*ℤ◌}
+use Rattle.std.specs.Prelude.{ℤ, pos, nat_abs, ◌≤ℤ◌, slice_index, ◌+ℤ◌, ◌-ℤ◌, ◌*ℤ◌}
 use Rattle.std.specs.List.{sum_by, Contains}
 use Rattle.std.proofs.lemmas.List.{length-map}
 use Rattle.weights.specs.Grouped.{choices, minus}
@@ -11,11 +11,11 @@ use Rattle.networks.specs.declared.verdicts.Judge.{Judge}
 use Rattle.networks.specs.Network.{Network, IsReached}
 use Rattle.networks.specs.Judged.{HasIntervals}
 use Rattle.networks.specs.Completions.{over_arcs}
-use Rattle.networks.proofs.Folding.{IsTurned, over_allowed}
+use Rattle.networks.specs.Folded.{IsTurned}
+use Rattle.networks.proofs.Folding.{over_allowed}
 use Rattle.networks.proofs.Steps.{reached-next}
 use Rattle.networks.proofs.Swaps.{length-swap, map-swap, swap_at}
-use Rattle.room_network.proofs.RoomLaws.{room_intervals}
-use Rattle.room_network.proofs.RoomKeys.{IsKey, choices_before, is_key, weighed}
+use Rattle.room_network.proofs.RoomKeys.{IsKey, choices_before, is_key, partial-next, room-next, weighed}
 use Rattle.label_network.specs.LabelNetwork.{label_network, over_rooms}
 use Rattle.label_network.specs.LabelRooms.{label_weight}
 use Rattle.label_network.specs.Linear.{score_of}
@@ -214,8 +214,28 @@ module _ (factors : List ℕ) (bound : ℕ) (scores : List ℤ) (columns rows : 
 
   -- ---- intervals
 
+  rises : (g : ℕ) (k : List ℤ) (c : List ℕ) → IsReached n g k → g < n.count → Contains (n.choices g k) c → m.low g (sizes_in (room k)) (partial k) ≤ℤ m.low (g + 1) (sizes_in (room (n.next g k c))) (partial (n.next g k c))
+  rises g k c r before o =
+      let key : AKey g k = a-key g k r in
+      rw (room-next (over_rooms m) label_weight (label_width columns rows) g k c key.long, partial-next (over_rooms m) label_weight (label_width columns rows) g k c key.long)
+      ((over_measure m measure).low_rises g (room k) (partial k) c key.reached before (subst (λ cs. Contains cs c) (choices-at g k before) o))
+
+  falls : (g : ℕ) (k : List ℤ) (c : List ℕ) → IsReached n g k → g < n.count → Contains (n.choices g k) c → m.high (g + 1) (sizes_in (room (n.next g k c))) (partial (n.next g k c)) ≤ℤ m.high g (sizes_in (room k)) (partial k)
+  falls g k c r before o =
+      let key : AKey g k = a-key g k r in
+      rw (room-next (over_rooms m) label_weight (label_width columns rows) g k c key.long, partial-next (over_rooms m) label_weight (label_width columns rows) g k c key.long)
+      ((over_measure m measure).high_falls g (room k) (partial k) c key.reached before (subst (λ cs. Contains cs c) (choices-at g k before) o))
+
   abbrev sums_intervals : HasIntervals n judge
-  sums_intervals = room_intervals (over_rooms m) label_weight (label_width columns rows) (over_measure m measure)
+  sums_intervals = record {
+    low = λ g k. m.low g (sizes_in (room k)) (partial k);
+    high = λ g k. m.high g (sizes_in (room k)) (partial k);
+    verdicts = λ t g k r. refl;
+    low_rises = rises;
+    high_falls = falls;
+    low_ends = λ k r. measure.low_ends (sizes_in (room k)) (partial k) (reached-label n.count k r);
+    high_ends = λ k r. measure.high_ends (sizes_in (room k)) (partial k) (reached-label n.count k r);
+  }
 
   -- the ends of the box of a key whose groups change places
   module _ (i g : ℕ) (k : List ℤ) (r : IsReached n g k) where

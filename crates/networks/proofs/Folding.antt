@@ -10,22 +10,14 @@ use Rattle.weights.specs.Conditional.{ConditionalTest}
 use Rattle.weights.proofs.Sums.{sum_by-same_where}
 use Rattle.networks.specs.declared.verdicts.Judge.{Judge}
 use Rattle.networks.specs.Network.{Network, IsReached}
-use Rattle.networks.specs.Completions.{over_arcs, paths, path_weight, total_weight, ending_weight, value_weights}
+use Rattle.networks.specs.Completions.{paths, path_weight, total_weight, ending_weight, value_weights}
 use Rattle.networks.specs.Laws.{IsLawful}
 use Rattle.networks.specs.Rooms.{AreRoommates, IsRoomed}
 use Rattle.networks.specs.Judged.{HasIntervals, judge_of}
 use Rattle.networks.specs.Follows.{Follows}
-use Rattle.networks.specs.Folded.{folded}
+use Rattle.networks.specs.Folded.{IsTurned, folded}
 use Rattle.networks.proofs.Judging.{intervals-inside, intervals-outside, intervals-decided}
 use Rattle.networks.proofs.Steps.{passing, passing-step, all_paths, reached-next}
-
--- A reached key and what it is turned to are alike: this is reached too, ends at the same value, and the sums over their arcs are the same of all that does not tell apart what a turn leads to.
-pub record IsTurned (n : Network) (turned : List ℤ → List ℤ → Type 0) : Type 0 where
-  pub stays : (g : ℕ) (k j : List ℤ) → IsReached n g k → turned k j → IsReached n g j
-  pub arcs : (f : List ℤ → ℕ) (g : ℕ) (k j : List ℤ)
-      → ((l i : List ℤ) → IsReached n (g + 1) l → turned l i → f i ≡ f l)
-      → IsReached n g k → turned k j → g < n.count → over_arcs n f g j ≡ over_arcs n f g k
-  pub ends : (k j : List ℤ) → IsReached n n.count k → turned k j → n.value j ≡ n.value k
 
 pub over_allowed : (xs : List (List ℕ)) (f g : List ℕ → ℕ) → ((c : List ℕ) → Contains xs c → f c ≡ g c) → sum_by f xs ≡ sum_by g xs
 over_allowed xs f g e = sum_by-same_where (Contains xs) f g e xs (recursion_from_All (Contains xs) xs (All-contains_itself xs))

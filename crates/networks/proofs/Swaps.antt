@@ -6,13 +6,7 @@ use Rattle.std.proofs.lemmas.List.Sums.{sum_by-cons}
 use Rattle.weights.specs.InOrder.{put_in}
 use Rattle.weights.proofs.OneOrder.{all-in_order, length-in_order}
 use Rattle.networks.specs.PartialSums.{plus, ascending, kept}
-
--- two neighbours change places
-abbrev pub swap_at : {X : Type 0} → ℕ → List X → List X
-swap_at i [] = []
-swap_at zero (x ∷ []) = x ∷ []
-swap_at zero (x ∷ y ∷ ys) = y ∷ x ∷ ys
-swap_at (suc i) (x ∷ xs) = x ∷ swap_at i xs
+pub use Rattle.networks.specs.Folded.{swap_at}
 
 pub length-swap : {X : Type 0} (i : ℕ) (xs : List X) → length (swap_at i xs) ≡ length xs
 length-swap i [] = refl

@@ -1,7 +1,24 @@
 -- Networks whose keys are folded: keys whose completions weigh and end alike become one key.
-use Rattle.std.specs.Prelude.{ℤ, List}
-use Rattle.networks.specs.Network.{Network}
+use Rattle.std.specs.Prelude.{◌≡◌, ℕ, zero, suc, ◌+◌, ◌<◌, ℤ, List, [], ◌∷◌}
+use Rattle.networks.specs.Completions.{over_arcs}
+use Rattle.networks.specs.Network.{Network, IsReached}
 
 -- the network in which each key that is reached is folded
 abbrev pub folded : (List ℤ → List ℤ) → Network → Network
 folded fold n = record n { first = fold n.first; next = λ g k c. fold (n.next g k c) }
+
+-- A reached key and what it is turned to are alike: this is reached too, ends at the same value,
+-- and the sums over their arcs are the same of all that does not tell apart what a turn leads to.
+pub record IsTurned (n : Network) (turned : List ℤ → List ℤ → Type 0) : Type 0 where
+  pub stays : (g : ℕ) (k j : List ℤ) → IsReached n g k → turned k j → IsReached n g j
+  pub arcs : (f : List ℤ → ℕ) (g : ℕ) (k j : List ℤ)
+      → ((l i : List ℤ) → IsReached n (g + 1) l → turned l i → f i ≡ f l)
+      → IsReached n g k → turned k j → g < n.count → over_arcs n f g j ≡ over_arcs n f g k
+  pub ends : (k j : List ℤ) → IsReached n n.count k → turned k j → n.value j ≡ n.value k
+
+-- two neighbours change places
+abbrev pub swap_at : {X : Type 0} → ℕ → List X → List X
+swap_at i [] = []
+swap_at zero (x ∷ []) = x ∷ []
+swap_at zero (x ∷ y ∷ ys) = y ∷ x ∷ ys
+swap_at (suc i) (x ∷ xs) = x ∷ swap_at i xs

@@ -1,7 +1,6 @@
 -- Networks in whose keys groups of equal size are in order.
 use Rattle.std.specs.Prelude.{◌≡◌, ℕ, ◌+◌, ◌≤◌, ℤ, Bool, List, length}
-use Rattle.networks.specs.Folded.{folded}
-use Rattle.networks.proofs.Folding.{IsTurned}
+use Rattle.networks.specs.Folded.{IsTurned, folded}
 use Rattle.networks.specs.Judged.{HasIntervals}
 use Rattle.networks.specs.Network.{Network, IsReached}
 use Rattle.networks.specs.declared.verdicts.Judge.{Judge}

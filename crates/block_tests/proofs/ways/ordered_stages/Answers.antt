@@ -13,7 +13,7 @@ use Rattle.block_tests.specs.declared.kinds.BlockKind.TheVariants.{Cochran, Frie
 use Rattle.block_tests.proofs.PackedServings.{packed-sums}
 use Rattle.block_tests.proofs.ServingFollows.{tests-follow, tests-servings}
 use Rattle.block_tests.proofs.ways.ordered_stages.Goals as goal
-use Rattle.block_tests.proofs.ways.ordered_stages.Goals.{After-in_ok-stages}
+use Rattle.block_tests.proofs.ways.ordered_stages.Goals.{In_ok-stages}
 
 pub served_blocks-requires : goal.served_blocks-requires
 served_blocks-requires c = rw (c.treatments.ensures, c.blocks-2.ensures.blocks, c.requires.judge) (tests-servings c.args.test.now c.blocks-2.ensures.fitting c.requires.kind Greater)
@@ -33,24 +33,24 @@ made-for tests f kind k blocks mirrors e i m even =
     }
 
 -- what is made for the test here
-made : (c : After-in_ok-stages) → AreFor c.args.test.now c.in_ok-stages.stages.1.servings.mirrors.items
+made : (c : In_ok-stages) → AreFor c.args.test.now c.in_ok-stages.stages.1.servings.mirrors.items
 made c = made-for c.args.test.now c.blocks-2.ensures.fitting c.requires.kind c.treatments.result c.blocks-2.result.now c.in_ok-stages.stages.1.servings.mirrors.items c.treatments.ensures c.blocks-2.ensures.blocks c.in_ok-stages.ensures.mirrors c.in_ok-stages.ensures.even
 
 -- it follows the test with its treatments in order
-in-order : (c : After-in_ok-stages) (t : Tail)
+in-order : (c : In_ok-stages) (t : Tail)
     → Follows (block_test c.args.test.now) t (served_network c.args.test.now.blocks.treatments (all_servings (block_counts c.args.test.now)) c.in_ok-stages.stages.1.servings.mirrors.items (judge_of (block_test c.args.test.now)))
 in-order c t =
-    rw (c.treatments.ensures, c.blocks-2.ensures.blocks, c.requires.judge) at (c.in_ok-stages.ensures.follows (block_test c.args.test.now) t c.requires.judge)
-    ((made c).follows t)
+    let follows = rw (c.treatments.ensures, c.blocks-2.ensures.blocks, c.requires.judge) at (c.in_ok-stages.ensures.follows (block_test c.args.test.now) t c.requires.judge) in
+    follows ((made c).follows t)
 
 pub returns-clause-follows : goal.returns-clause-follows
 returns-clause-follows c t =
     rw (c.in_ok-stages.ensures.sums, c.in_ok-stages.ensures.sizes ∙ ap alike c.treatments.ensures, c.in_ok-stages.ensures.treatments ∙ c.treatments.ensures, c.in_ok-stages.ensures.items ∙ ap all_servings c.blocks-2.ensures.blocks, c.in_ok-stages.ensures.judge ∙ c.requires.judge)
-    (in-order (goal.at.returns-clause-follows c).After-in_ok-stages t)
+    (in-order (goal.at.returns-clause-follows c).In_ok-stages t)
 
 pub returns-clause-packs : goal.returns-clause-packs
 returns-clause-packs c room =
-    let here = (goal.at.returns-clause-packs c).After-in_ok-stages in
+    let here = (goal.at.returns-clause-packs c).In_ok-stages in
     let k : ℕ = c.args.test.now.blocks.treatments in
     rw (c.in_ok-stages.ensures.sums, c.in_ok-stages.ensures.sizes ∙ ap alike c.treatments.ensures, c.in_ok-stages.ensures.treatments ∙ c.treatments.ensures, c.in_ok-stages.ensures.items ∙ ap all_servings c.blocks-2.ensures.blocks, c.in_ok-stages.ensures.judge ∙ c.requires.judge)
     (packed-sums k (all_servings (block_counts c.args.test.now)) (judge_of (block_test c.args.test.now)) (tests-servings c.args.test.now c.blocks-2.ensures.fitting c.requires.kind Greater) c.in_ok-stages.stages.1.servings.mirrors.items (made here).mirrors_are c.requires.some room

@@ -80,5 +80,6 @@ new-packed-requires-clause-adds c =
     rw c.new-ordered.ensures.parts (seen-adds c.args.problem.now made.fitting c.in_ok-stages.stages.1 sums)
 
 pub returns : goal.returns
-returns c t = rw (c.new-packed.ensures.parts, c.new-ordered.ensures.parts)
-    (rw c.new-ordered.ensures.parts at (c.new-packed.ensures.follows (kruskal_wallis_test c.args.problem.now) t) (in-order (goal.at.returns c).After-new-ordered t))
+returns c t =
+    let follows = rw c.new-ordered.ensures.parts at (c.new-packed.ensures.follows (kruskal_wallis_test c.args.problem.now) t) in
+    rw (c.new-packed.ensures.parts, c.new-ordered.ensures.parts) (follows (in-order (goal.at.returns c).After-new-ordered t))
