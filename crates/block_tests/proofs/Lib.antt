@@ -12,14 +12,9 @@ pub mod Fitting
 pub mod OneBlock
 pub mod Steps
 pub mod ServingRooms
-pub mod Tops
-pub mod Filling
-pub mod LeftNumbers
-pub mod MarkedSums
 pub mod UprightSums
 pub mod SumEnds
 pub mod EvenBlocks
-pub mod MirroredRows
 pub mod ServedNarrows
 pub mod ServingLaw
 pub mod MirroredWays
@@ -28,6 +23,5 @@ pub mod ServingFollows
 pub mod PackedServings
 pub mod ServingSteps
 pub mod MirrorSteps
-pub mod RowSteps
 pub mod CutSteps
 pub mod Vectors

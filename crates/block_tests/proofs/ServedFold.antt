@@ -1,5 +1,5 @@
 -- Treatments may change places in every key of the network of servings.
-use Rattle.std.proofs.Common.{◌≡◌, ℕ, zero, suc, ◌+◌, ◌*◌, ◌<◌, List, [], ◌∷◌, ◌++◌, length, map, min, take, drop, replicate, Bool, true, false, cond, refl, sym, ◌∙◌, ap, subst, arith}
+use Rattle.std.proofs.Common.{◌≡◌, ℕ, zero, suc, ◌+◌, ◌*◌, ◌<◌, List, [], ◌∷◌, ◌++◌, length, map, take, drop, replicate, Bool, true, false, cond, refl, sym, ◌∙◌, ap, subst, arith}
 use Rattle.std.specs.Prelude.{ℤ, pos, nat_abs, ◌≤ℤ◌}
 use Rattle.std.specs.List.{sum_by, Contains}
 use Rattle.std.proofs.lemmas.List.{length-replicate}
@@ -25,11 +25,10 @@ use Rattle.ordered_groups.specs.OrderedNetworks.{AreItsRooms, MayBeOrdered}
 use Rattle.ordered_groups.proofs.PlaceOrder.{back-key, front-key}
 use Rattle.block_tests.specs.BlockTests.{squared}
 use Rattle.block_tests.specs.Mirrors.{AreMirrors}
-use Rattle.block_tests.specs.Servings.{AreServings, ahead_at, alike, around, centre, far_square, gained, greatest_squares, is_late, later_numbers, left_numbers, most_squares, near_square, one_each, over_ends, served_sums, serving_at, serving_network, serving_plan, unserved}
+use Rattle.block_tests.specs.Servings.{AreServings, ahead_at, alike, around, centre, far_square, gained, near_square, one_each, over_ends, served_sums, serving_at, serving_network, serving_plan, unserved}
 use Rattle.block_tests.specs.Upright.{mirror_at, upright}
 use Rattle.block_tests.specs.declared.serving.Serving.{Serving}
 use Rattle.block_tests.specs.declared.serving.Ahead.{Ahead}
-use Rattle.block_tests.proofs.Filling.{greatest-swap}
 use Rattle.block_tests.proofs.ServingRooms.{serving_width}
 use Rattle.block_tests.proofs.ServedNarrows.{IsServed, served, served_measure}
 use Rattle.block_tests.proofs.UprightSums.{sums-swap, upright-swap}
@@ -246,24 +245,10 @@ module _ (k : ℕ) (vs : List Serving) (judge : Judge) (a : AreServings k vs jud
       ap (intervals.low g) (turn-is i key j e)
       ∙ ap (λ x. pos (around k vs + x)) (ends-turn (near_square (centre k vs)) i g key r)
 
-  most-turn : (i g : ℕ) (key : List ℤ) → IsReached n g key → most_squares k vs (ahead_at k vs g) (sizes_in (room (turn k i key))) (sizes_in (partial (turn k i key))) ≡ most_squares k vs (ahead_at k vs g) (sizes_in (room key)) (sizes_in (partial key))
-  most-turn i g key r = ap (λ x. around k vs + x) (ends-turn (far_square (centre k vs)) i g key r)
-
-  abbrev greatest-of : ℕ → List ℕ → List ℕ → ℕ
-  greatest-of g sizes sums = greatest_squares (left_numbers k (drop g vs)) (later_numbers k (drop g vs)) sizes sums
-
-  greatest-turn : (i g : ℕ) (key : List ℤ) → IsReached n g key → greatest-of g (sizes_in (room (turn k i key))) (sizes_in (partial (turn k i key))) ≡ greatest-of g (sizes_in (room key)) (sizes_in (partial key))
-  greatest-turn i g key r =
-      let s : IsServed k vs judge a g (room key) (partial key) = key-of g key r in
-      ap (λ q. greatest-of g q (sizes_in (partial (turn k i key)))) (turn-sizes i g key r)
-      ∙ ap (λ q. greatest-of g (swap_at i (sizes_in (room key))) q) (turn-sums i g key r)
-      ∙ greatest-swap (left_numbers k (drop g vs)) (later_numbers k (drop g vs)) i (sizes_in (room key)) (sizes_in (partial key)) (length-abs (room key) ∙ s.placed.long ∙ sym (length-abs (partial key) ∙ s.long))
-
   high-turned : (g : ℕ) (key j : List ℤ) → IsReached n g key → IsTurn (alike k) key j → intervals.high g j ≡ intervals.high g key
   high-turned g key j r (i, s, e) =
       ap (intervals.high g) (turn-is i key j e)
-      ∙ ap (λ x. pos (cond (is_late k vs g) (min x (greatest-of g (sizes_in (room (turn k i key))) (sizes_in (partial (turn k i key))))) x)) (most-turn i g key r)
-      ∙ ap (λ x. pos (cond (is_late k vs g) (min (most_squares k vs (ahead_at k vs g) (sizes_in (room key)) (sizes_in (partial key))) x) (most_squares k vs (ahead_at k vs g) (sizes_in (room key)) (sizes_in (partial key))))) (greatest-turn i g key r)
+      ∙ ap (λ x. pos (around k vs + x)) (ends-turn (far_square (centre k vs)) i g key r)
 
   -- so treatments may be put in order
   pub treatments-turned : MayBeOrdered (alike k) n judge

@@ -1,5 +1,5 @@
 -- Between which numbers treatments' sums end: how the ends draw together where a number is given, and the squares of their distances from a centre.
-use Rattle.std.proofs.Common.{◌≡◌, ℕ, zero, suc, ◌+◌, ◌-◌, ◌*◌, ◌≤◌, List, [], ◌∷◌, ◌++◌, map, drop, length, min, max, replicate, true, false, refl, sym, ◌∙◌, ap, subst, arith, nat_le, inl, inr, div-mul-le_self}
+use Rattle.std.proofs.Common.{◌≡◌, ℕ, zero, suc, ◌+◌, ◌-◌, ◌*◌, ◌≤◌, List, [], ◌∷◌, map, length, min, max, replicate, true, false, refl, sym, ◌∙◌, ap, subst, arith, nat_le, inl, inr, div-mul-le_self}
 use Rattle.std.specs.Prelude.{pos, ◌≤ℤ◌}
 use Rattle.std.specs.List.{sum_by, sum, AllByRecursion}
 use Rattle.std.proofs.Math.Nat.{mul-le-mul}
@@ -11,7 +11,7 @@ use Rattle.weights.proofs.Sized.{first_and}
 use Rattle.weights.proofs.Sums.{sum_by-same}
 use Rattle.label_network.specs.Meanings.{sizes_in}
 use Rattle.block_tests.specs.BlockTests.{squared}
-use Rattle.block_tests.specs.Servings.{ahead, before, gained, around, centre, far_square, farthest, given, near_square, nearest, over_ends, serving_at}
+use Rattle.block_tests.specs.Servings.{ahead, before, gained, around, centre, far_square, farthest, given, near_square, nearest, over_ends}
 use Rattle.block_tests.specs.declared.serving.Serving.{Serving}
 use Rattle.block_tests.specs.declared.serving.Ahead.{Ahead}
 use Rattle.block_tests.proofs.ServingRooms.{AreOnes}
@@ -231,24 +231,3 @@ pos-zeros (suc k) = ap (λ s. pos 0 ∷ s) (pos-zeros k)
 
 pub pos-rise : (a b : ℕ) → a ≤ b → pos a ≤ℤ pos b
 pos-rise a b h = omega (arith, ints, h)
-
-pub first-dropped : (us : List Serving) (i : ℕ) → serving_at (drop i us) 0 ≡ serving_at us i
-first-dropped us zero = refl
-first-dropped [] (suc i) = refl
-first-dropped (u ∷ us) (suc i) = first-dropped us i
-
-pub nothing-more : (xs : List ℕ) → xs ++ [] ≡ xs
-nothing-more [] = refl
-nothing-more (x ∷ xs) = ap (λ us. x ∷ us) (nothing-more xs)
-
-pub at-most : (a b : ℕ) → a ≡ b → a ≤ b
-at-most a b h = omega (arith, h)
-
-pub either-falls : (a b x y : ℕ) → a ≤ x → b ≤ y → min a b ≤ min x y
-either-falls a b x y h i = omega (arith, h, i)
-
-pub both-same : (a b x : ℕ) → a ≡ x → b ≡ x → min a b ≡ x
-both-same a b x h i = omega (arith, h, i)
-
-pub first-falls : (a b x : ℕ) → a ≤ x → min a b ≤ x
-first-falls a b x h = omega (arith, h)

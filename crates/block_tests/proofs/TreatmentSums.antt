@@ -35,7 +35,7 @@ added-zeros zero xs e = added-none xs
 added-zeros (suc k) [] e = absurd (omega arith)
 added-zeros (suc k) (x ∷ xs) e = (let same : x + 0 ≡ x = omega arith in rw (same, added-zeros k xs (omega arith)) refl)
 
-pub raised : (m n : ℕ) (xs : List ℕ) → m ≤ n → AllByRecursion (λ x. x ≤ m) xs → AllByRecursion (λ x. x ≤ n) xs
+raised : (m n : ℕ) (xs : List ℕ) → m ≤ n → AllByRecursion (λ x. x ≤ m) xs → AllByRecursion (λ x. x ≤ n) xs
 raised m n [] h a = tt
 raised m n (x ∷ xs) h a = (omega (arith, a.0), raised m n xs h a.1)
 
@@ -57,12 +57,12 @@ pub length-sums : (k n : ℕ) (cells : List ℕ) → length (treatment_sums k (c
 length-sums k zero cells = length-replicate k 0
 length-sums k (suc n) cells = length-added k (take k cells) (treatment_sums k (cut k n (drop k cells))) (omega (arith, length-take k cells)) (length-sums k n (drop k cells))
 
-pub taken : (P : ℕ → Type 0) (k : ℕ) (xs : List ℕ) → AllByRecursion P xs → AllByRecursion P (take k xs) × AllByRecursion P (drop k xs)
+taken : (P : ℕ → Type 0) (k : ℕ) (xs : List ℕ) → AllByRecursion P xs → AllByRecursion P (take k xs) × AllByRecursion P (drop k xs)
 taken P zero xs a = (tt, a)
 taken P (suc k) [] a = (tt, tt)
 taken P (suc k) (x ∷ xs) a = (let rest = taken P k xs a.1 in ((a.0, rest.0), rest.1))
 
-pub zeros-within : (m k : ℕ) → AllByRecursion (λ x. x ≤ m) (replicate k 0)
+zeros-within : (m k : ℕ) → AllByRecursion (λ x. x ≤ m) (replicate k 0)
 zeros-within m zero = tt
 zeros-within m (suc k) = (omega arith, zeros-within m k)
 

@@ -1,14 +1,12 @@
 -- Worked rows of the definitions, by computation.
-use Rattle.std.specs.Prelude.{◌≡◌, pos, List, [], ◌∷◌}
+use Rattle.std.specs.Prelude.{◌≡◌, pos, [], ◌∷◌}
 use Rattle.std.proofs.Common.{refl}
 use Rattle.weights.specs.Conditional.{numerator, observed_statistic, total}
 use Rattle.weights.specs.declared.tails.Tail.TheVariants.{Less, Greater, Two}
 use Rattle.midranks.specs.Midranks.{doubled_midrank, midranks_among, number_below, number_equal}
 use Rattle.sample_reader.specs.CellLayouts.{BlockData}
 use Rattle.block_tests.specs.BlockTests.{BlockTests, block_test, observed_cells}
-use Rattle.block_tests.specs.Servings.{all_servings, greatest_squares, later_numbers, left_numbers}
 use Rattle.block_tests.specs.declared.kinds.BlockKind.TheVariants.{Friedman, Page, Cochran}
-use Rattle.block_tests.specs.declared.serving.Serving.{Serving}
 
 -- two blocks of three treatments, in units of 1
 two_blocks : BlockData
@@ -80,20 +78,3 @@ tied_cells = refl
 tied_total : total (block_test tied) ≡ 3
 unfolding tied midranks_among doubled_midrank number_below number_equal
 tied_total = refl
-
--- the numbers of two blocks of three treatments
-both_blocks : List Serving
-both_blocks = all_servings ((0 ∷ 1 ∷ 1 ∷ 1 ∷ []) ∷ (0 ∷ 1 ∷ 2 ∷ []) ∷ [])
-
-both_left : left_numbers 3 both_blocks ≡ 1 ∷ 2 ∷ 3 ∷ []
-unfolding both_blocks
-both_left = refl
-
-both_later : later_numbers 3 both_blocks ≡ 1 ∷ 2 ∷ 2 ∷ []
-unfolding both_blocks
-both_later = refl
-
--- the first treatment has the sum 5 and a number of the block, the others get 2 and 3: 5, 4 and 7,
--- and in order 4, 5 and 7, to which 1, 2 and 3 are added
-greatest_of_three : greatest_squares (2 ∷ 3 ∷ []) (1 ∷ 2 ∷ 3 ∷ []) (0 ∷ 1 ∷ 1 ∷ []) (5 ∷ 2 ∷ 4 ∷ []) ≡ 174
-greatest_of_three = refl

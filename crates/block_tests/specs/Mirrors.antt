@@ -2,7 +2,7 @@
 -- a treatment gets of those is then as often so much more than the least as so much less than the
 -- most, so sums and their mirror go on to the same squares.
 use Rattle.std.specs.Prelude.{◌≡◌, ℕ, ◌+◌, ◌-◌, ◌*◌, ◌≤◌, ◌<◌, List, drop, get_or, length, true, nat_le, if◌then◌else◌}
-use Rattle.block_tests.specs.Servings.{ahead_at, centre, given, is_late, later_numbers, left_numbers, serving_at}
+use Rattle.block_tests.specs.Servings.{ahead_at, centre, given, serving_at}
 use Rattle.block_tests.specs.Upright.{mirror_at}
 use Rattle.block_tests.specs.declared.serving.Serving.{Serving}
 
@@ -15,19 +15,9 @@ pub record AreEven (counts : List ℕ) : Type 0 where
   pub end : ℕ
   pub each : (i : ℕ) → i < length counts → get_or counts i 0 ≡ opposite end counts i
 
--- the first and the last of numbers, added
-abbrev pub both_ends : List ℕ → ℕ
-both_ends numbers = get_or numbers 0 0 + get_or numbers (length numbers - 1) 0
-
--- numbers that are the same from both ends: each and the one as far from the other end add to that
-pub record IsEvenRow (numbers : List ℕ) : Type 0 where
-  pub each : (i : ℕ) → i < length numbers
-      → get_or numbers i 0 + get_or numbers (length numbers - 1 - i) 0 ≡ both_ends numbers
-
 -- After this serving sums may be mirrored at this number, where the later blocks are even: it
--- closes its block; the number is twice the mean of the sums; the centre is midway between the ends
--- of what they will be; and where the greatest squares of all end the intervals, what is left to be
--- given is the same from both ends.
+-- closes its block; the number is twice the mean of the sums; and the centre is midway between the
+-- ends of what they will be.
 pub record IsMirror (k : ℕ) (vs : List Serving) (g c : ℕ) : Type 0 where
   pub closes : (serving_at vs g).closes ≡ true
   pub small : c ≤ 16 * (g + 1)
@@ -35,8 +25,6 @@ pub record IsMirror (k : ℕ) (vs : List Serving) (g c : ℕ) : Type 0 where
   pub amid : 2 * centre k vs
       ≡ c + (((ahead_at k vs (g + 1)).least + (ahead_at k vs (g + 1)).later_least)
       + ((ahead_at k vs (g + 1)).most + (ahead_at k vs (g + 1)).later_most))
-  pub left : is_late k vs (g + 1) ≡ true → IsEvenRow (left_numbers k (drop (g + 1) vs))
-  pub later : is_late k vs (g + 1) ≡ true → IsEvenRow (later_numbers k (drop (g + 1) vs))
 
 -- a number for each serving, by which sums may be mirrored after it where it is not 0
 pub record AreMirrors (k : ℕ) (vs : List Serving) (mirrors : List ℕ) : Type 0 where

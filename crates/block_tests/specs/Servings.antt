@@ -2,10 +2,9 @@
 -- that occurs in a block, its numbers ascending; a choice says which of the treatments that have
 -- no number of the block yet get it. A room tells which treatments these are, and a partial the
 -- treatments' sums.
-use Rattle.std.specs.Prelude.{◌≡◌, ℕ, zero, suc, ◌+◌, ◌-◌, ◌*◌, ◌/◌, ◌^◌, ◌≤◌, ◌<◌, ℤ, pos, min, max, List, [], ◌∷◌, ◌++◌, length, map, drop, get_or, nat_abs, replicate, Bool, true, false, nat_eq, nat_le, nat_lt, slice_index_or, if◌then◌else◌}
+use Rattle.std.specs.Prelude.{◌≡◌, ℕ, zero, suc, ◌+◌, ◌-◌, ◌*◌, ◌/◌, ◌^◌, ◌≤◌, ◌<◌, ℤ, pos, min, max, List, [], ◌∷◌, length, map, drop, get_or, nat_abs, replicate, Bool, true, false, nat_eq, nat_lt, slice_index_or, if◌then◌else◌}
 use Rattle.std.specs.List.{All, flat_map, sum, sum_by}
 use Rattle.weights.specs.Grouped.{choices, minus}
-use Rattle.weights.specs.InOrder.{in_order}
 use Rattle.weights.specs.Numbers.{binomial}
 use Rattle.weights.specs.declared.TheConstants.{MAX}
 use Rattle.networks.specs.Folded.{folded}
@@ -19,11 +18,10 @@ use Rattle.label_network.specs.ChoiceOrder.{later_choices}
 use Rattle.label_network.specs.Meanings.{sizes_in}
 use Rattle.ordered_groups.specs.OrderedGroups.{groups_in_order}
 use Rattle.block_tests.specs.BlockSteps.{IsSmall}
-use Rattle.block_tests.specs.BlockTests.{added, squared}
+use Rattle.block_tests.specs.BlockTests.{squared}
 use Rattle.block_tests.specs.Upright.{mirror_at, upright}
 use Rattle.block_tests.specs.declared.serving.Serving.{Serving}
 use Rattle.block_tests.specs.declared.serving.Ahead.{Ahead}
-use Rattle.block_tests.specs.declared.serving.Row.{Row}
 
 -- the numbers from i on that occur in a block, as often as the counts say
 abbrev pub servings : ℕ → List ℕ → List Serving
@@ -156,57 +154,6 @@ abbrev pub most_squares : ℕ → List Serving → Ahead → List ℕ → List �
 most_squares k vs a room sums =
     around k vs + over_ends (far_square (centre k vs)) a room sums
 
--- ---- the greatest squares of all
-
--- the numbers that are left of a block, ascending, each as often as it occurs, and after the last
--- block a zero for each treatment
-abbrev pub left_numbers : ℕ → List Serving → List ℕ
-left_numbers k [] = replicate k 0
-left_numbers k (v ∷ vs) =
-    replicate v.count v.value ++ (if v.closes then [] else left_numbers k vs)
-
--- the numbers of the later blocks, each block's ascending, added place by place
-abbrev pub later_numbers : ℕ → List Serving → List ℕ
-later_numbers k [] = replicate k 0
-later_numbers k (v ∷ vs) =
-    if v.closes then added (left_numbers k vs) (later_numbers k vs) else later_numbers k vs
-
--- the sums of the treatments that have a number of the block, and of those that wait for one
-abbrev pub settled_sums : List ℕ → List ℕ → List ℕ
-settled_sums [] sums = []
-settled_sums (r ∷ room) [] = []
-settled_sums (zero ∷ room) (s ∷ sums) = s ∷ settled_sums room sums
-settled_sums (suc r ∷ room) (s ∷ sums) = settled_sums room sums
-
-abbrev pub waiting_sums : List ℕ → List ℕ → List ℕ
-waiting_sums [] sums = []
-waiting_sums (r ∷ room) [] = []
-waiting_sums (zero ∷ room) (s ∷ sums) = waiting_sums room sums
-waiting_sums (suc r ∷ room) (s ∷ sums) = s ∷ waiting_sums room sums
-
--- the sums after the block, where what is left of it is given ascending in the order of the sums
-abbrev pub filled_sums : List ℕ → List ℕ → List ℕ → List ℕ
-filled_sums left room sums =
-    settled_sums room sums ++ added (in_order nat_le (waiting_sums room sums)) left
-
--- and after the later blocks, of which all treatments get the ascending numbers in the order of
--- their sums: no other way to go on leaves greater squares
-abbrev pub greatest_squares : List ℕ → List ℕ → List ℕ → List ℕ → ℕ
-greatest_squares left later room sums =
-    sum_by squared (added (in_order nat_le (filled_sums left room sums)) later)
-
--- No more servings are left than two blocks of different numbers have: where more are left the
--- greatest squares of all close hardly a key that the ends above leave open.
-abbrev pub is_late : ℕ → List Serving → ℕ → Bool
-is_late k vs g = nat_le (length vs) (g + 2 * k)
-
-abbrev pub highest_squares : ℕ → List Serving → ℕ → List ℕ → List ℕ → ℕ
-highest_squares k vs g room sums =
-    let most = most_squares k vs (ahead_at k vs g) room sums in
-    let ahead = drop g vs in
-    let all = greatest_squares (left_numbers k ahead) (later_numbers k ahead) room sums in
-    if is_late k vs g then min most all else most
-
 -- after each serving the sums are mirrored where they lean
 abbrev pub served_sums : ℕ → List Serving → List ℕ → Judge → Meaning
 served_sums k vs mirrors judge = record {
@@ -222,7 +169,8 @@ served_sums k vs mirrors judge = record {
   value = λ p. pos (sum_by squared (sizes_in p));
   low = λ g room p.
       pos (least_squares k vs (ahead_at k vs g) (sizes_in room) (sizes_in p));
-  high = λ g room p. pos (highest_squares k vs g (sizes_in room) (sizes_in p));
+  high = λ g room p.
+      pos (most_squares k vs (ahead_at k vs g) (sizes_in room) (sizes_in p));
   judge = judge;
 }
 
@@ -253,8 +201,6 @@ pub record AreServings (k : ℕ) (vs : List Serving) (judge : Judge) : Type 0 wh
   pub begins : (ahead k vs).owed ≡ k
   pub opens : (g : ℕ) → g < length vs → (serving_at vs g).closes ≡ true
       → (ahead_at k vs (g + 1)).owed ≡ k
-  pub ascends : (g : ℕ) → g < length vs → (serving_at vs g).closes ≡ false
-      → (serving_at vs g).value ≤ (serving_at vs (g + 1)).value
   pub fits : (ahead k vs).ways ≤ MAX
   pub judge_fits : (v : ℤ) → IsSmall v → JudgeFits judge v
 
@@ -265,14 +211,6 @@ pub record AreAhead (k : ℕ) (vs : List Serving) (done : ℕ) (table : List Ahe
   pub long : length table ≡ done + 1
   pub each : (i : ℕ) (d : Ahead) → i ≤ done
       → slice_index_or table i d ≡ ahead_at k vs (length vs - i)
-
--- what is left to be given of the last servings, to the block and later
-pub record AreRows (k : ℕ) (vs : List Serving) (done : ℕ) (table : List Row) : Type 0 where
-  pub long : length table ≡ done + 1
-  pub left : (i : ℕ) (d : Row) → i ≤ done
-      → (slice_index_or table i d).left.items ≡ left_numbers k (drop (length vs - i) vs)
-  pub later : (i : ℕ) (d : Row) → i ≤ done
-      → (slice_index_or table i d).later.items ≡ later_numbers k (drop (length vs - i) vs)
 
 pub record IsSmallAhead (a : Ahead) : Type 0 where
   pub owed : a.owed ≤ 8

@@ -1,13 +1,12 @@
 // After which servings the treatments' sums may be mirrored, and at which numbers.
 ghost use Rattle.std.specs.Prelude.{◌≡◌, ℕ, ◌+◌, ◌-◌, ◌*◌, ◌<◌, ◌≤◌, length, slice_index_or, true};
-ghost use Rattle.std.specs.Prelude.{drop, min, All, IfOk};
-ghost use Rattle.block_tests.specs.Mirrors.{AreEven, AreMirrors, IsEvenRow, opposite};
-ghost use Rattle.block_tests.specs.Servings.{AreAhead, AreRows, AreServings, IsSmallAhead, given};
-ghost use Rattle.block_tests.specs.Servings.{later_numbers, left_numbers};
+ghost use Rattle.std.specs.Prelude.{All, IfOk};
+ghost use Rattle.block_tests.specs.Mirrors.{AreEven, AreMirrors, opposite};
+ghost use Rattle.block_tests.specs.Servings.{AreAhead, AreServings, IsSmallAhead, given};
 ghost use Rattle.block_tests.specs.Upright.{mirror_at};
 
 use crate::block::Block;
-use crate::serving::{Ahead, Row, Serving};
+use crate::serving::{Ahead, Serving};
 use networks::Judge;
 use std::alloc::Global;
 use weights::NoMemory;
@@ -81,57 +80,19 @@ fn number_for(treatments: u64, given: u64, left: u64, middle: u64, next: Ahead) 
     }
 }
 
-// A number that is used where the blocks and what is left of them are even, after a serving that
-// closes its block, and where it is no greater than another.
-fn used(are_even: bool, closes: bool, are_rows_even: bool, number: u64, most: u64) -> u64
+// A number that is used where the blocks are even, after a serving that closes its block, and where
+// it is no greater than another.
+fn used(are_even: bool, closes: bool, number: u64, most: u64) -> u64
     ensures even { 0 < result → are_even ≡ true }
     ensures closes { 0 < result → closes ≡ true }
-    ensures rows { 0 < result → are_rows_even ≡ true }
     ensures number { 0 < result → result ≡ number }
     ensures within { 0 < result → result ≤ most }
 {
-    if are_even && closes && are_rows_even && number <= most {
+    if are_even && closes && number <= most {
         number
     } else {
         0
     }
-}
-
-// Whether numbers are the same from both ends.
-fn is_even_row(numbers: &[u64]) -> bool
-    ensures { result ≡ true → IsEvenRow numbers.now }
-{
-    for i in 0..numbers.len() {
-        let other = numbers[numbers.len() - 1 - i];
-        let ends = numbers[0] as u128 + numbers[numbers.len() - 1] as u128;
-        if numbers[i] as u128 + other as u128 != ends {
-            return false;
-        }
-    }
-    true
-}
-
-// Whether what is left of the last servings is the same from both ends, where rows tell it.
-fn are_even_rows(
-    treatments: usize,
-    items: &[Serving],
-    rows: &[Row],
-    left: usize,
-    _judge: Judge,
-) -> bool
-    requires servings { AreServings treatments items.now _judge }
-    requires rows { let told = min (length items.now) (2 * treatments) in
-        AreRows treatments items.now told rows.now }
-    ensures left { result ≡ true → left ≤ min (length items.now) (2 * treatments)
-        → IsEvenRow (left_numbers treatments (drop (length items.now - left) items.now)) }
-    ensures later { result ≡ true → left ≤ min (length items.now) (2 * treatments)
-        → IsEvenRow (later_numbers treatments (drop (length items.now - left) items.now)) }
-{
-    if left >= rows.len() {
-        return true;
-    }
-    let row = &rows[left];
-    is_even_row(row.left.as_slice()) && is_even_row(row.later.as_slice())
 }
 
 /// The numbers at which sums may be mirrored, serving by serving, where the blocks are even. Each
@@ -142,15 +103,12 @@ pub(crate) fn mirrors_of(
     treatments: usize,
     items: &[Serving],
     ahead: &[Ahead],
-    rows: &[Row],
     all: u64,
     is_even: bool,
     _judge: Judge,
 ) -> Result<Vec<u64>, NoMemory>
     requires servings { AreServings treatments items.now _judge }
     requires ahead { AreAhead treatments items.now (length items.now) ahead.now }
-    requires rows { let told = min (length items.now) (2 * treatments) in
-        AreRows treatments items.now told rows.now }
     requires all { all ≡ given items.now }
     ensures are { IfOk result (λ mirrors. AreMirrors treatments items.now mirrors.items) }
     ensures even { IfOk result (λ mirrors. (g : ℕ) → g < length items.now
@@ -165,9 +123,8 @@ pub(crate) fn mirrors_of(
         left -= serving.value * serving.count;
         let next = ahead[count - stage - 1];
         let number = number_for(treatments as u64, all, left, middle, next);
-        let are_rows_even = are_even_rows(treatments, items, rows, count - stage - 1, _judge);
         let most = 16 * (stage as u64 + 1);
-        let mirror = used(is_even, serving.closes, are_rows_even, number, most);
+        let mirror = used(is_even, serving.closes, number, most);
         mirrors.push(mirror)?;
     }
     Ok(mirrors)

@@ -1,22 +1,17 @@
 // Who is served, as rooms, and the treatments' sums, as what is measured of them.
-ghost use Rattle.std.specs.Prelude.{◌≡◌, ◌+◌, ◌-◌, ◌*◌, ◌<◌, ◌≤◌, length, map, min, nat_abs, pos};
-ghost use Rattle.std.specs.Prelude.{slice_index_or, All};
-ghost use Rattle.std.specs.Prelude.{drop, if◌then◌else◌, true};
+ghost use Rattle.std.specs.Prelude.{◌≡◌, ◌+◌, ◌*◌, ◌<◌, ◌≤◌, length, map, nat_abs, pos};
+ghost use Rattle.std.specs.Prelude.{slice_index_or, All, if◌then◌else◌, true};
 ghost use Rattle.std.specs.List.{sum_by};
 ghost use Rattle.weights.specs.Grouped.{fits, minus};
-ghost use Rattle.room_network.specs.Meanings.{AreReached};
 ghost use Rattle.label_network.specs.LabelSteps.{AreSizes};
 ghost use Rattle.label_network.specs.Meanings.{sizes_in};
 ghost use Rattle.block_tests.specs.BlockTests.{squared};
 ghost use Rattle.block_tests.specs.Servings.{AreMarks, AreSums, IsSmallAhead, far_square, farthest};
-ghost use Rattle.block_tests.specs.Servings.{gained, near_square, nearest};
-ghost use Rattle.block_tests.specs.Servings.{greatest_squares, is_late, later_numbers};
-ghost use Rattle.block_tests.specs.Servings.{left_numbers, over_ends, served_sums, unserved};
+ghost use Rattle.block_tests.specs.Servings.{gained, near_square, nearest, over_ends, unserved};
 ghost use Rattle.block_tests.specs.BoundSteps.{AreSmallBounds};
 ghost use Rattle.block_tests.specs.Upright.{upright};
 ghost use Rattle.block_tests.specs.BlockSteps.{IsSmall};
 
-use crate::greatest::greatest_squares;
 use crate::leaning::write_upright;
 use crate::serving::{Ahead, Bounds};
 use crate::servings::Servings;
@@ -208,28 +203,6 @@ fn squares_with(base: u64, distances: u64) -> u64
     base + distances
 }
 
-// The greatest squares that sums end with, as far as they are looked for, where they are no more
-// than these.
-#[inline(always)]
-fn highest(servings: &Servings, stage: usize, room: &[i128], partial: &[i128], most: u64) -> u64
-    requires reached { AreReached (served_sums servings.now.treatments
-        servings.now.items.items servings.now.mirrors.items servings.now.judge)
-        stage room.now partial.now }
-    requires small { most ≤ 9000000000000000 }
-    ensures is { let vs = servings.now.items.items in
-        let k = servings.now.treatments in
-        let ahead = drop stage vs in
-        let all = greatest_squares (left_numbers k ahead) (later_numbers k ahead)
-        (sizes_in room.now) (sizes_in partial.now) in
-        result ≡ (if is_late k vs stage then min most all else most) }
-    ensures small { result ≤ 9000000000000000 }
-{
-    if servings.is_late(stage) {
-        return most.min(greatest_squares(room, partial, servings.row(stage)));
-    }
-    most
-}
-
 // The interval between two ends.
 #[inline(always)]
 fn interval_of(low: u64, high: u64) -> Interval
@@ -349,8 +322,7 @@ impl Measure for ServedSums {
         let ahead = self.servings.ahead(stage);
         let bounds = bounds(room, partial, ahead, self.servings.middle);
         let low = squares_with(self.servings.base, bounds.near);
-        let most = squares_with(self.servings.base, bounds.far);
-        let high = highest(&self.servings, stage, room, partial, most);
+        let high = squares_with(self.servings.base, bounds.far);
         self.servings.judge.verdict(tail, interval_of(low, high))
     }
 

@@ -1,7 +1,6 @@
-use Rattle.std.proofs.Common.{◌≡◌, ◌<◌, ◌+◌, ◌-◌, ◌*◌, ◌/◌, ap, arith, div-le_self, length, subst, sym, drop, min, true, ◌≤◌}
-use Rattle.std.proofs.lemmas.Bool.{leb-true}
-use Rattle.block_tests.specs.Mirrors.{IsEvenRow, IsMirror}
-use Rattle.block_tests.specs.Servings.{IsSmallAhead, centre, is_late, later_numbers, left_numbers}
+use Rattle.std.proofs.Common.{◌≡◌, ◌<◌, ◌+◌, ◌*◌, ◌/◌, ap, arith, div-le_self, length, subst, sym}
+use Rattle.block_tests.specs.Mirrors.{IsMirror}
+use Rattle.block_tests.specs.Servings.{IsSmallAhead, centre}
 use Rattle.block_tests.specs.declared.serving.Ahead.{Ahead}
 use Rattle.block_tests.proofs.MirrorSteps.{AreDone, given-left, next-ahead, none-done, one-done}
 use Rattle.block_tests.proofs.ServingSteps.{given-small, small-ahead}
@@ -31,8 +30,6 @@ loop-stage-preserved c =
     let mirror : 0 < c.used-mirror.result → IsMirror c.args.treatments c.args.items.now c.loop-stage.stage c.used-mirror.result = (λ some.
     let same : c.used-mirror.result ≡ c.number_for-number.result = c.used-mirror.ensures.number some in
     let there : 0 < c.number_for-number.result = omega (arith, some, same) in
-    let there-is : c.loop-stage.stage < length c.args.items.now → length c.args.items.now - (length c.args.items.now - c.loop-stage.stage - 1) ≡ c.loop-stage.stage + 1 = (λ h. omega (arith, h)) in
-    let near-end : is_late c.args.treatments c.args.items.now (c.loop-stage.stage + 1) ≡ true → length c.args.items.now - c.loop-stage.stage - 1 ≤ min (length c.args.items.now) (2 * c.args.treatments) = (λ late. omega (arith, leb-true (length c.args.items.now) (c.loop-stage.stage + 1 + 2 * c.args.treatments) late)) in
     let middle : c.args.all / c.args.treatments ≡ centre c.args.treatments c.args.items.now = ap (λ n. n / c.args.treatments) c.requires.all in
     record {
       closes = c.used-mirror.ensures.closes some;
@@ -41,12 +38,6 @@ loop-stage-preserved c =
       amid = subst (λ (z : Ahead). 2 * centre c.args.treatments c.args.items.now ≡ c.used-mirror.result + ((z.least + z.later_least) + (z.most + z.later_most)))
           (next-ahead c.args.treatments c.args.items.now c.args.ahead.now c.requires.ahead c.loop-stage.stage (record { owed = 0; ways = 0; least = 0; most = 0; later_least = 0; later_most = 0 }) c.loop-stage-test.true)
           (omega (arith, c.number_for-number.ensures.amid there, same, middle));
-      left = λ late.
-          subst (λ g. IsEvenRow (left_numbers c.args.treatments (drop g c.args.items.now))) (there-is c.loop-stage-test.true)
-          (c.are_even_rows-are_rows_even.ensures.left (c.used-mirror.ensures.rows some) (near-end late));
-      later = λ late.
-          subst (λ g. IsEvenRow (later_numbers c.args.treatments (drop g c.args.items.now))) (there-is c.loop-stage-test.true)
-          (c.are_even_rows-are_rows_even.ensures.later (c.used-mirror.ensures.rows some) (near-end late));
     }) in
     record {
       left = omega (arith, c.loop-stage.invariant.left, here);
