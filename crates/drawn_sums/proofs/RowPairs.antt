@@ -1,10 +1,14 @@
 -- Pairs of a draw of each of two rows.
-use Rattle.std.proofs.Common.{◌≡◌, ℕ, zero, suc, ◌+◌, ◌-◌, ◌*◌, ◌<◌, ◌≤◌, List, [], ◌∷◌, map, length, take, drop, get_or, Bool, true, false, cond, refl, sym, subst, ◌∙◌, ap, arith}
-use Rattle.std.specs.Prelude.{ℤ, pos, ◌+ℤ◌, ◌-ℤ◌, ◌*ℤ◌, ◌≤ℤ◌, int_le, int_lt, nat_le, not}
+use Rattle.std.proofs.Common.{◌≡◌, ℕ, zero, suc, ◌+◌, ◌-◌, ◌*◌, ◌/◌, ◌^◌, ◌<◌, ◌≤◌, ◌⊎◌, inl, inr, List, [], ◌∷◌, map, length, take, drop, get_or, Bool, true, false, cond, refl, sym, subst, ◌∙◌, ap, arith, FitsSigned}
+use Rattle.std.specs.Prelude.{ℤ, pos, ◌+ℤ◌, ◌-ℤ◌, ◌≤ℤ◌, int_lt, nat_le, nat_lt, not, unsigned_abs}
 use Rattle.std.specs.List.{sum}
 use Rattle.std.proofs.lemmas.Int.{ints}
-use Rattle.std.proofs.Math.IntN.{pos-*ℤ-pos}
-use Rattle.dense_rows.proofs.RowSums.{row_sum, sum-cons, sum-take, times-≤, weighted-row}
+use Rattle.std.proofs.lemmas.Bool.{cases_lt}
+use Rattle.std.proofs.lemmas.Bool.Decides.{nat_tests}
+use Rattle.std.proofs.Math.Nat.{div-lt_iff_lt-mul}
+use mir.Syntax.{w128}
+use Rattle.weights.specs.declared.TheConstants.{MAX}
+use Rattle.dense_rows.proofs.RowSums.{reach, row_sum, sum-cons, sum-take, times-≤, weighted-row}
 use Rattle.halves.specs.declared.sides.Sides.TheVariants.{Every, UpTo, Apart}
 use Rattle.halves.specs.Pairs.{once}
 use Rattle.halves.specs.Sides.{is_in}
@@ -119,39 +123,48 @@ module _ (bound : ℤ) (stride : ℕ) where
       turned : (a b c : ℤ) → (a +ℤ b) +ℤ c ≡ (a +ℤ c) +ℤ b
       turned a b c = omega (arith, ints)
 
--- a number is not above where as many strides are no more than what is left to the bound
-first-by : (bound lowest : ℤ) (m : ℕ) (first n : ℕ) → nat_le first n ≡ not (int_le (pos m) (bound -ℤ lowest)) → int_lt bound (lowest +ℤ pos m) ≡ nat_le first n
-first-by bound lowest m first n e = above (int_le (pos m) (bound -ℤ lowest)) refl ∙ sym e
-  where
-    above : (b : Bool) → int_le (pos m) (bound -ℤ lowest) ≡ b → int_lt bound (lowest +ℤ pos m) ≡ not (int_le (pos m) (bound -ℤ lowest))
-    above true h = rw h (grind (arith, ints))
-    above false h = rw h (grind (arith, ints))
+-- ---- the first place above a bound
 
-times-pos : (s n : ℕ) → pos s *ℤ pos n ≡ pos (n * s)
-times-pos s n = pos-*ℤ-pos s n ∙ ap pos (turned s n)
-  where
-    turned : (s n : ℕ) → s * n ≡ n * s
-    turned s n = grind arith
+-- how far a number lies below a bound
+pub gap-small : (bound lowest : ℤ) → FitsSigned w128 bound → unsigned_abs lowest ≤ MAX → int_lt bound lowest ≡ false → unsigned_abs (bound -ℤ lowest) + 1 < 2 ^ 128
+gap-small bound lowest f h e = grind (arith, ints, f.sfits, h, e)
 
--- none is, or those after the last one that is not
-pub first-none : (bound : ℤ) (stride : ℕ) (lowest last : ℤ) (n : ℕ) → int_lt last (pos 0) ≡ true → int_le (pos n) last ≡ int_le (pos stride *ℤ pos n) (bound -ℤ lowest) → int_lt bound (lowest +ℤ pos (n * stride)) ≡ nat_le 0 n
-first-none bound stride lowest last n h e = first-by bound lowest (n * stride) 0 n (always n ∙ ap not (sym below ∙ e ∙ ap (λ z. int_le z (bound -ℤ lowest)) (times-pos stride n)))
+-- a row that begins above is above throughout
+pub first-none : (bound lowest : ℤ) (m n : ℕ) → int_lt bound lowest ≡ true → int_lt bound (lowest +ℤ pos m) ≡ nat_le 0 n
+first-none bound lowest m n h = past ∙ sym (always n)
   where
+    past : int_lt bound (lowest +ℤ pos m) ≡ true
+    past = grind (arith, ints)
+
     always : (n : ℕ) → nat_le 0 n ≡ true
     always n = grind arith
 
-    below : int_le (pos n) last ≡ false
-    below = grind (arith, ints)
-
-pub first-at : (bound : ℤ) (stride : ℕ) (lowest : ℤ) (last n : ℕ) → int_le (pos n) (pos last) ≡ int_le (pos stride *ℤ pos n) (bound -ℤ lowest) → int_lt bound (lowest +ℤ pos (n * stride)) ≡ nat_le (last + 1) n
-first-at bound stride lowest last n e = first-by bound lowest (n * stride) (last + 1) n (over n ∙ ap not (e ∙ ap (λ z. int_le z (bound -ℤ lowest)) (times-pos stride n)))
+-- two tests that hold at once
+tests : (a m b n : ℕ) → (a < m → b < n) → (b < n → a < m) → nat_lt a m ≡ nat_le (b + 1) n
+tests a m b n on back = by (cases_lt a m) (cases_lt b n)
   where
-    over : (n : ℕ) → nat_le (last + 1) n ≡ not (int_le (pos n) (pos last))
-    over n = by (int_le (pos n) (pos last)) refl
+    by : (a < m) ⊎ (m ≤ a) → (b < n) ⊎ (n ≤ b) → nat_lt a m ≡ nat_le (b + 1) n
+    by (inl h) (inl k) = grind (arith, nat_tests, h, k)
+    by (inr h) (inr k) = grind (arith, nat_tests, h, k)
+    by (inl h) (inr k) = absurd (omega (arith, k, on h))
+    by (inr h) (inl k) = absurd (omega (arith, h, back k))
+
+-- or it is those after the last place that is not
+pub first-at : (bound lowest : ℤ) (stride n : ℕ) → 0 < stride → int_lt bound lowest ≡ false → int_lt bound (lowest +ℤ pos (n * stride)) ≡ nat_le (unsigned_abs (bound -ℤ lowest) / stride + 1) n
+first-at bound lowest stride n some h =
+    let gap : ℕ = unsigned_abs (bound -ℤ lowest) in
+    let places = div-lt_iff_lt-mul {k = stride} {x = gap} {y = n} some in
+    ap (λ z. int_lt z (lowest +ℤ pos (n * stride))) (sym (reach lowest bound (below bound lowest h))) ∙ apart lowest gap (n * stride) ∙ tests gap (n * stride) (gap / stride) n places.1 places.0
+  where
+    below : (bound lowest : ℤ) → int_lt bound lowest ≡ false → lowest ≤ℤ bound
+    below bound lowest h = grind (arith, ints, h)
+
+    apart : (l : ℤ) (a b : ℕ) → int_lt (l +ℤ pos a) (l +ℤ pos b) ≡ nat_lt a b
+    apart l a b = by (cases_lt a b)
       where
-        by : (b : Bool) → int_le (pos n) (pos last) ≡ b → nat_le (last + 1) n ≡ not (int_le (pos n) (pos last))
-        by true h = rw h (grind (arith, ints))
-        by false h = rw h (grind (arith, ints))
+        by : (a < b) ⊎ (b ≤ a) → int_lt (l +ℤ pos a) (l +ℤ pos b) ≡ nat_lt a b
+        by (inl h) = grind (arith, ints, nat_tests, h)
+        by (inr h) = grind (arith, ints, nat_tests, h)
 
 -- ---- pairs of two rows
 

@@ -72,8 +72,8 @@ cells-moved g score stride lowest cells =
     ∙ sums-moved g score lowest (pos stride) cells
     ∙ sym (weighted-row (λ k. g (number_of k +ℤ score)) lowest (pos stride) cells)
 
-pub cells-one : (g : ℤ → ℕ) (stride c : ℕ) → c ≡ 1 → cells_draws g stride (pos 0) (c ∷ []) ≡ g (pos 0)
-cells-one g stride c e = weighted-row (λ k. g (number_of k)) (pos 0) (pos stride) (c ∷ []) ∙ once c (g (pos 0)) e
+pub cells-one : (g : ℤ → ℕ) (stride : ℕ) (lowest : ℤ) (c : ℕ) → c ≡ 1 → cells_draws g stride lowest (c ∷ []) ≡ g lowest
+cells-one g stride lowest c e = weighted-row (λ k. g (number_of k)) lowest (pos stride) (c ∷ []) ∙ once c (g lowest) e
   where
     once : (c n : ℕ) → c ≡ 1 → c * n + 0 ≡ n
     once c n e = rw e (omega arith)
@@ -213,6 +213,23 @@ module _ {C : Type 0} (number : C → ℕ) (stride : ℕ) where
       let on : (n + 1) + i ≡ n + suc i = omega arith in
       omega (arith, cells-none (f n) (λ v. none n v (λ e. omega (arith, e))) stride row.lowest (map number row.cells.items), rows-past f (n + 1) rows i (omega (arith, h)) (λ m v l. none m v (λ e. l (e ∙ sym on))))
 
+  -- a row more is added to the one behind it
+  pub down-told : (f : ℕ → ℤ → ℕ) (score : ℤ) (was rows new : List (DrawRow C)) (n j count : ℕ) (d : DrawRow C) → n ≡ j + 1 → j < length was → get_or rows j d ≡ get_or was j d
+      → of_rows f 0 new ≡ of_rows f 0 rows + of_row (with_one score f j) (get_or rows j d)
+      → of_rows f 0 rows + of_rows (with_one score f) 0 (take n was) ≡ of_rows f 0 was + of_rows (with_one score f) 0 (take count was)
+      → of_rows f 0 new + of_rows (with_one score f) 0 (take j was) ≡ of_rows f 0 was + of_rows (with_one score f) 0 (take count was)
+  down-told f score was rows new n j count d next h same added before =
+      let zero_more : 0 + j ≡ j = omega arith in
+      omega (
+        arith,
+        added,
+        before,
+        rows-take (with_one score f) 0 was j d h,
+        ap (λ k. of_rows (with_one score f) 0 (take k was)) next,
+        ap (λ k. of_row (with_one score f k) (get_or was j d)) zero_more,
+        ap (of_row (with_one score f j)) same,
+      )
+
   -- all rows but the last, and the last
   last-row : (f : ℕ → ℤ → ℕ) (rows : List (DrawRow C)) (last : ℕ) (d : DrawRow C) → length rows ≡ last + 1 → of_rows f 0 rows ≡ of_rows f 0 (take last rows) + of_row (f last) (get_or rows last d)
   last-row f rows last d long =
@@ -257,10 +274,17 @@ subject-more f score scores n v = draw-parts f n v scores (score ∷ []) ∙ dra
 pub none-with : (most : ℕ) (score : ℤ) (f : ℕ → ℤ → ℕ) → NoneAbove most f → NoneAbove most (with_one score f)
 none-with most score f none n v h = none (n + 1) (v +ℤ score) (omega (arith, h))
 
-pub draws-more : {C : Type 0} (number : C → ℕ) (limit most stride : ℕ) (scores : List ℤ) (score : ℤ) (old new : List (DrawRow C)) → AreDraws number limit most stride scores old → AreRows number limit most new
+pub draws-more : {C : Type 0} (number : C → ℕ) (limit most stride : ℕ) (start : ℤ) (scores more : List ℤ) (score : ℤ) (old new : List (DrawRow C)) → more ≡ scores ++ score ∷ [] → AreDraws number limit most stride start scores old → AreRows number limit most start more new
     → ((f : ℕ → ℤ → ℕ) → NoneAbove most f → rows_draws number f 0 stride new ≡ rows_draws number f 0 stride old + rows_draws number (with_one score f) 0 stride old)
-    → AreDraws number limit most stride (scores ++ score ∷ []) new
-draws-more number limit most stride scores score old new are rows told = record {
+    → AreDraws number limit most stride start more new
+draws-more number limit most stride start scores more score old new whole are rows told = record {
   rows_are = rows;
-  told = λ f none. omega (arith, told f none, are.told f none, are.told (with_one score f) (none-with most score f none), subject-more f score scores 0 (pos 0));
+  told = λ f none. omega (
+    arith,
+    told f none,
+    are.told f none,
+    are.told (with_one score f) (none-with most score f none),
+    subject-more f score scores 0 start,
+    ap (draw_sum f 0 start) whole,
+  );
 }

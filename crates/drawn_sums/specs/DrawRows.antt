@@ -1,11 +1,13 @@
 -- Rows that count draws: one row for each number of subjects, with a cell for each sum.
 use Rattle.std.specs.Prelude.{◌≡◌, ℕ, ℤ, pos, ◌+◌, ◌+ℤ◌, ◌<◌, ◌≤◌, List, [], ◌∷◌}
-use Rattle.std.specs.Prelude.{get_or, length, map}
-use Rattle.std.specs.List.{AllByRecursion, sum}
+use Rattle.std.specs.Prelude.{get_or, length, map, min, unsigned_abs}
+use Rattle.std.specs.List.{sum}
+use Rattle.weights.specs.Numbers.{absolute_sum, binomial}
 use Rattle.weights.specs.declared.TheConstants.{MAX}
 use Rattle.node_pool.specs.Nodes.{weighted}
 use Rattle.dense_rows.specs.Rows.{row_nodes}
 use Rattle.drawn_sums.specs.Draws.{draw_sum}
+use Rattle.drawn_sums.specs.DrawSizes.{AreApart, Ascend, least}
 use Rattle.drawn_sums.specs.declared.rows.DrawRow.{DrawRow}
 
 -- the number of a cell's key
@@ -38,16 +40,42 @@ NoneAbove most f = (n : ℕ) (v : ℤ) → most < n → f n v ≡ 0
 abbrev pub with_one : ℤ → (ℕ → ℤ → ℕ) → ℕ → ℤ → ℕ
 with_one score f n v = f (n + 1) (v +ℤ score)
 
--- rows of nobody, of one and so on, up to so many
-pub record AreRows {C : Type 0} (number : C → ℕ) (limit most : ℕ)
-    (rows : List (DrawRow C)) : Type 0 where
-  pub some : 1 ≤ length rows
-  pub few : length rows ≤ most + 1
-  pub each : AllByRecursion (IsDrawRow number limit) rows
+-- what all rows have of the draws of n, beside the sum of nobody: how many there are, and the least
+-- sum, where the scores ascend
+pub record IsRowOf {C : Type 0} (number : C → ℕ) (limit : ℕ) (start : ℤ) (scores : List ℤ) (n : ℕ)
+    (row : DrawRow C) : Type 0 where
+  pub row_is : IsDrawRow number limit row
+  pub total : row.total ≡ binomial (length scores) n
+  pub lowest : row.lowest ≡ start +ℤ least n scores
 
--- the rows of the draws of at most so many of the subjects with these scores
-pub record AreDraws {C : Type 0} (number : C → ℕ) (limit most stride : ℕ) (scores : List ℤ)
+-- the sum of nobody
+abbrev pub start_of : {C : Type 0} → List (DrawRow C) → ℤ
+start_of [] = pos 0
+start_of (row ∷ rows) = row.lowest
+
+-- rows of nobody, of one and so on, up to so many
+pub record AreRows {C : Type 0} (number : C → ℕ) (limit most : ℕ) (start : ℤ) (scores : List ℤ)
     (rows : List (DrawRow C)) : Type 0 where
-  pub rows_are : AreRows number limit most rows
+  pub long : length rows ≡ min most (length scores) + 1
+  pub each : (n : ℕ) (d : DrawRow C) → n < length rows
+      → IsRowOf number limit start scores n (get_or rows n d)
+
+-- the rows of the draws of at most so many of the subjects with these scores, nobody's sum being
+-- the start
+pub record AreDraws {C : Type 0} (number : C → ℕ) (limit most stride : ℕ) (start : ℤ)
+    (scores : List ℤ) (rows : List (DrawRow C)) : Type 0 where
+  pub rows_are : AreRows number limit most start scores rows
   pub told : (f : ℕ → ℤ → ℕ) → NoneAbove most f
-      → rows_draws number f 0 stride rows ≡ draw_sum f 0 (pos 0) scores
+      → rows_draws number f 0 stride rows ≡ draw_sum f 0 start scores
+
+-- subjects by ascending score, whose sums lie strides apart and pass no limit
+pub record AreSubjects (stride : ℕ) (start : ℤ) (scores : List ℤ) : Type 0 where
+  pub some : 0 < stride
+  pub apart : AreApart stride scores
+  pub ascend : Ascend scores
+  pub small : unsigned_abs start + absolute_sum scores ≤ MAX
+
+-- the draws of at most so many of these are counts of this width
+pub record AreCounted (limit most : ℕ) (scores : List ℤ) : Type 0 where
+  pub within : (n : ℕ) → n ≤ most → binomial (length scores) n ≤ limit
+  pub fits : (n : ℕ) → n ≤ most → binomial (length scores) n ≤ MAX

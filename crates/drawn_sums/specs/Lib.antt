@@ -1,5 +1,5 @@
 pub mod Draws
+pub mod DrawSizes
 pub mod DrawRows
 pub mod DrawnSums
 pub mod Meetings
-pub mod Mirrored

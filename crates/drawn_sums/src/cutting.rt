@@ -1,135 +1,123 @@
-// In which order the subjects are drawn, how far apart their sums lie, and where they are cut. What
-// is planned here is checked where it is used, so little is owed of it.
-ghost use Rattle.std.specs.Prelude.{◌<◌, ◌≤◌, length, IfOk, IsPermutation};
+// In which order the subjects are drawn, how far apart their sums lie, where they are cut, and
+// whether their draws are counted.
+ghost use Rattle.std.specs.Prelude.{◌≡◌, pos, ◌*◌, ◌/◌, ◌-ℤ◌, ◌<◌, ◌≤◌, ◌∷◌, length, map, nat_le};
+ghost use Rattle.std.specs.Prelude.{is_some, IfOk, IfSome};
+ghost use Rattle.weights.specs.Numbers.{absolute_sum};
+ghost use Rattle.weights.specs.declared.TheConstants.{MAX};
+ghost use Rattle.networks.specs.PartialSums.{ascending};
+ghost use Rattle.drawn_sums.specs.DrawSizes.{Ascend, IsStride, cells, cut, is_dense, is_drawn};
+ghost use Rattle.drawn_sums.specs.DrawSizes.{most_cells, most_sums, subjects_taken, work};
 
-use crate::stops::Stop;
 use std::alloc::Global;
-use weights::gcd;
+use weights::{NoMemory, gcd, plus};
 
 // How many cells the rows of so many subjects may have in all: few where there are few draws, and
 // fewer where there are so many subjects that adding would take long.
-fn most_cells(subjects: usize) -> u128 {
+fn most_cells(subjects: usize) -> u128
+    ensures { result ≡ most_cells subjects }
+{
     let most = 1u128 << subjects.saturating_add(3).min(25);
     most.min((1 << 33) / subjects.max(1) as u128)
 }
 
 /// Scores in ascending order.
-pub(crate) fn in_order(alloc: Global, scores: &[i128]) -> Result<Vec<i128>, Stop>
-    ensures { IfOk result (λ sorted. IsPermutation scores.now sorted.items) }
+pub(crate) fn in_order(alloc: Global, scores: &[i128]) -> Result<Vec<i128>, NoMemory>
+    ensures { IfOk result (λ sorted. sorted.items ≡ ascending scores.now) }
 {
     let mut sorted = Vec::from_slice(alloc, scores)?;
     sorted.sort_unstable();
     Ok(sorted)
 }
 
-/// The greatest number of which each score lies some apart from the others, or 1.
-pub(crate) fn stride_of(sorted: &[i128]) -> Result<u64, Stop>
-    ensures { IfOk result (λ stride. 0 < stride) }
+/// The scores, each with the other sign.
+pub(crate) fn opposite(alloc: Global, scores: &[i128]) -> Result<Vec<i128>, NoMemory>
+    requires { absolute_sum scores.now ≤ MAX }
+    ensures { IfOk result (λ opposite. opposite.items ≡ map (λ s. pos 0 -ℤ s) scores.now) }
 {
-    let mut stride = 0u128;
-    for i in 1..sorted.len() {
-        stride = gcd(stride, sorted[i].abs_diff(sorted[i - 1]));
+    let mut opposite = Vec::new(alloc);
+    for i in 0..scores.len() {
+        opposite.push(-scores[i])?;
     }
-    match u64::try_from(stride) {
-        Ok(0) => Ok(1),
-        Ok(stride) => Ok(stride),
-        Err(_) => Err(Stop::Wide),
-    }
+    Ok(opposite)
 }
 
-// How many cells the rows of at most so many of these subjects have; None where a number is great.
-fn cells_of(sorted: &[i128], stride: u64, most: usize) -> Option<u128>
-    requires { 0 < stride }
+/// The greatest number of which every two scores are a multiple apart, 0 where all are equal.
+pub(crate) fn common_stride(scores: &[i128]) -> u128
+    ensures { IsStride scores.now result }
 {
-    let mut apart = 0i128;
-    let mut cells = 1u128;
-    for n in 0..sorted.len() {
-        if n < most {
-            let more = sorted[sorted.len() - 1 - n].checked_sub(sorted[n])?;
-            apart = apart.checked_add(more)?;
-            let row = apart.unsigned_abs() / stride as u128;
-            cells = cells.checked_add(row)?.checked_add(1)?;
-        }
+    let mut stride = 0u128;
+    for i in 1..scores.len() {
+        stride = gcd(stride, scores[i].abs_diff(scores[0]));
     }
-    Some(cells)
+    stride
+}
+
+/// The greatest number of which every score is a multiple, 0 where all are 0.
+pub(crate) fn common_divisor(scores: &[i128]) -> u128
+    ensures { IsStride (pos 0 ∷ scores.now) result }
+{
+    let mut divisor = 0u128;
+    for i in 0..scores.len() {
+        divisor = gcd(divisor, scores[i].unsigned_abs());
+    }
+    divisor
+}
+
+// How many sums the draws of at most so many of these subjects may have.
+fn cells_of(sorted: &[i128], stride: u128, most: usize) -> u128
+    requires stride { 0 < stride }
+    requires small { 2 * length sorted.now * absolute_sum sorted.now ≤ MAX }
+    ensures { result ≡ cells stride most sorted.now }
+{
+    let mut least = 0i128;
+    let mut greatest = 0i128;
+    let mut cells = 1u128;
+    for n in 0..most.min(sorted.len()) {
+        least = plus(least, sorted[n]);
+        greatest = plus(greatest, sorted[sorted.len() - 1 - n]);
+        cells += greatest.abs_diff(least) / stride + 1;
+    }
+    cells
 }
 
 // What it takes to draw them.
-fn work_of(sorted: &[i128], stride: u64, most: usize) -> u128
-    requires { 0 < stride }
+fn work_of(sorted: &[i128], stride: u128, most: usize) -> u128
+    requires stride { 0 < stride }
+    requires small { 2 * length sorted.now * absolute_sum sorted.now ≤ MAX }
+    ensures { result ≡ work stride most sorted.now }
 {
-    match cells_of(sorted, stride, most) {
-        Some(cells) => cells.saturating_mul(sorted.len() as u128),
-        None => u128::MAX,
-    }
+    cells_of(sorted, stride, most).saturating_mul(sorted.len() as u128)
 }
 
 // Whether their rows are not too long.
-fn is_dense(sorted: &[i128], stride: u64, most: usize) -> bool
-    requires { 0 < stride }
+fn is_dense(sorted: &[i128], stride: u128, most: usize) -> bool
+    requires stride { 0 < stride }
+    requires small { 2 * length sorted.now * absolute_sum sorted.now ≤ MAX }
+    ensures { result ≡ is_dense stride most sorted.now }
 {
-    match cells_of(sorted, stride, most) {
-        Some(cells) => cells <= most_cells(sorted.len()),
-        None => false,
-    }
+    cells_of(sorted, stride, most) <= most_cells(sorted.len())
 }
 
 // How many subjects a sweep by tie groups takes one by one: of each group no more than are drawn.
-fn subjects_taken(sorted: &[i128], most: usize) -> usize {
+fn subjects_taken(sorted: &[i128], most: usize) -> usize
+    ensures { result ≡ subjects_taken most sorted.now }
+{
     let mut taken = 0usize;
-    let mut alike = 0usize;
     for i in 0..sorted.len() {
-        let is_next = i > 0 && sorted[i] == sorted[i - 1];
-        alike = if is_next { alike.saturating_add(1) } else { 1 };
-        if alike <= most {
-            taken = taken.saturating_add(1);
+        if i < most || sorted[i] != sorted[i - most] {
+            taken += 1;
         }
     }
     taken
 }
 
-// Whether the draws are counted: their rows are not too long, and tie groups would save little.
-fn is_drawn(first: &[i128], second: &[i128], sorted: &[i128], stride: u64, most: usize) -> bool
-    requires { 0 < stride }
-{
-    is_dense(first, stride, most)
-        && is_dense(second, stride, most)
-        && sorted.len() / 4 <= subjects_taken(sorted, most)
-}
-
-// How many sums the scores of all may have where any number of so many subjects is drawn.
-fn most_sums(subjects: usize) -> u128 {
-    if subjects < 15 {
-        1 << subjects
-    } else if subjects < 40 {
-        1 << 15
-    } else {
-        1 << 20
-    }
-}
-
-/// The greatest number of which each score is some times, or 1, where the sums of all scores are
-/// not too many for a row.
-pub(crate) fn sign_stride(scores: &[i128]) -> Result<u64, Stop>
-    ensures { IfOk result (λ stride. 0 < stride) }
-{
-    let mut stride = 0u128;
-    let mut whole = 0u128;
-    for i in 0..scores.len() {
-        stride = gcd(stride, scores[i].unsigned_abs());
-        whole = whole.saturating_add(scores[i].unsigned_abs());
-    }
-    match u64::try_from(stride) {
-        Ok(0) => Ok(1),
-        Ok(stride) if whole / stride as u128 <= most_sums(scores.len() / 2) => Ok(stride),
-        Ok(_) | Err(_) => Err(Stop::Wide),
-    }
-}
-
-/// Where the subjects are cut, so that both parts take about as much.
-pub(crate) fn cut_of(sorted: &[i128], stride: u64, most: usize) -> Result<usize, Stop>
-    requires { 0 < stride }
-    ensures { IfOk result (λ cut. cut ≤ length sorted.now) }
+// Where the subjects are cut, so that both parts take about as much.
+fn cut_of(sorted: &[i128], stride: u128, most: usize) -> usize
+    requires stride { 0 < stride }
+    requires small { 2 * length sorted.now * absolute_sum sorted.now ≤ MAX }
+    requires ascend { Ascend sorted.now }
+    ensures is { result ≡ cut stride most sorted.now }
+    ensures within { result ≤ length sorted.now }
 {
     let mut low = 0;
     let mut high = sorted.len();
@@ -142,9 +130,60 @@ pub(crate) fn cut_of(sorted: &[i128], stride: u64, most: usize) -> Result<usize,
             high = middle;
         }
     }
-    if is_drawn(&sorted[..low], &sorted[low..], sorted, stride, most) {
-        Ok(low)
+    low
+}
+
+/// Where ascending scores are cut to draw at most so many subjects. None exactly where the rows of
+/// a part are too long, or tie groups save much.
+pub(crate) fn drawn_cut(sorted: &[i128], stride: u128, most: usize) -> Option<usize>
+    requires stride { 0 < stride }
+    requires small { 2 * length sorted.now * absolute_sum sorted.now ≤ MAX }
+    requires ascend { Ascend sorted.now }
+    ensures when { is_some result ≡ is_drawn stride most sorted.now }
+    ensures within { IfSome result (λ c. c ≤ length sorted.now) }
+{
+    let cut = cut_of(sorted, stride, most);
+    if is_dense(&sorted[..cut], stride, most)
+        && is_dense(&sorted[cut..], stride, most)
+        && sorted.len() / 4 <= subjects_taken(sorted, most)
+    {
+        Some(cut)
     } else {
-        Err(Stop::Wide)
+        None
     }
+}
+
+// How many sums the scores of all may have where any number of so many subjects is drawn.
+fn most_sums(subjects: usize) -> u128
+    ensures { result ≡ most_sums subjects }
+{
+    if subjects < 15 {
+        1 << subjects
+    } else if subjects < 40 {
+        1 << 15
+    } else {
+        1 << 20
+    }
+}
+
+// The sum of the absolute scores.
+fn absolute_sum(scores: &[i128]) -> u128
+    requires { absolute_sum scores.now ≤ MAX }
+    ensures { result ≡ absolute_sum scores.now }
+{
+    let mut sum = 0;
+    for i in 0..scores.len() {
+        sum += scores[i].unsigned_abs();
+    }
+    sum
+}
+
+/// Whether the sums of any number of these scores are not too many for a row.
+pub(crate) fn are_few_sums(scores: &[i128], stride: u128) -> bool
+    requires stride { 0 < stride }
+    requires small { absolute_sum scores.now ≤ MAX }
+    ensures { result
+        ≡ nat_le (absolute_sum scores.now / stride) (most_sums (length scores.now / 2)) }
+{
+    absolute_sum(scores) / stride <= most_sums(scores.len() / 2)
 }

@@ -1,68 +1,91 @@
 // The draws of at most so many subjects: a row for each number of them.
-ghost use Rattle.std.specs.Prelude.{◌≡◌, ℕ, ℤ, ◌+◌, ◌<◌, ◌≤◌, [], length, take, get_or, OnOk, IfOk};
+ghost use Rattle.std.specs.Prelude.{◌≡◌, ℕ, ℤ, pos, ◌+◌, ◌+ℤ◌, ◌<◌, ◌≤◌, [], length, take, get_or};
+ghost use Rattle.std.specs.Prelude.{min, unsigned_abs, OnOk, IfOk};
 ghost use Rattle.std.specs.List.{AllByRecursion};
-ghost use Rattle.drawn_sums.specs.DrawRows.{AreDraws, AreRows, IsDrawRow, NoneAbove, row_draws};
-ghost use Rattle.drawn_sums.specs.DrawRows.{rows_draws, with_one};
+ghost use Rattle.weights.specs.Numbers.{absolute_sum};
+ghost use Rattle.weights.specs.declared.TheConstants.{MAX};
+ghost use Rattle.dense_rows.specs.Rows.{stepped};
+ghost use Rattle.drawn_sums.specs.DrawRows.{AreCounted, AreDraws, AreRows, AreSubjects, IsDrawRow};
+ghost use Rattle.drawn_sums.specs.DrawRows.{IsRowOf, NoneAbove, row_draws, rows_draws, start_of};
+ghost use Rattle.drawn_sums.specs.DrawRows.{with_one};
 ghost use Rattle.drawn_sums.specs.declared.rows.DrawRow.{DrawRow};
 
-use crate::rows::DrawRow;
-use crate::stops::Stop;
+use crate::rows::{DrawRow, place_between};
 use std::alloc::Global;
-use weights::Count;
+use weights::{Count, NoMemory};
 
 // The one draw of nobody, in a list.
-fn nobody_alone<C: Count>(alloc: Global) -> Result<Vec<DrawRow<C>>, Stop>
+fn nobody_alone<C: Count>(alloc: Global, start: i128) -> Result<Vec<DrawRow<C>>, NoMemory>
+    requires { 1 ≤ C.LIMIT }
     ensures { IfOk result (λ rows. (most stride : ℕ)
-        → AreDraws C.number C.LIMIT most stride [] rows.items) }
+        → AreDraws C.number C.LIMIT most stride start [] rows.items) }
 {
     let mut rows = Vec::new(alloc);
-    rows.push(DrawRow::nobody(alloc)?)?;
+    rows.push(DrawRow::nobody(alloc, start)?)?;
     Ok(rows)
 }
 
-// Adds a row to the one behind it, each of its draws with a subject of this score.
-fn add_behind<C: Count>(
-    rows: &mut [DrawRow<C>],
-    place: usize,
-    score: i128,
-    stride: u64,
-) -> Result<(), Stop>
-    requires place { place + 1 < length rows.old }
+// Adds the row of n to the one behind it, its lowest draw at a place.
+fn add_behind<C: Count>(rows: &mut [DrawRow<C>], n: usize, place: usize) -> Result<(), NoMemory>
+    requires n { n + 1 < length rows.old }
     requires rows { AllByRecursion (IsDrawRow C.number C.LIMIT) rows.old }
+    requires within { (d : DrawRow C)
+        → (get_or rows.old (n + 1) d).total + (get_or rows.old n d).total ≤ C.LIMIT }
+    requires fits { (d : DrawRow C)
+        → (get_or rows.old (n + 1) d).total + (get_or rows.old n d).total ≤ MAX }
     ensures long { length rows.new ≡ length rows.old }
     ensures rows { OnOk result (AllByRecursion (IsDrawRow C.number C.LIMIT) rows.new) }
-    ensures before { OnOk result ((i : ℕ) (d : DrawRow C) → i ≤ place
+    ensures others { OnOk result ((i : ℕ) (d : DrawRow C) → (i ≡ n + 1 → ⊥)
         → get_or rows.new i d ≡ get_or rows.old i d) }
-    ensures told { OnOk result ((f : ℕ → ℤ → ℕ) (d : DrawRow C)
+    ensures total { OnOk result ((d : DrawRow C) → (get_or rows.new (n + 1) d).total
+        ≡ (get_or rows.old (n + 1) d).total + (get_or rows.old n d).total) }
+    ensures lowest { OnOk result ((d : DrawRow C)
+        → (get_or rows.new (n + 1) d).lowest ≡ (get_or rows.old (n + 1) d).lowest) }
+    ensures told { OnOk result ((f : ℕ → ℤ → ℕ) (d : DrawRow C) (stride : ℕ) (score : ℤ)
+        → stepped (get_or rows.old (n + 1) d).lowest (pos stride) place
+        ≡ (get_or rows.old n d).lowest +ℤ score
         → rows_draws C.number f 0 stride rows.new
         ≡ rows_draws C.number f 0 stride rows.old
-        + row_draws C.number (with_one score f place) stride (get_or rows.old place d)) }
+        + row_draws C.number (with_one score f n) stride (get_or rows.old n d)) }
 {
-    let (before, behind) = rows.split_at_mut(place + 1);
-    behind[0].add(&before[place], score, stride)?;
-    Ok(())
+    let (before, behind) = rows.split_at_mut(n + 1);
+    behind[0].add(&before[n], place)
 }
 
-// Adds each of so many rows to the one behind it, the last first.
+// Adds each of so many rows to the one behind it, the last first, with the subject at a place.
 fn add_down<C: Count>(
     rows: &mut [DrawRow<C>],
     count: usize,
-    score: i128,
-    stride: u64,
-) -> Result<(), Stop>
+    scores: &[i128],
+    i: usize,
+    stride: u128,
+) -> Result<(), NoMemory>
     requires count { count < length rows.old }
+    requires few { count ≤ i }
+    requires i { i < length scores.now }
+    requires subjects { AreSubjects stride (start_of rows.old) scores.now }
+    requires counted { AreCounted C.LIMIT count scores.now }
     requires rows { AllByRecursion (IsDrawRow C.number C.LIMIT) rows.old }
+    requires before { (n : ℕ) (d : DrawRow C) → n ≤ count → IsRowOf C.number C.LIMIT
+        (start_of rows.old) (take i scores.now) n (get_or rows.old n d) }
     ensures long { length rows.new ≡ length rows.old }
     ensures rows { OnOk result (AllByRecursion (IsDrawRow C.number C.LIMIT) rows.new) }
+    ensures after { OnOk result ((n : ℕ) (d : DrawRow C) → n ≤ count
+        → IsRowOf C.number C.LIMIT (start_of rows.old) (take (i + 1) scores.now) n
+        (get_or rows.new n d)) }
+    ensures behind { OnOk result ((n : ℕ) (d : DrawRow C) → count < n
+        → get_or rows.new n d ≡ get_or rows.old n d) }
     ensures told { OnOk result ((f : ℕ → ℤ → ℕ)
         → rows_draws C.number f 0 stride rows.new
         ≡ rows_draws C.number f 0 stride rows.old
-        + rows_draws C.number (with_one score f) 0 stride (take count rows.old)) }
+        + rows_draws C.number (with_one (get_or scores.now i (pos 0)) f) 0 stride
+        (take count rows.old)) }
 {
-    let mut place = count;
-    while place > 0 {
-        place -= 1;
-        add_behind(rows, place, score, stride)?;
+    let mut n = count;
+    while n > 0 {
+        n -= 1;
+        let place = place_between(scores[n], scores[i], stride)?;
+        add_behind(rows, n, place)?;
     }
     Ok(())
 }
@@ -72,23 +95,35 @@ fn add_down<C: Count>(
 fn with_next<C: Count>(
     alloc: Global,
     rows: &mut Vec<DrawRow<C>>,
-    score: i128,
+    scores: &[i128],
+    i: usize,
     most: usize,
-) -> Result<usize, Stop>
-    requires rows { AreRows C.number C.LIMIT most rows.old.items }
-    ensures rows { OnOk result (AreRows C.number C.LIMIT most rows.new.items) }
-    ensures last { IfOk result (λ last. last < length rows.new.items) }
+) -> Result<usize, NoMemory>
+    requires i { i < length scores.now }
+    requires small { unsigned_abs (start_of rows.old.items) + absolute_sum scores.now ≤ MAX }
+    requires rows { AreRows C.number C.LIMIT most (start_of rows.old.items) (take i scores.now)
+        rows.old.items }
+    ensures rows { OnOk result (AllByRecursion (IsDrawRow C.number C.LIMIT) rows.new.items) }
+    ensures long { OnOk result (length rows.new.items ≡ min most (i + 1) + 1) }
+    ensures start { OnOk result (start_of rows.new.items ≡ start_of rows.old.items) }
+    ensures last { IfOk result (λ last. last ≡ min most i) }
+    ensures before { OnOk result ((n : ℕ) (d : DrawRow C) → n ≤ min most i
+        → get_or rows.new.items n d ≡ get_or rows.old.items n d) }
+    ensures next { OnOk result ((n : ℕ) (d : DrawRow C) → min most i < n
+        → n < length rows.new.items → IsRowOf C.number C.LIMIT (start_of rows.old.items)
+        (take (i + 1) scores.now) n (get_or rows.new.items n d)) }
     ensures told { IfOk result (λ last. (f : ℕ → ℤ → ℕ) (stride : ℕ) → NoneAbove most f
         → rows_draws C.number f 0 stride rows.new.items
-        + rows_draws C.number (with_one score f) 0 stride (take last rows.new.items)
+        + rows_draws C.number (with_one (get_or scores.now i (pos 0)) f) 0 stride
+        (take last rows.new.items)
         ≡ rows_draws C.number f 0 stride rows.old.items
-        + rows_draws C.number (with_one score f) 0 stride rows.old.items) }
+        + rows_draws C.number (with_one (get_or scores.now i (pos 0)) f) 0 stride rows.old.items) }
 {
     let last = rows.len() - 1;
     if last >= most {
         return Ok(last);
     }
-    let row = rows[last].with(alloc, score)?;
+    let row = rows[last].with(alloc, scores[i])?;
     rows.push(row)?;
     Ok(last)
 }
@@ -97,34 +132,44 @@ fn with_next<C: Count>(
 fn add_subject<C: Count>(
     alloc: Global,
     rows: &mut Vec<DrawRow<C>>,
-    score: i128,
-    stride: u64,
+    scores: &[i128],
+    i: usize,
+    stride: u128,
     most: usize,
-) -> Result<(), Stop>
-    requires rows { AreRows C.number C.LIMIT most rows.old.items }
-    ensures rows { OnOk result (AreRows C.number C.LIMIT most rows.new.items) }
+) -> Result<(), NoMemory>
+    requires i { i < length scores.now }
+    requires subjects { AreSubjects stride (start_of rows.old.items) scores.now }
+    requires counted { AreCounted C.LIMIT most scores.now }
+    requires rows { AreRows C.number C.LIMIT most (start_of rows.old.items) (take i scores.now)
+        rows.old.items }
+    ensures rows { OnOk result (AreRows C.number C.LIMIT most (start_of rows.old.items)
+        (take (i + 1) scores.now) rows.new.items) }
     ensures told { OnOk result ((f : ℕ → ℤ → ℕ) → NoneAbove most f
         → rows_draws C.number f 0 stride rows.new.items
         ≡ rows_draws C.number f 0 stride rows.old.items
-        + rows_draws C.number (with_one score f) 0 stride rows.old.items) }
+        + rows_draws C.number (with_one (get_or scores.now i (pos 0)) f) 0 stride rows.old.items) }
 {
-    let last = with_next(alloc, rows, score, most)?;
-    add_down(rows.as_mut_slice(), last, score, stride)?;
-    Ok(())
+    let last = with_next(alloc, rows, scores, i, most)?;
+    add_down(rows.as_mut_slice(), last, scores, i, stride)
 }
 
-/// The draws of at most so many of the subjects with these scores, whose sums lie strides apart.
+/// The draws of at most so many of the subjects with these scores, which ascend and lie strides
+/// apart. Nobody's scores sum to the start.
 pub(crate) fn draw_rows<C: Count>(
     alloc: Global,
     scores: &[i128],
-    stride: u64,
+    start: i128,
+    stride: u128,
     most: usize,
-) -> Result<Vec<DrawRow<C>>, Stop>
-    ensures { IfOk result (λ rows. AreDraws C.number C.LIMIT most stride scores.now rows.items) }
+) -> Result<Vec<DrawRow<C>>, NoMemory>
+    requires subjects { AreSubjects stride start scores.now }
+    requires counted { AreCounted C.LIMIT most scores.now }
+    ensures { IfOk result (λ rows.
+        AreDraws C.number C.LIMIT most stride start scores.now rows.items) }
 {
-    let mut rows = nobody_alone(alloc)?;
+    let mut rows = nobody_alone(alloc, start)?;
     for i in 0..scores.len() {
-        add_subject(alloc, &mut rows, scores[i], stride, most)?;
+        add_subject(alloc, &mut rows, scores, i, stride, most)?;
     }
     Ok(rows)
 }

@@ -12,11 +12,9 @@
 mod cutting;
 mod draws;
 mod meeting;
-mod mirrors;
 mod pairs;
 mod rows;
 mod signs;
-mod stops;
 mod tails;
 
 pub use signs::sign_sums;

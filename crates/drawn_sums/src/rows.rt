@@ -1,15 +1,15 @@
 // The draws of one number of subjects, by the sum of their scores.
-ghost use Rattle.std.specs.Prelude.{◌≡◌, ℕ, ℤ, pos, ◌+ℤ◌, ◌-ℤ◌, ◌+◌, ◌≤◌, List, map, length};
-ghost use Rattle.std.specs.Prelude.{OnOk, IfOk};
+ghost use Rattle.std.specs.Prelude.{◌≡◌, ℕ, ℤ, pos, ◌+ℤ◌, ◌-ℤ◌, ◌≤ℤ◌, ◌+◌, ◌<◌, ◌≤◌, List, map};
+ghost use Rattle.std.specs.Prelude.{length, unsigned_abs, OnOk, IfOk};
+ghost use Rattle.std.specs.Int.{◌∣◌};
 ghost use Rattle.weights.specs.declared.TheConstants.{MAX};
 ghost use Rattle.node_pool.specs.Nodes.{weighted};
-ghost use Rattle.dense_rows.specs.Rows.{row_nodes};
+ghost use Rattle.dense_rows.specs.Rows.{row_nodes, stepped};
 ghost use Rattle.drawn_sums.specs.DrawRows.{IsDrawRow, row_draws};
 
-use crate::stops::Stop;
-use dense_rows::{place_of, pour};
+use dense_rows::pour;
 use std::alloc::Global;
-use weights::{Count, MAX};
+use weights::{Count, NoMemory, plus};
 
 /// The draws of one number of subjects: how many there are, and in each cell how many have one sum
 /// of scores, from the lowest sum on, a stride apart.
@@ -20,57 +20,25 @@ pub(crate) struct DrawRow<C: Count> {
     pub cells: Vec<C>,
 }
 
-/// The sum of two numbers.
-pub(crate) fn sum_of(one: i128, other: i128) -> Result<i128, Stop>
-    ensures { IfOk result (λ sum. sum ≡ one +ℤ other) }
-{
-    match one.checked_add(other) {
-        Some(sum) => Ok(sum),
-        None => Err(Stop::Wide),
-    }
-}
-
-/// What one number is more than another.
-pub(crate) fn difference_of(one: i128, other: i128) -> Result<i128, Stop>
-    ensures { IfOk result (λ z. z ≡ one -ℤ other) }
-{
-    match one.checked_sub(other) {
-        Some(difference) => Ok(difference),
-        None => Err(Stop::Wide),
-    }
-}
-
-// How many draws there are in two rows.
-fn total_of<C: Count>(one: u128, other: u128) -> Result<u128, Stop>
-    ensures sum { IfOk result (λ total. total ≡ one + other) }
-    ensures within { IfOk result (λ total. total ≤ C.LIMIT) }
-    ensures fits { IfOk result (λ total. total ≤ MAX) }
-{
-    match one.checked_add(other) {
-        Some(total) if total <= C::LIMIT && total <= MAX => Ok(total),
-        Some(_) | None => Err(Stop::Wide),
-    }
-}
-
-// A cell that no draw has, and one that a draw has.
-fn cell_of<C: Count>(draws: u128) -> Result<C, Stop>
-    ensures is { IfOk result (λ cell. C.number cell ≡ draws) }
-    ensures within { IfOk result (λ cell. draws ≤ C.LIMIT) }
+// A cell that so many draws have.
+fn cell_of<C: Count>(draws: u128) -> C
+    requires { draws ≤ C.LIMIT }
+    ensures { C.number result ≡ draws }
 {
     match C::of(draws) {
-        Some(cell) => Ok(cell),
-        None => Err(Stop::Wide),
+        Some(cell) => cell,
+        None => unreachable!(),
     }
 }
 
 // As many cells as end at a place, or as there are.
-fn reach<C: Count>(cells: &mut Vec<C>, end: usize) -> Result<(), Stop>
+fn reach<C: Count>(cells: &mut Vec<C>, end: usize) -> Result<(), NoMemory>
     ensures long { OnOk result (end ≤ length cells.new.items) }
     ensures same { OnOk result ((f : List ℤ → ℕ) (lowest stride : ℤ)
         → weighted f (row_nodes lowest stride (map C.number cells.new.items))
         ≡ weighted f (row_nodes lowest stride (map C.number cells.old.items))) }
 {
-    let none = cell_of::<C>(0)?;
+    let none = cell_of::<C>(0);
     if cells.len() < end {
         cells.resize(end, none)?;
     }
@@ -78,59 +46,77 @@ fn reach<C: Count>(cells: &mut Vec<C>, end: usize) -> Result<(), Stop>
 }
 
 impl<C: Count> DrawRow<C> {
-    /// The one draw of nobody.
-    pub(crate) fn nobody(alloc: Global) -> Result<DrawRow<C>, Stop>
+    /// The one draw of nobody, who sum to this.
+    pub(crate) fn nobody(alloc: Global, lowest: i128) -> Result<DrawRow<C>, NoMemory>
+        requires { 1 ≤ C.LIMIT }
         ensures row { IfOk result (IsDrawRow C.number C.LIMIT) }
+        ensures one { IfOk result (λ row. row.total ≡ 1) }
+        ensures lowest { IfOk result (λ row. row.lowest ≡ lowest) }
         ensures told { IfOk result (λ row. (g : ℤ → ℕ) (stride : ℕ)
-            → row_draws C.number g stride row ≡ g (pos 0)) }
+            → row_draws C.number g stride row ≡ g lowest) }
     {
         let mut cells = Vec::new(alloc);
-        cells.push(cell_of::<C>(1)?)?;
+        cells.push(cell_of::<C>(1))?;
         Ok(DrawRow {
-            lowest: 0,
+            lowest,
             total: 1,
             cells,
         })
     }
 
     /// The same draws, each with a subject of this score.
-    pub(crate) fn with(&self, alloc: Global, score: i128) -> Result<DrawRow<C>, Stop>
+    pub(crate) fn with(&self, alloc: Global, score: i128) -> Result<DrawRow<C>, NoMemory>
         requires row { IsDrawRow C.number C.LIMIT self.now }
+        requires fits { unsigned_abs self.now.lowest + unsigned_abs score ≤ MAX }
         ensures row { IfOk result (IsDrawRow C.number C.LIMIT) }
+        ensures as_many { IfOk result (λ row. row.total ≡ self.now.total) }
+        ensures lowest { IfOk result (λ row. row.lowest ≡ self.now.lowest +ℤ score) }
         ensures told { IfOk result (λ row. (g : ℤ → ℕ) (stride : ℕ)
             → row_draws C.number g stride row
             ≡ row_draws C.number (λ v. g (v +ℤ score)) stride self.now) }
     {
-        let lowest = sum_of(self.lowest, score)?;
         Ok(DrawRow {
-            lowest,
+            lowest: plus(self.lowest, score),
             total: self.total,
             cells: Vec::from_slice(alloc, self.cells.as_slice())?,
         })
     }
 
-    /// Adds the draws of a row, each with a subject of this score.
-    pub(crate) fn add(&mut self, from: &DrawRow<C>, score: i128, stride: u64) -> Result<(), Stop>
+    /// Adds the draws of a row, the lowest of them at a place of this one.
+    pub(crate) fn add(&mut self, from: &DrawRow<C>, place: usize) -> Result<(), NoMemory>
         requires row { IsDrawRow C.number C.LIMIT self.old }
         requires from { IsDrawRow C.number C.LIMIT from.now }
+        requires within { self.old.total + from.now.total ≤ C.LIMIT }
+        requires fits { self.old.total + from.now.total ≤ MAX }
         ensures row { OnOk result (IsDrawRow C.number C.LIMIT self.new) }
-        ensures told { OnOk result ((g : ℤ → ℕ) → row_draws C.number g stride self.new
+        ensures total { OnOk result (self.new.total ≡ self.old.total + from.now.total) }
+        ensures lowest { OnOk result (self.new.lowest ≡ self.old.lowest) }
+        ensures told { OnOk result ((g : ℤ → ℕ) (stride : ℕ) (score : ℤ)
+            → stepped self.old.lowest (pos stride) place ≡ from.now.lowest +ℤ score
+            → row_draws C.number g stride self.new
             ≡ row_draws C.number g stride self.old
             + row_draws C.number (λ v. g (v +ℤ score)) stride from.now) }
     {
-        let first = sum_of(from.lowest, score)?;
-        let place = match place_of(self.lowest, stride, first) {
-            Some(place) => place,
-            None => return Err(Stop::Wide),
+        let Some(end) = place.checked_add(from.cells.len()) else {
+            return Err(NoMemory);
         };
-        let end = match place.checked_add(from.cells.len()) {
-            Some(end) => end,
-            None => return Err(Stop::Wide),
-        };
-        let total = total_of::<C>(self.total, from.total)?;
         reach(&mut self.cells, end)?;
         pour(&from.cells, 1, place, 1, self.cells.as_mut_slice());
-        self.total = total;
+        self.total += from.total;
         Ok(())
+    }
+}
+
+/// How many strides two scores lie apart; so many cells have no memory where no index has room.
+pub(crate) fn place_between(one: i128, other: i128, stride: u128) -> Result<usize, NoMemory>
+    requires some { 0 < stride }
+    requires apart { stride ∣ unsigned_abs (other -ℤ one) }
+    requires order { one ≤ℤ other }
+    ensures { IfOk result (λ place. (lowest : ℤ)
+        → stepped lowest (pos stride) place ≡ lowest +ℤ (other -ℤ one)) }
+{
+    match usize::try_from(other.abs_diff(one) / stride) {
+        Ok(place) => Ok(place),
+        Err(_) => Err(NoMemory),
     }
 }

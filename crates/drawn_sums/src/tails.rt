@@ -1,103 +1,131 @@
 // The labellings of two groups whose sum of scores passes the rules of a test.
-ghost use Rattle.std.specs.Prelude.{◌≡◌, pos, ◌<◌, ◌≤◌, ◌++◌, true, length, IfOk, IfSome};
+ghost use Rattle.std.specs.Prelude.{◌≡◌, ℕ, pos, ◌+◌, ◌-◌, ◌*◌, ◌<◌, ◌≤◌, [], ◌∷◌, ◌++◌, true};
+ghost use Rattle.std.specs.Prelude.{length};
+ghost use Rattle.std.specs.Prelude.{is_some, unsigned_abs, IfOk, IfSome};
+ghost use Rattle.weights.specs.Labellings.{number_of_labellings};
+ghost use Rattle.weights.specs.Numbers.{absolute_sum, binomial};
+ghost use Rattle.weights.specs.declared.TheConstants.{MAX};
 ghost use Rattle.weights.specs.declared.tails.Tail.{Tail};
 ghost use Rattle.networks.specs.Asked.{asks};
 ghost use Rattle.networks.specs.Judged.{rule_in};
 ghost use Rattle.networks.specs.EachTail.{sum_for};
 ghost use Rattle.halves.specs.Sides.{AreOrdered, is_in, sides_for};
-ghost use Rattle.drawn_sums.specs.Draws.{draw_sum};
+ghost use Rattle.drawn_sums.specs.Draws.{draw_sum, score_total};
 ghost use Rattle.drawn_sums.specs.DrawnSums.{passing_draws};
+ghost use Rattle.drawn_sums.specs.DrawRows.{AreCounted, AreSubjects};
+ghost use Rattle.drawn_sums.specs.DrawSizes.{IsStride, are_drawn, is_drawn};
 ghost use Rattle.drawn_sums.specs.Meetings.{drawn_at};
 
-use crate::cutting::{cut_of, in_order, stride_of};
+use crate::cutting::{common_stride, drawn_cut, in_order, opposite};
 use crate::draws::draw_rows;
 use crate::meeting::meeting;
-use crate::mirrors::{mirror, score_total};
-use crate::stops::Stop;
 use halves::TailSides;
 use networks::{Judge, TailSums};
 use std::alloc::Global;
-use weights::{Count, Narrow, NoMemory, Tails, Wide};
+use weights::{Count, Narrow, NoMemory, Tails, Wide, plus};
 
 // The draws of so many of no more subjects than this are a narrow count.
 const FEW: usize = 66;
 
+// What scores sum to.
+fn score_total(scores: &[i128]) -> i128
+    requires { absolute_sum scores.now ≤ MAX }
+    ensures is { result ≡ score_total scores.now }
+    ensures small { unsigned_abs result ≤ absolute_sum scores.now }
+{
+    let mut total = 0;
+    for i in 0..scores.len() {
+        total = plus(total, scores[i]);
+    }
+    total
+}
+
 // The sums in counts of one width.
 fn sums_in<C: Count>(
     alloc: Global,
-    scores: &[i128],
-    others: &[i128],
+    first: &[i128],
+    second: &[i128],
+    start: i128,
     drawn: usize,
-    stride: u64,
+    stride: u128,
     sides: &TailSides,
     tails: Tails,
-) -> Result<TailSums, Stop>
-    requires stride { 0 < stride }
+) -> Result<TailSums, NoMemory>
+    requires subjects { AreSubjects stride start (first.now ++ second.now) }
+    requires first { AreCounted C.LIMIT drawn first.now }
+    requires second { AreCounted C.LIMIT drawn second.now }
+    requires fits { binomial (length (first.now ++ second.now)) drawn ≤ MAX }
     requires ordered { (t : Tail) → AreOrdered (sides_for sides.now t) }
     ensures { IfOk result (λ sums. (t : Tail) → asks tails t ≡ true → (sum_for sums t).sum
-        ≡ draw_sum (drawn_at (is_in (sides_for sides.now t)) drawn) 0 (pos 0)
-        (scores.now ++ others.now)) }
+        ≡ draw_sum (drawn_at (is_in (sides_for sides.now t)) drawn) 0 start
+        (first.now ++ second.now)) }
 {
-    let rows = draw_rows::<C>(alloc, scores, stride, drawn)?;
-    let others = draw_rows::<C>(alloc, others, stride, drawn)?;
-    let sums = meeting(&rows, &others, drawn, stride, sides, tails)?;
-    Ok(sums)
+    let rows = draw_rows::<C>(alloc, first, start, stride, drawn)?;
+    let others = draw_rows::<C>(alloc, second, 0, stride, drawn)?;
+    Ok(meeting(&rows, &others, drawn, stride, sides, tails))
 }
 
-// The sums of subjects that are cut in two.
+// The sums of subjects that are cut in two, who are no fewer than twice those drawn.
 fn cut_sums(
     alloc: Global,
     sorted: &[i128],
+    cut: usize,
+    start: i128,
     drawn: usize,
+    stride: u128,
     sides: &TailSides,
     tails: Tails,
-) -> Result<TailSums, Stop>
+) -> Result<TailSums, NoMemory>
+    requires cut { cut ≤ length sorted.now }
+    requires subjects { AreSubjects stride start sorted.now }
+    requires few { 2 * drawn ≤ length sorted.now }
+    requires fits { binomial (length sorted.now) drawn ≤ MAX }
     requires ordered { (t : Tail) → AreOrdered (sides_for sides.now t) }
     ensures { IfOk result (λ sums. (t : Tail) → asks tails t ≡ true → (sum_for sums t).sum
-        ≡ draw_sum (drawn_at (is_in (sides_for sides.now t)) drawn) 0 (pos 0) sorted.now) }
+        ≡ draw_sum (drawn_at (is_in (sides_for sides.now t)) drawn) 0 start sorted.now) }
 {
-    let stride = stride_of(sorted)?;
-    let cut = cut_of(sorted, stride, drawn)?;
     let (first, second) = sorted.split_at(cut);
     if first.len() <= FEW && second.len() <= FEW {
-        sums_in::<Narrow>(alloc, first, second, drawn, stride, sides, tails)
+        sums_in::<Narrow>(alloc, first, second, start, drawn, stride, sides, tails)
     } else {
-        sums_in::<Wide>(alloc, first, second, drawn, stride, sides, tails)
+        sums_in::<Wide>(alloc, first, second, start, drawn, stride, sides, tails)
     }
 }
 
-// How many draws pass the rule of each asked tail. Where fewer are left than drawn, those who are
-// left are counted.
-fn draws_passing(
+// Those of ascending scores, where their draws are counted.
+fn sorted_sums(
     alloc: Global,
-    scores: &[i128],
+    sorted: &[i128],
+    start: i128,
     drawn: usize,
-    judge: &Judge,
+    stride: u128,
+    sides: &TailSides,
     tails: Tails,
-) -> Result<TailSums, Stop>
-    requires { drawn ≤ length scores.now }
-    ensures { IfOk result (λ sums. (t : Tail) → asks tails t ≡ true
-        → (sum_for sums t).sum ≡ passing_draws (rule_in judge.now t) drawn scores.now) }
+) -> Result<Option<TailSums>, NoMemory>
+    requires subjects { AreSubjects stride start sorted.now }
+    requires small { 2 * length sorted.now * absolute_sum sorted.now ≤ MAX }
+    requires few { 2 * drawn ≤ length sorted.now }
+    requires fits { binomial (length sorted.now) drawn ≤ MAX }
+    requires ordered { (t : Tail) → AreOrdered (sides_for sides.now t) }
+    ensures when { IfOk result (λ some. is_some some ≡ is_drawn stride drawn sorted.now) }
+    ensures sums { IfOk result (λ some. IfSome some (λ sums. (t : Tail) → asks tails t ≡ true
+        → (sum_for sums t).sum
+        ≡ draw_sum (drawn_at (is_in (sides_for sides.now t)) drawn) 0 start sorted.now)) }
 {
-    let sides = match TailSides::of(judge) {
-        Some(sides) => sides,
-        None => return Err(Stop::Wide),
-    };
-    let sorted = in_order(alloc, scores)?;
-    let left = scores.len() - drawn;
-    if left < drawn {
-        let total = score_total(scores)?;
-        let mirror = mirror(&sides, total)?;
-        let sums = cut_sums(alloc, sorted.as_slice(), left, &mirror, tails)?;
-        return Ok(sums);
+    match drawn_cut(sorted, stride, drawn) {
+        Some(cut) => {
+            let sums = cut_sums(alloc, sorted, cut, start, drawn, stride, sides, tails)?;
+            Ok(Some(sums))
+        }
+        None => Ok(None),
     }
-    let sums = cut_sums(alloc, sorted.as_slice(), drawn, &sides, tails)?;
-    Ok(sums)
 }
 
 /// How many labellings of two groups have a sum of the second one's scores that passes the rule of
-/// each asked tail, where so many subjects are of the second group. None where the sums are too
-/// many for rows, or a number passes a limit. No key was open.
+/// each asked tail, where so many subjects are of the second group. No key was open.
+///
+/// None exactly where the rows of draws would be too long, where tie groups save much, or where a
+/// number of a rule, or one next to it, passes 128 bits (`specs/DrawSizes`).
 pub fn drawn_sums(
     alloc: Global,
     scores: &[i128],
@@ -105,13 +133,26 @@ pub fn drawn_sums(
     judge: &Judge,
     tails: Tails,
 ) -> Result<Option<TailSums>, NoMemory>
-    requires { drawn ≤ length scores.now }
-    ensures { IfOk result (λ some. IfSome some (λ sums. (t : Tail) → asks tails t ≡ true
+    requires drawn { drawn ≤ length scores.now }
+    requires total { number_of_labellings ((length scores.now - drawn) ∷ drawn ∷ []) ≤ MAX }
+    requires small { 2 * length scores.now * absolute_sum scores.now ≤ MAX }
+    ensures when { IfOk result (λ some. (stride : ℕ) → IsStride scores.now stride
+        → is_some some ≡ are_drawn judge.now stride drawn scores.now) }
+    ensures sums { IfOk result (λ some. IfSome some (λ sums. (t : Tail) → asks tails t ≡ true
         → (sum_for sums t).sum ≡ passing_draws (rule_in judge.now t) drawn scores.now)) }
 {
-    match draws_passing(alloc, scores, drawn, judge, tails) {
-        Ok(sums) => Ok(Some(sums)),
-        Err(Stop::Wide) => Ok(None),
-        Err(Stop::NoMemory) => Err(NoMemory),
+    let Some(sides) = TailSides::of(judge) else {
+        return Ok(None);
+    };
+    let stride = common_stride(scores).max(1);
+    let left = scores.len() - drawn;
+    if drawn <= left {
+        let sorted = in_order(alloc, scores)?;
+        return sorted_sums(alloc, sorted.as_slice(), 0, drawn, stride, &sides, tails);
     }
+    // those who are left have what the drawn ones lack to the sum of all
+    let opposite = opposite(alloc, scores)?;
+    let sorted = in_order(alloc, opposite.as_slice())?;
+    let total = score_total(scores);
+    sorted_sums(alloc, sorted.as_slice(), total, left, stride, &sides, tails)
 }

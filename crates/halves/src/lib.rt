@@ -20,6 +20,6 @@ mod tails;
 
 pub use half_way::{FirstHalf, first_half};
 pub use later::completion_values;
-pub use meeting::meeting_sums;
-pub use sides::{Sides, TailSides, quotient};
+pub use meeting::{meeting_sums, sums_of_both};
+pub use sides::{Sides, TailSides};
 pub use tails::tail_sums;

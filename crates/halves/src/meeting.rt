@@ -74,7 +74,8 @@ fn plus(one: TailSum, other: TailSum) -> TailSum
     }
 }
 
-fn both(one: TailSums, other: TailSums) -> TailSums
+/// The sums of two parts, tail by tail. No key was open.
+pub fn sums_of_both(one: TailSums, other: TailSums) -> TailSums
     requires { (t : Tail) → (sum_for one t).sum + (sum_for other t).sum ≤ MAX }
     ensures { (t : Tail) → (sum_for result t).sum ≡ (sum_for one t).sum + (sum_for other t).sum }
 {
@@ -190,7 +191,7 @@ fn sums_by_rooms<C: Count, S: Roomed>(
     while start < nodes.len() {
         let end = nodes.run_end(start);
         match room_sums::<C, S>(alloc, stages, half.stage, nodes, start, end, tails, sides)? {
-            Some(more) => sums = both(sums, more),
+            Some(more) => sums = sums_of_both(sums, more),
             None => return Ok(None),
         }
         start = end;

@@ -1,29 +1,99 @@
-use Rattle.std.proofs.Common.{◌≡◌, ◌+◌, ◌++◌, ℕ, List, take, get_or, set, ap, ◌∙◌, arith}
-use Rattle.std.proofs.lemmas.Int.{to_z-of_z}
-use mir.Syntax.{w128}
-use Rattle.drawn_sums.specs.DrawRows.{row_draws, rows_draws, with_one}
+use Rattle.std.proofs.Common.{◌≡◌, ◌+◌, ◌++◌, ◌<◌, ◌≤◌, ℕ, List, length, take, drop, get_or, set, ap, ◌∙◌, arith}
+use Rattle.std.specs.Prelude.{ℤ, pos, ◌+ℤ◌}
+use Rattle.std.specs.List.{AllByRecursion}
+use Rattle.std.proofs.lemmas.List.{get_or-set_other, get_or-set_same}
+use Rattle.std.proofs.lemmas.Result.{on_ok_weaker}
+use Rattle.dense_rows.specs.Rows.{stepped}
+use Rattle.drawn_sums.specs.DrawRows.{IsDrawRow, row_draws, rows_draws, with_one}
 use Rattle.drawn_sums.specs.declared.rows.DrawRow.{DrawRow}
-use Rattle.drawn_sums.proofs.RowSteps.{at-any, get-drop, get-take, parts-set, rows-set}
+use Rattle.drawn_sums.proofs.RowSteps.{at-any, each-at, each-set, get-drop, get-take, parts-set, rows-set}
 use Rattle.drawn_sums.proofs.draws.add_behind.Goals as goal
 
-pub returns-clause-told : goal.returns-clause-told
-returns-clause-told g c = λ f d.
+-- the rows in two parts, and one of the second that is written
+module _ {C : Type 0} (number : C → ℕ) (rows xs ys : List (DrawRow C)) (n : ℕ) (front : xs ≡ take (n + 1) rows) (back : ys ≡ drop (n + 1) rows) (h : n + 1 < length rows) where
+  one-is : (x d : DrawRow C) → get_or xs n x ≡ get_or rows n d
+  one-is x d = ap (λ zs. get_or zs n x) front ∙ get-take number 0 rows (n + 1) n x (omega arith) ∙ at-any number 0 rows n x d (omega (arith, h))
+
+  two-is : (x d : DrawRow C) → get_or ys 0 x ≡ get_or rows (n + 1) d
+  two-is x d = ap (λ zs. get_or zs 0 x) back ∙ get-drop number 0 rows (n + 1) x ∙ at-any number 0 rows (n + 1) x d h
+
+  written : (new : DrawRow C) → xs ++ set ys 0 new ≡ set rows (n + 1) new
+  written new = rw (front, back) (parts-set number 0 (n + 1) rows new)
+
+  totals-are : (limit : ℕ) (x y : DrawRow C) → ((d : DrawRow C) → (get_or rows (n + 1) d).total + (get_or rows n d).total ≤ limit) → (get_or ys 0 y).total + (get_or xs n x).total ≤ limit
+  totals-are limit x y within = rw (two-is y x, one-is x x) (within x)
+
+  each-is : (limit : ℕ) (new : DrawRow C) → AllByRecursion (IsDrawRow number limit) rows → IsDrawRow number limit new → AllByRecursion (IsDrawRow number limit) (xs ++ set ys 0 new)
+  each-is limit new each is = rw (written new) (each-set number 0 (IsDrawRow number limit) rows (n + 1) new is each)
+
+  others-are : (new : DrawRow C) (i : ℕ) (d : DrawRow C) → (i ≡ n + 1 → ⊥) → get_or (xs ++ set ys 0 new) i d ≡ get_or rows i d
+  others-are new i d other = ap (λ zs. get_or zs i d) (written new) ∙ get_or-set_other rows (n + 1) i new d other
+
+  new-is : (new d : DrawRow C) → get_or (xs ++ set ys 0 new) (n + 1) d ≡ new
+  new-is new d = ap (λ zs. get_or zs (n + 1) d) (written new) ∙ get_or-set_same rows (n + 1) new d h
+
+  total-is : (new x y d : DrawRow C) → new.total ≡ (get_or ys 0 y).total + (get_or xs n x).total → (get_or (xs ++ set ys 0 new) (n + 1) d).total ≡ (get_or rows (n + 1) d).total + (get_or rows n d).total
+  total-is new x y d e = ap (λ row. row.total) (new-is new d) ∙ (rw (two-is y d, one-is x d) at e)
+
+  lowest-is : (new y d : DrawRow C) → new.lowest ≡ (get_or ys 0 y).lowest → (get_or (xs ++ set ys 0 new) (n + 1) d).lowest ≡ (get_or rows (n + 1) d).lowest
+  lowest-is new y d e = ap (λ row. row.lowest) (new-is new d) ∙ (rw (two-is y d) at e)
+
+  -- what the row behind says more, all rows do
+  told-is : (new x y : DrawRow C) (place : ℕ) (f : ℕ → ℤ → ℕ) (d : DrawRow C) (stride : ℕ) (score : ℤ)
+      → (stepped (get_or ys 0 y).lowest (pos stride) place ≡ (get_or xs n x).lowest +ℤ score → row_draws number (f (n + 1)) stride new ≡ row_draws number (f (n + 1)) stride (get_or ys 0 y) + row_draws number (with_one score f n) stride (get_or xs n x))
+      → stepped (get_or rows (n + 1) d).lowest (pos stride) place ≡ (get_or rows n d).lowest +ℤ score
+      → rows_draws number f 0 stride (xs ++ set ys 0 new) ≡ rows_draws number f 0 stride rows + row_draws number (with_one score f n) stride (get_or rows n d)
+  told-is new x y place f d stride score told at =
+      let here : row_draws number (f (n + 1)) stride new ≡ row_draws number (f (n + 1)) stride (get_or rows (n + 1) d) + row_draws number (with_one score f n) stride (get_or rows n d) = (rw (two-is y d, one-is x d) at told) at in
+      let one : 0 + (n + 1) ≡ n + 1 = omega arith in
+      ap (rows_draws number f 0 stride) (written new)
+      ∙ rows-set number stride f 0 rows (n + 1) new d (row_draws number (with_one score f n) stride (get_or rows n d)) h (rw one here)
+
+pub add-requires-clause-row : goal.add-requires-clause-row
+add-requires-clause-row g c =
     let num = g.C.Count.number in
-    let rows : List (DrawRow g.row.C.Denot) = c.args.rows.now in
-    let p : ℕ = c.args.place in
-    let s : ℕ = c.args.stride in
-    let one : DrawRow g.row.C.Denot = get_or c.split_at_mut-before.result.0.now p c.index-before-place.result in
-    let two : DrawRow g.row.C.Denot = get_or c.split_at_mut-before.result.1.now 0 c.index-behind-0.result in
-    let new : DrawRow g.row.C.Denot = c.add.new.self in
-    let front = c.split_at_mut-before.ensures.front in
-    let back = c.split_at_mut-before.ensures.back in
-    let one_is : one ≡ get_or rows p d = ap (λ xs. get_or xs p c.index-before-place.result) front ∙ get-take num s rows (p + 1) p c.index-before-place.result (omega arith) ∙ at-any num s rows p c.index-before-place.result d (omega (arith, c.requires.place)) in
-    let two_is : two ≡ get_or rows (p + 1) d = ap (λ xs. get_or xs 0 c.index-behind-0.result) back ∙ get-drop num s rows (p + 1) c.index-behind-0.result ∙ at-any num s rows (p + 1) c.index-behind-0.result d c.requires.place in
-    let told : row_draws num (f (p + 1)) s new ≡ row_draws num (f (p + 1)) s two + row_draws num (with_one c.args.score f p) s one = rw (to_z-of_z w128 c.args.score c.ranges.score) at (c.in_ok-add.ensures.told (f (p + 1))) in
-    let at : 0 + (p + 1) ≡ p + 1 = omega arith in
-    let here : row_draws num (f (0 + (p + 1))) s new ≡ row_draws num (f (0 + (p + 1))) s (get_or rows (p + 1) d) + row_draws num (with_one c.args.score f p) s (get_or rows p d) =
-    omega (arith, told, ap (λ m. row_draws num (f m) s new) at, ap (λ m. row_draws num (f m) s (get_or rows (p + 1) d)) at, ap (row_draws num (f (p + 1)) s) two_is, ap (row_draws num (with_one c.args.score f p) s) one_is) in
-    ap (λ xs. rows_draws num f 0 s (xs ++ set c.split_at_mut-before.result.1.now 0 new)) front
-    ∙ ap (λ xs. rows_draws num f 0 s (take (p + 1) rows ++ set xs 0 new)) back
-    ∙ ap (rows_draws num f 0 s) (parts-set num s (p + 1) rows new)
-    ∙ rows-set num s f 0 rows (p + 1) new d (row_draws num (with_one c.args.score f p) s (get_or rows p d)) c.requires.place here
+    let s = c.split_at_mut-before in
+    rw (two-is num c.args.rows.now s.result.0.now s.result.1.now c.args.n s.ensures.front s.ensures.back c.requires.n c.index-behind-0.result c.index-behind-0.result)
+    (each-at num 0 (IsDrawRow num g.C.Count.LIMIT) c.args.rows.now (c.args.n + 1) c.index-behind-0.result c.requires.n c.requires.rows)
+
+pub add-requires-clause-from : goal.add-requires-clause-from
+add-requires-clause-from g c =
+    let num = g.C.Count.number in
+    let s = c.split_at_mut-before in
+    rw (one-is num c.args.rows.now s.result.0.now s.result.1.now c.args.n s.ensures.front s.ensures.back c.requires.n c.index-before-n.result c.index-before-n.result)
+    (each-at num 0 (IsDrawRow num g.C.Count.LIMIT) c.args.rows.now c.args.n c.index-before-n.result (omega (arith, c.requires.n)) c.requires.rows)
+
+pub add-requires-clause-within : goal.add-requires-clause-within
+add-requires-clause-within g c =
+    let s = c.split_at_mut-before in
+    totals-are g.C.Count.number c.args.rows.now s.result.0.now s.result.1.now c.args.n s.ensures.front s.ensures.back c.requires.n _ c.index-before-n.result c.index-behind-0.result c.requires.within
+
+pub add-requires-clause-fits : goal.add-requires-clause-fits
+add-requires-clause-fits g c =
+    let s = c.split_at_mut-before in
+    totals-are g.C.Count.number c.args.rows.now s.result.0.now s.result.1.now c.args.n s.ensures.front s.ensures.back c.requires.n _ c.index-before-n.result c.index-behind-0.result c.requires.fits
+
+pub returns-clause-rows : goal.returns-clause-rows
+returns-clause-rows g c =
+    let s = c.split_at_mut-before in
+    on_ok_weaker c.add.result (each-is g.C.Count.number c.args.rows.now s.result.0.now s.result.1.now c.args.n s.ensures.front s.ensures.back c.requires.n g.C.Count.LIMIT c.add.new.self c.requires.rows) c.add.ensures.row
+
+pub returns-clause-others : goal.returns-clause-others
+returns-clause-others g c =
+    let s = c.split_at_mut-before in
+    on_ok_weaker c.add.result (λ _. others-are g.C.Count.number c.args.rows.now s.result.0.now s.result.1.now c.args.n s.ensures.front s.ensures.back c.requires.n c.add.new.self) c.add.ensures.lowest
+
+pub returns-clause-total : goal.returns-clause-total
+returns-clause-total g c =
+    let s = c.split_at_mut-before in
+    on_ok_weaker c.add.result (λ e d. total-is g.C.Count.number c.args.rows.now s.result.0.now s.result.1.now c.args.n s.ensures.front s.ensures.back c.requires.n c.add.new.self c.index-before-n.result c.index-behind-0.result d e) c.add.ensures.total
+
+pub returns-clause-lowest : goal.returns-clause-lowest
+returns-clause-lowest g c =
+    let s = c.split_at_mut-before in
+    on_ok_weaker c.add.result (λ e d. lowest-is g.C.Count.number c.args.rows.now s.result.0.now s.result.1.now c.args.n s.ensures.front s.ensures.back c.requires.n c.add.new.self c.index-behind-0.result d e) c.add.ensures.lowest
+
+pub returns-clause-told : goal.returns-clause-told
+returns-clause-told g c =
+    let s = c.split_at_mut-before in
+    on_ok_weaker c.add.result (λ told f d stride score. told-is g.C.Count.number c.args.rows.now s.result.0.now s.result.1.now c.args.n s.ensures.front s.ensures.back c.requires.n c.add.new.self c.index-before-n.result c.index-behind-0.result c.args.place f d stride score (told (f (c.args.n + 1)) stride score)) c.add.ensures.told

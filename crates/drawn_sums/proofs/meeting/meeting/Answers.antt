@@ -1,16 +1,23 @@
-use Rattle.std.proofs.Common.{◌≡◌, ◌+◌, ℕ, List, Bool, true, false, cond, get_or, take, ap, ◌∙◌, arith}
+use Rattle.std.proofs.Common.{◌≡◌, ◌+◌, ◌<◌, ◌≤◌, ℕ, List, length, Bool, true, false, cond, get_or, take, ap, ◌∙◌, arith}
 use Rattle.std.specs.Prelude.{ℤ}
+use Rattle.weights.specs.declared.TheConstants.{MAX}
 use Rattle.networks.specs.Asked.{asks}
 use Rattle.halves.specs.Sides.{is_in, sides_for}
 use Rattle.drawn_sums.specs.DrawRows.{row_draws, rows_draws}
 use Rattle.drawn_sums.specs.Meetings.{met}
 use Rattle.drawn_sums.specs.declared.rows.DrawRow.{DrawRow}
+use Rattle.drawn_sums.proofs.BothParts.{first-within}
 use Rattle.drawn_sums.proofs.RowSteps.{a-row, rows-take}
 use Rattle.drawn_sums.proofs.meeting.meeting.Goals as goal
 
 joined : (b : Bool) (all sum more m n k : ℕ) → all ≡ sum + more → sum ≡ cond b m 0 → more ≡ cond b n 0 → k ≡ m + n → all ≡ cond b k 0
 joined true all sum more m n k e s r h = omega (arith, e, s, r, h)
 joined false all sum more m n k e s r h = omega (arith, e, s, r)
+
+one-more : {C : Type 0} (num : C → ℕ) (s : ℕ) (f : ℕ → ℤ → ℕ) (rows : List (DrawRow C)) (n : ℕ) (d : DrawRow C) → n < length rows → rows_draws num f 0 s (take (n + 1) rows) ≡ rows_draws num f 0 s (take n rows) + row_draws num (f n) s (get_or rows n d)
+one-more num s f rows n d h =
+    let zero_more : 0 + n ≡ n = omega arith in
+    rows-take num s f 0 rows n d h ∙ ap (λ k. rows_draws num f 0 s (take n rows) + row_draws num (f k) s (get_or rows n d)) zero_more
 
 pub loop-n-preserved : goal.loop-n-preserved
 loop-n-preserved g c t =
@@ -20,7 +27,24 @@ loop-n-preserved g c t =
     let rows : List (DrawRow g.row.C.Denot) = c.args.rows.now in
     let f : ℕ → ℤ → ℕ = met num (is_in (sides_for c.args.sides.now t)) c.args.drawn s c.args.others.now in
     let d : DrawRow g.row.C.Denot = a-row rows c.loop-n-test.true in
-    let zero_more : 0 + n ≡ n = omega arith in
     joined (asks c.args.tails t) _ _ _ (rows_draws num f 0 s (take n rows)) (row_draws num (f n) s (get_or rows n d)) (rows_draws num f 0 s (take (n + 1) rows))
-    (c.in_ok-sums.ensures t) (c.loop-n.invariant t) (c.in_ok-more.ensures t d)
-    (rows-take num s f 0 rows n d c.loop-n-test.true ∙ ap (λ k. rows_draws num f 0 s (take n rows) + row_draws num (f k) s (get_or rows n d)) zero_more)
+    (c.sums_of_both-sums.ensures t) (c.loop-n.invariant t) (c.sums_at-more.ensures t d)
+    (one-more num s f rows n d c.loop-n-test.true)
+
+-- what is met so far is no more than all
+within : (b : Bool) (sum more m n k all : ℕ) → sum ≡ cond b m 0 → more ≡ cond b n 0 → k ≡ m + n → k ≤ all → all ≤ MAX → sum + more ≤ MAX
+within true sum more m n k all s r e h l = omega (arith, s, r, e, h, l)
+within false sum more m n k all s r e h l = omega (arith, s, r)
+
+pub sums_of_both-sums-requires : goal.sums_of_both-sums-requires
+sums_of_both-sums-requires g c t =
+    let num = g.C.Count.number in
+    let s : ℕ = c.args.stride in
+    let n : ℕ = c.loop-n.n in
+    let rows : List (DrawRow g.row.C.Denot) = c.args.rows.now in
+    let p = is_in (sides_for c.args.sides.now t) in
+    let f : ℕ → ℤ → ℕ = met num p c.args.drawn s c.args.others.now in
+    let d : DrawRow g.row.C.Denot = a-row rows c.loop-n-test.true in
+    within (asks c.args.tails t) _ _ (rows_draws num f 0 s (take n rows)) (row_draws num (f n) s (get_or rows n d)) (rows_draws num f 0 s (take (n + 1) rows)) (rows_draws num f 0 s rows)
+    (c.loop-n.invariant t) (c.sums_at-more.ensures t d) (one-more num s f rows n d c.loop-n-test.true)
+    (first-within num g.C.Count.LIMIT s c.args.drawn p f 0 rows (n + 1)) (c.requires.meet.fit t)

@@ -1,11 +1,11 @@
-use Rattle.std.proofs.Common.{◌≡◌, ◌-◌, ◌<◌, ℕ, Bool, true, false, cond, get_or, length, map, ap, sym, ◌∙◌, arith}
+use Rattle.std.proofs.Common.{◌≡◌, ◌-◌, ◌<◌, ℕ, Bool, true, false, cond, get_or, length, map, ap, subst, sym, ◌∙◌, arith}
 use Rattle.std.specs.Prelude.{ℤ, ◌+ℤ◌}
 use Rattle.networks.specs.Asked.{asks}
 use Rattle.networks.specs.declared.tail_sums.TailSum.{TailSum}
 use Rattle.halves.specs.Pairs.{once}
 use Rattle.halves.specs.Sides.{is_in, sides_for}
 use Rattle.drawn_sums.specs.DrawRows.{row_draws}
-use Rattle.drawn_sums.specs.Meetings.{met}
+use Rattle.drawn_sums.specs.Meetings.{AreFew, met}
 use Rattle.drawn_sums.specs.declared.rows.DrawRow.{DrawRow}
 use Rattle.drawn_sums.proofs.BothParts.{met-over, met-row, met-short}
 use Rattle.drawn_sums.proofs.RowSteps.{at-any, cells-none, cells-same}
@@ -43,7 +43,19 @@ returns g c t d =
     let one_is : one ≡ get_or c.args.rows.now c.args.n d = c.index-rows-n.is ∙ at-any num s c.args.rows.now c.args.n one d c.requires.n in
     let inner : (u : ℤ) → row_draws num (λ v. once p (u +ℤ v)) s other ≡ met num p c.args.drawn s c.args.others.now c.args.n u =
     λ u. ap (row_draws num (λ v. once p (u +ℤ v)) s) (c.index-others-left.is ∙ at-any num s c.args.others.now left other d low) ∙ sym (met-row num g.C.Count.LIMIT s c.args.drawn p c.args.others.now c.args.n u d (omega (arith, c.if-n-drawn.false)) low) in
-    c.in_ok-sums.ensures t
-    ∙ ap (λ m. cond (asks c.args.tails t) m 0) (
-    cells-same (λ u. row_draws num (λ v. once p (u +ℤ v)) s other) (met num p c.args.drawn s c.args.others.now c.args.n) inner s one.lowest (map num one.cells.items)
-    ∙ ap (row_draws num (met num p c.args.drawn s c.args.others.now c.args.n) s) one_is)
+    let f : ℤ → ℕ = met num p c.args.drawn s c.args.others.now c.args.n in
+    let same = cells-same (λ u. row_draws num (λ v. once p (u +ℤ v)) s other) f inner s one.lowest (map num one.cells.items) ∙ ap (row_draws num f s) one_is in
+    rw same at (c.row_pairs.ensures t)
+
+pub row_pairs-requires-clause-few : goal.row_pairs-requires-clause-few
+row_pairs-requires-clause-few g c =
+    let num = g.C.Count.number in
+    let limit : ℕ = g.C.Count.LIMIT in
+    let s : ℕ = c.args.stride in
+    let one : DrawRow g.row.C.Denot = c.index-rows-n.result in
+    let other : DrawRow g.row.C.Denot = c.index-others-left.result in
+    let left : ℕ = c.args.drawn - c.args.n in
+    let low : left < length c.args.others.now = omega (arith, c.if-left-others.false) in
+    let one_is : get_or c.args.rows.now c.args.n one ≡ one = sym c.index-rows-n.is in
+    let other_is : get_or c.args.others.now left one ≡ other = sym (c.index-others-left.is ∙ at-any num s c.args.others.now left other one low) in
+    subst (λ r. AreFew num limit r other) one_is (subst (λ r. AreFew num limit (get_or c.args.rows.now c.args.n one) r) other_is (c.requires.meet.few c.args.n one c.requires.n (omega (arith, c.if-n-drawn.false)) low))

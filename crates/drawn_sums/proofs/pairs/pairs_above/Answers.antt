@@ -1,11 +1,27 @@
-use Rattle.std.proofs.Common.{◌≡◌, ◌*◌, ℕ, List, map, ap, sym, ◌∙◌, arith, rules, FitsSigned}
-use Rattle.std.specs.Prelude.{ℤ, pos, ◌+ℤ◌, int_lt}
+use Rattle.std.proofs.Common.{ℕ, map, ap, sym, ◌∙◌, arith, rules, FitsSigned}
+use Rattle.std.specs.Prelude.{◌+ℤ◌}
 use Rattle.std.specs.List.{sum}
 use Rattle.std.proofs.lemmas.Int.{to_z-of_z}
 use mir.Syntax.{w128}
-use Rattle.drawn_sums.specs.Meetings.{placed_pairs}
 use Rattle.drawn_sums.proofs.RowPairs.{IsFirst, placed-are}
+use Rattle.drawn_sums.proofs.ScoreTotals.{size-plus}
 use Rattle.drawn_sums.proofs.pairs.pairs_above.Goals as goal
+
+pub plus-requires : goal.plus-requires
+plus-requires g c =
+    let fb : FitsSigned w128 c.args.one.now.lowest = search rules in
+    let fc : FitsSigned w128 c.args.other.now.lowest = search rules in
+    rw (to_z-of_z w128 c.args.one.now.lowest fb, to_z-of_z w128 c.args.other.now.lowest fc) c.requires.few.small
+
+pub first_above-place-requires-clause-small : goal.first_above-place-requires-clause-small
+first_above-place-requires-clause-small g c =
+    let one = c.args.one.now in
+    let other = c.args.other.now in
+    let fa : FitsSigned w128 c.plus.result = search rules in
+    let fb : FitsSigned w128 one.lowest = search rules in
+    let fc : FitsSigned w128 other.lowest = search rules in
+    let lowest = to_z-of_z w128 c.plus.result fa ∙ (rw (to_z-of_z w128 one.lowest fb, to_z-of_z w128 other.lowest fc) at c.plus.ensures) in
+    rw lowest (omega (arith, size-plus one.lowest other.lowest, c.requires.few.small))
 
 pub placed_pairs-requires-clause-light : goal.placed_pairs-requires-clause-light
 placed_pairs-requires-clause-light g c =
@@ -24,13 +40,11 @@ returns g c =
     let one = c.args.one.now in
     let other = c.args.other.now in
     let s : ℕ = c.args.stride in
-    let fa : FitsSigned w128 c.in_ok-lowest.lowest = search rules in
+    let fa : FitsSigned w128 c.plus.result = search rules in
     let fb : FitsSigned w128 one.lowest = search rules in
     let fc : FitsSigned w128 other.lowest = search rules in
-    let lowest = to_z-of_z w128 c.in_ok-lowest.lowest fa ∙ (rw (to_z-of_z w128 one.lowest fb, to_z-of_z w128 other.lowest fc) at c.in_ok-lowest.ensures) in
-    let first : IsFirst c.args.bound s (one.lowest +ℤ other.lowest) c.in_ok-place.place =
-    λ n. (rw (to_z-of_z w128 c.args.bound c.ranges.bound, lowest) at (c.in_ok-place.ensures n)) in
-    c.placed_pairs.ensures
-    ∙ ap (λ xs. placed_pairs c.in_ok-place.place (map num xs) (map num c.deref-2.result.now)) c.deref.ensures.value
-    ∙ ap (λ xs. placed_pairs c.in_ok-place.place (map num one.cells.items) (map num xs)) c.deref-2.ensures.value
-    ∙ sym (placed-are num s one other c.args.bound c.in_ok-place.place first)
+    let lowest = to_z-of_z w128 c.plus.result fa ∙ (rw (to_z-of_z w128 one.lowest fb, to_z-of_z w128 other.lowest fc) at c.plus.ensures) in
+    let place : ℕ = c.first_above-place.result in
+    let first : IsFirst c.args.bound s (one.lowest +ℤ other.lowest) place =
+    λ n. (rw (to_z-of_z w128 c.args.bound c.ranges.bound, lowest) at (c.first_above-place.ensures n)) in
+    (rw (c.deref.ensures.value, c.deref-2.ensures.value) at c.placed_pairs.ensures) ∙ sym (placed-are num s one other c.args.bound place first)

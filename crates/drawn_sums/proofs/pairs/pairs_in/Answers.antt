@@ -1,9 +1,9 @@
-use Rattle.std.proofs.Common.{◌≡◌, ◌*◌, ℕ, arith, rules, ◌∙◌, ap, sym, subst}
+use Rattle.std.proofs.Common.{◌≡◌, ℕ, arith, rules, ◌∙◌, ap, sym, subst}
 use Rattle.std.specs.Prelude.{ℤ, int_lt}
 use Rattle.std.proofs.lemmas.Int.{to_z-of_z}
 use mir.Syntax.{w128}
 use Rattle.halves.specs.declared.sides.Sides.{Sides}
-use Rattle.halves.specs.declared.sides.Sides.TheVariants.{UpTo, Apart}
+use Rattle.halves.specs.declared.sides.Sides.TheVariants.{Apart}
 use Rattle.halves.specs.Pairs.{once}
 use Rattle.halves.specs.Sides.{AreOrdered, is_in}
 use Rattle.drawn_sums.specs.Meetings.{pair_draws}
@@ -20,7 +20,7 @@ overflow_sub-result g c =
     let num = g.C.Count.number in
     omega (
       arith,
-      above-is num c.args.stride c.args.one.now c.args.other.now c.in-UpTo.most _ _ (to_z-of_z w128 c.in-UpTo.most (search rules)) c.in_ok-above-in-UpTo.ensures,
+      above-is num c.args.stride c.args.one.now c.args.other.now c.in-UpTo.most _ _ (to_z-of_z w128 c.in-UpTo.most (search rules)) c.pairs_above.ensures,
       pairs-most num c.args.stride c.args.one.now c.args.other.now g.C.Count.LIMIT c.requires.few (int_lt c.in-UpTo.most),
     )
 
@@ -29,7 +29,7 @@ overflow_sub-result-in-Apart g c =
     let num = g.C.Count.number in
     omega (
       arith,
-      above-is num c.args.stride c.args.one.now c.args.other.now c.in-Apart.most _ _ (to_z-of_z w128 c.in-Apart.most (search rules)) c.in_ok-over-in-Apart.ensures,
+      above-is num c.args.stride c.args.one.now c.args.other.now c.in-Apart.most _ _ (to_z-of_z w128 c.in-Apart.most (search rules)) c.pairs_above-over.ensures,
       pairs-most num c.args.stride c.args.one.now c.args.other.now g.C.Count.LIMIT c.requires.few (int_lt c.in-Apart.most),
     )
 
@@ -41,8 +41,8 @@ overflow_add-result g c =
     let other = c.args.other.now in
     omega (
       arith,
-      above-is num s one other c.in-Apart.most _ _ (to_z-of_z w128 c.in-Apart.most (search rules)) c.in_ok-over-in-Apart.ensures,
-      above-is num s one other c.in-Apart.least _ _ (to_z-of_z w128 c.in-Apart.least (search rules)) c.in_ok-above-in-Apart.ensures,
+      above-is num s one other c.in-Apart.most _ _ (to_z-of_z w128 c.in-Apart.most (search rules)) c.pairs_above-over.ensures,
+      above-is num s one other c.in-Apart.least _ _ (to_z-of_z w128 c.in-Apart.least (search rules)) c.pairs_above-above.ensures,
       pairs-up_to num s one other g.C.Count.LIMIT c.requires.few c.in-Apart.most,
       pairs-apart num s one other g.C.Count.LIMIT c.requires.few c.in-Apart.most c.in-Apart.least (subst AreOrdered c.in-Apart.is c.requires.ordered),
       pairs-most num s one other g.C.Count.LIMIT c.requires.few (is_in (Apart c.in-Apart.most c.in-Apart.least)),
@@ -54,26 +54,26 @@ returns-in-Every g c =
     sym (pairs-all g.C.Count.number c.args.stride c.args.one.now c.args.other.now g.C.Count.LIMIT c.requires.few)
     ∙ ap (λ (p : Sides). pair_draws g.C.Count.number (once (is_in p)) c.args.stride c.args.one.now c.args.other.now) (sym c.in-Every.is)
 
-pub returns-in_ok-above-in-UpTo : goal.returns-in_ok-above-in-UpTo
-returns-in_ok-above-in-UpTo g c =
+pub returns-in-UpTo : goal.returns-in-UpTo
+returns-in-UpTo g c =
     let num = g.C.Count.number in
     let s : ℕ = c.args.stride in
     let one = c.args.one.now in
     let other = c.args.other.now in
     let here = ap (λ (p : Sides). pair_draws num (once (is_in p)) s one other) c.in-UpTo.is in
-    omega (arith, here, above-is num s one other c.in-UpTo.most _ _ (to_z-of_z w128 c.in-UpTo.most (search rules)) c.in_ok-above-in-UpTo.ensures, pairs-up_to num s one other g.C.Count.LIMIT c.requires.few c.in-UpTo.most)
+    omega (arith, here, above-is num s one other c.in-UpTo.most _ _ (to_z-of_z w128 c.in-UpTo.most (search rules)) c.pairs_above.ensures, pairs-up_to num s one other g.C.Count.LIMIT c.requires.few c.in-UpTo.most)
 
-pub returns-in_ok-above-in-Above : goal.returns-in_ok-above-in-Above
-returns-in_ok-above-in-Above g c =
+pub returns-in-Above : goal.returns-in-Above
+returns-in-Above g c =
     let num = g.C.Count.number in
     let s : ℕ = c.args.stride in
     let one = c.args.one.now in
     let other = c.args.other.now in
-    above-is num s one other c.in-Above.least _ _ (to_z-of_z w128 c.in-Above.least (search rules)) c.in_ok-above-in-Above.ensures
+    above-is num s one other c.in-Above.least _ _ (to_z-of_z w128 c.in-Above.least (search rules)) c.pairs_above-in-Above.ensures
     ∙ ap (λ (p : Sides). pair_draws num (once (is_in p)) s one other) (sym c.in-Above.is)
 
-pub returns-in_ok-above-in-Apart : goal.returns-in_ok-above-in-Apart
-returns-in_ok-above-in-Apart g c =
+pub returns-in-Apart : goal.returns-in-Apart
+returns-in-Apart g c =
     let num = g.C.Count.number in
     let s : ℕ = c.args.stride in
     let one = c.args.one.now in
@@ -82,8 +82,8 @@ returns-in_ok-above-in-Apart g c =
     omega (
       arith,
       here,
-      above-is num s one other c.in-Apart.most _ _ (to_z-of_z w128 c.in-Apart.most (search rules)) c.in_ok-over-in-Apart.ensures,
-      above-is num s one other c.in-Apart.least _ _ (to_z-of_z w128 c.in-Apart.least (search rules)) c.in_ok-above-in-Apart.ensures,
+      above-is num s one other c.in-Apart.most _ _ (to_z-of_z w128 c.in-Apart.most (search rules)) c.pairs_above-over.ensures,
+      above-is num s one other c.in-Apart.least _ _ (to_z-of_z w128 c.in-Apart.least (search rules)) c.pairs_above-above.ensures,
       pairs-up_to num s one other g.C.Count.LIMIT c.requires.few c.in-Apart.most,
       pairs-apart num s one other g.C.Count.LIMIT c.requires.few c.in-Apart.most c.in-Apart.least (subst AreOrdered c.in-Apart.is c.requires.ordered),
     )

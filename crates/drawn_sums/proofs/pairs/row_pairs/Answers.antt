@@ -11,6 +11,6 @@ pub asked_pairs-requires-3-clause-ordered : goal.asked_pairs-requires-3-clause-o
 asked_pairs-requires-3-clause-ordered g c = c.requires.ordered Two
 
 pub returns : goal.returns
-returns g c Less = c.in_ok-asked_pairs.ensures
-returns g c Greater = c.in_ok-asked_pairs-2.ensures
-returns g c Two = c.in_ok-asked_pairs-3.ensures
+returns g c Less = c.asked_pairs.ensures
+returns g c Greater = c.asked_pairs-2.ensures
+returns g c Two = c.asked_pairs-3.ensures

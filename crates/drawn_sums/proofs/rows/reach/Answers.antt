@@ -16,6 +16,6 @@ returns-in_ok-resize-clause-same g c = λ f lowest stride.
     let was = c.args.cells.now.items in
     let more : ℕ = c.args.end - vec_len c.args.cells.now in
     let all = take_all c.args.end was (omega (arith, c.if-len-end.true, c.len.ensures, c.args.cells.now.ok.0)) in
-    ap (λ xs. weighted f (row_nodes lowest stride (map num xs))) (c.in_ok-resize.ensures.items ∙ ap (λ xs. xs ++ replicate more c.in_ok-none.none) all)
-    ∙ ap (λ xs. weighted f (row_nodes lowest stride xs)) (map-append num was (replicate more c.in_ok-none.none) ∙ ap (λ xs. map num was ++ xs) (nothing num more c.in_ok-none.none c.in_ok-none.ensures.is))
+    ap (λ xs. weighted f (row_nodes lowest stride (map num xs))) (c.in_ok-resize.ensures.items ∙ ap (λ xs. xs ++ replicate more c.cell_of-none.result) all)
+    ∙ ap (λ xs. weighted f (row_nodes lowest stride xs)) (map-append num was (replicate more c.cell_of-none.result) ∙ ap (λ xs. map num was ++ xs) (nothing num more c.cell_of-none.result c.cell_of-none.ensures))
     ∙ longer f lowest stride (map num was) more

@@ -1,9 +1,8 @@
-use Rattle.std.proofs.Common.{◌≡◌, ℕ, List, length, map, ap, sym, ◌∙◌, arith, rules, FitsSigned}
+use Rattle.std.proofs.Common.{◌≡◌, ℕ, List, length, map, ap, sym, ◌∙◌, arith}
 use Rattle.std.specs.Prelude.{ℤ, pos, ◌+ℤ◌}
 use Rattle.std.specs.List.{sum}
-use Rattle.std.proofs.lemmas.Int.{ints, to_z-of_z}
+use Rattle.std.proofs.lemmas.Int.{ints}
 use Rattle.std.proofs.lemmas.List.{with_items_is}
-use mir.Syntax.{w128}
 use Rattle.node_pool.specs.Nodes.{weighted}
 use Rattle.dense_rows.specs.Rows.{row_nodes, stepped}
 use Rattle.drawn_sums.specs.DrawRows.{number_of}
@@ -20,7 +19,7 @@ pour-requires-clause-limit g c =
     let into = ap (λ xs. sum (map num xs)) c.as_mut_slice.ensures.value in
     let was = as-much (map num c.reach.new.cells.items) (map num c.args.self.now.cells.items) c.in_ok-reach.ensures.same in
     let from = ap (λ xs. sum (map num xs)) c.deref.ensures.value in
-    omega (arith, into, was, from, c.requires.row.whole, c.requires.from.whole, c.in_ok-total.ensures.sum, c.in_ok-total.ensures.within)
+    omega (arith, into, was, from, c.requires.row.whole, c.requires.from.whole, c.requires.within)
 
 pub pour-requires-clause-fits : goal.pour-requires-clause-fits
 pour-requires-clause-fits g c =
@@ -46,34 +45,29 @@ returns-clause-row g c =
         from,
         c.requires.row.whole,
         c.requires.from.whole,
-        c.in_ok-total.ensures.sum,
         cells-total (pos 0) (pos 0) (map num c.pour.new.into),
         cells-total (pos 0) (pos 0) (map num c.as_mut_slice.result.now),
-        cells-total (stepped (pos 0) (pos 0) c.in-Some.place) (stepped (pos 0) (pos 0) 1) (map num c.deref.result.now),
+        cells-total (stepped (pos 0) (pos 0) c.args.place) (stepped (pos 0) (pos 0) 1) (map num c.deref.result.now),
       );
-      within = c.in_ok-total.ensures.within;
-      fits = c.in_ok-total.ensures.fits;
+      within = c.requires.within;
+      fits = c.requires.fits;
     }
 
 pub returns-clause-told : goal.returns-clause-told
-returns-clause-told g c = λ h.
+returns-clause-told g c = λ h stride score at.
     let num = g.C.Count.number in
     let L : ℤ = c.args.self.now.lowest in
-    let S : ℤ = pos c.args.stride in
+    let S : ℤ = pos stride in
     let F : ℤ = c.args.from.now.lowest in
     let f : List ℤ → ℕ = λ k. h (number_of k) in
-    let fa : FitsSigned w128 L = search rules in
-    let fb : FitsSigned w128 F = search rules in
-    let fc : FitsSigned w128 c.in_ok-first.first = search rules in
-    let first : c.in_ok-first.first ≡ F +ℤ c.args.score = rw (to_z-of_z w128 F fb, to_z-of_z w128 c.args.score c.ranges.score) at c.in_ok-first.ensures in
-    let place : stepped L S c.in-Some.place ≡ F +ℤ c.args.score = (rw (to_z-of_z w128 L fa, to_z-of_z w128 c.in_ok-first.first fc) at c.in-Some.ensures) ∙ first in
+    let place : stepped L S c.args.place ≡ F +ℤ score = at in
     let one : stepped (pos 0) S 1 ≡ S = omega (arith, ints) in
     let written = with_items_is c.reach.new.cells c.pour.new.into (c.pour.ensures.long ∙ ap length c.as_mut_slice.ensures.value ∙ sym c.reach.new.cells.ok.0) in
     let now = ap (λ xs. weighted f (row_nodes L S (map num xs))) written in
     let into = ap (λ xs. weighted f (row_nodes L S (map num xs))) c.as_mut_slice.ensures.value ∙ c.in_ok-reach.ensures.same f L S in
     let from =
-    ap (λ xs. weighted f (row_nodes (stepped L S c.in-Some.place) (stepped (pos 0) S 1) (map num xs))) c.deref.ensures.value
+    ap (λ xs. weighted f (row_nodes (stepped L S c.args.place) (stepped (pos 0) S 1) (map num xs))) c.deref.ensures.value
     ∙ ap (λ z. weighted f (row_nodes z (stepped (pos 0) S 1) (map num c.args.from.now.cells.items))) place
-    ∙ ap (λ z. weighted f (row_nodes (F +ℤ c.args.score) z (map num c.args.from.now.cells.items))) one
-    ∙ cells-moved h c.args.score c.args.stride F (map num c.args.from.now.cells.items) in
+    ∙ ap (λ z. weighted f (row_nodes (F +ℤ score) z (map num c.args.from.now.cells.items))) one
+    ∙ cells-moved h score stride F (map num c.args.from.now.cells.items) in
     omega (arith, now, c.pour.ensures.told f L S, into, from)

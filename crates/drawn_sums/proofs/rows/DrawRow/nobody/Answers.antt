@@ -1,8 +1,9 @@
 use Rattle.std.proofs.Common.{◌≡◌, ℕ, [], ◌∷◌, ◌++◌, map, ap, sym, ◌∙◌, arith, lit≤}
 use Rattle.std.specs.List.{sum}
+use Rattle.std.proofs.lemmas.Int.{to_z-of_z}
+use mir.Syntax.{w128}
 use Rattle.std.proofs.lemmas.List.Sums.{sum_by-cons}
 use Rattle.drawn_sums.proofs.RowSteps.{cells-one, cells_draws}
-use Rattle.std.specs.Prelude.{pos}
 use Rattle.drawn_sums.proofs.rows.DrawRow.nobody.Goals as goal
 
 alone : (n : ℕ) → n ≡ 1 → 1 ≡ sum (n ∷ [])
@@ -10,15 +11,16 @@ alone n e = omega (arith, e, sum_by-cons (λ v. v) n [])
 
 pub returns-clause-row : goal.returns-clause-row
 returns-clause-row g c =
-    let items = c.in_ok-push.ensures.items ∙ ap (λ xs. xs ++ c.in_ok-cell_of.field-0 ∷ []) c.new-cells.ensures.items in
+    let items = c.in_ok-push.ensures.items ∙ ap (λ xs. xs ++ c.cell_of.result ∷ []) c.new-cells.ensures.items in
     record {
-      whole = alone (g.C.Count.number c.in_ok-cell_of.field-0) c.in_ok-cell_of.ensures.is ∙ sym (ap (λ xs. sum (map g.C.Count.number xs)) items);
-      within = c.in_ok-cell_of.ensures.within;
+      whole = alone (g.C.Count.number c.cell_of.result) c.cell_of.ensures ∙ sym (ap (λ xs. sum (map g.C.Count.number xs)) items);
+      within = c.requires;
       fits = lit≤ tt;
     }
 
 pub returns-clause-told : goal.returns-clause-told
 returns-clause-told g c = λ h stride.
-    let items = c.in_ok-push.ensures.items ∙ ap (λ xs. xs ++ c.in_ok-cell_of.field-0 ∷ []) c.new-cells.ensures.items in
-    ap (λ xs. cells_draws h stride (pos 0) (map g.C.Count.number xs)) items
-    ∙ cells-one h stride (g.C.Count.number c.in_ok-cell_of.field-0) c.in_ok-cell_of.ensures.is
+    let items = c.in_ok-push.ensures.items ∙ ap (λ xs. xs ++ c.cell_of.result ∷ []) c.new-cells.ensures.items in
+    rw (to_z-of_z w128 c.args.lowest c.ranges.lowest) (
+    ap (λ xs. cells_draws h stride c.args.lowest (map g.C.Count.number xs)) items
+    ∙ cells-one h stride c.args.lowest (g.C.Count.number c.cell_of.result) c.cell_of.ensures)

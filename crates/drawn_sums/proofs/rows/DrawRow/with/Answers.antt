@@ -9,9 +9,8 @@ pub returns-clause-told : goal.returns-clause-told
 returns-clause-told g c = λ h stride.
     let num = g.C.Count.number in
     let F : ℤ = c.args.self.now.lowest in
-    let fa : FitsSigned w128 F = search rules in
-    let fb : FitsSigned w128 c.in_ok-lowest.lowest = search rules in
-    let lowest : to_z w128 (of_z w128 c.in_ok-lowest.lowest) ≡ F +ℤ c.args.score = to_z-of_z w128 c.in_ok-lowest.lowest fb ∙ (rw (to_z-of_z w128 F fa, to_z-of_z w128 c.args.score c.ranges.score) at c.in_ok-lowest.ensures) in
+    let fits : FitsSigned w128 F = search rules in
+    let lowest : to_z w128 (of_z w128 c.plus.result) ≡ F +ℤ c.args.score = to_z-of_z w128 c.plus.result (search rules) ∙ (rw (to_z-of_z w128 F fits, to_z-of_z w128 c.args.score c.ranges.score) at c.plus.ensures) in
     ap (λ z. cells_draws h stride z (map num c.in_ok-from_slice.field-0.items)) lowest
     ∙ ap (λ xs. cells_draws h stride (F +ℤ c.args.score) (map num xs)) (c.in_ok-from_slice.ensures.items ∙ c.as_slice.ensures.value)
     ∙ cells-moved h c.args.score stride F (map num c.args.self.now.cells.items)

@@ -11,7 +11,7 @@ use Rattle.networks.specs.EachTail.{sum_for}
 use Rattle.rising_pairs.specs.RisingTails.{passing_labellings}
 use Rattle.two_sample_tests.specs.EvenSteps.{AreEven, least_sum}
 use Rattle.drawn_sums.specs.DrawnSums.{passing_draws}
-use Rattle.two_sample_tests.proofs.DrawnSamples.{numerator-drawn}
+use Rattle.two_sample_tests.proofs.DrawnSamples.{draws-fit, numerator-drawn, sums-fit}
 use Rattle.two_sample_tests.proofs.EvenSums.{fit-rising, numerator-rises}
 use Rattle.weights.specs.declared.tails.Tail.TheVariants.{Less}
 use Rattle.halves.proofs.Numerators.{judged, numerator-is}
@@ -39,10 +39,23 @@ returns-in-Some c =
     (AreNumerators (two_sample_test samples) c.args.tails)
     (λ sums each t asked. each t ∙ sym (numerator-rises samples c.made.ensures.fitting c.in-Some.even are t)) told
 
+pub drawn_sums-requires-clause-total : goal.drawn_sums-requires-clause-total
+drawn_sums-requires-clause-total c =
+    let samples : TwoSamples = c.args.self.now in
+    let scores : c.as_slice-scores.result.now ≡ pooled_scores samples = c.as_slice-scores.ensures ∙ ap (λ (s : ScoredLabels). s.scores) (c.scored-made.ensures.scored ∙ c.made.ensures.is) in
+    let sizes : c.as_slice-sizes.result.now ≡ group_sizes samples.groups = c.as_slice-sizes.ensures ∙ ap (λ (s : ScoredLabels). s.sizes) (c.scored-made.ensures.scored ∙ c.made.ensures.is) in
+    rw (scores, sizes) (draws-fit samples c.made.ensures.fitting)
+
+pub drawn_sums-requires-clause-small : goal.drawn_sums-requires-clause-small
+drawn_sums-requires-clause-small c =
+    let samples : TwoSamples = c.args.self.now in
+    let scores : c.as_slice-scores.result.now ≡ pooled_scores samples = c.as_slice-scores.ensures ∙ ap (λ (s : ScoredLabels). s.scores) (c.scored-made.ensures.scored ∙ c.made.ensures.is) in
+    rw scores (sums-fit samples c.made.ensures.fitting)
+
 pub returns-in-Some-2 : goal.returns-in-Some-2
 returns-in-Some-2 c t a =
     let samples : TwoSamples = c.args.self.now in
-    let told = rw c.in-Some-2.is at c.in_ok-sums.ensures in
+    let told = rw c.in-Some-2.is at c.in_ok-sums.ensures.sums in
     told t a
     ∙ ap (λ judge. passing_draws (rule_in judge t) (get_or c.as_slice-sizes.result.now 1 0) c.as_slice-scores.result.now) c.requires.judge
     ∙ ap (λ scores. passing_draws (rule_in (judge_of (two_sample_test samples)) t) (get_or c.as_slice-sizes.result.now 1 0) scores) (c.as_slice-scores.ensures ∙ ap (λ (s : ScoredLabels). s.scores) (c.scored-made.ensures.scored ∙ c.made.ensures.is))
