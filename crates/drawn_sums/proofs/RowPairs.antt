@@ -68,6 +68,18 @@ pairs-more place (c ∷ ones) others (suc i) h =
     let left : (place - 1) - i ≡ place - suc i = omega arith in
     rw one (omega (arith, pairs-more (place - 1) ones others i (omega (arith, h)), ap (λ n. get_or ones i 0 * sum (drop n others)) left))
 
+-- without the first cells, with which no other is enough
+pub pairs-later : (first place : ℕ) (ones others : List ℕ) → first ≤ place - length others → placed_pairs place ones others ≡ placed_pairs (place - first) (drop first ones) others
+pairs-later zero place ones others h =
+    let all : place ≡ place - 0 = omega arith in
+    ap (λ p. placed_pairs p ones others) all
+pairs-later (suc first) place [] others h = refl
+pairs-later (suc first) place (c ∷ ones) others h =
+    let left : (place - 1) - first ≡ place - suc first = omega arith in
+    let none : sum (drop place others) ≡ 0 = drop-past place others (omega (arith, h)) in
+    let rest = pairs-later first (place - 1) ones others (omega (arith, h)) in
+    rw none (omega (arith, rest, ap (λ p. placed_pairs p (drop first ones) others) left))
+
 -- ---- pairs by their sums
 
 module _ (bound : ℤ) (stride : ℕ) where

@@ -16,27 +16,24 @@ use networks::{TailSum, TailSums};
 use weights::{Count, Tails, plus};
 
 // What the cells from a place on count.
-fn count_from<C: Count>(cells: &[C], place: u128) -> u128
+fn count_from<C: Count>(cells: &[C], place: usize) -> u128
     requires { sum (map C.number cells.now) ≤ MAX }
     ensures { result ≡ sum (drop place (map C.number cells.now)) }
 {
-    let Ok(first) = usize::try_from(place) else {
-        return 0;
-    };
     let mut count = 0;
-    for i in first..cells.len() {
+    for i in place..cells.len() {
         count += cells[i].value();
     }
     count
 }
 
 // What the cell before a place counts, where there is one.
-fn count_before<C: Count>(cells: &[C], place: u128) -> u128
+fn count_before<C: Count>(cells: &[C], place: usize) -> u128
     ensures { result + sum (drop place (map C.number cells.now))
         ≡ sum (drop (place - 1) (map C.number cells.now)) }
 {
-    if place > 0 && place <= cells.len() as u128 {
-        cells[(place - 1) as usize].value()
+    if place > 0 && place <= cells.len() {
+        cells[place - 1].value()
     } else {
         0
     }
@@ -44,7 +41,7 @@ fn count_before<C: Count>(cells: &[C], place: u128) -> u128
 
 // How many pairs of a draw of each row stand in cells whose places sum to at least so much: with
 // each cell of one row the cells of the other that are enough begin a place earlier.
-fn placed_pairs<C: Count>(ones: &[C], others: &[C], place: u128) -> u128
+fn placed_pairs<C: Count>(ones: &[C], others: &[C], place: usize) -> u128
     requires light { sum (map C.number others.now) ≤ MAX }
     requires fits { sum (map C.number ones.now) * sum (map C.number others.now) ≤ MAX }
     ensures { result ≡ placed_pairs place (map C.number ones.now) (map C.number others.now) }
@@ -53,9 +50,23 @@ fn placed_pairs<C: Count>(ones: &[C], others: &[C], place: u128) -> u128
     let mut pairs = 0;
     for i in 0..ones.len() {
         pairs += ones[i].value() * enough;
-        enough += count_before(others, place.saturating_sub(i as u128));
+        enough += count_before(others, place.saturating_sub(i));
     }
     pairs
+}
+
+// Those of any place. The first cells of one row are left out, with which none of the other is
+// enough: so what is left of the place is an index.
+fn pairs_from<C: Count>(ones: &[C], others: &[C], place: u128) -> u128
+    requires light { sum (map C.number others.now) ≤ MAX }
+    requires fits { sum (map C.number ones.now) * sum (map C.number others.now) ≤ MAX }
+    ensures { result ≡ placed_pairs place (map C.number ones.now) (map C.number others.now) }
+{
+    let first = place.saturating_sub(others.len() as u128);
+    if first >= ones.len() as u128 {
+        return 0;
+    }
+    placed_pairs(&ones[first as usize..], others, (place - first) as usize)
 }
 
 // The first place of a row at which its number is above a bound.
@@ -77,7 +88,7 @@ fn pairs_above<C: Count>(one: &DrawRow<C>, other: &DrawRow<C>, stride: u128, bou
     ensures { result ≡ pair_draws C.number (once (int_lt bound)) stride one.now other.now }
 {
     let place = first_above(plus(one.lowest, other.lowest), stride, bound);
-    placed_pairs(&one.cells, &other.cells, place)
+    pairs_from(&one.cells, &other.cells, place)
 }
 
 // How many have a sum that is in these.

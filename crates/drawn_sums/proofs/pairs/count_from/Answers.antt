@@ -1,4 +1,4 @@
-use Rattle.std.proofs.Common.{◌≡◌, ◌<◌, ◌^◌, ℕ, List, length, map, get_or, sym, ◌∙◌, arith, rules}
+use Rattle.std.proofs.Common.{◌≡◌, ◌<◌, ℕ, List, length, map, get_or, ◌∙◌, arith}
 use Rattle.std.proofs.lemmas.List.{length-map}
 use Rattle.node_pool.proofs.NodeLists.{number-read}
 use Rattle.drawn_sums.proofs.RowPairs.{drop-at, drop-past, drop-sum}
@@ -26,11 +26,3 @@ pub returns : goal.returns
 returns g c =
     let cells : List ℕ = map g.C.Count.number c.args.cells.now in
     omega (arith, c.loop-i.invariant, drop-past c.loop-i.i cells (omega (arith, c.loop-i-test.false, length-map c.args.cells.now g.C.Count.number)))
-
--- no index has so large a place
-pub returns-in_default : goal.returns-in_default
-returns-in_default g c =
-    let cells : List ℕ = map g.C.Count.number c.args.cells.now in
-    let far : c.args.place < 2 ^ 64 → ⊥ = c.in_default.ensures in
-    let long : length c.args.cells.now < 2 ^ 64 = search rules in
-    sym (drop-past c.args.place cells (omega (arith, length-map c.args.cells.now g.C.Count.number, far, long)))

@@ -4,4 +4,4 @@ use Rattle.drawn_sums.proofs.pairs.count_from.Given as goal
 
 -- the cells before this one are counted
 abbrev pub invariant-loop-i : goal.invariant-loop-i
-invariant-loop-i g l = l.count + sum (drop l.i (map g.C.Count.number l.cells)) ≡ sum (drop l.fn.place (map g.C.Count.number l.cells))
+invariant-loop-i g l = l.count + sum (drop l.i (map g.C.Count.number l.cells)) ≡ sum (drop l.place (map g.C.Count.number l.cells))

@@ -23,13 +23,13 @@ first_above-place-requires-clause-small g c =
     let lowest = to_z-of_z w128 c.plus.result fa ∙ (rw (to_z-of_z w128 one.lowest fb, to_z-of_z w128 other.lowest fc) at c.plus.ensures) in
     rw lowest (omega (arith, size-plus one.lowest other.lowest, c.requires.few.small))
 
-pub placed_pairs-requires-clause-light : goal.placed_pairs-requires-clause-light
-placed_pairs-requires-clause-light g c =
+pub pairs_from-requires-clause-light : goal.pairs_from-requires-clause-light
+pairs_from-requires-clause-light g c =
     let other = ap (λ xs. sum (map g.C.Count.number xs)) c.deref-2.ensures.value in
     omega (arith, other, c.requires.few.second.whole, c.requires.few.second.fits)
 
-pub placed_pairs-requires-clause-fits : goal.placed_pairs-requires-clause-fits
-placed_pairs-requires-clause-fits g c =
+pub pairs_from-requires-clause-fits : goal.pairs_from-requires-clause-fits
+pairs_from-requires-clause-fits g c =
     let one = ap (λ xs. sum (map g.C.Count.number xs)) c.deref.ensures.value ∙ sym c.requires.few.first.whole in
     let other = ap (λ xs. sum (map g.C.Count.number xs)) c.deref-2.ensures.value ∙ sym c.requires.few.second.whole in
     rw (one, other) c.requires.few.fits
@@ -47,4 +47,4 @@ returns g c =
     let place : ℕ = c.first_above-place.result in
     let first : IsFirst c.args.bound s (one.lowest +ℤ other.lowest) place =
     λ n. (rw (to_z-of_z w128 c.args.bound c.ranges.bound, lowest) at (c.first_above-place.ensures n)) in
-    (rw (c.deref.ensures.value, c.deref-2.ensures.value) at c.placed_pairs.ensures) ∙ sym (placed-are num s one other c.args.bound place first)
+    (rw (c.deref.ensures.value, c.deref-2.ensures.value) at c.pairs_from.ensures) ∙ sym (placed-are num s one other c.args.bound place first)

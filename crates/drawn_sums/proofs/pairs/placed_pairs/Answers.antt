@@ -34,8 +34,7 @@ pub overflow_add-enough : goal.overflow_add-enough
 overflow_add-enough g c =
     let others : List ℕ = map g.C.Count.number c.args.others.now in
     let left : ℕ = c.args.place - c.loop-i.i in
-    let before = rw c.saturating_sub.ensures at c.count_before-enough.ensures in
-    omega (arith, c.loop-i.invariant.enough, before, drop-sum (left - 1) others, c.requires.light)
+    omega (arith, c.loop-i.invariant.enough, c.count_before-enough.ensures, ap (λ n. sum (drop n others)) c.saturating_sub.ensures, ap (λ n. sum (drop (n - 1) others)) c.saturating_sub.ensures, drop-sum (left - 1) others, c.requires.light)
 
 pub loop-i-preserved : goal.loop-i-preserved
 loop-i-preserved g c =
@@ -46,9 +45,8 @@ loop-i-preserved g c =
     let low : i < length ones = rw (length-map c.args.ones.now num) c.loop-i-test.true in
     let read : c.value.result ≡ get_or ones i 0 = c.value.ensures.value ∙ number-read num c.args.ones.now i c.index-ones-i.result c.loop-i-test.true c.index-ones-i.is in
     let less : (c.args.place - i) - 1 ≡ c.args.place - (i + 1) = omega arith in
-    let before = rw c.saturating_sub.ensures at c.count_before-enough.ensures in
     record {
-      enough = omega (arith, c.loop-i.invariant.enough, before, ap (λ n. sum (drop n others)) less);
+      enough = omega (arith, c.loop-i.invariant.enough, c.count_before-enough.ensures, ap (λ n. sum (drop n others)) c.saturating_sub.ensures, ap (λ n. sum (drop (n - 1) others)) c.saturating_sub.ensures, ap (λ n. sum (drop n others)) less);
       pairs = omega (arith, c.loop-i.invariant.pairs, more c.args.place i ones others c.value.result c.loop-i.enough low read c.loop-i.invariant.enough);
     }
 
@@ -56,4 +54,4 @@ pub returns : goal.returns
 returns g c =
     let num = g.C.Count.number in
     let ones : List ℕ = map num c.args.ones.now in
-    rw (take_all c.loop-i.i ones (omega (arith, c.loop-i-test.false, length-map c.args.ones.now num))) at c.loop-i.invariant.pairs
+    c.loop-i.invariant.pairs ∙ ap (λ xs. placed_pairs c.args.place xs (map num c.args.others.now)) (take_all c.loop-i.i ones (omega (arith, c.loop-i-test.false, length-map c.args.ones.now num)))
