@@ -22,17 +22,17 @@ none-above : (p : ℤ → Bool) (drawn : ℕ) → NoneAbove drawn (drawn_at p dr
 none-above p drawn n v h = elsewhere (once p) drawn n v (λ e. omega (arith, h, e))
 
 module _ {C : Type 0} (number : C → ℕ) (limit stride drawn : ℕ) (p : ℤ → Bool) where
-  met-draws : (others : List ℤ) (behind : List (DrawRow C)) → AreDraws number limit drawn stride (pos 0) others behind → (n : ℕ) (u : ℤ) → met number p drawn stride behind n u ≡ draw_sum (drawn_at p drawn) n u others
+  met-draws : (others : List ℤ) (behind : List (DrawRow C)) → AreDraws number limit drawn stride others behind → (n : ℕ) (u : ℤ) → met number p drawn stride behind n u ≡ draw_sum (drawn_at p drawn) n u others
   met-draws others behind are n u =
       are.told (λ m v. drawn_at p drawn (m + n) (u +ℤ v)) (λ m v h. elsewhere (once p) drawn (m + n) (u +ℤ v) (λ e. omega (arith, h, e)))
       ∙ sym (started (drawn_at p drawn) n u others)
 
-  pub all-met : (start : ℤ) (scores others : List ℤ) (front behind : List (DrawRow C)) → AreDraws number limit drawn stride start scores front → AreDraws number limit drawn stride (pos 0) others behind
-      → rows_draws number (met number p drawn stride behind) 0 stride front ≡ draw_sum (drawn_at p drawn) 0 start (scores ++ others)
-  all-met start scores others front behind first second =
+  pub all-met : (scores others : List ℤ) (front behind : List (DrawRow C)) → AreDraws number limit drawn stride scores front → AreDraws number limit drawn stride others behind
+      → rows_draws number (met number p drawn stride behind) 0 stride front ≡ draw_sum (drawn_at p drawn) 0 (pos 0) (scores ++ others)
+  all-met scores others front behind first second =
       rows-same number stride (met number p drawn stride behind) (λ n u. draw_sum (drawn_at p drawn) n u others) (met-draws others behind second) 0 front
       ∙ first.told (λ n u. draw_sum (drawn_at p drawn) n u others) above
-      ∙ sym (draw-parts (drawn_at p drawn) 0 start scores others)
+      ∙ sym (draw-parts (drawn_at p drawn) 0 (pos 0) scores others)
     where
       above : NoneAbove drawn (λ n u. draw_sum (drawn_at p drawn) n u others)
       above n u h = sym (met-draws others behind second n u) ∙ rows-none number stride (λ m v. drawn_at p drawn (m + n) (u +ℤ v)) 0 behind (λ m v l. elsewhere (once p) drawn (m + n) (u +ℤ v) (λ e. omega (arith, h, e)))

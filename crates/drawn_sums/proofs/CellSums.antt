@@ -56,9 +56,6 @@ absolute-parts n xs = sym (absolute-append (take n xs) (drop n xs)) ∙ ap absol
 pub absolute-next-le : (scores : List ℤ) (i : ℕ) → i < length scores → absolute_sum (take i scores) + unsigned_abs (get_or scores i (pos 0)) ≤ absolute_sum scores
 absolute-next-le scores i h = omega (arith, absolute-next scores i h, absolute-parts (i + 1) scores)
 
-pub absolute-each : (scores : List ℤ) (i : ℕ) → i < length scores → unsigned_abs (get_or scores i (pos 0)) ≤ absolute_sum scores
-absolute-each scores i h = omega (arith, absolute-next-le scores i h)
-
 absolute-sums : (xs : List ℤ) → absolute_sum xs ≡ sum_by unsigned_abs xs
 absolute-sums [] = refl
 absolute-sums (x ∷ xs) = omega (arith, absolute-sums xs, sum_by-cons unsigned_abs x xs)

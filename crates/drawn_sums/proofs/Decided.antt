@@ -1,8 +1,7 @@
 -- Who is drawn, and whether the draws are counted.
-use Rattle.std.proofs.Common.{◌≡◌, ℕ, ◌+◌, ◌-◌, ◌*◌, ◌<◌, ◌≤◌, List, [], ◌∷◌, map, length, min, max, Bool, true, false, true≢false, ◌&&◌, nat_le, refl, sym, ◌∙◌, ap, arith}
-use Rattle.std.specs.Prelude.{ℤ, pos, ◌-ℤ◌}
+use Rattle.std.proofs.Common.{◌≡◌, ℕ, ◌+◌, ◌-◌, ◌*◌, ◌≤◌, List, [], ◌∷◌, length, min, max, Bool, true, false, true≢false, ◌&&◌, refl, sym, ◌∙◌, ap, arith}
+use Rattle.std.specs.Prelude.{ℤ}
 use Rattle.std.specs.List.{sum}
-use Rattle.std.proofs.lemmas.Bool.Decides.{nat_tests}
 use Rattle.std.proofs.lemmas.List.Sums.{sum_by-cons}
 use Rattle.weights.specs.Labellings.{number_of_labellings}
 use Rattle.weights.specs.Numbers.{binomial}
@@ -39,24 +38,10 @@ with-sides : (sides b : Bool) → true ≡ sides → b ≡ sides && b
 with-sides true b e = refl
 with-sides false b e = absurd (true≢false e)
 
-not-le : (a b : ℕ) → b < a → nat_le a b ≡ false
-not-le a b h = grind (arith, nat_tests, h)
-
-is-le : (a b : ℕ) → a ≤ b → nat_le a b ≡ true
-is-le a b h = grind (arith, nat_tests, h)
-
 module _ (judge : Judge) (scores : List ℤ) (n common m stride : ℕ) (b : Bool) (found : IsStride scores common) (e : m ≡ max common 1) (sides : true ≡ have_sides judge) (is : IsStride scores stride) where
   same : max stride 1 ≡ m
   same = ap (λ d. max d 1) (stride-once scores stride common is found) ∙ sym e
 
-  -- where they are the fewer
-  pub drawn-when : n ≤ length scores - n → b ≡ is_drawn m n (ascending scores) → b ≡ are_drawn judge stride n scores
-  drawn-when h drawn =
-      let fewer : min n (length scores - n) ≡ n = omega (arith, h) in
-      rw (same, fewer, is-le n (length scores - n) h) (drawn ∙ with-sides (have_sides judge) (is_drawn m n (ascending scores)) sides)
-
-  -- and where they are not
-  pub left-when : length scores - n < n → b ≡ is_drawn m (length scores - n) (ascending (map (λ s. pos 0 -ℤ s) scores)) → b ≡ are_drawn judge stride n scores
-  left-when h drawn =
-      let fewer : min n (length scores - n) ≡ length scores - n = omega (arith, h) in
-      rw (same, fewer, not-le n (length scores - n) h) (drawn ∙ with-sides (have_sides judge) (is_drawn m (length scores - n) (ascending (map (λ s. pos 0 -ℤ s) scores))) sides)
+  -- by the fewer of those who are drawn and those who are left
+  pub drawn-when : (fewer : ℕ) → fewer ≡ min n (length scores - n) → b ≡ is_drawn m fewer (ascending scores) → b ≡ are_drawn judge stride n scores
+  drawn-when fewer least drawn = rw (same, sym least) (drawn ∙ with-sides (have_sides judge) (is_drawn m fewer (ascending scores)) sides)

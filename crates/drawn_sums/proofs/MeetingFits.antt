@@ -1,6 +1,6 @@
 -- The rows of both parts of the subjects may meet.
 use Rattle.std.proofs.Common.{◌≡◌, ℕ, ◌+◌, ◌-◌, ◌*◌, ◌≤◌, List, ◌++◌, length, ap, arith, length-append}
-use Rattle.std.specs.Prelude.{ℤ, pos, ◌+ℤ◌, unsigned_abs}
+use Rattle.std.specs.Prelude.{ℤ, pos, unsigned_abs}
 use Rattle.weights.specs.Numbers.{absolute_sum, binomial}
 use Rattle.weights.specs.declared.TheConstants.{MAX}
 use Rattle.halves.specs.Sides.{is_in, sides_for}
@@ -11,20 +11,11 @@ use Rattle.drawn_sums.specs.Meetings.{MayMeet}
 use Rattle.drawn_sums.specs.declared.rows.DrawRow.{DrawRow}
 use Rattle.drawn_sums.proofs.BothParts.{all-met}
 use Rattle.drawn_sums.proofs.Counted.{binomial-parts, drawn-within}
-use Rattle.drawn_sums.proofs.ScoreTotals.{absolute-append, part-size, size-plus}
+use Rattle.drawn_sums.proofs.ScoreTotals.{absolute-append, part-size}
 
 -- the lowest sums of two rows
-lowest-small : (start one other : ℤ) (n m : ℕ) (first second : List ℤ) → unsigned_abs start + absolute_sum (first ++ second) ≤ MAX → one ≡ start +ℤ least n first → other ≡ pos 0 +ℤ least m second
-    → unsigned_abs one + unsigned_abs other ≤ MAX
-lowest-small start one other n m first second h e k = rw (e, k) (omega (
-  arith,
-  h,
-  absolute-append first second,
-  size-plus start (least n first),
-  size-plus (pos 0) (least m second),
-  part-size n first,
-  part-size m second,
-))
+lowest-small : (one other : ℤ) (n m : ℕ) (first second : List ℤ) → absolute_sum (first ++ second) ≤ MAX → one ≡ least n first → other ≡ least m second → unsigned_abs one + unsigned_abs other ≤ MAX
+lowest-small one other n m first second h e k = rw (e, k) (omega (arith, h, absolute-append first second, part-size n first, part-size m second))
 
 -- and how many pairs they have
 pairs-fit : (drawn n one other : ℕ) (first second : List ℤ) → n ≤ drawn → binomial (length (first ++ second)) drawn ≤ MAX → one ≡ binomial (length first) n → other ≡ binomial (length second) (drawn - n)
@@ -40,9 +31,9 @@ pairs-fit drawn n one other first second h fits e k =
     ))
 
 module _ {C : Type 0} (number : C → ℕ) (limit drawn stride : ℕ) (sides : TailSides) where
-  pub may-meet : (start : ℤ) (first second : List ℤ) (rows others : List (DrawRow C)) → AreSubjects stride start (first ++ second) → binomial (length (first ++ second)) drawn ≤ MAX
-      → AreDraws number limit drawn stride start first rows → AreDraws number limit drawn stride (pos 0) second others → MayMeet number limit drawn stride sides rows others
-  may-meet start first second rows others subjects fits front behind = record {
+  pub may-meet : (first second : List ℤ) (rows others : List (DrawRow C)) → AreSubjects stride (first ++ second) → binomial (length (first ++ second)) drawn ≤ MAX
+      → AreDraws number limit drawn stride first rows → AreDraws number limit drawn stride second others → MayMeet number limit drawn stride sides rows others
+  may-meet first second rows others subjects fits front behind = record {
     few = λ n d low within left.
         let one = front.rows_are.each n d low in
         let other = behind.rows_are.each (drawn - n) d left in
@@ -50,9 +41,9 @@ module _ {C : Type 0} (number : C → ℕ) (limit drawn stride : ℕ) (sides : T
           first = one.row_is;
           second = other.row_is;
           fits = pairs-fit drawn n _ _ first second within fits one.total other.total;
-          small = lowest-small start _ _ n (drawn - n) first second subjects.small one.lowest other.lowest;
+          small = lowest-small _ _ n (drawn - n) first second subjects.small one.lowest other.lowest;
         };
     fit = λ t.
         let p = is_in (sides_for sides t) in
-        omega (arith, fits, all-met number limit stride drawn p start first second rows others front behind, drawn-within p drawn start (first ++ second));
+        omega (arith, fits, all-met number limit stride drawn p first second rows others front behind, drawn-within p drawn (pos 0) (first ++ second));
   }

@@ -274,17 +274,17 @@ subject-more f score scores n v = draw-parts f n v scores (score ∷ []) ∙ dra
 pub none-with : (most : ℕ) (score : ℤ) (f : ℕ → ℤ → ℕ) → NoneAbove most f → NoneAbove most (with_one score f)
 none-with most score f none n v h = none (n + 1) (v +ℤ score) (omega (arith, h))
 
-pub draws-more : {C : Type 0} (number : C → ℕ) (limit most stride : ℕ) (start : ℤ) (scores more : List ℤ) (score : ℤ) (old new : List (DrawRow C)) → more ≡ scores ++ score ∷ [] → AreDraws number limit most stride start scores old → AreRows number limit most start more new
+pub draws-more : {C : Type 0} (number : C → ℕ) (limit most stride : ℕ) (scores more : List ℤ) (score : ℤ) (old new : List (DrawRow C)) → more ≡ scores ++ score ∷ [] → AreDraws number limit most stride scores old → AreRows number limit most more new
     → ((f : ℕ → ℤ → ℕ) → NoneAbove most f → rows_draws number f 0 stride new ≡ rows_draws number f 0 stride old + rows_draws number (with_one score f) 0 stride old)
-    → AreDraws number limit most stride start more new
-draws-more number limit most stride start scores more score old new whole are rows told = record {
+    → AreDraws number limit most stride more new
+draws-more number limit most stride scores more score old new whole are rows told = record {
   rows_are = rows;
   told = λ f none. omega (
     arith,
     told f none,
     are.told f none,
     are.told (with_one score f) (none-with most score f none),
-    subject-more f score scores 0 start,
-    ap (draw_sum f 0 start) whole,
+    subject-more f score scores 0 (pos 0),
+    ap (draw_sum f 0 (pos 0)) whole,
   );
 }

@@ -16,21 +16,15 @@ use Rattle.dense_rows.specs.Rows.{stepped}
 use Rattle.dense_rows.proofs.RowSums.{stepped-is}
 use Rattle.drawn_sums.specs.Draws.{score_total}
 use Rattle.drawn_sums.specs.DrawSizes.{least}
-use Rattle.drawn_sums.specs.DrawRows.{AreDraws, AreRows, AreSubjects, IsDrawRow, IsRowOf, row_draws, start_of}
+use Rattle.drawn_sums.specs.DrawRows.{AreDraws, AreRows, AreSubjects, IsDrawRow, IsRowOf, row_draws}
 use Rattle.drawn_sums.specs.declared.rows.DrawRow.{DrawRow}
 use Rattle.drawn_sums.proofs.Counted.{binomial-longer}
-use Rattle.drawn_sums.proofs.ScoreTotals.{next-small, size-plus, total-more}
+use Rattle.drawn_sums.proofs.ScoreTotals.{next-small, total-more}
 
 -- ---- how many there are
 
 pascal : (n k : ℕ) → binomial (n + 1) (k + 1) ≡ binomial n (k + 1) + binomial n k
 pascal n k = rw (add-one n, add-one k) (omega (arith, binomial-pascal n k))
-
--- ---- the least sum
-
--- the sum of nobody, of the first and one more
-part-small : (start : ℤ) (scores : List ℤ) (i : ℕ) → i < length scores → unsigned_abs (start +ℤ least i scores) + unsigned_abs (get_or scores i (pos 0)) ≤ unsigned_abs start + absolute_sum scores
-part-small start scores i h = omega (arith, size-plus start (least i scores), next-small scores i h)
 
 -- ---- places
 
@@ -44,14 +38,14 @@ placed one other stride apart order lowest =
     far : (z : ℤ) → pos 0 ≤ℤ z → pos (unsigned_abs z) ≡ z
     far z h = grind (arith, ints)
 
-pub subjects-apart : (stride : ℕ) (start : ℤ) (scores : List ℤ) → AreSubjects stride start scores → (n i : ℕ) → n < length scores → i < length scores → stride ∣ unsigned_abs (get_or scores i (pos 0) -ℤ get_or scores n (pos 0))
-subjects-apart stride start scores are n i h l = are.apart (get_or scores i (pos 0)) (get_or scores n (pos 0)) (Contains-get_or scores i (pos 0) l) (Contains-get_or scores n (pos 0) h)
+pub subjects-apart : (stride : ℕ) (scores : List ℤ) → AreSubjects stride scores → (n i : ℕ) → n < length scores → i < length scores → stride ∣ unsigned_abs (get_or scores i (pos 0) -ℤ get_or scores n (pos 0))
+subjects-apart stride scores are n i h l = are.apart (get_or scores i (pos 0)) (get_or scores n (pos 0)) (Contains-get_or scores i (pos 0) l) (Contains-get_or scores n (pos 0) h)
 
 -- ---- rows
 
-module _ {C : Type 0} (number : C → ℕ) (limit : ℕ) (start : ℤ) where
+module _ {C : Type 0} (number : C → ℕ) (limit : ℕ) where
   abbrev RowOf : List ℤ → ℕ → DrawRow C → Type 0
-  RowOf scores n row = IsRowOf number limit start scores n row
+  RowOf scores n row = IsRowOf number limit scores n row
 
   -- nobody's row stays
   pub nobody-still : (scores : List ℤ) (i : ℕ) (row : DrawRow C) → RowOf (take i scores) 0 row → RowOf (take (i + 1) scores) 0 row
@@ -77,15 +71,15 @@ module _ {C : Type 0} (number : C → ℕ) (limit : ℕ) (start : ℤ) where
   grown scores i n one two new h l is behind row total lowest = record {
     row_is = row;
     total = total ∙ totals scores i n one two h is behind ∙ ap (λ k. binomial k (n + 1)) (sym (length-take-le (i + 1) scores (omega arith)));
-    lowest = lowest ∙ behind.lowest ∙ ap (λ xs. start +ℤ score_total xs) (take-take (n + 1) i scores (omega arith) ∙ sym (take-take (n + 1) (i + 1) scores (omega arith)));
+    lowest = lowest ∙ behind.lowest ∙ ap score_total (take-take (n + 1) i scores (omega arith) ∙ sym (take-take (n + 1) (i + 1) scores (omega arith)));
   }
 
   -- a subject who is drawn in place of the nth adds what they lie apart
   pub in-place : (scores : List ℤ) (i n : ℕ) (one two : DrawRow C) → i < length scores → n < i → RowOf (take i scores) n one → RowOf (take i scores) (n + 1) two
       → two.lowest +ℤ (get_or scores i (pos 0) -ℤ get_or scores n (pos 0)) ≡ one.lowest +ℤ get_or scores i (pos 0)
   in-place scores i n one two h l is behind =
-      let first : one.lowest ≡ start +ℤ least n scores = is.lowest ∙ ap (λ xs. start +ℤ score_total xs) (take-take n i scores (omega arith)) in
-      let second : two.lowest ≡ start +ℤ least (n + 1) scores = behind.lowest ∙ ap (λ xs. start +ℤ score_total xs) (take-take (n + 1) i scores (omega arith)) in
+      let first : one.lowest ≡ least n scores = is.lowest ∙ ap score_total (take-take n i scores (omega arith)) in
+      let second : two.lowest ≡ least (n + 1) scores = behind.lowest ∙ ap score_total (take-take (n + 1) i scores (omega arith)) in
       omega (arith, ints, first, second, total-more scores n (omega arith))
 
   -- all of the first, one more of them
@@ -100,32 +94,19 @@ module _ {C : Type 0} (number : C → ℕ) (limit : ℕ) (start : ℤ) where
         ∙ sym (binomial-all (i + 1))
         ∙ ap (λ k. binomial k (i + 1)) (sym (length-take-le (i + 1) scores (omega arith)));
     lowest =
-        let first : row.lowest ≡ start +ℤ least i scores = is.lowest ∙ ap (λ xs. start +ℤ score_total xs) (take-take i i scores (omega arith)) in
+        let first : row.lowest ≡ least i scores = is.lowest ∙ ap score_total (take-take i i scores (omega arith)) in
         let all : least (i + 1) (take (i + 1) scores) ≡ least (i + 1) scores = ap score_total (take-take (i + 1) (i + 1) scores (omega arith)) in
         omega (arith, ints, lowest, first, all, total-more scores i h);
   }
 
   -- and their sum with a subject's score is within the limit
-  pub row-small : (scores : List ℤ) (i : ℕ) (row : DrawRow C) → i < length scores → RowOf (take i scores) i row → unsigned_abs start + absolute_sum scores ≤ MAX → unsigned_abs row.lowest + unsigned_abs (get_or scores i (pos 0)) ≤ MAX
+  pub row-small : (scores : List ℤ) (i : ℕ) (row : DrawRow C) → i < length scores → RowOf (take i scores) i row → absolute_sum scores ≤ MAX → unsigned_abs row.lowest + unsigned_abs (get_or scores i (pos 0)) ≤ MAX
   row-small scores i row h is small =
-      let first : row.lowest ≡ start +ℤ least i scores = is.lowest ∙ ap (λ xs. start +ℤ score_total xs) (take-take i i scores (omega arith)) in
-      rw first (omega (arith, part-small start scores i h, small))
-
-  -- the first row's least sum is nobody's
-  pub start-is : (most : ℕ) (scores : List ℤ) (rows : List (DrawRow C)) → AreRows number limit most start scores rows → start_of rows ≡ start
-  start-is most scores [] are = absurd (none (min most (length scores)) are.long)
-    where
-      none : (n : ℕ) → 0 ≡ n + 1 → ⊥
-      none n e = omega (arith, e)
-  start-is most scores (row ∷ rows) are =
-      let first = are.each 0 row (omega arith) in
-      first.lowest ∙ nothing start
-    where
-      nothing : (z : ℤ) → z +ℤ pos 0 ≡ z
-      nothing z = omega (arith, ints)
+      let first : row.lowest ≡ least i scores = is.lowest ∙ ap score_total (take-take i i scores (omega arith)) in
+      rw first (omega (arith, next-small scores i h, small))
 
   -- the row of nobody, alone
-  pub nobody-draws : (most stride : ℕ) (row : DrawRow C) → IsDrawRow number limit row → row.total ≡ 1 → row.lowest ≡ start → ((g : ℤ → ℕ) → row_draws number g stride row ≡ g start) → AreDraws number limit most stride start [] (row ∷ [])
+  pub nobody-draws : (most stride : ℕ) (row : DrawRow C) → IsDrawRow number limit row → row.total ≡ 1 → row.lowest ≡ pos 0 → ((g : ℤ → ℕ) → row_draws number g stride row ≡ g (pos 0)) → AreDraws number limit most stride [] (row ∷ [])
   nobody-draws most stride row is one lowest told = record {
     rows_are = record {
       long = omega arith;
@@ -134,14 +115,11 @@ module _ {C : Type 0} (number : C → ℕ) (limit : ℕ) (start : ℤ) where
     told = λ f none. omega (arith, told (f 0));
   }
     where
-      nothing : (z : ℤ) → z ≡ z +ℤ pos 0
-      nothing z = omega (arith, ints)
-
       each : (n : ℕ) (d : DrawRow C) → n < length (row ∷ []) → RowOf [] n (get_or (row ∷ []) n d)
       each zero d h = record {
         row_is = is;
         total = one ∙ sym (binomial-zero 0);
-        lowest = lowest ∙ nothing start;
+        lowest = lowest;
       }
       each (suc n) d h = absurd (omega (arith, h))
 
@@ -151,10 +129,10 @@ module _ {C : Type 0} (number : C → ℕ) (limit : ℕ) (start : ℤ) where
   each-from P (row ∷ rows) each = (each 0 row (omega arith), each-from P rows (λ n d h. each (suc n) d (omega (arith, h))))
 
   -- the last row is of all before the ith subject, or of as many as there may be
-  pub last-is : (most : ℕ) (scores : List ℤ) (i last : ℕ) (rows : List (DrawRow C)) → i < length scores → AreRows number limit most start (take i scores) rows → length rows ≡ last + 1 → last ≡ min most i
+  pub last-is : (most : ℕ) (scores : List ℤ) (i last : ℕ) (rows : List (DrawRow C)) → i < length scores → AreRows number limit most (take i scores) rows → length rows ≡ last + 1 → last ≡ min most i
   last-is most scores i last rows h are e = omega (arith, e, are.long, ap (min most) (length-take-le i scores (omega (arith, h))))
 
-  pub last-all : (most : ℕ) (scores : List ℤ) (i last : ℕ) (rows : List (DrawRow C)) (row d : DrawRow C) → i < length scores → AreRows number limit most start (take i scores) rows → length rows ≡ last + 1 → last < most → row ≡ get_or rows last d
+  pub last-all : (most : ℕ) (scores : List ℤ) (i last : ℕ) (rows : List (DrawRow C)) (row d : DrawRow C) → i < length scores → AreRows number limit most (take i scores) rows → length rows ≡ last + 1 → last < most → row ≡ get_or rows last d
       → RowOf (take i scores) i row
   last-all most scores i last rows row d h are long room e =
       let all : last ≡ i = omega (arith, last-is most scores i last rows h are long, room) in

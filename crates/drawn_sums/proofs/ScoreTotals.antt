@@ -1,6 +1,6 @@
 -- What scores sum to, and how large that may be.
-use Rattle.std.proofs.Common.{◌≡◌, ℕ, zero, suc, ◌+◌, ◌<◌, ◌≤◌, List, [], ◌∷◌, ◌++◌, map, length, take, get_or, arith}
-use Rattle.std.specs.Prelude.{ℤ, pos, ◌+ℤ◌, ◌-ℤ◌, unsigned_abs}
+use Rattle.std.proofs.Common.{◌≡◌, ℕ, zero, suc, ◌+◌, ◌<◌, ◌≤◌, List, [], ◌∷◌, ◌++◌, length, take, get_or, arith}
+use Rattle.std.specs.Prelude.{ℤ, pos, ◌+ℤ◌, unsigned_abs}
 use Rattle.std.proofs.lemmas.Int.{ints}
 use Rattle.weights.specs.Numbers.{absolute_sum}
 use Rattle.drawn_sums.specs.Draws.{score_total}
@@ -15,9 +15,6 @@ total-more (s ∷ scores) (suc i) h =
 pub size-plus : (a b : ℤ) → unsigned_abs (a +ℤ b) ≤ unsigned_abs a + unsigned_abs b
 size-plus a b = grind (arith, ints)
 
-size-opposite : (a : ℤ) → unsigned_abs (pos 0 -ℤ a) ≡ unsigned_abs a
-size-opposite a = grind (arith, ints)
-
 pub total-size : (scores : List ℤ) → unsigned_abs (score_total scores) ≤ absolute_sum scores
 total-size [] = omega arith
 total-size (s ∷ scores) = omega (arith, size-plus s (score_total scores), total-size scores)
@@ -25,10 +22,6 @@ total-size (s ∷ scores) = omega (arith, size-plus s (score_total scores), tota
 pub absolute-append : (xs ys : List ℤ) → absolute_sum (xs ++ ys) ≡ absolute_sum xs + absolute_sum ys
 absolute-append [] ys = omega arith
 absolute-append (x ∷ xs) ys = omega (arith, absolute-append xs ys)
-
-pub absolute-opposite : (scores : List ℤ) → absolute_sum (map (λ s. pos 0 -ℤ s) scores) ≡ absolute_sum scores
-absolute-opposite [] = omega arith
-absolute-opposite (s ∷ scores) = omega (arith, size-opposite s, absolute-opposite scores)
 
 -- the sum of the first scores with the next one, within the sum of all
 pub next-small : (scores : List ℤ) (i : ℕ) → i < length scores → unsigned_abs (score_total (take i scores)) + unsigned_abs (get_or scores i (pos 0)) ≤ absolute_sum scores

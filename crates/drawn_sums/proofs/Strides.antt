@@ -1,11 +1,11 @@
 -- How far apart scores lie, and in which order they stand.
-use Rattle.std.proofs.Common.{◌≡◌, ℕ, zero, suc, ◌+◌, ◌-◌, ◌<◌, ◌≤◌, max, List, [], ◌∷◌, ◌++◌, map, reverse, length, get_or, take, drop, true, ◌⊎◌, inl, inr, sym, ◌∙◌, subst, arith}
+use Rattle.std.proofs.Common.{◌≡◌, ℕ, zero, suc, ◌+◌, ◌-◌, ◌<◌, ◌≤◌, max, List, [], ◌∷◌, ◌++◌, reverse, length, get_or, take, drop, true, ◌⊎◌, inl, inr, sym, subst, arith}
 use Rattle.std.specs.Prelude.{ℤ, pos, negsuc, ◌-ℤ◌, ◌≤ℤ◌, unsigned_abs, int_le, All, Contains, IsPermutation}
 use Rattle.std.specs.Int.{◌∣◌, IsGcd}
 use Rattle.std.proofs.Math.Nat.{dvd-add, dvd-sub, one-dvd}
 use Rattle.std.proofs.lemmas.Bool.{cases_lt}
 use Rattle.std.proofs.lemmas.Int.{ints}
-use Rattle.std.proofs.lemmas.List.{take-append-drop, take_more, get_or-map, get_or-reverse, get_or-append-add, get_or_append_left, length-append, length-map, length-reverse}
+use Rattle.std.proofs.lemmas.List.{take-append-drop, take_more, get_or-reverse, get_or-append-add, get_or_append_left, length-append, length-reverse}
 use Rattle.std.proofs.lemmas.List.Elements.{Contains-append_left, Contains-append_right, Contains-get_or, Contains-push, Contains-push_cases, All-from_recursion}
 use Rattle.std.proofs.lemmas.List.Sorted.{All-permutation, Contains-permutation, IsPermutation-sym}
 use Rattle.std.proofs.lemmas.Nat.Gcd.{dvd_antisymm, dvd_trans, dvd-zero}
@@ -104,19 +104,6 @@ apart-take d n xs apart = apart-first d (take n xs) (drop n xs) (subst (AreApart
 
 pub apart-drop : (d n : ℕ) (xs : List ℤ) → AreApart d xs → AreApart d (drop n xs)
 apart-drop d n xs apart = apart-second d (take n xs) (drop n xs) (subst (AreApart d) (sym (take-append-drop n xs)) apart)
-
-pub opposite-member : (xs : List ℤ) (a : ℤ) → Contains (map (λ s. pos 0 -ℤ s) xs) a → (s : ℤ) × Contains xs s × (a ≡ pos 0 -ℤ s)
-opposite-member xs a p =
-    let f = λ (s : ℤ). pos 0 -ℤ s in
-    let h : p.0 < length xs = omega (arith, p.1, length-map xs f) in
-    (get_or xs p.0 (pos 0), Contains-get_or xs p.0 (pos 0) h, sym p.2 ∙ get_or-map f xs p.0 (pos 0) a h)
-
-pub apart-opposite : (d : ℕ) (xs : List ℤ) → AreApart d xs → AreApart d (map (λ s. pos 0 -ℤ s) xs)
-apart-opposite d xs apart a b p q =
-    let one = opposite-member xs a p in
-    let other = opposite-member xs b q in
-    let is : other.0 -ℤ one.0 ≡ a -ℤ b = omega (arith, ints, one.2, other.2) in
-    subst (λ z. d ∣ unsigned_abs z) is (apart other.0 one.0 other.1 one.1)
 
 pub apart-ascending : (d : ℕ) (xs : List ℤ) → AreApart d xs → AreApart d (ascending xs)
 apart-ascending d xs apart = apart-permuted d xs (ascending xs) (in_order-permutes int_le xs) apart

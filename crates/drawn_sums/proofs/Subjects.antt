@@ -1,6 +1,6 @@
 -- Subjects in order, and parts of them.
-use Rattle.std.proofs.Common.{ℕ, ◌+◌, ◌≤◌, List, ◌++◌, max, arith}
-use Rattle.std.specs.Prelude.{ℤ, pos, unsigned_abs}
+use Rattle.std.proofs.Common.{ℕ, ◌≤◌, List, ◌++◌, max, arith}
+use Rattle.std.specs.Prelude.{ℤ}
 use Rattle.weights.specs.Numbers.{absolute_sum}
 use Rattle.weights.specs.declared.TheConstants.{MAX}
 use Rattle.networks.specs.PartialSums.{ascending}
@@ -10,8 +10,8 @@ use Rattle.drawn_sums.proofs.CellSums.{absolute-ascending}
 use Rattle.drawn_sums.proofs.ScoreTotals.{absolute-append}
 use Rattle.drawn_sums.proofs.Strides.{apart-ascending, apart-first, apart-second, apart-some, ascend-ascending, ascend-first, ascend-second}
 
-module _ (stride : ℕ) (start : ℤ) (xs ys : List ℤ) (s : AreSubjects stride start (xs ++ ys)) where
-  pub first-subjects : AreSubjects stride start xs
+module _ (stride : ℕ) (xs ys : List ℤ) (s : AreSubjects stride (xs ++ ys)) where
+  pub first-subjects : AreSubjects stride xs
   first-subjects = record {
     some = s.some;
     apart = apart-first stride xs ys s.apart;
@@ -19,7 +19,7 @@ module _ (stride : ℕ) (start : ℤ) (xs ys : List ℤ) (s : AreSubjects stride
     small = omega (arith, s.small, absolute-append xs ys);
   }
 
-  pub second-subjects : AreSubjects stride (pos 0) ys
+  pub second-subjects : AreSubjects stride ys
   second-subjects = record {
     some = s.some;
     apart = apart-second stride xs ys s.apart;
@@ -27,8 +27,8 @@ module _ (stride : ℕ) (start : ℤ) (xs ys : List ℤ) (s : AreSubjects stride
     small = omega (arith, s.small, absolute-append xs ys);
   }
 
-pub ordered-subjects : (stride : ℕ) (start : ℤ) (scores : List ℤ) → AreApart stride scores → unsigned_abs start + absolute_sum scores ≤ MAX → AreSubjects (max stride 1) start (ascending scores)
-ordered-subjects stride start scores apart small = record {
+pub ordered-subjects : (stride : ℕ) (scores : List ℤ) → AreApart stride scores → absolute_sum scores ≤ MAX → AreSubjects (max stride 1) (ascending scores)
+ordered-subjects stride scores apart small = record {
   some = omega arith;
   apart = apart-ascending (max stride 1) scores (apart-some stride scores apart);
   ascend = ascend-ascending scores;

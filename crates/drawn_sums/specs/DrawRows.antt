@@ -1,6 +1,6 @@
 -- Rows that count draws: one row for each number of subjects, with a cell for each sum.
 use Rattle.std.specs.Prelude.{◌≡◌, ℕ, ℤ, pos, ◌+◌, ◌+ℤ◌, ◌<◌, ◌≤◌, List, [], ◌∷◌}
-use Rattle.std.specs.Prelude.{get_or, length, map, min, unsigned_abs}
+use Rattle.std.specs.Prelude.{get_or, length, map, min}
 use Rattle.std.specs.List.{sum}
 use Rattle.weights.specs.Numbers.{absolute_sum, binomial}
 use Rattle.weights.specs.declared.TheConstants.{MAX}
@@ -40,40 +40,33 @@ NoneAbove most f = (n : ℕ) (v : ℤ) → most < n → f n v ≡ 0
 abbrev pub with_one : ℤ → (ℕ → ℤ → ℕ) → ℕ → ℤ → ℕ
 with_one score f n v = f (n + 1) (v +ℤ score)
 
--- what all rows have of the draws of n, beside the sum of nobody: how many there are, and the least
--- sum, where the scores ascend
-pub record IsRowOf {C : Type 0} (number : C → ℕ) (limit : ℕ) (start : ℤ) (scores : List ℤ) (n : ℕ)
+-- what a row has of the draws of n: how many there are, and the least sum, where the scores ascend
+pub record IsRowOf {C : Type 0} (number : C → ℕ) (limit : ℕ) (scores : List ℤ) (n : ℕ)
     (row : DrawRow C) : Type 0 where
   pub row_is : IsDrawRow number limit row
   pub total : row.total ≡ binomial (length scores) n
-  pub lowest : row.lowest ≡ start +ℤ least n scores
-
--- the sum of nobody
-abbrev pub start_of : {C : Type 0} → List (DrawRow C) → ℤ
-start_of [] = pos 0
-start_of (row ∷ rows) = row.lowest
+  pub lowest : row.lowest ≡ least n scores
 
 -- rows of nobody, of one and so on, up to so many
-pub record AreRows {C : Type 0} (number : C → ℕ) (limit most : ℕ) (start : ℤ) (scores : List ℤ)
+pub record AreRows {C : Type 0} (number : C → ℕ) (limit most : ℕ) (scores : List ℤ)
     (rows : List (DrawRow C)) : Type 0 where
   pub long : length rows ≡ min most (length scores) + 1
   pub each : (n : ℕ) (d : DrawRow C) → n < length rows
-      → IsRowOf number limit start scores n (get_or rows n d)
+      → IsRowOf number limit scores n (get_or rows n d)
 
--- the rows of the draws of at most so many of the subjects with these scores, nobody's sum being
--- the start
-pub record AreDraws {C : Type 0} (number : C → ℕ) (limit most stride : ℕ) (start : ℤ)
-    (scores : List ℤ) (rows : List (DrawRow C)) : Type 0 where
-  pub rows_are : AreRows number limit most start scores rows
+-- the rows of the draws of at most so many of the subjects with these scores
+pub record AreDraws {C : Type 0} (number : C → ℕ) (limit most stride : ℕ) (scores : List ℤ)
+    (rows : List (DrawRow C)) : Type 0 where
+  pub rows_are : AreRows number limit most scores rows
   pub told : (f : ℕ → ℤ → ℕ) → NoneAbove most f
-      → rows_draws number f 0 stride rows ≡ draw_sum f 0 start scores
+      → rows_draws number f 0 stride rows ≡ draw_sum f 0 (pos 0) scores
 
 -- subjects by ascending score, whose sums lie strides apart and pass no limit
-pub record AreSubjects (stride : ℕ) (start : ℤ) (scores : List ℤ) : Type 0 where
+pub record AreSubjects (stride : ℕ) (scores : List ℤ) : Type 0 where
   pub some : 0 < stride
   pub apart : AreApart stride scores
   pub ascend : Ascend scores
-  pub small : unsigned_abs start + absolute_sum scores ≤ MAX
+  pub small : absolute_sum scores ≤ MAX
 
 -- the draws of at most so many of these are counts of this width
 pub record AreCounted (limit most : ℕ) (scores : List ℤ) : Type 0 where

@@ -1,6 +1,6 @@
 -- How large the rows of draws get, by which it is decided whether draws are counted.
 use Rattle.std.specs.Prelude.{ℕ, ℤ, pos, ◌+◌, ◌-◌, ◌*◌, ◌/◌, ◌^◌, ◌-ℤ◌, ◌≤ℤ◌, ◌<◌, ◌≤◌, List}
-use Rattle.std.specs.Prelude.{length, map, take, drop, reverse, get_or, min, max, unsigned_abs}
+use Rattle.std.specs.Prelude.{length, take, drop, reverse, get_or, min, max, unsigned_abs}
 use Rattle.std.specs.Prelude.{Bool, cond, not, ◌&&◌, ◌||◌, nat_le, nat_lt}
 use Rattle.std.specs.Prelude.{Contains, find, unwrap_or}
 use Rattle.std.specs.Ordering.{int_eq}
@@ -78,16 +78,12 @@ is_drawn stride most scores =
     is_dense stride most (take c scores) && is_dense stride most (drop c scores)
     && nat_le (length scores / 4) (subjects_taken most scores)
 
--- the fewer of those who are drawn and those who are left are drawn, these with opposite scores
-abbrev pub drawn_scores : ℕ → List ℤ → List ℤ
-drawn_scores n scores =
-    cond (nat_le n (length scores - n)) scores (map (λ s. pos 0 -ℤ s) scores)
-
--- whether labellings with n subjects of the second group are counted by draws, by a stride
+-- whether labellings with n subjects of the second group are counted by draws, by a stride: the
+-- fewer of those who are drawn and those who are left are drawn
 abbrev pub are_drawn : Judge → ℕ → ℕ → List ℤ → Bool
 are_drawn judge stride n scores =
     let fewer = min n (length scores - n) in
-    have_sides judge && is_drawn (max stride 1) fewer (ascending (drawn_scores n scores))
+    have_sides judge && is_drawn (max stride 1) fewer (ascending scores)
 
 -- how many sums the scores of all may have where any number of so many subjects is drawn
 abbrev pub most_sums : ℕ → ℕ

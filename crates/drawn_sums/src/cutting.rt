@@ -1,6 +1,6 @@
 // In which order the subjects are drawn, how far apart their sums lie, where they are cut, and
 // whether their draws are counted.
-ghost use Rattle.std.specs.Prelude.{◌≡◌, pos, ◌*◌, ◌/◌, ◌-ℤ◌, ◌<◌, ◌≤◌, ◌∷◌, length, map, nat_le};
+ghost use Rattle.std.specs.Prelude.{◌≡◌, pos, ◌*◌, ◌/◌, ◌<◌, ◌≤◌, ◌∷◌, length, nat_le};
 ghost use Rattle.std.specs.Prelude.{is_some, IfOk, IfSome};
 ghost use Rattle.weights.specs.Numbers.{absolute_sum};
 ghost use Rattle.weights.specs.declared.TheConstants.{MAX};
@@ -27,18 +27,6 @@ pub(crate) fn in_order(alloc: Global, scores: &[i128]) -> Result<Vec<i128>, NoMe
     let mut sorted = Vec::from_slice(alloc, scores)?;
     sorted.sort_unstable();
     Ok(sorted)
-}
-
-/// The scores, each with the other sign.
-pub(crate) fn opposite(alloc: Global, scores: &[i128]) -> Result<Vec<i128>, NoMemory>
-    requires { absolute_sum scores.now ≤ MAX }
-    ensures { IfOk result (λ opposite. opposite.items ≡ map (λ s. pos 0 -ℤ s) scores.now) }
-{
-    let mut opposite = Vec::new(alloc);
-    for i in 0..scores.len() {
-        opposite.push(-scores[i])?;
-    }
-    Ok(opposite)
 }
 
 /// The greatest number of which every two scores are a multiple apart, 0 where all are equal.

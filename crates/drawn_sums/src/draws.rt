@@ -1,13 +1,12 @@
 // The draws of at most so many subjects: a row for each number of them.
 ghost use Rattle.std.specs.Prelude.{◌≡◌, ℕ, ℤ, pos, ◌+◌, ◌+ℤ◌, ◌<◌, ◌≤◌, [], length, take, get_or};
-ghost use Rattle.std.specs.Prelude.{min, unsigned_abs, OnOk, IfOk};
+ghost use Rattle.std.specs.Prelude.{min, OnOk, IfOk};
 ghost use Rattle.std.specs.List.{AllByRecursion};
 ghost use Rattle.weights.specs.Numbers.{absolute_sum};
 ghost use Rattle.weights.specs.declared.TheConstants.{MAX};
 ghost use Rattle.dense_rows.specs.Rows.{stepped};
 ghost use Rattle.drawn_sums.specs.DrawRows.{AreCounted, AreDraws, AreRows, AreSubjects, IsDrawRow};
-ghost use Rattle.drawn_sums.specs.DrawRows.{IsRowOf, NoneAbove, row_draws, rows_draws, start_of};
-ghost use Rattle.drawn_sums.specs.DrawRows.{with_one};
+ghost use Rattle.drawn_sums.specs.DrawRows.{IsRowOf, NoneAbove, row_draws, rows_draws, with_one};
 ghost use Rattle.drawn_sums.specs.declared.rows.DrawRow.{DrawRow};
 
 use crate::rows::{DrawRow, place_between};
@@ -15,13 +14,13 @@ use std::alloc::Global;
 use weights::{Count, NoMemory};
 
 // The one draw of nobody, in a list.
-fn nobody_alone<C: Count>(alloc: Global, start: i128) -> Result<Vec<DrawRow<C>>, NoMemory>
+fn nobody_alone<C: Count>(alloc: Global) -> Result<Vec<DrawRow<C>>, NoMemory>
     requires { 1 ≤ C.LIMIT }
     ensures { IfOk result (λ rows. (most stride : ℕ)
-        → AreDraws C.number C.LIMIT most stride start [] rows.items) }
+        → AreDraws C.number C.LIMIT most stride [] rows.items) }
 {
     let mut rows = Vec::new(alloc);
-    rows.push(DrawRow::nobody(alloc, start)?)?;
+    rows.push(DrawRow::nobody(alloc)?)?;
     Ok(rows)
 }
 
@@ -63,16 +62,15 @@ fn add_down<C: Count>(
     requires count { count < length rows.old }
     requires few { count ≤ i }
     requires i { i < length scores.now }
-    requires subjects { AreSubjects stride (start_of rows.old) scores.now }
+    requires subjects { AreSubjects stride scores.now }
     requires counted { AreCounted C.LIMIT count scores.now }
     requires rows { AllByRecursion (IsDrawRow C.number C.LIMIT) rows.old }
-    requires before { (n : ℕ) (d : DrawRow C) → n ≤ count → IsRowOf C.number C.LIMIT
-        (start_of rows.old) (take i scores.now) n (get_or rows.old n d) }
+    requires before { (n : ℕ) (d : DrawRow C) → n ≤ count
+        → IsRowOf C.number C.LIMIT (take i scores.now) n (get_or rows.old n d) }
     ensures long { length rows.new ≡ length rows.old }
     ensures rows { OnOk result (AllByRecursion (IsDrawRow C.number C.LIMIT) rows.new) }
     ensures after { OnOk result ((n : ℕ) (d : DrawRow C) → n ≤ count
-        → IsRowOf C.number C.LIMIT (start_of rows.old) (take (i + 1) scores.now) n
-        (get_or rows.new n d)) }
+        → IsRowOf C.number C.LIMIT (take (i + 1) scores.now) n (get_or rows.new n d)) }
     ensures behind { OnOk result ((n : ℕ) (d : DrawRow C) → count < n
         → get_or rows.new n d ≡ get_or rows.old n d) }
     ensures told { OnOk result ((f : ℕ → ℤ → ℕ)
@@ -100,18 +98,16 @@ fn with_next<C: Count>(
     most: usize,
 ) -> Result<usize, NoMemory>
     requires i { i < length scores.now }
-    requires small { unsigned_abs (start_of rows.old.items) + absolute_sum scores.now ≤ MAX }
-    requires rows { AreRows C.number C.LIMIT most (start_of rows.old.items) (take i scores.now)
-        rows.old.items }
+    requires small { absolute_sum scores.now ≤ MAX }
+    requires rows { AreRows C.number C.LIMIT most (take i scores.now) rows.old.items }
     ensures rows { OnOk result (AllByRecursion (IsDrawRow C.number C.LIMIT) rows.new.items) }
     ensures long { OnOk result (length rows.new.items ≡ min most (i + 1) + 1) }
-    ensures start { OnOk result (start_of rows.new.items ≡ start_of rows.old.items) }
     ensures last { IfOk result (λ last. last ≡ min most i) }
     ensures before { OnOk result ((n : ℕ) (d : DrawRow C) → n ≤ min most i
         → get_or rows.new.items n d ≡ get_or rows.old.items n d) }
     ensures next { OnOk result ((n : ℕ) (d : DrawRow C) → min most i < n
-        → n < length rows.new.items → IsRowOf C.number C.LIMIT (start_of rows.old.items)
-        (take (i + 1) scores.now) n (get_or rows.new.items n d)) }
+        → n < length rows.new.items
+        → IsRowOf C.number C.LIMIT (take (i + 1) scores.now) n (get_or rows.new.items n d)) }
     ensures told { IfOk result (λ last. (f : ℕ → ℤ → ℕ) (stride : ℕ) → NoneAbove most f
         → rows_draws C.number f 0 stride rows.new.items
         + rows_draws C.number (with_one (get_or scores.now i (pos 0)) f) 0 stride
@@ -138,12 +134,11 @@ fn add_subject<C: Count>(
     most: usize,
 ) -> Result<(), NoMemory>
     requires i { i < length scores.now }
-    requires subjects { AreSubjects stride (start_of rows.old.items) scores.now }
+    requires subjects { AreSubjects stride scores.now }
     requires counted { AreCounted C.LIMIT most scores.now }
-    requires rows { AreRows C.number C.LIMIT most (start_of rows.old.items) (take i scores.now)
-        rows.old.items }
-    ensures rows { OnOk result (AreRows C.number C.LIMIT most (start_of rows.old.items)
-        (take (i + 1) scores.now) rows.new.items) }
+    requires rows { AreRows C.number C.LIMIT most (take i scores.now) rows.old.items }
+    ensures rows { OnOk result
+        (AreRows C.number C.LIMIT most (take (i + 1) scores.now) rows.new.items) }
     ensures told { OnOk result ((f : ℕ → ℤ → ℕ) → NoneAbove most f
         → rows_draws C.number f 0 stride rows.new.items
         ≡ rows_draws C.number f 0 stride rows.old.items
@@ -154,20 +149,18 @@ fn add_subject<C: Count>(
 }
 
 /// The draws of at most so many of the subjects with these scores, which ascend and lie strides
-/// apart. Nobody's scores sum to the start.
+/// apart.
 pub(crate) fn draw_rows<C: Count>(
     alloc: Global,
     scores: &[i128],
-    start: i128,
     stride: u128,
     most: usize,
 ) -> Result<Vec<DrawRow<C>>, NoMemory>
-    requires subjects { AreSubjects stride start scores.now }
+    requires subjects { AreSubjects stride scores.now }
     requires counted { AreCounted C.LIMIT most scores.now }
-    ensures { IfOk result (λ rows.
-        AreDraws C.number C.LIMIT most stride start scores.now rows.items) }
+    ensures { IfOk result (λ rows. AreDraws C.number C.LIMIT most stride scores.now rows.items) }
 {
-    let mut rows = nobody_alone(alloc, start)?;
+    let mut rows = nobody_alone(alloc)?;
     for i in 0..scores.len() {
         add_subject(alloc, &mut rows, scores, i, stride, most)?;
     }

@@ -11,6 +11,7 @@
 
 mod cutting;
 mod draws;
+mod left;
 mod meeting;
 mod pairs;
 mod rows;

@@ -46,19 +46,19 @@ fn reach<C: Count>(cells: &mut Vec<C>, end: usize) -> Result<(), NoMemory>
 }
 
 impl<C: Count> DrawRow<C> {
-    /// The one draw of nobody, who sum to this.
-    pub(crate) fn nobody(alloc: Global, lowest: i128) -> Result<DrawRow<C>, NoMemory>
+    /// The one draw of nobody.
+    pub(crate) fn nobody(alloc: Global) -> Result<DrawRow<C>, NoMemory>
         requires { 1 ≤ C.LIMIT }
         ensures row { IfOk result (IsDrawRow C.number C.LIMIT) }
         ensures one { IfOk result (λ row. row.total ≡ 1) }
-        ensures lowest { IfOk result (λ row. row.lowest ≡ lowest) }
+        ensures lowest { IfOk result (λ row. row.lowest ≡ pos 0) }
         ensures told { IfOk result (λ row. (g : ℤ → ℕ) (stride : ℕ)
-            → row_draws C.number g stride row ≡ g lowest) }
+            → row_draws C.number g stride row ≡ g (pos 0)) }
     {
         let mut cells = Vec::new(alloc);
         cells.push(cell_of::<C>(1))?;
         Ok(DrawRow {
-            lowest,
+            lowest: 0,
             total: 1,
             cells,
         })

@@ -74,7 +74,7 @@ fn sign_row<C: Count>(alloc: Global, scores: &[i128], stride: u128) -> Result<Dr
     ensures told { IfOk result (λ row. (g : ℤ → ℕ)
         → row_draws C.number g stride row ≡ draw_sum (λ n v. g v) 0 (pos 0) scores.now) }
 {
-    let mut row = DrawRow::nobody(alloc, 0)?;
+    let mut row = DrawRow::nobody(alloc)?;
     for i in 0..scores.len() {
         row = with_subject(alloc, &row, scores[i], stride)?;
     }

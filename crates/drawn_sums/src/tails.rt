@@ -1,7 +1,6 @@
 // The labellings of two groups whose sum of scores passes the rules of a test.
 ghost use Rattle.std.specs.Prelude.{◌≡◌, ℕ, pos, ◌+◌, ◌-◌, ◌*◌, ◌<◌, ◌≤◌, [], ◌∷◌, ◌++◌, true};
-ghost use Rattle.std.specs.Prelude.{length};
-ghost use Rattle.std.specs.Prelude.{is_some, unsigned_abs, IfOk, IfSome};
+ghost use Rattle.std.specs.Prelude.{length, is_some, IfOk, IfSome};
 ghost use Rattle.weights.specs.Labellings.{number_of_labellings};
 ghost use Rattle.weights.specs.Numbers.{absolute_sum, binomial};
 ghost use Rattle.weights.specs.declared.TheConstants.{MAX};
@@ -10,58 +9,45 @@ ghost use Rattle.networks.specs.Asked.{asks};
 ghost use Rattle.networks.specs.Judged.{rule_in};
 ghost use Rattle.networks.specs.EachTail.{sum_for};
 ghost use Rattle.halves.specs.Sides.{AreOrdered, is_in, sides_for};
-ghost use Rattle.drawn_sums.specs.Draws.{draw_sum, score_total};
+ghost use Rattle.drawn_sums.specs.Draws.{draw_sum};
 ghost use Rattle.drawn_sums.specs.DrawnSums.{passing_draws};
 ghost use Rattle.drawn_sums.specs.DrawRows.{AreCounted, AreSubjects};
 ghost use Rattle.drawn_sums.specs.DrawSizes.{IsStride, are_drawn, is_drawn};
 ghost use Rattle.drawn_sums.specs.Meetings.{drawn_at};
 
-use crate::cutting::{common_stride, drawn_cut, in_order, opposite};
+use crate::cutting::{common_stride, drawn_cut, in_order};
 use crate::draws::draw_rows;
+use crate::left::left_sides;
 use crate::meeting::meeting;
 use halves::TailSides;
 use networks::{Judge, TailSums};
 use std::alloc::Global;
-use weights::{Count, Narrow, NoMemory, Tails, Wide, plus};
+use weights::{Count, Narrow, NoMemory, Tails, Wide};
 
 // The draws of so many of no more subjects than this are a narrow count.
 const FEW: usize = 66;
-
-// What scores sum to.
-fn score_total(scores: &[i128]) -> i128
-    requires { absolute_sum scores.now ≤ MAX }
-    ensures is { result ≡ score_total scores.now }
-    ensures small { unsigned_abs result ≤ absolute_sum scores.now }
-{
-    let mut total = 0;
-    for i in 0..scores.len() {
-        total = plus(total, scores[i]);
-    }
-    total
-}
 
 // The sums in counts of one width.
 fn sums_in<C: Count>(
     alloc: Global,
     first: &[i128],
     second: &[i128],
-    start: i128,
     drawn: usize,
     stride: u128,
     sides: &TailSides,
     tails: Tails,
 ) -> Result<TailSums, NoMemory>
-    requires subjects { AreSubjects stride start (first.now ++ second.now) }
+    requires subjects { AreSubjects stride (first.now ++ second.now) }
     requires first { AreCounted C.LIMIT drawn first.now }
     requires second { AreCounted C.LIMIT drawn second.now }
     requires fits { binomial (length (first.now ++ second.now)) drawn ≤ MAX }
     requires ordered { (t : Tail) → AreOrdered (sides_for sides.now t) }
     ensures { IfOk result (λ sums. (t : Tail) → asks tails t ≡ true → (sum_for sums t).sum
-        ≡ draw_sum (drawn_at (is_in (sides_for sides.now t)) drawn) 0 start
+        ≡ draw_sum (drawn_at (is_in (sides_for sides.now t)) drawn) 0 (pos 0)
         (first.now ++ second.now)) }
 {
-    let rows = draw_rows::<C>(alloc, first, start, stride, drawn)?;
-    let others = draw_rows::<C>(alloc, second, 0, stride, drawn)?;
+    let rows = draw_rows::<C>(alloc, first, stride, drawn)?;
+    let others = draw_rows::<C>(alloc, second, stride, drawn)?;
     Ok(meeting(&rows, &others, drawn, stride, sides, tails))
 }
 
@@ -70,25 +56,24 @@ fn cut_sums(
     alloc: Global,
     sorted: &[i128],
     cut: usize,
-    start: i128,
     drawn: usize,
     stride: u128,
     sides: &TailSides,
     tails: Tails,
 ) -> Result<TailSums, NoMemory>
     requires cut { cut ≤ length sorted.now }
-    requires subjects { AreSubjects stride start sorted.now }
+    requires subjects { AreSubjects stride sorted.now }
     requires few { 2 * drawn ≤ length sorted.now }
     requires fits { binomial (length sorted.now) drawn ≤ MAX }
     requires ordered { (t : Tail) → AreOrdered (sides_for sides.now t) }
     ensures { IfOk result (λ sums. (t : Tail) → asks tails t ≡ true → (sum_for sums t).sum
-        ≡ draw_sum (drawn_at (is_in (sides_for sides.now t)) drawn) 0 start sorted.now) }
+        ≡ draw_sum (drawn_at (is_in (sides_for sides.now t)) drawn) 0 (pos 0) sorted.now) }
 {
     let (first, second) = sorted.split_at(cut);
     if first.len() <= FEW && second.len() <= FEW {
-        sums_in::<Narrow>(alloc, first, second, start, drawn, stride, sides, tails)
+        sums_in::<Narrow>(alloc, first, second, drawn, stride, sides, tails)
     } else {
-        sums_in::<Wide>(alloc, first, second, start, drawn, stride, sides, tails)
+        sums_in::<Wide>(alloc, first, second, drawn, stride, sides, tails)
     }
 }
 
@@ -96,13 +81,12 @@ fn cut_sums(
 fn sorted_sums(
     alloc: Global,
     sorted: &[i128],
-    start: i128,
     drawn: usize,
     stride: u128,
     sides: &TailSides,
     tails: Tails,
 ) -> Result<Option<TailSums>, NoMemory>
-    requires subjects { AreSubjects stride start sorted.now }
+    requires subjects { AreSubjects stride sorted.now }
     requires small { 2 * length sorted.now * absolute_sum sorted.now ≤ MAX }
     requires few { 2 * drawn ≤ length sorted.now }
     requires fits { binomial (length sorted.now) drawn ≤ MAX }
@@ -110,11 +94,11 @@ fn sorted_sums(
     ensures when { IfOk result (λ some. is_some some ≡ is_drawn stride drawn sorted.now) }
     ensures sums { IfOk result (λ some. IfSome some (λ sums. (t : Tail) → asks tails t ≡ true
         → (sum_for sums t).sum
-        ≡ draw_sum (drawn_at (is_in (sides_for sides.now t)) drawn) 0 start sorted.now)) }
+        ≡ draw_sum (drawn_at (is_in (sides_for sides.now t)) drawn) 0 (pos 0) sorted.now)) }
 {
     match drawn_cut(sorted, stride, drawn) {
         Some(cut) => {
-            let sums = cut_sums(alloc, sorted, cut, start, drawn, stride, sides, tails)?;
+            let sums = cut_sums(alloc, sorted, cut, drawn, stride, sides, tails)?;
             Ok(Some(sums))
         }
         None => Ok(None),
@@ -145,14 +129,11 @@ pub fn drawn_sums(
         return Ok(None);
     };
     let stride = common_stride(scores).max(1);
+    let sorted = in_order(alloc, scores)?;
     let left = scores.len() - drawn;
     if drawn <= left {
-        let sorted = in_order(alloc, scores)?;
-        return sorted_sums(alloc, sorted.as_slice(), 0, drawn, stride, &sides, tails);
+        return sorted_sums(alloc, sorted.as_slice(), drawn, stride, &sides, tails);
     }
-    // those who are left have what the drawn ones lack to the sum of all
-    let opposite = opposite(alloc, scores)?;
-    let sorted = in_order(alloc, opposite.as_slice())?;
-    let total = score_total(scores);
-    sorted_sums(alloc, sorted.as_slice(), total, left, stride, &sides, tails)
+    let left_sides = left_sides(&sides, scores);
+    sorted_sums(alloc, sorted.as_slice(), left, stride, &left_sides, tails)
 }

@@ -3,22 +3,22 @@ use Rattle.std.specs.Prelude.{ℤ, pos, ◌+ℤ◌, ◌-ℤ◌}
 use Rattle.std.proofs.lemmas.Int.{to_z-of_z}
 use mir.Syntax.{w128}
 use Rattle.dense_rows.specs.Rows.{stepped}
-use Rattle.drawn_sums.specs.DrawRows.{IsDrawRow, IsRowOf, start_of}
+use Rattle.drawn_sums.specs.DrawRows.{IsDrawRow, IsRowOf}
 use Rattle.drawn_sums.specs.declared.rows.DrawRow.{DrawRow}
 use Rattle.drawn_sums.proofs.RowSteps.{a-row, down-told, each-at}
 use Rattle.drawn_sums.proofs.RowsOf.{grown-down, in-place, nobody-still, subjects-apart, totals-within}
 use Rattle.drawn_sums.proofs.draws.add_down.Goals as goal
 
-module _ {C : Type 0} (number : C → ℕ) (limit : ℕ) (start : ℤ) (scores : List ℤ) (i n count : ℕ) (was rows : List (DrawRow C)) where
+module _ {C : Type 0} (number : C → ℕ) (limit : ℕ) (scores : List ℤ) (i n count : ℕ) (was rows : List (DrawRow C)) where
   -- rows as they were
-  still : n ≤ count → ((k : ℕ) (d : DrawRow C) → k ≤ n → get_or rows k d ≡ get_or was k d) → ((k : ℕ) (d : DrawRow C) → k ≤ count → IsRowOf number limit start scores k (get_or was k d))
-      → (k : ℕ) (d : DrawRow C) → k ≤ n → IsRowOf number limit start scores k (get_or rows k d)
+  still : n ≤ count → ((k : ℕ) (d : DrawRow C) → k ≤ n → get_or rows k d ≡ get_or was k d) → ((k : ℕ) (d : DrawRow C) → k ≤ count → IsRowOf number limit scores k (get_or was k d))
+      → (k : ℕ) (d : DrawRow C) → k ≤ n → IsRowOf number limit scores k (get_or rows k d)
   still low front before k d h = rw (front k d h) (before k d (omega (arith, low, h)))
 
   -- none is still to be added to the one behind it
-  all-grown : n ≤ 0 → ((k : ℕ) (d : DrawRow C) → k ≤ n → IsRowOf number limit start (take i scores) k (get_or rows k d)) → ((k : ℕ) (d : DrawRow C) → n < k → k ≤ count → IsRowOf number limit start (take (i + 1) scores) k (get_or rows k d))
-      → (k : ℕ) (d : DrawRow C) → k ≤ count → IsRowOf number limit start (take (i + 1) scores) k (get_or rows k d)
-  all-grown none front grown zero d h = nobody-still number limit start scores i (get_or rows 0 d) (front 0 d (omega arith))
+  all-grown : n ≤ 0 → ((k : ℕ) (d : DrawRow C) → k ≤ n → IsRowOf number limit (take i scores) k (get_or rows k d)) → ((k : ℕ) (d : DrawRow C) → n < k → k ≤ count → IsRowOf number limit (take (i + 1) scores) k (get_or rows k d))
+      → (k : ℕ) (d : DrawRow C) → k ≤ count → IsRowOf number limit (take (i + 1) scores) k (get_or rows k d)
+  all-grown none front grown zero d h = nobody-still number limit scores i (get_or rows 0 d) (front 0 d (omega arith))
   all-grown none front grown (suc k) d h = grown (suc k) d (omega (arith, none)) h
 
 pub place_between-requires-clause-apart : goal.place_between-requires-clause-apart
@@ -29,7 +29,7 @@ place_between-requires-clause-apart g c =
     let fits : FitsSigned w128 (get_or scores c.args.i (pos 0)) = search rules in
     let fit : FitsSigned w128 (get_or scores j (pos 0)) = search rules in
     rw (to_z-of_z w128 (get_or scores c.args.i (pos 0)) fits, to_z-of_z w128 (get_or scores j (pos 0)) fit)
-    (subjects-apart c.args.stride (start_of c.args.rows.now) scores c.requires.subjects j c.args.i low c.requires.i)
+    (subjects-apart c.args.stride scores c.requires.subjects j c.args.i low c.requires.i)
 
 pub add_behind-requires-clause-within : goal.add_behind-requires-clause-within
 add_behind-requires-clause-within g c = λ d.
@@ -37,8 +37,8 @@ add_behind-requires-clause-within g c = λ d.
     let i = c.loop-n.invariant in
     let j : ℕ = c.loop-n.n - 1 in
     let next : c.loop-n.n ≡ j + 1 = omega (arith, c.loop-n-test.true) in
-    let same = still num g.C.Count.LIMIT (start_of c.args.rows.now) (take c.args.i c.args.scores.now) c.args.i c.loop-n.n c.args.count c.args.rows.now c.loop-n.rows i.low i.front c.requires.before in
-    totals-within num g.C.Count.LIMIT (start_of c.args.rows.now) _ c.args.count c.args.scores.now c.args.i j (get_or c.loop-n.rows j d) (get_or c.loop-n.rows (j + 1) d) c.requires.counted.within c.requires.i (omega (arith, next, i.low)) (same j d (omega (arith, next))) (same (j + 1) d (omega (arith, next)))
+    let same = still num g.C.Count.LIMIT (take c.args.i c.args.scores.now) c.args.i c.loop-n.n c.args.count c.args.rows.now c.loop-n.rows i.low i.front c.requires.before in
+    totals-within num g.C.Count.LIMIT _ c.args.count c.args.scores.now c.args.i j (get_or c.loop-n.rows j d) (get_or c.loop-n.rows (j + 1) d) c.requires.counted.within c.requires.i (omega (arith, next, i.low)) (same j d (omega (arith, next))) (same (j + 1) d (omega (arith, next)))
 
 pub add_behind-requires-clause-fits : goal.add_behind-requires-clause-fits
 add_behind-requires-clause-fits g c = λ d.
@@ -46,8 +46,8 @@ add_behind-requires-clause-fits g c = λ d.
     let i = c.loop-n.invariant in
     let j : ℕ = c.loop-n.n - 1 in
     let next : c.loop-n.n ≡ j + 1 = omega (arith, c.loop-n-test.true) in
-    let same = still num g.C.Count.LIMIT (start_of c.args.rows.now) (take c.args.i c.args.scores.now) c.args.i c.loop-n.n c.args.count c.args.rows.now c.loop-n.rows i.low i.front c.requires.before in
-    totals-within num g.C.Count.LIMIT (start_of c.args.rows.now) _ c.args.count c.args.scores.now c.args.i j (get_or c.loop-n.rows j d) (get_or c.loop-n.rows (j + 1) d) c.requires.counted.fits c.requires.i (omega (arith, next, i.low)) (same j d (omega (arith, next))) (same (j + 1) d (omega (arith, next)))
+    let same = still num g.C.Count.LIMIT (take c.args.i c.args.scores.now) c.args.i c.loop-n.n c.args.count c.args.rows.now c.loop-n.rows i.low i.front c.requires.before in
+    totals-within num g.C.Count.LIMIT _ c.args.count c.args.scores.now c.args.i j (get_or c.loop-n.rows j d) (get_or c.loop-n.rows (j + 1) d) c.requires.counted.fits c.requires.i (omega (arith, next, i.low)) (same j d (omega (arith, next))) (same (j + 1) d (omega (arith, next)))
 
 pub loop-n-preserved : goal.loop-n-preserved
 loop-n-preserved g c =
@@ -57,21 +57,20 @@ loop-n-preserved g c =
     let was : List (DrawRow g.row.C.Denot) = c.args.rows.now in
     let rows : List (DrawRow g.row.C.Denot) = c.loop-n.rows in
     let new : List (DrawRow g.row.C.Denot) = c.add_behind.new.rows in
-    let start : ℤ = start_of was in
     let scores : List ℤ = c.args.scores.now in
     let j : ℕ = c.loop-n.n - 1 in
     let s : ℕ = c.args.stride in
     let next : c.loop-n.n ≡ j + 1 = omega (arith, c.loop-n-test.true) in
     let few : j < c.args.i = omega (arith, next, i.low, c.requires.few) in
-    let same = still num limit start (take c.args.i scores) c.args.i c.loop-n.n c.args.count was rows i.low i.front c.requires.before in
-    let one : (d : DrawRow g.row.C.Denot) → IsRowOf num limit start (take c.args.i scores) j (get_or rows j d) = λ d. same j d (omega (arith, next)) in
-    let two : (d : DrawRow g.row.C.Denot) → IsRowOf num limit start (take c.args.i scores) (j + 1) (get_or rows (j + 1) d) = λ d. same (j + 1) d (omega (arith, next)) in
+    let same = still num limit (take c.args.i scores) c.args.i c.loop-n.n c.args.count was rows i.low i.front c.requires.before in
+    let one : (d : DrawRow g.row.C.Denot) → IsRowOf num limit (take c.args.i scores) j (get_or rows j d) = λ d. same j d (omega (arith, next)) in
+    let two : (d : DrawRow g.row.C.Denot) → IsRowOf num limit (take c.args.i scores) (j + 1) (get_or rows (j + 1) d) = λ d. same (j + 1) d (omega (arith, next)) in
     record {
       long = c.add_behind.ensures.long ∙ i.long;
       low = omega (arith, i.low);
       each = c.in_ok-add_behind.ensures.rows;
       front = λ k d h. c.in_ok-add_behind.ensures.others k d (λ e. omega (arith, e, h, next)) ∙ i.front k d (omega (arith, h, next));
-      grown = grown-down num limit start scores c.args.i j c.args.count rows new c.requires.i few one two
+      grown = grown-down num limit scores c.args.i j c.args.count rows new c.requires.i few one two
           (λ d. each-at num s (IsDrawRow num limit) new (j + 1) d (omega (arith, c.add_behind.ensures.long, i.long, c.requires.count, next, i.low)) c.in_ok-add_behind.ensures.rows)
           c.in_ok-add_behind.ensures.total
           c.in_ok-add_behind.ensures.lowest
@@ -86,7 +85,7 @@ loop-n-preserved g c =
           let fit : FitsSigned w128 nth = search rules in
           let place : (lowest : ℤ) → stepped lowest (pos s) c.in_ok-place.place ≡ lowest +ℤ (score -ℤ nth) = rw (to_z-of_z w128 score fits, to_z-of_z w128 nth fit) at c.in_ok-place.ensures in
           down-told num s f score was rows new c.loop-n.n j c.args.count d next (omega (arith, next, i.low, c.requires.count)) (i.front j d (omega (arith, next)))
-          (c.in_ok-add_behind.ensures.told f d s score (place (get_or rows (j + 1) d).lowest ∙ in-place num limit start scores c.args.i j (get_or rows j d) (get_or rows (j + 1) d) c.requires.i few (one d) (two d)))
+          (c.in_ok-add_behind.ensures.told f d s score (place (get_or rows (j + 1) d).lowest ∙ in-place num limit scores c.args.i j (get_or rows j d) (get_or rows (j + 1) d) c.requires.i few (one d) (two d)))
           (i.told f);
     }
 
@@ -95,6 +94,5 @@ returns-clause-after g c =
     let num = g.C.Count.number in
     let limit = g.C.Count.LIMIT in
     let i = c.loop-n.invariant in
-    let start : ℤ = start_of c.args.rows.now in
-    let same = still num limit start (take c.args.i c.args.scores.now) c.args.i c.loop-n.n c.args.count c.args.rows.now c.loop-n.rows i.low i.front c.requires.before in
-    all-grown num limit start c.args.scores.now c.args.i c.loop-n.n c.args.count c.args.rows.now c.loop-n.rows c.loop-n-test.false same i.grown
+    let same = still num limit (take c.args.i c.args.scores.now) c.args.i c.loop-n.n c.args.count c.args.rows.now c.loop-n.rows i.low i.front c.requires.before in
+    all-grown num limit c.args.scores.now c.args.i c.loop-n.n c.args.count c.args.rows.now c.loop-n.rows c.loop-n-test.false same i.grown

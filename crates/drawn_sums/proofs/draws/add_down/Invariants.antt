@@ -1,7 +1,7 @@
 use Rattle.std.proofs.Common.{◌≡◌, ◌≤◌, ◌<◌, ℕ, ◌+◌, length, take, get_or}
 use Rattle.std.specs.Prelude.{ℤ, pos}
 use Rattle.std.specs.List.{AllByRecursion}
-use Rattle.drawn_sums.specs.DrawRows.{IsDrawRow, IsRowOf, rows_draws, start_of, with_one}
+use Rattle.drawn_sums.specs.DrawRows.{IsDrawRow, IsRowOf, rows_draws, with_one}
 use Rattle.drawn_sums.specs.declared.rows.DrawRow.{DrawRow}
 use Rattle.drawn_sums.proofs.draws.add_down.Given as goal
 
@@ -12,7 +12,7 @@ invariant-loop-n g l = record {
   low : l.n ≤ l.count;
   each : AllByRecursion (IsDrawRow g.C.Count.number g.C.Count.LIMIT) l.rows;
   front : (k : ℕ) (d : DrawRow g.row.C.Denot) → k ≤ l.n → get_or l.rows k d ≡ get_or l.initial.rows k d;
-  grown : (k : ℕ) (d : DrawRow g.row.C.Denot) → l.n < k → k ≤ l.count → IsRowOf g.C.Count.number g.C.Count.LIMIT (start_of l.initial.rows) (take (l.i + 1) l.scores) k (get_or l.rows k d);
+  grown : (k : ℕ) (d : DrawRow g.row.C.Denot) → l.n < k → k ≤ l.count → IsRowOf g.C.Count.number g.C.Count.LIMIT (take (l.i + 1) l.scores) k (get_or l.rows k d);
   behind : (k : ℕ) (d : DrawRow g.row.C.Denot) → l.count < k → get_or l.rows k d ≡ get_or l.initial.rows k d;
   told : (f : ℕ → ℤ → ℕ) → rows_draws g.C.Count.number f 0 l.stride l.rows + rows_draws g.C.Count.number (with_one (get_or l.scores l.i (pos 0)) f) 0 l.stride (take l.n l.initial.rows) ≡ rows_draws g.C.Count.number f 0 l.stride l.initial.rows + rows_draws g.C.Count.number (with_one (get_or l.scores l.i (pos 0)) f) 0 l.stride (take l.count l.initial.rows);
 }

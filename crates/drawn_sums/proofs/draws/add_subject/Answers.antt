@@ -2,7 +2,7 @@ use Rattle.std.proofs.Common.{◌≡◌, ◌+◌, ◌<◌, ◌≤◌, ℕ, List,
 use Rattle.std.specs.Prelude.{ℤ, OnOk}
 use Rattle.std.proofs.lemmas.Bool.{cases_lt}
 use Rattle.std.proofs.lemmas.List.{length-take-le, with_items_is}
-use Rattle.drawn_sums.specs.DrawRows.{AreRows, IsRowOf, start_of}
+use Rattle.drawn_sums.specs.DrawRows.{AreRows, IsRowOf}
 use Rattle.drawn_sums.specs.declared.rows.DrawRow.{DrawRow}
 use Rattle.drawn_sums.proofs.draws.add_subject.Goals as goal
 
@@ -10,27 +10,27 @@ both-ok : {T E P Q R : Type 0} (r : Result T E) → (P → Q → R) → OnOk r P
 both-ok (Ok x) f p q = f p q
 both-ok (Err e) f p q = tt
 
-module _ {C : Type 0} (number : C → ℕ) (limit most : ℕ) (scores : List ℤ) (i last : ℕ) (old mid : List (DrawRow C)) (h : i < length scores) (start : start_of mid ≡ start_of old) (is : last ≡ min most i) where
+module _ {C : Type 0} (number : C → ℕ) (limit most : ℕ) (scores : List ℤ) (i last : ℕ) (old mid : List (DrawRow C)) (h : i < length scores) (is : last ≡ min most i) where
   abbrev RowOf : ℕ → ℕ → DrawRow C → Type 0
-  RowOf k n row = IsRowOf number limit (start_of old) (take k scores) n row
+  RowOf k n row = IsRowOf number limit (take k scores) n row
 
-  before-is : AreRows number limit most (start_of old) (take i scores) old → ((n : ℕ) (d : DrawRow C) → n ≤ min most i → get_or mid n d ≡ get_or old n d)
-      → (n : ℕ) (d : DrawRow C) → n ≤ last → IsRowOf number limit (start_of mid) (take i scores) n (get_or mid n d)
+  before-is : AreRows number limit most (take i scores) old → ((n : ℕ) (d : DrawRow C) → n ≤ min most i → get_or mid n d ≡ get_or old n d)
+      → (n : ℕ) (d : DrawRow C) → n ≤ last → IsRowOf number limit (take i scores) n (get_or mid n d)
   before-is are before n d l =
       let long : length (take i scores) ≡ i = length-take-le i scores (omega (arith, h)) in
-      rw (start, before n d (omega (arith, l, is))) (are.each n d (omega (arith, are.long, ap (min most) long, l, is)))
+      rw (before n d (omega (arith, l, is))) (are.each n d (omega (arith, are.long, ap (min most) long, l, is)))
 
   -- the rows that are added, and the one behind them
   after-are : (new : List (DrawRow C)) → length new ≡ length mid → length mid ≡ min most (i + 1) + 1
       → ((n : ℕ) (d : DrawRow C) → min most i < n → n < length mid → RowOf (i + 1) n (get_or mid n d))
-      → ((n : ℕ) (d : DrawRow C) → n ≤ last → IsRowOf number limit (start_of mid) (take (i + 1) scores) n (get_or new n d))
+      → ((n : ℕ) (d : DrawRow C) → n ≤ last → IsRowOf number limit (take (i + 1) scores) n (get_or new n d))
       → ((n : ℕ) (d : DrawRow C) → last < n → get_or new n d ≡ get_or mid n d)
-      → AreRows number limit most (start_of old) (take (i + 1) scores) new
+      → AreRows number limit most (take (i + 1) scores) new
   after-are new long all next after behind = record {
     long = omega (arith, long, all, ap (min most) (length-take-le (i + 1) scores (omega (arith, h))));
     each = λ n d l. elim (cases_lt last n) [
       | inl b ↦ rw (behind n d b) (next n d (omega (arith, b, is)) (omega (arith, l, long)))
-      | inr b ↦ subst (λ z. IsRowOf number limit z (take (i + 1) scores) n (get_or new n d)) start (after n d b)
+      | inr b ↦ after n d b
     ];
   }
 
@@ -38,7 +38,7 @@ pub add_down-requires-clause-before : goal.add_down-requires-clause-before
 add_down-requires-clause-before g c =
     let mid : List (DrawRow g.row.C.Denot) = c.with_next.new.rows.items in
     rw c.as_mut_slice.ensures.value
-    (before-is g.C.Count.number g.C.Count.LIMIT c.args.most c.args.scores.now c.args.i c.in_ok-last.last c.args.rows.now.items mid c.requires.i c.in_ok-last.ensures.start c.in_ok-last.ensures.last c.requires.rows c.in_ok-last.ensures.before)
+    (before-is g.C.Count.number g.C.Count.LIMIT c.args.most c.args.scores.now c.args.i c.in_ok-last.last c.args.rows.now.items mid c.requires.i c.in_ok-last.ensures.last c.requires.rows c.in_ok-last.ensures.before)
 
 pub returns-clause-rows : goal.returns-clause-rows
 returns-clause-rows g c =
@@ -50,7 +50,7 @@ returns-clause-rows g c =
     let value = c.as_mut_slice.ensures.value in
     let long : length new ≡ length mid = c.add_down.ensures.long ∙ ap length value in
     let written = with_items_is c.with_next.new.rows new (long ∙ sym c.with_next.new.rows.ok.0) in
-    both-ok c.add_down.result (λ after behind. subst (AreRows num limit c.args.most (start_of old) (take (c.args.i + 1) c.args.scores.now)) (sym written)
-    (after-are num limit c.args.most c.args.scores.now c.args.i c.in_ok-last.last old mid c.requires.i c.in_ok-last.ensures.start c.in_ok-last.ensures.last new long c.in_ok-last.ensures.long c.in_ok-last.ensures.next
-    (rw value at after)
+    both-ok c.add_down.result (λ after behind. subst (AreRows num limit c.args.most (take (c.args.i + 1) c.args.scores.now)) (sym written)
+    (after-are num limit c.args.most c.args.scores.now c.args.i c.in_ok-last.last old mid c.requires.i c.in_ok-last.ensures.last new long c.in_ok-last.ensures.long c.in_ok-last.ensures.next
+    after
     (rw value at behind))) c.add_down.ensures.after c.add_down.ensures.behind

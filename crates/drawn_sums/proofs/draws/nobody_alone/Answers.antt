@@ -1,6 +1,4 @@
 use Rattle.std.proofs.Common.{[], ◌∷◌, ◌++◌, sym, ◌∙◌, ap, subst}
-use Rattle.std.proofs.lemmas.Int.{to_z-of_z}
-use mir.Syntax.{w128}
 use Rattle.drawn_sums.specs.DrawRows.{AreDraws}
 use Rattle.drawn_sums.proofs.RowsOf.{nobody-draws}
 use Rattle.drawn_sums.proofs.draws.nobody_alone.Goals as goal
@@ -9,5 +7,5 @@ pub returns : goal.returns
 returns g c = λ most stride.
     let row = c.in_ok-nobody in
     let items = c.in_ok-push.ensures.items ∙ ap (λ rows. rows ++ row.field-0 ∷ []) c.new-rows.ensures.items in
-    subst (AreDraws g.C.Count.number g.C.Count.LIMIT most stride c.args.start []) (sym items)
-    (nobody-draws g.C.Count.number g.C.Count.LIMIT c.args.start most stride row.field-0 row.ensures.row row.ensures.one (row.ensures.lowest ∙ to_z-of_z w128 c.args.start c.ranges.start) (λ h. rw (to_z-of_z w128 c.args.start c.ranges.start) at (row.ensures.told h stride)))
+    subst (AreDraws g.C.Count.number g.C.Count.LIMIT most stride []) (sym items)
+    (nobody-draws g.C.Count.number g.C.Count.LIMIT most stride row.field-0 row.ensures.row row.ensures.one row.ensures.lowest (λ h. row.ensures.told h stride))

@@ -3,7 +3,7 @@ use Rattle.std.specs.Prelude.{ℤ, pos, ◌+ℤ◌}
 use Rattle.std.specs.List.{AllByRecursion}
 use Rattle.std.proofs.lemmas.Int.{to_z-of_z}
 use mir.Syntax.{w128}
-use Rattle.drawn_sums.specs.DrawRows.{IsDrawRow, IsRowOf, row_draws, rows_draws, start_of, with_one}
+use Rattle.drawn_sums.specs.DrawRows.{IsDrawRow, IsRowOf, row_draws, rows_draws, with_one}
 use Rattle.drawn_sums.specs.declared.rows.DrawRow.{DrawRow}
 use Rattle.drawn_sums.proofs.RowSteps.{a-row, each-more, next-full, next-pushed}
 use Rattle.drawn_sums.proofs.RowsOf.{all-drawn, each-from, last-all, last-is, next-is, row-small}
@@ -23,7 +23,7 @@ with-requires-clause-fits g c =
     let row : DrawRow g.row.C.Denot = c.index.result.now in
     let fits : FitsSigned w128 (get_or scores c.args.i (pos 0)) = search rules in
     rw (to_z-of_z w128 (get_or scores c.args.i (pos 0)) fits)
-    (row-small num g.C.Count.LIMIT (start_of rows) scores c.args.i row c.requires.i (last-all num g.C.Count.LIMIT (start_of rows) c.args.most scores c.args.i last rows row row c.requires.i c.requires.rows long c.if-last-most.false c.index.ensures) c.requires.small)
+    (row-small num g.C.Count.LIMIT scores c.args.i row c.requires.i (last-all num g.C.Count.LIMIT c.args.most scores c.args.i last rows row row c.requires.i c.requires.rows long c.if-last-most.false c.index.ensures) c.requires.small)
 
 pub returns-clause-rows : goal.returns-clause-rows
 returns-clause-rows g c =
@@ -31,14 +31,13 @@ returns-clause-rows g c =
     let P : DrawRow g.row.C.Denot → Type 0 = IsDrawRow num g.C.Count.LIMIT in
     let rows : List (DrawRow g.row.C.Denot) = c.args.rows.now.items in
     subst (AllByRecursion P) (sym c.in_ok-push.ensures.items)
-    (each-more num 0 P rows c.in_ok-row.row c.in_ok-row.ensures.row (each-from num g.C.Count.LIMIT (start_of rows) P rows (λ n d h. (c.requires.rows.each n d h).row_is)))
+    (each-more num 0 P rows c.in_ok-row.row c.in_ok-row.ensures.row (each-from num g.C.Count.LIMIT P rows (λ n d h. (c.requires.rows.each n d h).row_is)))
 
 pub returns-clause-next : goal.returns-clause-next
 returns-clause-next g c =
     let num = g.C.Count.number in
     let limit = g.C.Count.LIMIT in
     let rows : List (DrawRow g.row.C.Denot) = c.args.rows.now.items in
-    let start : ℤ = start_of rows in
     let scores : List ℤ = c.args.scores.now in
     let score : ℤ = get_or scores c.args.i (pos 0) in
     let last : ℕ = c.len-last.result - 1 in
@@ -46,12 +45,12 @@ returns-clause-next g c =
     let row : DrawRow g.row.C.Denot = c.index.result.now in
     let fits : FitsSigned w128 score = search rules in
     let lowest : c.in_ok-row.row.lowest ≡ row.lowest +ℤ score = rw (to_z-of_z w128 score fits) at c.in_ok-row.ensures.lowest in
-    let is = last-all num limit start c.args.most scores c.args.i last rows row row c.requires.i c.requires.rows long c.if-last-most.false c.index.ensures in
-    let most = last-is num limit start c.args.most scores c.args.i last rows c.requires.i c.requires.rows long in
-    let next = all-drawn num limit start scores c.args.i row c.in_ok-row.row c.requires.i is c.in_ok-row.ensures.row c.in_ok-row.ensures.as_many lowest in
-    let Q : List (DrawRow g.row.C.Denot) → Type 0 = λ xs. (n : ℕ) (d : DrawRow g.row.C.Denot) → min c.args.most c.args.i < n → n < length xs → IsRowOf num limit start (take (c.args.i + 1) scores) n (get_or xs n d) in
+    let is = last-all num limit c.args.most scores c.args.i last rows row row c.requires.i c.requires.rows long c.if-last-most.false c.index.ensures in
+    let most = last-is num limit c.args.most scores c.args.i last rows c.requires.i c.requires.rows long in
+    let next = all-drawn num limit scores c.args.i row c.in_ok-row.row c.requires.i is c.in_ok-row.ensures.row c.in_ok-row.ensures.as_many lowest in
+    let Q : List (DrawRow g.row.C.Denot) → Type 0 = λ xs. (n : ℕ) (d : DrawRow g.row.C.Denot) → min c.args.most c.args.i < n → n < length xs → IsRowOf num limit (take (c.args.i + 1) scores) n (get_or xs n d) in
     subst Q (sym c.in_ok-push.ensures.items)
-    (λ n d h. next-is num limit start scores c.args.i rows c.in_ok-row.row (omega (arith, long, most, c.if-last-most.false)) next n d (omega (arith, h, most, c.if-last-most.false)))
+    (λ n d h. next-is num limit scores c.args.i rows c.in_ok-row.row (omega (arith, long, most, c.if-last-most.false)) next n d (omega (arith, h, most, c.if-last-most.false)))
 
 pub returns-clause-told : goal.returns-clause-told
 returns-clause-told g c = λ f stride none.
@@ -72,7 +71,7 @@ pub returns-then-last-most-clause-rows : goal.returns-then-last-most-clause-rows
 returns-then-last-most-clause-rows g c =
     let num = g.C.Count.number in
     let rows : List (DrawRow g.row.C.Denot) = c.args.rows.now.items in
-    each-from num g.C.Count.LIMIT (start_of rows) (IsDrawRow num g.C.Count.LIMIT) rows (λ n d h. (c.requires.rows.each n d h).row_is)
+    each-from num g.C.Count.LIMIT (IsDrawRow num g.C.Count.LIMIT) rows (λ n d h. (c.requires.rows.each n d h).row_is)
 
 pub returns-then-last-most-clause-told : goal.returns-then-last-most-clause-told
 returns-then-last-most-clause-told g c = λ f stride none.

@@ -1,6 +1,4 @@
 use Rattle.std.proofs.Common.{ℕ, cond, ap, ◌∙◌}
-use Rattle.std.proofs.lemmas.Int.{to_z-of_z}
-use mir.Syntax.{w128}
 use Rattle.halves.specs.Sides.{is_in, sides_for}
 use Rattle.drawn_sums.specs.DrawRows.{rows_draws}
 use Rattle.drawn_sums.specs.Meetings.{met}
@@ -10,16 +8,15 @@ use Rattle.drawn_sums.proofs.Subjects.{first-subjects, second-subjects}
 use Rattle.drawn_sums.proofs.tails.sums_in.Goals as goal
 
 pub draw_rows-requires-clause-subjects : goal.draw_rows-requires-clause-subjects
-draw_rows-requires-clause-subjects g c = rw (to_z-of_z w128 c.args.start c.ranges.start) (first-subjects c.args.stride c.args.start c.args.first.now c.args.second.now c.requires.subjects)
+draw_rows-requires-clause-subjects g c = first-subjects c.args.stride c.args.first.now c.args.second.now c.requires.subjects
 
 pub draw_rows-requires-2-clause-subjects : goal.draw_rows-requires-2-clause-subjects
-draw_rows-requires-2-clause-subjects g c = second-subjects c.args.stride c.args.start c.args.first.now c.args.second.now c.requires.subjects
+draw_rows-requires-2-clause-subjects g c = second-subjects c.args.stride c.args.first.now c.args.second.now c.requires.subjects
 
 pub meeting-requires-clause-meet : goal.meeting-requires-clause-meet
 meeting-requires-clause-meet g c =
-    let rows = rw (to_z-of_z w128 c.args.start c.ranges.start) at c.in_ok-rows.ensures in
     rw (c.deref.ensures.value, c.deref-2.ensures.value)
-    (may-meet g.C.Count.number g.C.Count.LIMIT c.args.drawn c.args.stride c.args.sides.now c.args.start c.args.first.now c.args.second.now c.in_ok-rows.rows.items c.in_ok-others.others.items c.requires.subjects c.requires.fits rows c.in_ok-others.ensures)
+    (may-meet g.C.Count.number g.C.Count.LIMIT c.args.drawn c.args.stride c.args.sides.now c.args.first.now c.args.second.now c.in_ok-rows.rows.items c.in_ok-others.others.items c.requires.subjects c.requires.fits c.in_ok-rows.ensures c.in_ok-others.ensures)
 
 pub returns : goal.returns
 returns g c t asked =
@@ -27,9 +24,8 @@ returns g c t asked =
     let p = is_in (sides_for c.args.sides.now t) in
     let s : ℕ = c.args.stride in
     let n : ℕ = c.args.drawn in
-    let rows = rw (to_z-of_z w128 c.args.start c.ranges.start) at c.in_ok-rows.ensures in
     c.meeting.ensures t
     ∙ ap (λ b. cond b (rows_draws num (met num p n s c.deref-2.result.now) 0 s c.deref.result.now) 0) asked
     ∙ ap (λ xs. rows_draws num (met num p n s xs) 0 s c.deref.result.now) c.deref-2.ensures.value
     ∙ ap (rows_draws num (met num p n s c.in_ok-others.others.items) 0 s) c.deref.ensures.value
-    ∙ all-met num g.C.Count.LIMIT s n p c.args.start c.args.first.now c.args.second.now c.in_ok-rows.rows.items c.in_ok-others.others.items rows c.in_ok-others.ensures
+    ∙ all-met num g.C.Count.LIMIT s n p c.args.first.now c.args.second.now c.in_ok-rows.rows.items c.in_ok-others.others.items c.in_ok-rows.ensures c.in_ok-others.ensures

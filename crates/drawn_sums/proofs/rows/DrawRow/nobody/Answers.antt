@@ -1,7 +1,6 @@
 use Rattle.std.proofs.Common.{◌≡◌, ℕ, [], ◌∷◌, ◌++◌, map, ap, sym, ◌∙◌, arith, lit≤}
+use Rattle.std.specs.Prelude.{pos}
 use Rattle.std.specs.List.{sum}
-use Rattle.std.proofs.lemmas.Int.{to_z-of_z}
-use mir.Syntax.{w128}
 use Rattle.std.proofs.lemmas.List.Sums.{sum_by-cons}
 use Rattle.drawn_sums.proofs.RowSteps.{cells-one, cells_draws}
 use Rattle.drawn_sums.proofs.rows.DrawRow.nobody.Goals as goal
@@ -21,6 +20,5 @@ returns-clause-row g c =
 pub returns-clause-told : goal.returns-clause-told
 returns-clause-told g c = λ h stride.
     let items = c.in_ok-push.ensures.items ∙ ap (λ xs. xs ++ c.cell_of.result ∷ []) c.new-cells.ensures.items in
-    rw (to_z-of_z w128 c.args.lowest c.ranges.lowest) (
-    ap (λ xs. cells_draws h stride c.args.lowest (map g.C.Count.number xs)) items
-    ∙ cells-one h stride c.args.lowest (g.C.Count.number c.cell_of.result) c.cell_of.ensures)
+    ap (λ xs. cells_draws h stride (pos 0) (map g.C.Count.number xs)) items
+    ∙ cells-one h stride (pos 0) (g.C.Count.number c.cell_of.result) c.cell_of.ensures

@@ -1,6 +1,6 @@
 use Rattle.std.proofs.Common.{◌≡◌, take}
 use Rattle.drawn_sums.specs.Draws.{score_total}
-use Rattle.drawn_sums.proofs.tails.score_total.Given as goal
+use Rattle.drawn_sums.proofs.left.score_total.Given as goal
 
 -- the scores before this one
 abbrev pub invariant-loop-i : goal.invariant-loop-i

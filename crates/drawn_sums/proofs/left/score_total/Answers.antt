@@ -5,7 +5,7 @@ use Rattle.std.proofs.lemmas.List.{take_all}
 use mir.Syntax.{w128}
 use Rattle.drawn_sums.specs.Draws.{score_total}
 use Rattle.drawn_sums.proofs.ScoreTotals.{next-small, total-more, total-size}
-use Rattle.drawn_sums.proofs.tails.score_total.Goals as goal
+use Rattle.drawn_sums.proofs.left.score_total.Goals as goal
 
 pub plus-total-requires : goal.plus-total-requires
 plus-total-requires c =
