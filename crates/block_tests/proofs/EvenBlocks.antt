@@ -1,21 +1,26 @@
 -- A block that is the same from both ends has the same arrangements from either end.
-use Rattle.std.proofs.Common.{◌≡◌, ℕ, zero, suc, ◌+◌, ◌-◌, ◌*◌, ◌<◌, ◌≤◌, ◌⊎◌, inl, inr, List, [], ◌∷◌, map, length, get_or, Bool, true, false, cond, ◌&&◌, refl, sym, ◌∙◌, ap, subst, arith, nat_eq, eq-eqb, ne_eqb}
-use Rattle.std.specs.Prelude.{nat_lt}
-use Rattle.std.specs.List.{sum_by, sum, AllByRecursion, range_with_len}
+use Rattle.std.proofs.Common.{◌≡◌, ◌≢◌, ℕ, zero, suc, ◌+◌, ◌-◌, ◌*◌, ◌<◌, ◌≤◌, ◌⊎◌, inl, inr, List, [], ◌∷◌, map, length, get_or, Bool, true, false, cond, ◌&&◌, refl, sym, ◌∙◌, ap, subst, arith, nat_eq, eq-eqb, ne_eqb}
+use Rattle.std.specs.Prelude.{nat_lt, reverse, slice_index}
+use Rattle.std.specs.List.{sum_by, sum, AllByRecursion, list_all, range_with_len}
 use Rattle.std.specs.Cmp.Lexicographic.{same_text}
-use Rattle.std.proofs.lemmas.Bool.{cases_lt, le-leb, le-ltb, lt-leb, lt-ltb}
+use Rattle.std.proofs.lemmas.Bool.{and_parts, cases_lt, eqb-true, le-ltb, lt-ltb}
 use Rattle.std.proofs.lemmas.Bool.Decides.{eqb_tells}
-use Rattle.std.proofs.lemmas.List.{length-map}
-use Rattle.std.proofs.lemmas.List.FromFn.{get_or-map-range_with_len}
-use Rattle.std.proofs.lemmas.List.Sums.{sum_by-cons}
+use Rattle.std.proofs.lemmas.List.{get_or-reverse, get_or_default, length-map, length-reverse}
+use Rattle.std.proofs.lemmas.List.Folds.{list_all_at}
+use Rattle.std.proofs.lemmas.List.Sums.{list_all-from_AllPass, sum_by-cons}
 use Rattle.weights.specs.Labellings.{counts_of, has_counts, labellings, labels, lists_over}
-use Rattle.weights.proofs.Counted.{SameCounts, all_counted, count_of, labelling_from_SameCounts}
+use Rattle.weights.proofs.Counted.{SameCounts, all_counted, all_from_SameCounts, count_of, holds_where_counted, labelling_from_SameCounts}
 use Rattle.weights.proofs.Members.{IsLabelling, IsOver, lists_over-each, range-below, same_refl}
 use Rattle.weights.proofs.Ranges.{range-one}
 use Rattle.weights.proofs.Sums.{sum_by-filter, sum_by-fronts, sum_by-plus, sum_by-same, sum_by-same_where, sum_by-swap, sum_by-zero}
+use Rattle.enumerate.proofs.Steps.{count_of-reverse}
 use Rattle.turned_tables.proofs.Bijection.{alike}
-use Rattle.block_tests.specs.Mirrors.{AreEven}
+use Rattle.block_tests.specs.BlockNetworks.{first_arrangement}
+use Rattle.block_tests.specs.BlockTests.{added}
+use Rattle.block_tests.specs.Mirrors.{end_sum, is_even, pair_sums}
 use Rattle.block_tests.specs.Upright.{mirrored}
+use Rattle.block_tests.proofs.Arranged.{sum_by-first}
+use Rattle.block_tests.proofs.TreatmentSums.{length-added}
 use Rattle.block_tests.proofs.UprightSums.{sum-mirrored}
 
 -- ---- a sum over labels
@@ -130,39 +135,99 @@ module _ (n end : ℕ) where
       ∙ range-flip (λ l. sum_by (λ xs. h (l ∷ map flip xs)) (lists_over m n))
       ∙ sym (sum_by-fronts (λ xs. h (map flip xs)) (λ l. l) (λ l. lists_over m n) (labels n))
 
--- ---- even counts
+-- ---- pairs that add to the same
 
-none-past : (xs : List ℕ) (i : ℕ) → length xs ≤ i → get_or xs i 0 ≡ 0
-none-past [] i h = refl
-none-past (x ∷ xs) zero h = absurd (omega (arith, h))
-none-past (x ∷ xs) (suc i) h = none-past xs i (omega (arith, h))
+pub added-at : (xs ys : List ℕ) (i : ℕ) → i < length xs → length xs ≡ length ys → get_or (added xs ys) i 0 ≡ get_or xs i 0 + get_or ys i 0
+added-at [] ys i h e = absurd (omega (arith, h))
+added-at (x ∷ xs) [] i h e = absurd (omega (arith, e))
+added-at (x ∷ xs) (y ∷ ys) zero h e = refl
+added-at (x ∷ xs) (y ∷ ys) (suc i) h e = added-at xs ys i (omega (arith, h)) (omega (arith, e))
 
-both-hold : (P Q : ℕ → Type 0) (xs : List ℕ) → AllByRecursion (λ l. P l → Q l) xs → AllByRecursion P xs → AllByRecursion Q xs
-both-hold P Q [] a b = tt
-both-hold P Q (x ∷ xs) a b = (a.0 b.0, both-hold P Q xs a.1 b.1)
+pub length-pairs : (xs : List ℕ) → length (pair_sums xs) ≡ length xs
+length-pairs xs = length-added (length xs) xs (reverse xs) (omega arith) (length-reverse xs)
 
-count-at : (counts xs : List ℕ) (i : ℕ) → IsLabelling counts xs → i < length counts → count_of i xs ≡ get_or counts i 0
-count-at counts xs i l h =
-    sym (get_or-map-range_with_len (λ j. count_of j xs) 0 (length counts) i i 0 h (omega arith))
-    ∙ ap (λ cs. get_or cs i 0) l.counted
+pub pair-at : (xs : List ℕ) (i : ℕ) → i < length xs → slice_index (pair_sums xs) i ≡ get_or xs i 0 + get_or xs (length xs - 1 - i) 0
+pair-at xs i h = added-at xs (reverse xs) i h (sym (length-reverse xs)) ∙ ap (λ n. get_or xs i 0 + n) (get_or-reverse xs i 0 h)
 
-module _ (counts : List ℕ) (e : AreEven counts) where
+-- whether all pairs add to what the first does
+pub all-paired : (xs : List ℕ) → ((i : ℕ) → i < length xs → slice_index (pair_sums xs) i ≡ slice_index (pair_sums xs) 0) → list_all (nat_eq (slice_index (pair_sums xs) 0)) (pair_sums xs) ≡ true
+all-paired xs each =
+    list_all-from_AllPass (nat_eq (slice_index (pair_sums xs) 0)) (pair_sums xs)
+    (λ i d h. eq-eqb (slice_index (pair_sums xs) 0) (get_or (pair_sums xs) i d) (sym (get_or_default (pair_sums xs) i d 0 h ∙ each i (omega (arith, h, length-pairs xs)))))
+
+pub not-paired : (xs : List ℕ) (i : ℕ) → i < length xs → slice_index (pair_sums xs) i ≢ slice_index (pair_sums xs) 0 → list_all (nat_eq (slice_index (pair_sums xs) 0)) (pair_sums xs) ≡ false
+not-paired xs i h other =
+    list_all_at (nat_eq (slice_index (pair_sums xs) 0)) (pair_sums xs) i 0 (omega (arith, h, length-pairs xs))
+    (ne_eqb (slice_index (pair_sums xs) 0) (slice_index (pair_sums xs) i) (λ same. other (sym same)))
+
+-- where one list has what the other lacks to a sum
+facing : (e : ℕ) (xs ys : List ℕ) → length xs ≡ length ys → list_all (nat_eq e) (added xs ys) ≡ true → (ys ≡ mirrored e xs) × AllByRecursion (λ x. x ≤ e) xs
+facing e [] [] l t = (refl, tt)
+facing e [] (y ∷ ys) l t = absurd (omega (arith, l))
+facing e (x ∷ xs) [] l t = absurd (omega (arith, l))
+facing e (x ∷ xs) (y ∷ ys) l t =
+    let both = and_parts (nat_eq e (x + y)) (list_all (nat_eq e) (added xs ys)) t in
+    let here : e ≡ x + y = eqb-true e (x + y) both.0 in
+    let later = facing e xs ys (omega (arith, l)) both.1 in
+    let lacking : y ≡ e - x = omega (arith, here) in
+    (ap (λ z. z ∷ ys) lacking ∙ ap (λ zs. (e - x) ∷ zs) later.0, (omega (arith, here), later.1))
+
+lacks : (e x i : ℕ) → x ≤ e → i ≤ e → nat_eq (e - x) i ≡ nat_eq x (e - i)
+lacks e x i h l = elim (eqb_tells (e - x) i) [
+  | inl same ↦ same.0 ∙ sym (eq-eqb x (e - i) (omega (arith, h, same.1)))
+  | inr other ↦ other.0 ∙ sym (ne_eqb x (e - i) (λ same. other.1 (omega (arith, l, same))))
+]
+
+count-mirrored : (e i : ℕ) (xs : List ℕ) → i ≤ e → AllByRecursion (λ x. x ≤ e) xs → count_of i (mirrored e xs) ≡ count_of (e - i) xs
+count-mirrored e i [] h a = refl
+count-mirrored e i (x ∷ xs) h a =
+    let here : ◌≡◌ {A = ℕ} (cond (nat_eq (e - x) i) 1 0) (cond (nat_eq x (e - i)) 1 0) = ap (λ b. cond b 1 0) (lacks e x i a.0 h) in
+    omega (arith, sum_by-cons (λ l. cond (nat_eq l i) 1 0) (e - x) (mirrored e xs), sum_by-cons (λ l. cond (nat_eq l (e - i)) 1 0) x xs, here, count-mirrored e i xs h a.1)
+
+-- ---- even blocks
+
+abbrev pub IsEven : List ℕ → Type 0
+IsEven counts = is_even counts ≡ true
+
+pub each-even : (blocks : List (List ℕ)) → list_all is_even blocks ≡ true → AllByRecursion IsEven blocks
+each-even [] t = tt
+each-even (counts ∷ blocks) t = (let both = and_parts (is_even counts) (list_all is_even blocks) t in (both.0, each-even blocks both.1))
+
+module _ (counts : List ℕ) (even : IsEven counts) where
   abbrev many : ℕ
   many = length counts
 
+  abbrev end : ℕ
+  end = end_sum counts
+
+  abbrev first : List ℕ
+  first = first_arrangement counts
+
   abbrev turn : ℕ → ℕ
-  turn l = flipped (length counts) e.end l
+  turn l = flipped (length counts) (end_sum counts) l
+
+  first-faces : (reverse first ≡ mirrored end first) × AllByRecursion (λ l. l ≤ end) first
+  first-faces = facing end first (reverse first) (sym (length-reverse first)) even
+
+  as-first : (xs : List ℕ) → IsLabelling counts xs → SameCounts xs first
+  as-first xs l i = sum_by-first (λ v. cond (nat_eq v i) 1 0) counts xs l
+
+  pub cells-within : (xs : List ℕ) → IsLabelling counts xs → AllByRecursion (λ l. l ≤ end_sum counts) xs
+  cells-within xs l = all_from_SameCounts (λ v. v ≤ end) first xs (λ i. sym (as-first xs l i)) first-faces.1
+
+  -- a number is as often a cell as what it lacks to the ends
+  even-count : (xs : List ℕ) (i : ℕ) → IsLabelling counts xs → i ≤ end → count_of i xs ≡ count_of (end - i) xs
+  even-count xs i l h =
+      as-first xs l i
+      ∙ sym (count_of-reverse i first)
+      ∙ ap (count_of i) first-faces.0
+      ∙ count-mirrored end i first h first-faces.1
+      ∙ sym (as-first xs l (end - i))
 
   flip-counts : (xs : List ℕ) → IsLabelling counts xs → SameCounts xs (map turn xs)
-  flip-counts xs l i = elim (flip-cases many e.end i) [
-    | inl h ↦
-        count-at counts xs i l h.0.below
-        ∙ e.each i h.0.below
-        ∙ ap (λ b. cond b (get_or counts (e.end - i) 0) 0) (le-leb i e.end h.0.within)
-        ∙ sym (count-at counts xs (e.end - i) l h.0.back)
-        ∙ ap (λ j. count_of j xs) (sym h.1)
-        ∙ sym (count-flip many e.end i xs)
-    | inr h ↦ ap (λ j. count_of j xs) (sym h.1) ∙ sym (count-flip many e.end i xs)
+  flip-counts xs l i = elim (flip-cases many end i) [
+    | inl h ↦ even-count xs i l h.0.within ∙ ap (λ j. count_of j xs) (sym h.1) ∙ sym (count-flip many end i xs)
+    | inr h ↦ ap (λ j. count_of j xs) (sym h.1) ∙ sym (count-flip many end i xs)
   ]
 
   flip-labelling : (xs : List ℕ) → IsLabelling counts xs → IsLabelling counts (map turn xs)
@@ -175,67 +240,51 @@ module _ (counts : List ℕ) (e : AreEven counts) where
   tells xs l = rw l.counted (same_refl counts)
 
   flip-over : (xs : List ℕ) → IsOver (sum counts) (length counts) xs → IsOver (sum counts) (length counts) (map turn xs)
-  flip-over xs o = record { long = length-map xs turn ∙ o.long; below = flips-below many e.end xs o.below }
+  flip-over xs o = record { long = length-map xs turn ∙ o.long; below = flips-below many end xs o.below }
 
   same-counts : (xs : List ℕ) → IsOver (sum counts) (length counts) xs → has_counts counts xs ≡ has_counts counts (map turn xs)
   same-counts xs o =
       alike (has_counts counts xs) (has_counts counts (map turn xs))
       (λ t. tells (map turn xs) (flip-labelling xs (told xs o t)))
-      (λ t. tells xs (subst (IsLabelling counts) (flips-back many e.end xs) (flip-labelling (map turn xs) (told (map turn xs) (flip-over xs o) t))))
+      (λ t. tells xs (subst (IsLabelling counts) (flips-back many end xs) (flip-labelling (map turn xs) (told (map turn xs) (flip-over xs o) t))))
 
   -- a sum over all arrangements goes by those from the other end
   pub labellings-flip : (h : List ℕ → ℕ) → sum_by h (labellings counts) ≡ sum_by (λ xs. h (map turn xs)) (labellings counts)
   labellings-flip h =
       let all : List (List ℕ) = lists_over (sum counts) (length counts) in
       sum_by-filter h (has_counts counts) all
-      ∙ lists-flip many e.end (sum counts) (λ xs. cond (has_counts counts xs) (h xs) 0)
+      ∙ lists-flip many end (sum counts) (λ xs. cond (has_counts counts xs) (h xs) 0)
       ∙ sum_by-same_where (IsOver (sum counts) (length counts)) (λ xs. cond (has_counts counts (map turn xs)) (h (map turn xs)) 0) (λ xs. cond (has_counts counts xs) (h (map turn xs)) 0)
       (λ xs o. ap (λ b. cond b (h (map turn xs)) 0) (sym (same-counts xs o))) all (lists_over-each (sum counts) (length counts))
       ∙ sym (sum_by-filter (λ xs. h (map turn xs)) (has_counts counts) all)
 
   -- ---- arrangements from the other end
 
-  opposite-some : (i : ℕ) → i < length counts → 1 ≤ get_or counts i 0 → HasOpposite (length counts) e.end i
-  opposite-some i below some = elim (cases_lt i (e.end + 1)) [
-    | inl within ↦
-        (let other : get_or counts i 0 ≡ get_or counts (e.end - i) 0 = e.each i below ∙ ap (λ b. cond b (get_or counts (e.end - i) 0) 0) (le-leb i e.end (omega (arith, within))) in
-        elim (cases_lt (e.end - i) (length counts)) [
-          | inl back ↦ record { below = below; within = omega (arith, within); back = back }
-          | inr past ↦ absurd (omega (arith, some, other, none-past counts (e.end - i) past))
-        ])
-    | inr past ↦
-        (let none : get_or counts i 0 ≡ 0 = e.each i below ∙ ap (λ b. cond b (get_or counts (e.end - i) 0) 0) (lt-leb i e.end (omega (arith, past))) in
-        absurd (omega (arith, some, none)))
-  ]
+  each-opposite : (xs : List ℕ) → IsLabelling counts xs → AllByRecursion (HasOpposite (length counts) (end_sum counts)) xs
+  each-opposite xs l = all_counted (HasOpposite many end) xs (λ i some. faced i some (holds_where_counted (λ v. v ≤ end) i xs (cells-within xs l) some))
+    where
+      faced : (i : ℕ) → 1 ≤ count_of i xs → i ≤ end → HasOpposite many end i
+      faced i some h = record {
+        below = holds_where_counted (λ v. v < many) i xs l.over.below some;
+        within = h;
+        back = holds_where_counted (λ v. v < many) (end - i) xs l.over.below (omega (arith, some, even-count xs i l h));
+      }
 
-  each-opposite : (xs : List ℕ) → IsLabelling counts xs → AllByRecursion (HasOpposite (length counts) e.end) xs
-  each-opposite xs l =
-      both-hold (λ i. i < length counts) (HasOpposite (length counts) e.end) xs
-      (all_counted (λ i. i < length counts → HasOpposite (length counts) e.end i) xs (λ i some below. opposite-some i below (omega (arith, some, count-at counts xs i l below))))
-      l.over.below
-
-  turned-is : (xs : List ℕ) → AllByRecursion (HasOpposite (length counts) e.end) xs → map turn xs ≡ mirrored e.end xs
+  turned-is : (xs : List ℕ) → AllByRecursion (HasOpposite (length counts) (end_sum counts)) xs → map turn xs ≡ mirrored (end_sum counts) xs
   turned-is [] a = refl
-  turned-is (x ∷ xs) a = elim (flip-cases many e.end x) [
-    | inl h ↦ ap (λ l. l ∷ map turn xs) h.1 ∙ ap (λ ls. (e.end - x) ∷ ls) (turned-is xs a.1)
+  turned-is (x ∷ xs) a = elim (flip-cases many end x) [
+    | inl h ↦ ap (λ l. l ∷ map turn xs) h.1 ∙ ap (λ ls. (end - x) ∷ ls) (turned-is xs a.1)
     | inr h ↦ absurd (h.0 a.0)
   ]
 
-  all-within : (xs : List ℕ) → AllByRecursion (HasOpposite (length counts) e.end) xs → AllByRecursion (λ l. l ≤ e.end) xs
-  all-within [] a = tt
-  all-within (x ∷ xs) a = (a.0.within, all-within xs a.1)
-
-  pub cells-within : (xs : List ℕ) → IsLabelling counts xs → AllByRecursion (λ l. l ≤ e.end) xs
-  cells-within xs l = all-within xs (each-opposite xs l)
-
-  pub mirror-is : (xs : List ℕ) → IsLabelling counts xs → map turn xs ≡ mirrored e.end xs
+  pub mirror-is : (xs : List ℕ) → IsLabelling counts xs → map turn xs ≡ mirrored (end_sum counts) xs
   mirror-is xs l = turned-is xs (each-opposite xs l)
 
   -- twice the sum of a block's cells
-  pub even-sum : (xs : List ℕ) → IsLabelling counts xs → 2 * sum xs ≡ length xs * e.end
+  pub even-sum : (xs : List ℕ) → IsLabelling counts xs → 2 * sum xs ≡ length xs * end_sum counts
   even-sum xs l =
       let same : sum (map turn xs) ≡ sum xs =
-      sum-counted (length counts) (map turn xs) (flips-below many e.end xs l.over.below)
+      sum-counted (length counts) (map turn xs) (flips-below many end xs l.over.below)
       ∙ sum_by-same (λ i. i * count_of i (map turn xs)) (λ i. i * count_of i xs) (λ i. ap (λ n. i * n) (sym (flip-counts xs l i))) (range_with_len 0 (length counts))
       ∙ sym (sum-counted (length counts) xs l.over.below) in
-      omega (arith, sum-mirrored e.end xs (cells-within xs l), ap sum (mirror-is xs l), same)
+      omega (arith, sum-mirrored end xs (cells-within xs l), ap sum (mirror-is xs l), same)

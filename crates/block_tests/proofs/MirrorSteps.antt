@@ -1,16 +1,17 @@
 -- After which servings sums may be mirrored.
-use Rattle.std.proofs.Common.{◌≡◌, ℕ, ◌+◌, ◌-◌, ◌*◌, ◌<◌, ◌≤◌, List, [], ◌∷◌, ◌++◌, map, length, drop, get_or, Bool, true, inl, inr, sym, ◌∙◌, ap, subst, arith, length-append}
+use Rattle.std.proofs.Common.{◌≡◌, ℕ, ◌+◌, ◌-◌, ◌*◌, ◌<◌, ◌≤◌, List, map, length, drop, get_or, Bool, true, false, cond, ◌&&◌, nat_eq, nat_le, refl, sym, ◌∙◌, ap, subst, arith}
 use Rattle.std.specs.Prelude.{ℤ, All, nat_abs, pos, slice_index_or}
+use Rattle.std.specs.List.{range_with_len}
 use Rattle.std.proofs.Math.Nat.{mul-le-mul}
-use Rattle.std.proofs.lemmas.Bool.{cases_lt}
+use Rattle.std.proofs.lemmas.Bool.{and_parts, eqb-true, leb-true}
+use Rattle.std.proofs.lemmas.List.{length-map}
+use Rattle.std.proofs.lemmas.List.FromFn.{get_or-map-range_with_len, length-range_with_len}
 use Rattle.std.proofs.lemmas.List.Sums.{sum_by-cons}
-use Rattle.std.proofs.Math.Seq.{get_or-append_seam}
-use Rattle.std.proofs.lemmas.List.{get_or_append_left}
 use Rattle.label_network.specs.Meanings.{sizes_in}
 use Rattle.label_network.proofs.LabelPlans.{sizes-back}
 use Rattle.label_network.proofs.Rows.{abs-at, length-abs, length-pos, pos-at}
 use Rattle.block_tests.specs.BoundSteps.{AreGained}
-use Rattle.block_tests.specs.Mirrors.{IsMirror}
+use Rattle.block_tests.specs.Mirrors.{AreMirrors, IsMirror, mirror_of, mirrors_of, number_after}
 use Rattle.block_tests.specs.Servings.{AreAhead, AreSums, ahead_at, gained, given, serving_at}
 use Rattle.block_tests.specs.Upright.{mirror_at}
 use Rattle.block_tests.specs.declared.serving.Serving.{Serving}
@@ -19,41 +20,54 @@ use Rattle.block_tests.proofs.SumEnds.{length-gained}
 use Rattle.block_tests.proofs.ServingRooms.{at-serving}
 use Rattle.block_tests.proofs.ServingSteps.{gained-at, held-at}
 
--- ---- a table
+-- ---- the numbers at which sums are mirrored
 
-pub record AreDone (k : ℕ) (vs : List Serving) (is_even : Bool) (stage : ℕ) (table : List ℕ) : Type 0 where
-  pub long : length table ≡ stage
-  pub even : (g : ℕ) → g < stage → 0 < mirror_at table g → is_even ≡ true
-  pub each : (g : ℕ) → g < stage → 0 < mirror_at table g → IsMirror k vs g (mirror_at table g)
+module _ (are_even : Bool) (k : ℕ) (vs : List Serving) (g : ℕ) where
+  abbrev number : ℕ
+  number = number_after k vs g
 
-pub none-done : (k : ℕ) (vs : List Serving) (is_even : Bool) (table : List ℕ) → length table ≡ 0 → AreDone k vs is_even 0 table
-none-done k vs is_even table e = record { long = e; even = λ g h some. absurd (omega (arith, h)); each = λ g h some. absurd (omega (arith, h)) }
+  abbrev is_mean : Bool
+  is_mean = nat_eq (k * number + 2 * given (drop (g + 1) vs)) (2 * given vs)
 
--- a number more
-module _ (k : ℕ) (vs : List Serving) (is_even : Bool) (stage : ℕ) (table : List ℕ) (number : ℕ) (t : AreDone k vs is_even stage table) where
-  earlier-is : (g : ℕ) → g < stage → mirror_at (table ++ number ∷ []) g ≡ mirror_at table g
-  earlier-is g h = get_or_append_left table (number ∷ []) 0 g (omega (arith, t.long, h))
+  -- one that is not 0 may be used, and blocks are even
+  pub mirror-told : 0 < mirror_of are_even k vs g → (are_even ≡ true) × IsMirror k vs g (mirror_of are_even k vs g)
+  mirror-told = by (are_even && (serving_at vs g).closes && nat_le number (16 * (g + 1)) && is_mean) refl
+    where
+      by : (b : Bool) → (are_even && (serving_at vs g).closes && nat_le number (16 * (g + 1)) && is_mean) ≡ b → 0 < cond b number 0 → (are_even ≡ true) × IsMirror k vs g (cond b number 0)
+      by false t some = absurd (omega (arith, some))
+      by true t some =
+          let last = and_parts (are_even && (serving_at vs g).closes && nat_le number (16 * (g + 1))) is_mean t in
+          let next = and_parts (are_even && (serving_at vs g).closes) (nat_le number (16 * (g + 1))) last.0 in
+          let first = and_parts are_even (serving_at vs g).closes next.0 in (
+            first.0,
+            record {
+              closes = first.1;
+              small = leb-true number (16 * (g + 1)) next.1;
+              half = eqb-true (k * number + 2 * given (drop (g + 1) vs)) (2 * given vs) last.1;
+              amid = omega (arith, some);
+            },
+          )
 
-  here-is : mirror_at (table ++ number ∷ []) stage ≡ number
-  here-is = ap (mirror_at (table ++ number ∷ [])) (sym t.long) ∙ get_or-append_seam table number [] 0
+  -- it is found of what is left to be given
+  pub mirror-found : (found left all : ℕ) → found ≡ number_after k vs g → left ≡ given (drop (g + 1) vs) → all ≡ given vs
+      → cond (are_even && (serving_at vs g).closes && nat_le found (16 * (g + 1)) && nat_eq (k * found + 2 * left) (2 * all)) found 0 ≡ mirror_of are_even k vs g
+  mirror-found found left all n l a = rw (n, l, a) refl
 
-  last : (g : ℕ) → g < stage + 1 → stage ≤ g → stage ≡ g
-  last g l h = omega (arith, l, h)
+module _ (are_even : Bool) (k : ℕ) (vs : List Serving) where
+  mirror-here : (g : ℕ) → g < length vs → mirror_at (mirrors_of are_even k vs) g ≡ mirror_of are_even k vs g
+  mirror-here g h = get_or-map-range_with_len (mirror_of are_even k vs) 0 (length vs) g g 0 h (omega arith)
 
-  pub one-done : (0 < number → IsMirror k vs stage number) → (0 < number → is_even ≡ true) → AreDone k vs is_even (stage + 1) (table ++ number ∷ [])
-  one-done m e = record {
-    long = omega (arith, length-append table (number ∷ []), t.long);
-    even = λ g l some. elim (cases_lt g stage) [
-      | inl earlier ↦ t.even g earlier (omega (arith, some, earlier-is g earlier))
-      | inr at ↦ e (omega (arith, subst (λ i. 0 < mirror_at (table ++ number ∷ []) i) (sym (last g l at)) some, here-is))
-    ];
-    each = λ g l some. elim (cases_lt g stage) [
-      | inl earlier ↦ subst (IsMirror k vs g) (sym (earlier-is g earlier)) (t.each g earlier (omega (arith, some, earlier-is g earlier)))
-      | inr at ↦
-          subst (λ i. IsMirror k vs i (mirror_at (table ++ number ∷ []) i)) (last g l at)
-          (subst (IsMirror k vs stage) (sym here-is) (m (omega (arith, subst (λ i. 0 < mirror_at (table ++ number ∷ []) i) (sym (last g l at)) some, here-is))))
-    ];
+  told-here : (g : ℕ) → g < length vs → 0 < mirror_at (mirrors_of are_even k vs) g → (are_even ≡ true) × IsMirror k vs g (mirror_of are_even k vs g)
+  told-here g h some = mirror-told are_even k vs g (omega (arith, some, mirror-here g h))
+
+  pub are-mirrors : AreMirrors k vs (mirrors_of are_even k vs)
+  are-mirrors = record {
+    long = length-map (range_with_len 0 (length vs)) (mirror_of are_even k vs) ∙ length-range_with_len 0 (length vs);
+    each = λ g h some. subst (IsMirror k vs g) (sym (mirror-here g h)) (told-here g h some).1;
   }
+
+  pub mirrors-even : (g : ℕ) → g < length vs → 0 < mirror_at (mirrors_of are_even k vs) g → are_even ≡ true
+  mirrors-even g h some = (told-here g h some).0
 
 -- what is ahead after a stage
 pub next-ahead : (k : ℕ) (vs : List Serving) (table : List Ahead) → AreAhead k vs (length vs) table → (g : ℕ) (d : Ahead) → g < length vs → slice_index_or table (length vs - g - 1) d ≡ ahead_at k vs (g + 1)

@@ -15,11 +15,11 @@ use Rattle.label_network.proofs.LabelPlans.{sizes-back}
 use Rattle.label_network.proofs.Rows.{length-pos}
 use Rattle.block_tests.specs.BlockSteps.{IsWhole}
 use Rattle.block_tests.specs.BlockTests.{added}
-use Rattle.block_tests.specs.Mirrors.{AreEven, AreMirrors, IsMirror}
+use Rattle.block_tests.specs.Mirrors.{AreMirrors, IsMirror, end_sum}
 use Rattle.block_tests.specs.Servings.{AreServings, all_servings, gained, serving_at, servings, unserved}
 use Rattle.block_tests.specs.Upright.{mirror_at, mirrored, upright}
 use Rattle.block_tests.specs.declared.serving.Serving.{Serving}
-use Rattle.block_tests.proofs.EvenBlocks.{cells-within, even-sum, flipped, labellings-flip, mirror-is}
+use Rattle.block_tests.proofs.EvenBlocks.{IsEven, cells-within, even-sum, flipped, labellings-flip, mirror-is}
 use Rattle.block_tests.proofs.ServedNarrows.{IsServed, gained-next, served-next}
 use Rattle.block_tests.proofs.ServingLaw.{block-first, left_after, next-is, over_mirrored, over_ways, servings-none}
 use Rattle.block_tests.proofs.ServingRooms.{at-serving}
@@ -31,7 +31,7 @@ pub record AreEvenServings (k : ℕ) (vs : List Serving) : Type 0 where
   pub blocks : List (List ℕ)
   pub are : vs ≡ all_servings blocks
   pub whole : AllByRecursion (IsWhole k) blocks
-  pub even : AllByRecursion AreEven blocks
+  pub even : AllByRecursion IsEven blocks
 
 -- what closes a block is followed by the later blocks
 in-block : (k : ℕ) (rest : List Serving) → AreEvenServings k rest → ((g : ℕ) → g < length rest → (serving_at rest g).closes ≡ true → AreEvenServings k (drop (suc g) rest))
@@ -42,7 +42,7 @@ in-block k rest r later i (suc n ∷ counts) zero h c =
     subst (λ us. AreEvenServings k (us ++ rest)) (sym (servings-none (i + 1) counts (eqb-true (sum counts) 0 c))) r
 in-block k rest r later i (suc n ∷ counts) (suc g) h c = in-block k rest r later (i + 1) counts g (omega (arith, h)) c
 
-all-later : (k : ℕ) (blocks : List (List ℕ)) → AllByRecursion (IsWhole k) blocks → AllByRecursion AreEven blocks → (g : ℕ) → g < length (all_servings blocks) → (serving_at (all_servings blocks) g).closes ≡ true → AreEvenServings k (drop (suc g) (all_servings blocks))
+all-later : (k : ℕ) (blocks : List (List ℕ)) → AllByRecursion (IsWhole k) blocks → AllByRecursion IsEven blocks → (g : ℕ) → g < length (all_servings blocks) → (serving_at (all_servings blocks) g).closes ≡ true → AreEvenServings k (drop (suc g) (all_servings blocks))
 all-later k [] w e g h c = absurd (omega (arith, h))
 all-later k (counts ∷ blocks) w e g h c =
     in-block k (all_servings blocks) (record { blocks = blocks; are = refl; whole = w.1; even = e.1 }) (λ i. all-later k blocks w.1 e.1 i) 0 counts g h c
@@ -59,26 +59,26 @@ module _ (k : ℕ) (f : List ℕ → ℕ) (some : 1 ≤ k) (untold : IsUntold k 
   abbrev ways : List (List ℕ) → List ℕ → ℕ
   ways blocks s = over_ways k f (all_servings blocks) (replicate k 1) s
 
-  pub mirrored-ways : (blocks : List (List ℕ)) (c : ℕ) (s : List ℕ) → AllByRecursion (IsWhole k) blocks → AllByRecursion AreEven blocks → length s ≡ k → AllByRecursion (λ n. n ≤ c) s → k * c ≡ 2 * sum s
+  pub mirrored-ways : (blocks : List (List ℕ)) (c : ℕ) (s : List ℕ) → AllByRecursion (IsWhole k) blocks → AllByRecursion IsEven blocks → length s ≡ k → AllByRecursion (λ n. n ≤ c) s → k * c ≡ 2 * sum s
       → over_ways k f (all_servings blocks) (replicate k 1) (mirrored c s) ≡ over_ways k f (all_servings blocks) (replicate k 1) s
   mirrored-ways [] c s w e l a h = untold c s l a h
   mirrored-ways (counts ∷ blocks) c s w e l a h =
       block-first k f counts (all_servings blocks) (mirrored c s) some w.0.treatments (length-mirrored c s ∙ l)
       ∙ labellings-flip counts e.0 (λ x. ways blocks (added (mirrored c s) x))
-      ∙ sum_by-same_where (IsLabelling counts) (λ x. ways blocks (added (mirrored c s) (map (λ i. flipped (length counts) e.0.end i) x))) (λ x. ways blocks (added s x)) (each (λ d t. mirrored-ways blocks d t w.1 e.1)) (labellings counts) (each-labelling counts)
+      ∙ sum_by-same_where (IsLabelling counts) (λ x. ways blocks (added (mirrored c s) (map (λ i. flipped (length counts) (end_sum counts) i) x))) (λ x. ways blocks (added s x)) (each (λ d t. mirrored-ways blocks d t w.1 e.1)) (labellings counts) (each-labelling counts)
       ∙ sym (block-first k f counts (all_servings blocks) s some w.0.treatments l)
     where
       each : ((d : ℕ) (t : List ℕ) → length t ≡ k → AllByRecursion (λ n. n ≤ d) t → k * d ≡ 2 * sum t → over_ways k f (all_servings blocks) (replicate k 1) (mirrored d t) ≡ over_ways k f (all_servings blocks) (replicate k 1) t)
-          → (x : List ℕ) → IsLabelling counts x → ways blocks (added (mirrored c s) (map (λ i. flipped (length counts) e.0.end i) x)) ≡ ways blocks (added s x)
+          → (x : List ℕ) → IsLabelling counts x → ways blocks (added (mirrored c s) (map (λ i. flipped (length counts) (end_sum counts) i) x)) ≡ ways blocks (added s x)
       each later x o =
           let many : length x ≡ k = o.over.long ∙ w.0.treatments in
-          let within : AllByRecursion (λ n. n ≤ e.0.end) x = cells-within counts e.0 x o in
+          let within : AllByRecursion (λ n. n ≤ end_sum counts) x = cells-within counts e.0 x o in
           let level : length s ≡ length x = l ∙ sym many in
-          let twice : 2 * sum x ≡ k * e.0.end = even-sum counts e.0 x o ∙ ap (λ n. n * e.0.end) many in
-          let parts : k * (c + e.0.end) ≡ k * c + k * e.0.end = split k c e.0.end in
+          let twice : 2 * sum x ≡ k * end_sum counts = even-sum counts e.0 x o ∙ ap (λ n. n * end_sum counts) many in
+          let parts : k * (c + end_sum counts) ≡ k * c + k * end_sum counts = split k c (end_sum counts) in
           ap (λ y. ways blocks (added (mirrored c s) y)) (mirror-is counts e.0 x o)
-          ∙ ap (ways blocks) (mirrored-added c e.0.end s x level a within)
-          ∙ later (c + e.0.end) (added s x) (length-added k s x (omega (arith, l)) many) (added-within c e.0.end s x a within) (omega (arith, parts, h, twice, sum-added s x level))
+          ∙ ap (ways blocks) (mirrored-added c (end_sum counts) s x level a within)
+          ∙ later (c + end_sum counts) (added s x) (length-added k s x (omega (arith, l)) many) (added-within c (end_sum counts) s x a within) (omega (arith, parts, h, twice, sum-added s x level))
         where
           split : (k a b : ℕ) → k * (a + b) ≡ k * a + k * b
           split k a b = grind arith

@@ -1,11 +1,13 @@
 -- Worked rows of the definitions, by computation.
-use Rattle.std.specs.Prelude.{◌≡◌, pos, [], ◌∷◌}
+use Rattle.std.specs.Prelude.{◌≡◌, ℕ, List, pos, [], ◌∷◌, true, false}
 use Rattle.std.proofs.Common.{refl}
 use Rattle.weights.specs.Conditional.{numerator, observed_statistic, total}
+use Rattle.weights.specs.Labellings.{counts_of}
 use Rattle.weights.specs.declared.tails.Tail.TheVariants.{Less, Greater, Two}
 use Rattle.midranks.specs.Midranks.{doubled_midrank, midranks_among, number_below, number_equal}
 use Rattle.sample_reader.specs.CellLayouts.{BlockData}
 use Rattle.block_tests.specs.BlockTests.{BlockTests, block_test, observed_cells}
+use Rattle.block_tests.specs.Mirrors.{block_mirrors, is_even}
 use Rattle.block_tests.specs.declared.kinds.BlockKind.TheVariants.{Friedman, Page, Cochran}
 
 -- two blocks of three treatments, in units of 1
@@ -78,3 +80,19 @@ tied_cells = refl
 tied_total : total (block_test tied) ≡ 3
 unfolding tied midranks_among doubled_midrank number_below number_equal
 tied_total = refl
+
+-- ranks without ties are the same from both ends; those of which the greater two are tied are not
+untied : List ℕ
+untied = counts_of 7 (2 ∷ 4 ∷ 6 ∷ [])
+
+untied_even : is_even untied ≡ true
+unfolding untied
+untied_even = refl
+
+tied_even : is_even (counts_of 7 (2 ∷ 5 ∷ 5 ∷ [])) ≡ false
+tied_even = refl
+
+-- of two such blocks sums are mirrored at 8 after the first one, and at 16 after the second
+untied_mirrors : block_mirrors 3 (untied ∷ untied ∷ []) ≡ 0 ∷ 0 ∷ 8 ∷ 0 ∷ 0 ∷ 16 ∷ []
+unfolding untied
+untied_mirrors = refl

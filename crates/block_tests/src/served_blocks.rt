@@ -1,14 +1,13 @@
 // The network of servings with treatments in order.
-ghost use Rattle.std.specs.Prelude.{◌≡◌, ◌<◌, ◌≤◌, ℕ, ℤ, List, length, true, All, IfOk};
+ghost use Rattle.std.specs.Prelude.{◌≡◌, ◌≤◌, ℕ, ℤ, List, true, IfOk};
 ghost use Rattle.weights.specs.Conditional.{ConditionalTest};
 ghost use Rattle.weights.specs.declared.tails.Tail.{Tail};
 ghost use Rattle.networks.specs.Follows.{Follows};
 ghost use Rattle.networks.specs.Judged.{judge_of};
 ghost use Rattle.networks.specs.Network.{IsReached};
-ghost use Rattle.block_tests.specs.Mirrors.{AreEven, AreMirrors};
+ghost use Rattle.block_tests.specs.Mirrors.{block_mirrors, mirrors_of};
 ghost use Rattle.block_tests.specs.Servings.{AreServings, alike, all_servings, has_room_for};
 ghost use Rattle.block_tests.specs.Servings.{served_network, serving_network};
-ghost use Rattle.block_tests.specs.Upright.{mirror_at};
 
 use crate::block::Block;
 use crate::mirroring::are_even;
@@ -45,7 +44,7 @@ fn all_of(
     alloc: Global,
     blocks: &[Block],
     treatments: usize,
-    is_even: bool,
+    are_even: bool,
     judge: Judge,
 ) -> Result<Servings, NoMemory>
     requires { AreServings treatments (all_servings blocks.now) judge }
@@ -53,13 +52,10 @@ fn all_of(
     ensures items { IfOk result (λ s. s.items.items ≡ all_servings blocks.now) }
     ensures judge { IfOk result (λ s. s.judge ≡ judge) }
     ensures mirrors { let vs = all_servings blocks.now in
-        IfOk result (λ s. AreMirrors treatments vs s.mirrors.items) }
-    ensures even { let vs = all_servings blocks.now in
-        IfOk result (λ s. (g : ℕ) → g < length vs → 0 < mirror_at s.mirrors.items g
-        → is_even ≡ true) }
+        IfOk result (λ s. s.mirrors.items ≡ mirrors_of are_even treatments vs) }
 {
     let items = servings_of(alloc, blocks)?;
-    Servings::new(alloc, treatments, items, is_even, judge)
+    Servings::new(alloc, treatments, items, are_even, judge)
 }
 
 /// The network of these blocks of so many treatments.
@@ -75,11 +71,8 @@ pub(crate) fn served_blocks(
     ensures treatments { IfOk result (λ s. s.1.servings.treatments ≡ treatments) }
     ensures items { IfOk result (λ s. s.1.servings.items.items ≡ all_servings blocks.now) }
     ensures judge { IfOk result (λ s. s.1.servings.judge ≡ judge) }
-    ensures mirrors { let vs = all_servings blocks.now in
-        IfOk result (λ s. AreMirrors treatments vs s.1.servings.mirrors.items) }
-    ensures even { let vs = all_servings blocks.now in
-        IfOk result (λ s. (g : ℕ) → g < length vs → 0 < mirror_at s.1.servings.mirrors.items g
-        → All AreEven blocks.now) }
+    ensures mirrors { IfOk result (λ s.
+        s.1.servings.mirrors.items ≡ block_mirrors treatments blocks.now) }
     ensures follows { let vs = all_servings blocks.now in
         IfOk result (λ s. (test : ConditionalTest) (tail : Tail) → judge ≡ judge_of test
         → Follows test tail (serving_network treatments vs s.1.servings.mirrors.items judge)
@@ -89,10 +82,10 @@ pub(crate) fn served_blocks(
         → IsReached (served_network treatments vs s.1.servings.mirrors.items judge) g key
         → IsReached (serving_network treatments vs s.1.servings.mirrors.items judge) g key) }
 {
-    let is_even = are_even(blocks);
-    let given = all_of(alloc, blocks, treatments, is_even, judge)?;
-    let summed = all_of(alloc, blocks, treatments, is_even, judge)?;
-    let beside = all_of(alloc, blocks, treatments, is_even, judge)?;
+    let are_even = are_even(blocks);
+    let given = all_of(alloc, blocks, treatments, are_even, judge)?;
+    let summed = all_of(alloc, blocks, treatments, are_even, judge)?;
+    let beside = all_of(alloc, blocks, treatments, are_even, judge)?;
     let sizes = vec![in alloc; 1u64; treatments]?;
     let rooms = ServingRooms { servings: given };
     let sums = ServedSums { servings: summed };

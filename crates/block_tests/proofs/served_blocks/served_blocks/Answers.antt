@@ -1,12 +1,12 @@
-use Rattle.std.proofs.Common.{◌≡◌, ◌<◌, ◌∙◌, ℕ, Bool, List, ap, subst, sym}
+use Rattle.std.proofs.Common.{◌≡◌, ◌∙◌, ℕ, Bool, List, ap, subst, sym}
 use Rattle.networks.specs.declared.verdicts.Judge.{Judge}
 use Rattle.ordered_groups.specs.OrderedNetworks.{AreItsRooms, MayBeOrdered}
-use Rattle.block_tests.specs.Mirrors.{AreMirrors}
+use Rattle.block_tests.specs.Mirrors.{AreMirrors, mirrors_of}
 use Rattle.block_tests.specs.Servings.{AreServings, all_servings, alike, served_sums, serving_network, serving_plan}
-use Rattle.block_tests.specs.Upright.{mirror_at}
 use Rattle.block_tests.specs.declared.served_sums.ServedSums.{ServedSums}
 use Rattle.block_tests.specs.declared.served_sums.ServingRooms.{ServingRooms}
 use Rattle.block_tests.specs.declared.serving.Serving.{Serving}
+use Rattle.block_tests.proofs.MirrorSteps.{are-mirrors}
 use Rattle.block_tests.proofs.ServedFold.{treatments-housed, treatments-turned}
 use Rattle.block_tests.proofs.served_blocks.served_blocks.Goals as goal
 use Rattle.block_tests.proofs.served_blocks.served_blocks.Goals.{After-new-stages}
@@ -36,7 +36,8 @@ given c =
       treatments = ap (λ (p : ServingRooms × ServedSums). p.1.servings.treatments) parts ∙ c.in_ok-summed.ensures.treatments;
       items = ap (λ (p : ServingRooms × ServedSums). p.1.servings.items.items) parts ∙ c.in_ok-summed.ensures.items;
       judge_is = ap (λ (p : ServingRooms × ServedSums). p.1.servings.judge) parts ∙ c.in_ok-summed.ensures.judge;
-      mirrors = subst (λ (p : ServingRooms × ServedSums). AreMirrors c.args.treatments (all_servings c.args.blocks.now) p.1.servings.mirrors.items) (sym parts) c.in_ok-summed.ensures.mirrors;
+      mirrors = subst (λ (p : ServingRooms × ServedSums). AreMirrors c.args.treatments (all_servings c.args.blocks.now) p.1.servings.mirrors.items) (sym parts)
+          (subst (AreMirrors c.args.treatments (all_servings c.args.blocks.now)) (sym c.in_ok-summed.ensures.mirrors) (are-mirrors c.are_even-are_even.result c.args.treatments (all_servings c.args.blocks.now)));
       sizes = c.in_ok-sizes.ensures.items_if_clones_equal (λ y same. same);
     }
 
@@ -49,12 +50,12 @@ pub new-ordered-requires-clause-ordered : goal.new-ordered-requires-clause-order
 new-ordered-requires-clause-ordered c =
     order-given c.args.treatments (all_servings c.args.blocks.now) c.args.judge c.requires c.new-stages.result c.in_ok-sizes.sizes.items (given (goal.at.new-ordered-requires-clause-ordered c).After-new-stages)
 
-pub returns-clause-even : goal.returns-clause-even
-returns-clause-even c = λ g h some.
-    c.are_even-is_even.ensures
-    (c.in_ok-summed.ensures.even g h
-    (subst (λ ms. 0 < mirror_at ms g)
-    (ap (λ (s : ServingRooms × ServedSums × List ℕ × Bool). s.1.servings.mirrors.items) c.new-ordered.ensures.parts ∙ ap (λ (p : ServingRooms × ServedSums). p.1.servings.mirrors.items) c.new-stages.ensures.parts) some))
+pub returns-clause-mirrors : goal.returns-clause-mirrors
+returns-clause-mirrors c =
+    ap (λ (s : ServingRooms × ServedSums × List ℕ × Bool). s.1.servings.mirrors.items) c.new-ordered.ensures.parts
+    ∙ ap (λ (p : ServingRooms × ServedSums). p.1.servings.mirrors.items) c.new-stages.ensures.parts
+    ∙ c.in_ok-summed.ensures.mirrors
+    ∙ ap (λ b. mirrors_of b c.args.treatments (all_servings c.args.blocks.now)) c.are_even-are_even.ensures
 
 pub returns-clause-follows : goal.returns-clause-follows
 returns-clause-follows c =

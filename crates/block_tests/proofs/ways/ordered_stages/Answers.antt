@@ -1,15 +1,15 @@
-use Rattle.std.proofs.Common.{◌≡◌, ◌<◌, ◌∙◌, ◌⊎◌, ℕ, List, ap, length, subst}
-use Rattle.std.specs.Prelude.{All}
+use Rattle.std.proofs.Common.{◌≡◌, ◌∙◌, ◌⊎◌, ℕ, List, ap, subst, sym}
+use Rattle.std.specs.List.{list_all}
 use Rattle.weights.specs.declared.tails.Tail.{Tail}
 use Rattle.weights.specs.declared.tails.Tail.TheVariants.{Greater}
 use Rattle.networks.specs.Follows.{Follows}
 use Rattle.networks.specs.Judged.{judge_of}
 use Rattle.block_tests.specs.BlockTests.{BlockTests, block_counts, block_test}
-use Rattle.block_tests.specs.Mirrors.{AreEven, AreMirrors}
+use Rattle.block_tests.specs.Mirrors.{AreMirrors, block_mirrors, is_even}
 use Rattle.block_tests.specs.Servings.{alike, all_servings, served_network, serving_network}
 use Rattle.block_tests.specs.PreparedSteps.{AreFitting}
-use Rattle.block_tests.specs.Upright.{mirror_at}
 use Rattle.block_tests.specs.declared.kinds.BlockKind.TheVariants.{Cochran, Friedman}
+use Rattle.block_tests.proofs.MirrorSteps.{are-mirrors}
 use Rattle.block_tests.proofs.PackedServings.{packed-sums}
 use Rattle.block_tests.proofs.ServingFollows.{tests-follow, tests-servings}
 use Rattle.block_tests.proofs.ways.ordered_stages.Goals as goal
@@ -23,18 +23,18 @@ record AreFor (tests : BlockTests) (mirrors : List ℕ) : Type 0 where
   mirrors_are : AreMirrors tests.blocks.treatments (all_servings (block_counts tests)) mirrors
   follows : (t : Tail) → Follows (block_test tests) t (serving_network tests.blocks.treatments (all_servings (block_counts tests)) mirrors (judge_of (block_test tests)))
 
-made-for : (tests : BlockTests) → AreFitting tests → (tests.kind ≡ Friedman) ⊎ (tests.kind ≡ Cochran) → (k : ℕ) (blocks : List (List ℕ)) (mirrors : List ℕ) → k ≡ tests.blocks.treatments → blocks ≡ block_counts tests
-    → AreMirrors k (all_servings blocks) mirrors → ((g : ℕ) → g < length (all_servings blocks) → 0 < mirror_at mirrors g → All AreEven blocks) → AreFor tests mirrors
-made-for tests f kind k blocks mirrors e i m even =
-    let own = subst (λ bs. AreMirrors tests.blocks.treatments (all_servings bs) mirrors) i (subst (λ j. AreMirrors j (all_servings blocks) mirrors) e m) in
-    record {
-      mirrors_are = own;
-      follows = λ t. tests-follow tests f kind t mirrors own (subst (λ (bs : List (List ℕ)). (g : ℕ) → g < length (all_servings bs) → 0 < mirror_at mirrors g → All AreEven bs) i even);
-    }
+made-for : (tests : BlockTests) → AreFitting tests → (tests.kind ≡ Friedman) ⊎ (tests.kind ≡ Cochran) → (mirrors : List ℕ) → mirrors ≡ block_mirrors tests.blocks.treatments (block_counts tests) → AreFor tests mirrors
+made-for tests f kind mirrors e =
+    subst (AreFor tests) (sym e) (record {
+      mirrors_are = are-mirrors (list_all is_even (block_counts tests)) tests.blocks.treatments (all_servings (block_counts tests));
+      follows = tests-follow tests f kind;
+    })
 
 -- what is made for the test here
 made : (c : In_ok-stages) → AreFor c.args.test.now c.in_ok-stages.stages.1.servings.mirrors.items
-made c = made-for c.args.test.now c.blocks-2.ensures.fitting c.requires.kind c.treatments.result c.blocks-2.result.now c.in_ok-stages.stages.1.servings.mirrors.items c.treatments.ensures c.blocks-2.ensures.blocks c.in_ok-stages.ensures.mirrors c.in_ok-stages.ensures.even
+made c =
+    made-for c.args.test.now c.blocks-2.ensures.fitting c.requires.kind c.in_ok-stages.stages.1.servings.mirrors.items
+    (c.in_ok-stages.ensures.mirrors ∙ ap (λ k. block_mirrors k c.blocks-2.result.now) c.treatments.ensures ∙ ap (block_mirrors c.args.test.now.blocks.treatments) c.blocks-2.ensures.blocks)
 
 -- it follows the test with its treatments in order
 in-order : (c : In_ok-stages) (t : Tail)
