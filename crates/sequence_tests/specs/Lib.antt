@@ -1,11 +1,1 @@
-pub mod Kendall
-pub mod Runs
-pub mod CountCodes
-pub mod KendallRooms
-pub mod KendallNetwork
-pub mod RunNetwork
 pub mod SequenceTests
-pub mod TurnedKendall
-pub mod KendallSteps
-pub mod KendallMade
-pub mod RunSteps

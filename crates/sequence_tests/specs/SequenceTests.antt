@@ -6,10 +6,10 @@ use Rattle.sample_reader.specs.Sequences.{SequenceData}
 use Rattle.networks.specs.declared.one_of.OneOf.{OneOf}
 use Rattle.networks.specs.Network.{Network}
 use Rattle.networks.specs.OneOf.{of_either}
-use Rattle.sequence_tests.specs.Kendall.{kendall_test}
-use Rattle.sequence_tests.specs.KendallNetwork.{kendall_network}
-use Rattle.sequence_tests.specs.RunNetwork.{running_runs, runs_network}
-use Rattle.sequence_tests.specs.Runs.{runs_test}
+use Rattle.kendall_test.specs.Kendall.{kendall_test}
+use Rattle.kendall_test.specs.KendallNetwork.{kendall_network}
+use Rattle.runs_test.specs.RunNetwork.{running_runs, runs_network}
+use Rattle.runs_test.specs.Runs.{runs_test}
 
 abbrev pub sequence_test : OneOf TwinData SequenceData → ConditionalTest
 sequence_test = of_either kendall_test runs_test

@@ -1,0 +1,17 @@
+pub mod CodeLaws
+pub mod Arranged
+pub mod KendallPlans
+pub mod Held
+pub mod KendallNarrows
+pub mod CountedPairs
+pub mod KendallValues
+pub mod PairLoops
+pub mod KendallSeats
+pub mod PairSums
+pub mod Places
+pub mod KendallFitting
+mod TableSums
+mod TurnedSums
+mod TurnedObserved
+mod TurnedRatios
+mod Vectors

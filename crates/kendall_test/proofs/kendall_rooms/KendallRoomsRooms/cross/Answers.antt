@@ -1,0 +1,13 @@
+use Rattle.std.proofs.Common.{rules, ℤ, ◌∷◌, [], ◌∙◌, ap, FitsSigned}
+use Rattle.std.specs.Prelude.{pos}
+use mir.Syntax.{w128}
+use mir.Val.{to_z, of_z}
+use Rattle.std.proofs.lemmas.Int.{to_z-of_z}
+use Rattle.weights.proofs.Items.{one_item}
+use Rattle.kendall_test.specs.CountCodes.{code}
+use Rattle.kendall_test.proofs.kendall_rooms.KendallRoomsRooms.cross.Goals as goal
+
+pub returns-clause-next : goal.returns-clause-next
+returns-clause-next c =
+    let s : FitsSigned w128 c.code_of.result = search rules in
+    one_item c.args.next.now (to_z w128 (of_z w128 c.code_of.result)) c.requires.room ∙ ap (λ (z : ℤ). z ∷ []) (to_z-of_z w128 c.code_of.result s ∙ c.code_of.ensures ∙ ap (λ xs. pos (code xs)) c.read_after.ensures.left)

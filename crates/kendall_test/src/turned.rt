@@ -1,0 +1,50 @@
+// Kendall's test turned: the two values of each subject change places.
+ghost use Rattle.std.specs.Prelude.{◌≡◌, length, IfOk, IfSome};
+ghost use Rattle.sample_reader.specs.Twins.{TwinData};
+ghost use Rattle.sample_reader.specs.Data.{twin_data_of};
+ghost use Rattle.kendall_test.specs.TurnedKendall.{AreInRatio, turned_twins};
+
+use crate::kendall_made::kendall_subjects;
+use crate::pair_order::PairOrder;
+use crate::room_work::is_less_work_turned;
+use sample_reader::Twins;
+use std::alloc::Global;
+use weights::{NoMemory, PrepareFault};
+
+/// Kendall's test of two values of each subject, and the test with the two in each other's place. K
+/// is the same, the numerators of each tail are in the ratio of the totals, and so are the lines of
+/// the distributions.
+pub fn turned_tests()
+    ensures { (t : TwinData) → length t.second ≡ length t.first
+        → AreInRatio t (turned_twins t) }
+{}
+
+// The sample with the two values of each subject in each other's place.
+fn turned_sample(sample: &Twins) -> Result<Twins, NoMemory>
+    ensures { IfOk result (λ turned.
+        twin_data_of turned ≡ turned_twins (twin_data_of sample.now)) }
+{
+    Ok(Twins {
+        rows: sample.rows,
+        first: sample.second.copy()?,
+        second: sample.first.copy()?,
+    })
+}
+
+/// The test turned, which serves where it is less work. None where it is not, and where its total
+/// is too wide.
+pub(crate) fn turned_of(alloc: Global, order: &PairOrder) -> Result<Option<PairOrder>, NoMemory>
+    ensures { IfOk result (λ found. IfSome found (λ turned. turned ≡ turned_twins order.now)) }
+{
+    let made = order.made();
+    if !is_less_work_turned(made.columns.as_slice(), made.rows.as_slice()) {
+        return Ok(None);
+    }
+    let sample = turned_sample(order.sample())?;
+    let subjects = kendall_subjects(alloc, &sample)?;
+    match PairOrder::of(alloc, sample, &subjects) {
+        Ok(turned) => Ok(Some(turned)),
+        Err(PrepareFault::NoMemory) => Err(NoMemory),
+        Err(PrepareFault::TooWide(_)) => Ok(None),
+    }
+}

@@ -1,5 +1,0 @@
-use Rattle.sequence_tests.proofs.KendallFitting.{kendall-sound}
-use Rattle.sequence_tests.proofs.kendall.PairOrderLabelStatistic.sound.Goals as goal
-
-pub returns : goal.returns
-returns c = kendall-sound c.args.self.now c.made-made.ensures.long c.made-made.ensures.few c.made-made.ensures.total_fits

@@ -1,6 +1,0 @@
-use Rattle.sample_reader.specs.Data.{twin_data_of}
-use Rattle.sequence_tests.proofs.KendallFitting.{labels-small, read-few, read-paired}
-use Rattle.sequence_tests.proofs.kendall.prepare.Goals as goal
-
-pub labels_in-requires : goal.labels_in-requires
-labels_in-requires c = rw (c.deref-2.ensures.value, c.in_ok-subjects.ensures) (labels-small (twin_data_of c.args.twins.now) (read-paired c.args.twins.now) (read-few c.args.twins.now))

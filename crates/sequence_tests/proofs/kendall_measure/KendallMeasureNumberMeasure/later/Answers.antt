@@ -1,5 +1,0 @@
-use Rattle.sequence_tests.proofs.KendallNarrows.{room-reached}
-use Rattle.sequence_tests.proofs.kendall_measure.KendallMeasureNumberMeasure.later.Goals as goal
-
-pub seat-requires : goal.seat-requires
-seat-requires c = room-reached c.args.self.now.counts.columns.items c.args.self.now.counts.rows.items c.args.self.now.judge c.args.stage c.args.room.now c.requires.partial c.requires.reached
