@@ -6,10 +6,10 @@ use Rattle.sample_reader.specs.StrataGroups.{StrataGroupData}
 use Rattle.networks.specs.declared.one_of.OneOf.{OneOf}
 use Rattle.networks.specs.Network.{Network}
 use Rattle.networks.specs.OneOf.{of_either}
-use Rattle.homogeneity.specs.RankNetworks.{stratified_rank_network}
-use Rattle.homogeneity.specs.StratifiedRanks.{stratified_rank_test}
-use Rattle.homogeneity.specs.Zelen.{zelen_test}
-use Rattle.homogeneity.specs.ZelenNetwork.{zelen_network}
+use Rattle.zelen_test.specs.Zelen.{zelen_test}
+use Rattle.zelen_test.specs.ZelenNetwork.{zelen_network}
+use Rattle.stratified_ranks.specs.RankNetworks.{stratified_rank_network}
+use Rattle.stratified_ranks.specs.StratifiedRanks.{stratified_rank_test}
 
 abbrev pub homogeneity_test : OneOf (List ℕ) StrataGroupData → ConditionalTest
 homogeneity_test = of_either zelen_test stratified_rank_test

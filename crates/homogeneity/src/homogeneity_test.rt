@@ -3,13 +3,13 @@ ghost use Rattle.weights.specs.Wide.{Prepares};
 ghost use Rattle.sample_reader.specs.Data.{strata_data_of};
 ghost use Rattle.homogeneity.specs.Homogeneities.{homogeneity_test};
 
-use crate::stratified_ranks::{StratifiedRanks, prepare};
-use crate::zelen::Zelen;
 use networks::OneOf;
 use sample_reader::StrataGroups;
 use std::alloc::Global;
+use stratified_ranks::StratifiedRanks;
 use table_reader::Strata;
 use weights::PrepareFault;
+use zelen_test::Zelen;
 
 /// A test over strata whose data are checked: Zelen's, of the odds ratios of tables of two rows and
 /// two columns, or the rank sum test of two samples in strata.
@@ -40,5 +40,5 @@ pub fn prepare_zelen(alloc: Global, strata: &Strata) -> Result<Homogeneity, Prep
 pub fn prepare_ranks(alloc: Global, samples: &StrataGroups) -> Result<Homogeneity, PrepareFault>
     ensures { Prepares homogeneity_test (OneOf.Second (strata_data_of samples.now)) result }
 {
-    Ok(OneOf::Second(prepare(alloc, samples)?))
+    Ok(OneOf::Second(stratified_ranks::prepare(alloc, samples)?))
 }

@@ -9,41 +9,14 @@ ghost use Rattle.networks.specs.Follows.{AllFollow, HasTails, answer_of, open_ke
 ghost use Rattle.networks.specs.Lines.{TailsFit, WeightsFit};
 ghost use Rattle.homogeneity.specs.Homogeneities.{homogeneity_network, homogeneity_test};
 
-mod cell_weights;
 mod homogeneity_test;
-mod later_sums;
-mod one_count;
-mod part_numbers;
-mod rank_columns;
-mod rank_made;
-mod rank_measure;
-mod rank_rooms;
-mod rank_stages;
-mod rank_strata;
-mod rank_sums;
-mod strata_rank_sum;
-mod stratified_ranks;
-mod sum_counts;
-mod sum_walk;
-mod zelen;
-mod zelen_measure;
-mod zelen_rooms;
-mod zelen_stages;
-mod zelen_ways;
 
 pub use homogeneity_test::{Homogeneity, prepare_ranks, prepare_zelen};
 use networks::{Answer, OneOf, Spread, Stages, Way};
-pub use rank_measure::RankMeasure;
-pub use rank_rooms::RankRooms;
-pub use rank_stages::RankStages;
 use std::alloc::Global;
-pub use strata_rank_sum::StrataRankSum;
-pub use stratified_ranks::StratifiedRanks;
+pub use stratified_ranks::{RankMeasure, RankRooms, RankStages, StrataRankSum, StratifiedRanks};
 use weights::{NoMemory, Tail, Tails};
-pub use zelen::Zelen;
-pub use zelen_measure::ZelenMeasure;
-pub use zelen_rooms::ZelenRooms;
-pub use zelen_stages::ZelenStages;
+pub use zelen_test::{Zelen, ZelenMeasure, ZelenRooms, ZelenStages};
 
 /// The network of a test over strata.
 pub type HomogeneityStages = OneOf<ZelenStages, RankStages>;

@@ -1,0 +1,3 @@
+pub mod NaturalMeasures
+pub mod WaySums
+pub mod OneCounts

@@ -1,7 +1,0 @@
-use Rattle.std.proofs.Common.{◌≡◌, ◌+◌, drop}
-use Rattle.std.specs.List.{sum_by}
-use Rattle.homogeneity.specs.StrataSteps.{part_centre}
-use Rattle.homogeneity.proofs.part_numbers.centre_of.Given as goal
-
-abbrev pub invariant-loop-part : goal.invariant-loop-part
-invariant-loop-part l = l.centre + sum_by part_centre (drop l.part-index l.parts) ≡ sum_by part_centre l.parts

@@ -1,5 +1,0 @@
-use Rattle.homogeneity.proofs.PartTotals.{IsTotalled}
-use Rattle.homogeneity.proofs.part_numbers.parts_total.Given as goal
-
-abbrev pub invariant-loop-part : goal.invariant-loop-part
-invariant-loop-part l = IsTotalled l.parts l.part-index l.all

@@ -1,5 +1,0 @@
-use Rattle.homogeneity.proofs.RankPlans.{plan_sound}
-use Rattle.homogeneity.proofs.rank_rooms.RankRoomsRooms.stages.Goals as goal
-
-pub returns-clause-sound : goal.returns-clause-sound
-returns-clause-sound c = plan_sound c.args.self.now.columns c.args.self.now.right.fit

@@ -1,5 +1,0 @@
-use Rattle.homogeneity.specs.RankSteps.{AreLaterWays}
-use Rattle.homogeneity.proofs.rank_rooms.later_ways.Given as goal
-
-abbrev pub invariant-loop-done : goal.invariant-loop-done
-invariant-loop-done l = AreLaterWays l.columns l.done l.ways

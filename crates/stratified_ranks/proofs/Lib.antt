@@ -1,0 +1,11 @@
+mod TwoParts
+mod RankLabellings
+mod RankSums
+mod RankPlans
+mod RankColumns
+mod RankStatistic
+mod StrataSubjects
+mod RankLimits
+mod Vectors
+mod PartTotals
+mod OneMoreStratum

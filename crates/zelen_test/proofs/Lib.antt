@@ -1,0 +1,10 @@
+pub mod Vectors
+pub mod Unimodal
+pub mod LabellingsWithSum
+pub mod ZelenPlans
+pub mod RemainingSums
+pub mod LesserWeights
+pub mod LaterSums
+pub mod Rarities
+pub mod SumWalk
+pub mod ZelenTests

@@ -1,0 +1,5 @@
+pub mod Zelen
+pub mod ZelenNetwork
+pub mod SumSteps
+pub mod ZelenSteps
+pub mod ZelenMade
