@@ -14,12 +14,12 @@ use Rattle.report.specs.declared.refusals.Refusal.{Refusal}
 use Rattle.report.specs.declared.refusals.Refusal.TheVariants as refusal
 use Rattle.one_sample_tests.specs.SignNetwork.{one_sample_network}
 use Rattle.one_sample_tests.specs.SignedSamples.{discordant, one_sample_test}
-use Rattle.table_tests.specs.OddsSteps.{weighted_of}
-use Rattle.table_tests.specs.TableSteps.{scored_of}
+use Rattle.two_by_two.specs.OddsSteps.{weighted_of}
+use Rattle.linear_by_linear.specs.LinearSteps.{scored_of}
 use Rattle.table_tests.specs.TableTests.{table_network, table_test}
-use Rattle.table_tests.specs.Tables.{is_two_by_two}
-use Rattle.table_tests.specs.FisherOdds.{WeightedTable}
-use Rattle.table_tests.specs.LinearByLinear.{ScoredTable}
+use Rattle.table_sums.specs.Tables.{is_two_by_two}
+use Rattle.two_by_two.specs.FisherOdds.{WeightedTable}
+use Rattle.linear_by_linear.specs.LinearByLinear.{ScoredTable}
 use Rattle.networks.specs.declared.one_of.OneOf.{OneOf}
 use Rattle.networks.specs.declared.one_of.OneOf.TheVariants.{First, Second}
 use Rattle.run_outcome.specs.Question.{Question, question_about}

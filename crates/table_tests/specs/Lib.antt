@@ -1,16 +1,1 @@
-pub mod Tables
-pub mod LinearByLinear
-pub mod FisherExact
-pub mod FisherOdds
-pub mod Weighing
-pub mod TableNetworks
-pub mod OddsNetworks
 pub mod TableTests
-pub mod Turned
-pub mod TableSteps
-pub mod SortedWeighing
-pub mod WeightSteps
-pub mod OddsSteps
-pub mod LastSteps
-pub mod FisherSteps
-pub mod FisherStages

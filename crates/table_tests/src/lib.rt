@@ -10,46 +10,20 @@ ghost use Rattle.networks.specs.Follows.{AllFollow, HasTails, answer_of, open_ke
 ghost use Rattle.networks.specs.Lines.{TailsFit, WeightsFit};
 ghost use Rattle.table_tests.specs.TableTests.{table_network, table_test};
 
-mod by_turning;
-mod fillings;
-mod fisher_stages;
-mod fisher_table;
-mod fisher_ways;
-mod last_columns;
-mod linear_table;
-mod linear_ways;
-mod margins;
-mod odds_rooms;
-mod odds_stages;
-mod odds_table;
-mod odds_ways;
-mod odds_weights;
-mod scaled;
-mod single_subjects;
-mod sorted_sums;
-mod sorted_weights;
-mod sums;
 mod table_test;
-mod turned;
-mod weight_measure;
 
-pub use fisher_stages::FisherStages;
-pub use fisher_table::{FisherTable, fisher_tails, is_two_by_two};
+pub use fisher_test::{
+    FisherStages, FisherTable, SortedStages, SortedWeights, WeightMeasure, WeightStages,
+    fisher_tails, is_two_by_two, turned_tests,
+};
 use label_network::LinearStages;
-pub use linear_table::{LinearTable, ProductSum};
+pub use linear_by_linear::{LinearTable, ProductSum};
 use networks::{Answer, OneOf, Spread, Stages, Way};
-pub use odds_rooms::OddsRooms;
-pub use odds_stages::OddsStages;
-pub use odds_table::OddsTable;
-pub use sorted_weights::{SortedStages, SortedWeights};
 use std::alloc::Global;
+pub use table_sums::MOST_SCORE;
 pub use table_test::{TableTest, prepare_fisher, prepare_linear, prepare_odds};
-pub use turned::turned_tests;
-pub use weight_measure::{WeightMeasure, WeightStages};
+pub use two_by_two::{OddsRooms, OddsStages, OddsTable};
 use weights::{NoMemory, Tail, Tails};
-
-/// The greatest absolute score of a row or a column.
-pub const MOST_SCORE: u64 = 1_000_000_000;
 
 /// The answer of a test of a table for tails that it has, by either way: the observed statistic,
 /// its scale, the number of labellings, and of each asked tail how many labellings are at least as

@@ -2,18 +2,19 @@
 ghost use Rattle.std.specs.Prelude.{◌≡◌, length, true};
 ghost use Rattle.weights.specs.Wide.{Prepares};
 ghost use Rattle.table_reader.specs.Data.{table_data_of};
-ghost use Rattle.table_tests.specs.TableTests.{table_test};
+ghost use Rattle.table_sums.specs.Tables.{is_two_by_two};
 ghost use Rattle.weights.specs.Odds.{IsOdds};
-ghost use Rattle.table_tests.specs.OddsSteps.{weighted_of};
-ghost use Rattle.table_tests.specs.Tables.{is_two_by_two};
-ghost use Rattle.table_tests.specs.TableSteps.{AreScores, scored_of};
+ghost use Rattle.table_sums.specs.TableSteps.{AreScores};
+ghost use Rattle.two_by_two.specs.OddsSteps.{weighted_of};
+ghost use Rattle.linear_by_linear.specs.LinearSteps.{scored_of};
+ghost use Rattle.table_tests.specs.TableTests.{table_test};
 
-use crate::fisher_table::FisherTable;
-use crate::linear_table::{LinearTable, prepare};
-use crate::odds_table::OddsTable;
+use fisher_test::FisherTable;
+use linear_by_linear::LinearTable;
 use networks::OneOf;
 use std::alloc::Global;
 use table_reader::Table;
+use two_by_two::OddsTable;
 use weights::{Odds, PrepareFault};
 
 /// A test of a table whose data are checked: Fisher's exact test, the linear-by-linear test, or
@@ -50,7 +51,7 @@ pub fn prepare_linear(
     ensures { let scored = scored_of (table_data_of table.now) row_scores.now column_scores.now in
         Prepares table_test (OneOf.First (OneOf.Second scored)) result }
 {
-    let linear = prepare(alloc, table, row_scores, column_scores)?;
+    let linear = linear_by_linear::prepare(alloc, table, row_scores, column_scores)?;
     Ok(OneOf::First(OneOf::Second(linear)))
 }
 

@@ -1,5 +1,5 @@
 use Rattle.table_reader.specs.Data.{table_data_of}
-use Rattle.table_tests.specs.FisherExact.{fisher_test}
+use Rattle.fisher_test.specs.FisherExact.{fisher_test}
 use Rattle.table_tests.specs.TableTests.{table_test}
 use Rattle.networks.specs.declared.one_of.OneOf.TheVariants.{First}
 use Rattle.run_outcome.proofs.PreparedOutcome.{prepared-tails, same-tails}

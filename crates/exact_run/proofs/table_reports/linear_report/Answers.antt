@@ -1,6 +1,6 @@
 use Rattle.std.proofs.Common.{refl}
 use Rattle.table_reader.specs.Data.{table_data_of}
-use Rattle.table_tests.specs.TableSteps.{scored_of}
+use Rattle.linear_by_linear.specs.LinearSteps.{scored_of}
 use Rattle.networks.specs.declared.one_of.OneOf.TheVariants.{First, Second}
 use Rattle.settings.specs.declared.names.OptionName.TheVariants.{RowScores, ColumnScores}
 use Rattle.exact_run.proofs.TableScores.{fitting, rows-few}

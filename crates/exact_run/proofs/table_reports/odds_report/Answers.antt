@@ -1,7 +1,7 @@
 use Rattle.std.proofs.Common.{◌≡◌, refl, true}
 use Rattle.table_reader.specs.Data.{table_data_of}
-use Rattle.table_tests.specs.OddsSteps.{weighted_of}
-use Rattle.table_tests.specs.Tables.{is_two_by_two}
+use Rattle.two_by_two.specs.OddsSteps.{weighted_of}
+use Rattle.table_sums.specs.Tables.{is_two_by_two}
 use Rattle.table_tests.specs.TableTests.{table_test}
 use Rattle.networks.specs.declared.one_of.OneOf.TheVariants.{Second}
 use Rattle.run_outcome.proofs.PreparedOutcome.{prepared-tails}

@@ -1,0 +1,10 @@
+pub mod FisherExact
+pub mod Weighing
+pub mod FisherNetworks
+pub mod Turned
+pub mod SortedWeighing
+pub mod WeightSteps
+pub mod LastSteps
+pub mod FisherMade
+pub mod FisherSteps
+pub mod FisherStages

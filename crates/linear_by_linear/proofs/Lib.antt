@@ -1,0 +1,3 @@
+mod LinearTests
+mod SingleSubjects
+mod Vectors

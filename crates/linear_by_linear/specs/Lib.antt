@@ -1,0 +1,3 @@
+pub mod LinearByLinear
+pub mod LinearNetworks
+pub mod LinearSteps

@@ -1,0 +1,5 @@
+pub mod MarginSums
+pub mod Observed
+pub mod ProductLimits
+pub mod ColumnSums
+mod Vectors

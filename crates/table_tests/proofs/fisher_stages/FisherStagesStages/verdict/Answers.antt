@@ -1,4 +1,0 @@
-use Rattle.table_tests.proofs.fisher_stages.FisherStagesStages.verdict.Goals as goal
-
-pub verdict-requires : goal.verdict-requires
-verdict-requires c = rw c.in-Cell.is at c.requires

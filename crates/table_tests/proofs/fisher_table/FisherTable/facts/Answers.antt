@@ -1,5 +1,0 @@
-use Rattle.table_tests.proofs.SortedTests.{fisher_facts}
-use Rattle.table_tests.proofs.fisher_table.FisherTable.facts.Goals as goal
-
-pub returns : goal.returns
-returns c = fisher_facts c.args.self.now c.made-made.ensures.fitting

@@ -1,5 +1,0 @@
-use Rattle.table_tests.specs.FisherExact.{fisher_test}
-use Rattle.table_tests.proofs.fisher_table.FisherTable.judge.Goals as goal
-
-pub returns : goal.returns
-returns c = c.of.ensures (fisher_test c.args.self.now) c.made.ensures.frame

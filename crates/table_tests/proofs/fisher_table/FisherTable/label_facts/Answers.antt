@@ -1,5 +1,0 @@
-use Rattle.table_tests.proofs.SortedTests.{fisher_labels}
-use Rattle.table_tests.proofs.fisher_table.FisherTable.label_facts.Goals as goal
-
-pub returns : goal.returns
-returns c = fisher_labels c.args.self.now c.made-made.ensures.fitting c.args._labels.now c.requires

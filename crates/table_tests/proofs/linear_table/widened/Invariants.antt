@@ -1,5 +1,0 @@
-use Rattle.std.proofs.Common.{◌≡◌, take}
-use Rattle.table_tests.proofs.linear_table.widened.Given as goal
-
-abbrev pub invariant-loop-score : goal.invariant-loop-score
-invariant-loop-score l = l.wide ≡ take l.score-index l.scores

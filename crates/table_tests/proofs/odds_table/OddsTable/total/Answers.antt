@@ -1,5 +1,0 @@
-use Rattle.table_tests.proofs.OddsTests.{odds_facts}
-use Rattle.table_tests.proofs.odds_table.OddsTable.total.Goals as goal
-
-pub returns-clause-facts : goal.returns-clause-facts
-returns-clause-facts c = rw c.self.view_is at (odds_facts _ c.self.inside.total c.self.invariant)

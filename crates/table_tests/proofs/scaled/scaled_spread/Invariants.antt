@@ -1,6 +1,0 @@
-use Rattle.std.proofs.Common.{◌≡◌, map, take}
-use Rattle.table_tests.specs.Turned.{scaled_line}
-use Rattle.table_tests.proofs.scaled.scaled_spread.Given as goal
-
-abbrev pub invariant-loop-line : goal.invariant-loop-line
-invariant-loop-line l = l.spread ≡ map (scaled_line l.all l.of) (take l.line-index l.given)

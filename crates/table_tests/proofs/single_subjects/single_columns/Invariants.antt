@@ -1,5 +1,0 @@
-use Rattle.std.proofs.Common.{◌≡◌, replicate}
-use Rattle.table_tests.proofs.single_subjects.single_columns.Given as goal
-
-abbrev pub invariant-loop-subject : goal.invariant-loop-subject
-invariant-loop-subject l = l.columns ≡ replicate l._subject 1

@@ -1,0 +1,3 @@
+mod OddsLaws
+mod OddsTests
+mod Vectors

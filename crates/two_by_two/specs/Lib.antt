@@ -1,0 +1,3 @@
+pub mod FisherOdds
+pub mod OddsNetworks
+pub mod OddsSteps
