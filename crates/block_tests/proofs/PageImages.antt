@@ -14,6 +14,7 @@ use Rattle.networks.specs.PartialSums.{plus}
 use Rattle.networks.specs.Written.{RunsFor, StandsFor}
 use Rattle.networks.specs.declared.verdicts.Judge.{Judge}
 use Rattle.networks.proofs.Bridge.{choices-before}
+use Rattle.networks.proofs.Lumping.{lumped-by}
 use Rattle.block_tests.specs.BlockNetworks.{addends_of, block_at, line_addends, line_of, network_by, page_addends, page_lines, running_addends}
 use Rattle.block_tests.specs.BlockTests.{BlockTests, block_counts, block_test, page_sum}
 use Rattle.block_tests.specs.declared.kinds.BlockKind.{BlockKind}
@@ -40,12 +41,10 @@ module _ (k : ℕ) (blocks : List (List ℕ)) (judge : Judge) (t : Tail) where
 
   page-writes : StandsFor n q t
   page-writes = record {
-    count = refl;
     written = λ key. key;
-    first = refl;
+    lumped = lumped-by (λ key. key) n q refl refl same-arcs;
     order = λ g i j a b. refl;
     verdict = λ g key r. refl;
-    arcs = same-arcs;
     weighty = λ g key c r before m. line-weight (block_at blocks g) c (subst (λ cs. Contains cs c) (choices-before (line_addends blocks judge) g key before) m);
     weighty_written = λ g key c r before m. omega arith;
   }

@@ -10,8 +10,8 @@ use Rattle.networks.specs.declared.verdicts.Judge.{Judge}
 use Rattle.networks.specs.Network.{Network, IsReached}
 use Rattle.networks.specs.Judged.{HasIntervals}
 use Rattle.networks.specs.Completions.{over_arcs}
-use Rattle.networks.specs.Folded.{IsTurned}
-use Rattle.networks.proofs.Folding.{over_allowed}
+use Rattle.networks.specs.Turned.{IsTurned}
+use Rattle.networks.proofs.Lumping.{over_allowed}
 use Rattle.networks.proofs.Steps.{reached-next}
 use Rattle.networks.proofs.Swaps.{length-swap, map-swap, swap_at}
 use Rattle.room_network.specs.Meanings.{Meaning}

@@ -7,7 +7,6 @@ use Rattle.std.specs.List.{All, flat_map, sum, sum_by}
 use Rattle.weights.specs.Grouped.{choices, minus}
 use Rattle.weights.specs.Numbers.{binomial}
 use Rattle.weights.specs.declared.TheConstants.{MAX}
-use Rattle.networks.specs.Folded.{folded}
 use Rattle.networks.specs.Judged.{JudgeFits}
 use Rattle.networks.specs.Network.{Network}
 use Rattle.networks.specs.declared.verdicts.Judge.{Judge}
@@ -16,7 +15,7 @@ use Rattle.room_network.specs.Plans.{Floor, Plan, Weights}
 use Rattle.room_network.specs.RoomNetworks.{room_network}
 use Rattle.label_network.specs.ChoiceOrder.{later_choices}
 use Rattle.label_network.specs.Meanings.{sizes_in}
-use Rattle.ordered_groups.specs.OrderedGroups.{groups_in_order}
+use Rattle.ordered_groups.specs.OrderedNetworks.{ordered_network}
 use Rattle.block_tests.specs.BlockSteps.{IsSmall}
 use Rattle.block_tests.specs.BlockTests.{squared}
 use Rattle.block_tests.specs.Upright.{mirror_at, upright}
@@ -186,7 +185,7 @@ alike k = replicate k 1
 -- with the treatments in order, first by whether they are served, then by their sums
 abbrev pub served_network : ℕ → List Serving → List ℕ → Judge → Network
 served_network k vs mirrors judge =
-    folded (groups_in_order true (alike k)) (serving_network k vs mirrors judge)
+    ordered_network true (alike k) (serving_network k vs mirrors judge)
 
 -- one number has a digit for each of k treatments that holds its sum after so many servings
 abbrev pub has_room_for : ℕ → ℕ → Bool

@@ -22,4 +22,5 @@ pub mod Adding
 pub mod EndsFitting
 pub mod Images
 pub mod Writing
-pub mod Folding
+pub mod Lumping
+pub mod Mapping

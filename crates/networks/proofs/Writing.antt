@@ -9,6 +9,7 @@ use Rattle.weights.specs.Conditional.{ConditionalTest}
 use Rattle.weights.proofs.Members.{Contains-here, Contains-later}
 use Rattle.node_pool.specs.Nodes.{key_eq}
 use Rattle.node_pool.proofs.Puts.{alike, same_key}
+use Rattle.networks.specs.Completions.{over_arcs}
 use Rattle.networks.specs.Network.{Network, IsReached}
 use Rattle.networks.specs.Follows.{OpenAlike}
 use Rattle.networks.specs.Opened.{opened_below}
@@ -50,6 +51,10 @@ module _ (n q : Network) (t : Tail) (w : StandsFor n q t) where
   pub one_to_one : (g : ℕ) (j k : List ℤ) → IsReached n g j → IsReached n g k → w.written j ≡ w.written k → j ≡ k
   one_to_one g j k a b e = same_key j k (sym (ap is_eq (w.order g j k a b)) ∙ alike (w.written j) (w.written k) e)
 
+  -- over the arcs of a written key, and of the one that stands for it
+  over_written : (f : List ℤ → ℕ) (g : ℕ) (k : List ℤ) → IsReached n g k → g < n.count → over_arcs q f g (w.written k) ≡ over_arcs n (λ j. f (w.written j)) g k
+  over_written f g k r before = sym (w.lumped.arcs (λ j. f (w.written j)) f g k (w.written k) before (r, refl) (λ j i a. ap f (sym a.1)))
+
   -- to a written key weighs as much of the one as of the other
   to_key : List ℤ → List ℤ → ℕ
   to_key target j = one_where (key_eq j target)
@@ -61,7 +66,7 @@ module _ (n q : Network) (t : Tail) (w : StandsFor n q t) where
       let target = w.written (n.next g k c) in
       let one : 1 ≤ n.weight g k c * one_where (key_eq target target) = leads (n.weight g k c) target target (w.weighty g k c r before m) refl in
       let among = term-le-sum_by (λ d. n.weight g k d * one_where (key_eq (w.written (n.next g k d)) target)) (n.choices g k) c m in
-      let all = w.arcs (to_key target) g k r before in
+      let all = over_written (to_key target) g k r before in
       let found = some_term (λ d. q.weight g (w.written k) d * one_where (key_eq (q.next g (w.written k) d) target)) (q.choices g (w.written k)) (omega (arith, one, among, all)) in
       (found.0, found.1, led (q.weight g (w.written k) found.0) (q.next g (w.written k) found.0) target found.2)
 
@@ -72,15 +77,15 @@ module _ (n q : Network) (t : Tail) (w : StandsFor n q t) where
       let target = q.next g (w.written k) d in
       let one : 1 ≤ q.weight g (w.written k) d * one_where (key_eq target target) = leads (q.weight g (w.written k) d) target target (w.weighty_written g k d r before m) refl in
       let among = term-le-sum_by (λ c. q.weight g (w.written k) c * one_where (key_eq (q.next g (w.written k) c) target)) (q.choices g (w.written k)) d m in
-      let found = some_term (λ c. n.weight g k c * one_where (key_eq (w.written (n.next g k c)) target)) (n.choices g k) (omega (arith, one, among, w.arcs (to_key target) g k r before)) in
+      let found = some_term (λ c. n.weight g k c * one_where (key_eq (w.written (n.next g k c)) target)) (n.choices g k) (omega (arith, one, among, over_written (to_key target) g k r before)) in
       (found.0, found.1, sym (led (n.weight g k found.0) (w.written (n.next g k found.0)) target found.2))
 
   abbrev pub as-images : OpensImages q n t
   as-images = record {
     image = λ g k. w.written k;
     one_to_one = one_to_one;
-    count = sym w.count;
-    first = sym w.first;
+    count = sym w.lumped.count;
+    first = w.lumped.first.1;
     verdict = λ g k r h. w.verdict g k r;
     there = there;
     back = back;
@@ -90,5 +95,5 @@ module _ (n q : Network) (t : Tail) (w : StandsFor n q t) where
 pub opened-alike : (test : ConditionalTest) (runs network : Tail → Network) → AreWritten test runs network → OpenAlike test runs network
 opened-alike test runs network written t has = elim (written t has) [
   | inl same ↦ ap (λ (n : Network). opened_below n t n.count) same
-  | inr w ↦ sym (ap (opened_below (network t) t) (sym w.count) ∙ opened-images (network t) (runs t) t (as-images (runs t) (network t) t w) (runs t).count (omega arith))
+  | inr w ↦ sym (ap (opened_below (network t) t) (sym w.lumped.count) ∙ opened-images (network t) (runs t) t (as-images (runs t) (network t) t w) (runs t).count (omega arith))
 ]

@@ -9,7 +9,9 @@ pub mod Shifts
 pub mod Lines
 pub mod Judged
 pub mod Follows
-pub mod Folded
+pub mod Lumped
+pub mod Turned
+pub mod Mapped
 pub mod Written
 pub mod OneOf
 pub mod PartialSums

@@ -4,24 +4,21 @@ use Rattle.std.specs.List.{Contains}
 use Rattle.weights.specs.declared.tails.Tail.{Tail}
 use Rattle.weights.specs.Conditional.{ConditionalTest}
 use Rattle.node_pool.specs.Nodes.{key_cmp}
+use Rattle.networks.specs.Lumped.{IsImage, Lumped}
 use Rattle.networks.specs.Network.{Network, IsReached}
-use Rattle.networks.specs.Completions.{over_arcs}
 
 -- Each key of n stands for one of q. The same is known of both for the tail, and the arcs of both
 -- lead to the same written keys, with as much weight to each: so the one is open where the other
 -- is, is met with the same weight, and is completed to what is extreme with the same weight.
 pub record StandsFor (n q : Network) (t : Tail) : Type 0 where
-  pub count : n.count ≡ q.count
   -- the written key that a running one stands for
   pub written : List ℤ → List ℤ
-  pub first : written n.first ≡ q.first
+  pub lumped : Lumped n q (IsImage written n)
   -- running keys come in the order of the written ones: no two of them stand for one
   pub order : (g : ℕ) (j k : List ℤ) → IsReached n g j → IsReached n g k
       → key_cmp (written j) (written k) ≡ key_cmp j k
   pub verdict : (g : ℕ) (k : List ℤ) → IsReached n g k
       → q.verdict t g (written k) ≡ n.verdict t g k
-  pub arcs : (f : List ℤ → ℕ) (g : ℕ) (k : List ℤ) → IsReached n g k → g < n.count
-      → over_arcs q f g (written k) ≡ over_arcs n (λ j. f (written j)) g k
   -- no arc weighs nothing
   pub weighty : (g : ℕ) (k : List ℤ) (c : List ℕ) → IsReached n g k → g < n.count
       → Contains (n.choices g k) c → 1 ≤ n.weight g k c

@@ -1,8 +1,9 @@
 -- Networks in whose keys groups of equal size are in order.
 use Rattle.std.specs.Prelude.{◌≡◌, ℕ, ◌+◌, ◌≤◌, ℤ, Bool, List, length}
-use Rattle.networks.specs.Folded.{IsTurned, folded}
 use Rattle.networks.specs.Judged.{HasIntervals}
+use Rattle.networks.specs.Mapped.{mapped}
 use Rattle.networks.specs.Network.{Network, IsReached}
+use Rattle.networks.specs.Turned.{IsTurned}
 use Rattle.networks.specs.declared.verdicts.Judge.{Judge}
 use Rattle.room_network.specs.Meanings.{Meaning}
 use Rattle.room_network.specs.Plans.{Plan}
@@ -12,7 +13,7 @@ use Rattle.ordered_groups.specs.OrderedGroups.{IsTurn, groups_in_order}
 -- the network with the groups of each key in order, by what remains of them and by their sums, or
 -- by what remains of them alone
 abbrev pub ordered_network : Bool → List ℕ → Network → Network
-ordered_network by_sums sizes n = folded (groups_in_order by_sums sizes) n
+ordered_network by_sums sizes n = mapped n.width (groups_in_order by_sums sizes) (λ key. key) n
 
 -- The groups of a network's keys may be put in order: a key has what remains of each, and then the
 -- sum of each; and a key whose neighbours of equal size change places is reached too, with the same

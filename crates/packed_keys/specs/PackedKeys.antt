@@ -1,8 +1,9 @@
 -- Networks in whose keys the numbers of a partial are digits of one number.
-use Rattle.std.specs.Prelude.{◌≡◌, ℕ, zero, suc, ◌+◌, ◌-◌, ◌*◌, ◌/◌, ◌%◌, ◌^◌, ◌<◌, ◌≤◌, ℤ, pos, nat_abs, List, [], ◌∷◌, ◌++◌, take, drop, length, map, get_or}
+use Rattle.std.specs.Prelude.{◌≡◌, ℕ, zero, suc, ◌+◌, ◌-◌, ◌*◌, ◌/◌, ◌%◌, ◌^◌, ◌<◌, ◌≤◌, ℤ, pos, nat_abs, List, [], ◌∷◌, ◌++◌, take, drop, map, get_or}
 use Rattle.std.specs.List.{AllByRecursion}
 use Rattle.weights.specs.declared.TheConstants.{MAX}
 use Rattle.networks.specs.Judged.{IsJudged}
+use Rattle.networks.specs.Mapped.{mapped}
 use Rattle.networks.specs.Network.{Network, IsReached}
 
 -- the number that has these digits, the least first
@@ -29,25 +30,10 @@ packed_key w base key = take w key ++ packed base (drop w key)
 abbrev pub unpacked_key : ℕ → ℕ → ℕ → List ℤ → List ℤ
 unpacked_key w base k key = take w key ++ unpacked base k (drop w key)
 
--- the same network with its keys written in another way
-abbrev pub rewritten : ℕ → (List ℤ → List ℤ) → (List ℤ → List ℤ) → Network → Network
-rewritten width write read n = record {
-  count = n.count;
-  width = width;
-  choice_width = n.choice_width;
-  first = write n.first;
-  choices = λ g key. n.choices g (read key);
-  later = λ g key c. n.later g (read key) c;
-  weight = λ g key c. n.weight g (read key) c;
-  next = λ g key c. write (n.next g (read key) c);
-  verdict = λ t g key. n.verdict t g (read key);
-  value = λ key. n.value (read key);
-}
-
--- with rooms of w numbers, and digits of so many bits
+-- the network with each partial as one number, with rooms of w numbers, and digits of so many bits
 abbrev pub packed_network : ℕ → ℕ → Network → Network
 packed_network w bits n =
-    rewritten (w + 1) (packed_key w (2 ^ bits)) (unpacked_key w (2 ^ bits) (n.width - w)) n
+    mapped (w + 1) (packed_key w (2 ^ bits)) (unpacked_key w (2 ^ bits) (n.width - w)) n
 
 pub record IsDigit (base : ℕ) (z : ℤ) : Type 0 where
   pub held : z ≡ pos (nat_abs z)

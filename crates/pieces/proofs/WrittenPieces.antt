@@ -1,21 +1,20 @@
 -- The pieces of a network that runs are those of the network that is written down, where its keys stand for that one's: the same is closed, and each part is given the keys that stand for its written ones.
-use Rattle.std.proofs.Common.{◌≡◌, ℕ, zero, suc, ◌+◌, ◌-◌, ◌*◌, ◌%◌, ◌<◌, ◌≤◌, List, [], ◌∷◌, Bool, true, false, cond, inl, inr, refl, sym, ◌∙◌, ap, subst, arith, nat_eq}
+use Rattle.std.proofs.Common.{◌≡◌, ℕ, zero, suc, ◌+◌, ◌-◌, ◌%◌, ◌<◌, ◌≤◌, List, Bool, true, false, cond, inl, inr, refl, sym, ◌∙◌, ap, subst, arith, nat_eq}
 use Rattle.std.specs.Prelude.{ℤ, min}
-use Rattle.std.specs.List.{sum_by, filter, Contains}
+use Rattle.std.specs.List.{filter, Contains}
 use Rattle.std.specs.Ordering.{is_lt}
 use Rattle.weights.specs.declared.tails.Tail.{Tail}
 use Rattle.weights.proofs.Members.{Contains-filter}
 use Rattle.node_pool.specs.Nodes.{key_cmp}
 use Rattle.networks.specs.declared.stages.Verdict.{Verdict}
 use Rattle.networks.specs.declared.stages.Verdict.TheVariants.{Inside, Outside, Undecided}
-use Rattle.networks.specs.Completions.{extreme_weight, ends_inside, is_inside, over_arcs, path_weight, paths}
+use Rattle.networks.specs.Completions.{extreme_weight, is_inside, over_arcs}
 use Rattle.networks.specs.Laws.{IsLawful}
 use Rattle.networks.specs.Network.{Network, IsReached}
 use Rattle.networks.specs.Opened.{is_open, is_undecided, reached_openly}
 use Rattle.networks.specs.Written.{RunsFor, StandsFor}
-use Rattle.networks.proofs.Folding.{over_allowed}
 use Rattle.networks.proofs.Images.{filtered_from, images_counted, of_images, openly_reached, to_images}
-use Rattle.networks.proofs.Steps.{extreme_weight-step, reached-next}
+use Rattle.networks.proofs.Lumping.{lumped-extreme}
 use Rattle.networks.proofs.Writing.{as-images, one_to_one}
 use Rattle.piece_texts.specs.declared.piece.PieceSum.{PieceSum}
 use Rattle.piece_texts.specs.PieceTexts.{SumFits}
@@ -24,20 +23,6 @@ use Rattle.pieces.proofs.ByPaths.{inside-here, inside-later, inside_part, none-i
 use Rattle.pieces.proofs.Conserving.{openly}
 use Rattle.pieces.proofs.CutSums.{piece-fits, pieces-add-up}
 use Rattle.pieces.proofs.Owned.{over-same}
-
-extreme-last : (n : Network) (t : Tail) (k : List ℤ) → extreme_weight n t n.count k ≡ cond (is_inside (n.verdict t n.count k)) 1 0
-unfolding extreme_weight
-extreme-last n t k =
-    let none : n.count - n.count ≡ 0 = omega arith in
-    ap (λ m. sum_by (path_weight n n.count k) (filter (ends_inside n t n.count k) (paths n m n.count k))) none
-    ∙ by (is_inside (n.verdict t n.count k))
-  where
-    by : (b : Bool) → sum_by (path_weight n n.count k) (cond b ([] ∷ []) []) ≡ cond b 1 0
-    by true = refl
-    by false = refl
-
-extreme-end : (n : Network) (t : Tail) (g : ℕ) (k : List ℤ) → n.count ≡ g → extreme_weight n t g k ≡ cond (is_inside (n.verdict t g k)) 1 0
-extreme-end n t g k last = subst (λ i. extreme_weight n t i k ≡ cond (is_inside (n.verdict t i k)) 1 0) last (extreme-last n t k)
 
 sums : ℕ → ℕ → PieceSum
 sums a b = record { closed = a; sum = b }
@@ -58,26 +43,18 @@ module _ (n q : Network) (t : Tail) (w : StandsFor n q t) where
   -- over the arcs of a key and of its written one
   arcs-same : (h f : List ℤ → ℕ) (g : ℕ) (k : List ℤ) → IsReached n g k → g < n.count → ((j : List ℤ) → IsReached n (g + 1) j → h (w.written j) ≡ f j) → over_arcs q h g (w.written k) ≡ over_arcs n f g k
   arcs-same h f g k r before same =
-      w.arcs h g k r before
-      ∙ over_allowed (n.choices g k) (λ c. n.weight g k c * h (w.written (n.next g k c))) (λ c. n.weight g k c * f (n.next g k c)) (λ c o. ap (λ m. n.weight g k c * m) (same (n.next g k c) (reached-next n g k c r before o)))
+      sym (w.lumped.arcs f h g k (w.written k) before (r, refl) (λ j i a. sym (same j a.0) ∙ ap h (sym a.1)))
 
   open-same : (g : ℕ) (k : List ℤ) → IsReached n g k → is_open q t g (w.written k) ≡ is_open n t g k
   open-same g k r = ap is_undecided (w.verdict g k r)
 
   -- what is extreme from a key on
-  extreme-same : (m g : ℕ) (k : List ℤ) → g + m ≡ n.count → IsReached n g k → extreme_weight q t g (w.written k) ≡ extreme_weight n t g k
-  extreme-same zero g k e r =
-      extreme-end q t g (w.written k) (omega (arith, e, w.count))
-      ∙ ap (λ v. cond (is_inside v) 1 0) (w.verdict g k r)
-      ∙ sym (extreme-end n t g k (omega (arith, e)))
-  extreme-same (suc m) g k e r =
-      let before : g < n.count = omega (arith, e) in
-      extreme_weight-step q t g (w.written k) (omega (arith, before, w.count))
-      ∙ arcs-same (extreme_weight q t (g + 1)) (extreme_weight n t (g + 1)) g k r before (λ j s. extreme-same m (g + 1) j (omega (arith, e)) s)
-      ∙ sym (extreme_weight-step n t g k before)
-
   extreme-at : (g : ℕ) (k : List ℤ) → g ≤ n.count → IsReached n g k → extreme_weight q t g (w.written k) ≡ extreme_weight n t g k
-  extreme-at g k h r = extreme-same (n.count - g) g k (omega (arith, h)) r
+  extreme-at g k h r =
+      sym (lumped-extreme w.lumped t (λ i j a.
+      sym (w.verdict n.count i a.0)
+      ∙ ap (q.verdict t n.count) (sym a.1)
+      ∙ ap (λ m. q.verdict t m j) w.lumped.count) g k (w.written k) h (r, refl))
 
   -- what stays open
   openly-same : (m g e : ℕ) (h f : List ℤ → ℕ) (k : List ℤ) → g + m ≡ e → e ≤ n.count → IsReached n g k → ((j : List ℤ) → IsReached n e j → h (w.written j) ≡ f j) → openly q t m g h (w.written k) ≡ openly n t m g f k
@@ -94,7 +71,7 @@ module _ (n q : Network) (t : Tail) (w : StandsFor n q t) where
   from-inside : (m e g : ℕ) (k : List ℤ) → g + e ≡ n.count → IsReached n g k → is_inside (n.verdict t g k) ≡ true → inside_part q t m e g (w.written k) ≡ inside_part n t m e g k
   from-inside m e g k is r v =
       let here : n.verdict t g k ≡ Inside = inside-is (n.verdict t g k) v in
-      inside-here q t m e g (w.written k) (is ∙ w.count) (w.verdict g k r ∙ here)
+      inside-here q t m e g (w.written k) (is ∙ w.lumped.count) (w.verdict g k r ∙ here)
       ∙ extreme-at g k (omega (arith, is)) r
       ∙ sym (inside-here n t m e g k is here)
 
@@ -114,8 +91,8 @@ module _ (n q : Network) (t : Tail) (w : StandsFor n q t) where
   closed-same : (m : ℕ) → m ≤ n.count → closed_sum q t m ≡ closed_sum n t m
   unfolding closed_sum
   closed-same m h =
-      ap (λ e. inside_part q t m (e - 0) 0 q.first) (sym w.count)
-      ∙ ap (inside_part q t m (n.count - 0) 0) (sym w.first)
+      ap (λ e. inside_part q t m (e - 0) 0 q.first) (sym w.lumped.count)
+      ∙ ap (inside_part q t m (n.count - 0) 0) w.lumped.first.1
       ∙ inside-same m (n.count - 0) 0 n.first (omega (arith, h)) (omega arith) refl
 
   -- ---- whose keys they are
@@ -162,8 +139,8 @@ module _ (n q : Network) (t : Tail) (w : StandsFor n q t) where
   part-same g parts part h =
       let of_written : List ℤ → ℕ = passing_extreme q t (belongs q t g parts part) g in
       let of_running : List ℤ → ℕ = passing_extreme n t (belongs n t g parts part) g in
-      open-openly q t (belongs q t g parts part) g (omega (arith, h, w.count))
-      ∙ ap (openly q t g 0 of_written) (sym w.first)
+      open-openly q t (belongs q t g parts part) g (omega (arith, h, w.lumped.count))
+      ∙ ap (openly q t g 0 of_written) w.lumped.first.1
       ∙ openly-same g 0 g of_written of_running n.first (omega arith) h refl (λ j r.
       ap (λ b. cond b (extreme_weight q t g (w.written j)) 0) (belongs-same g parts part j h r)
       ∙ ap (λ x. cond (belongs n t g parts part j) x 0) (extreme-at g j h r))
@@ -177,7 +154,7 @@ module _ (n q : Network) (t : Tail) (w : StandsFor n q t) where
   pieces-same at parts part =
       let g : ℕ = cut_stage n at in
       let h : g ≤ n.count = least at n.count in
-      let here : cut_stage q at ≡ g = ap (min at) (sym w.count) in
+      let here : cut_stage q at ≡ g = ap (min at) (sym w.lumped.count) in
       ap (λ i. sums (closed_sum q t i) (open_sum q t i (belongs q t i parts part))) here
       ∙ same_piece (closed_sum q t g) (open_sum q t g (belongs q t g parts part)) (closed_sum n t g) (open_sum n t g (belongs n t g parts part)) (closed-same g h) (part-same g parts part h)
 
@@ -192,7 +169,7 @@ module _ (n q : Network) (t : Tail) (runs : RunsFor n q t) where
   pub extreme-written : extreme_weight n t 0 n.first ≡ extreme_weight q t 0 q.first
   extreme-written = elim runs [
     | inl same ↦ ap (λ (i : Network). extreme_weight i t 0 i.first) same
-    | inr w ↦ sym (ap (extreme_weight q t 0) (sym w.first) ∙ extreme-at n q t w 0 n.first (omega arith) refl)
+    | inr w ↦ sym (ap (extreme_weight q t 0) w.lumped.first.1 ∙ extreme-at n q t w 0 n.first (omega arith) refl)
   ]
 
   closed-written : (at : ℕ) → closed_sum n t (cut_stage n at) ≡ closed_sum q t (cut_stage q at)

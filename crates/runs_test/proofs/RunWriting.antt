@@ -19,6 +19,7 @@ use Rattle.networks.specs.Completions.{over_arcs}
 use Rattle.networks.specs.Judged.{judge_of}
 use Rattle.networks.specs.Network.{Network, IsReached}
 use Rattle.networks.specs.Written.{RunsFor, StandsFor}
+use Rattle.networks.proofs.Lumping.{lumped-by}
 use Rattle.label_network.specs.LabelNetwork.{label_network}
 use Rattle.label_network.proofs.Narrowing.{chosen}
 use Rattle.runs_test.specs.RunNetwork.{begins_run, labels_for, runs_meaning, sequence_meaning, written_network, written_runs}
@@ -139,9 +140,10 @@ module _ (a b : ℕ) (judge : Judge) where
   runs-writes : (t : Tail) → StandsFor n q t
   unfolding without_second
   runs-writes t = record {
-    count = all-rows;
     written = without_second;
-    first = refl;
+    lumped = lumped-by without_second n q all-rows refl (λ f g k r before.
+        let key : IsRunKey g k = run-key g k r in
+        rw key.is (row-arcs f g key.firsts key.seconds key.last key.runs key.left (omega (arith, before, all-rows))));
     order = λ g i j r s.
         let one : IsRunKey g i = run-key g i r in
         let two : IsRunKey g j = run-key g j s in
@@ -151,9 +153,6 @@ module _ (a b : ℕ) (judge : Judge) where
         let key : IsRunKey g k = run-key g k r in
         let rest : (a + b) - g - key.firsts ≡ key.seconds = omega (arith, key.left) in
         rw (key.is, rest) refl;
-    arcs = λ f g k r before.
-        let key : IsRunKey g k = run-key g k r in
-        rw key.is (row-arcs f g key.firsts key.seconds key.last key.runs key.left (omega (arith, before, all-rows)));
     weighty = λ g k c r before m. number_of_labellings-positive c;
     weighty_written = λ g k c r before m. omega arith;
   }

@@ -19,3 +19,6 @@ returns-in-Ordered c = rw c.in-Ordered.is (λ d few. rw (to_z-of_z w128 c.args.p
 
 pub returns-in-Written : goal.returns-in-Written
 returns-in-Written c = rw c.in-Written.is (λ d few. rw (to_z-of_z w128 c.args.partial c.ranges.partial) at (c.same_for-in-Written.ensures d few))
+
+pub same_for-requires-clause-outlook : goal.same_for-requires-clause-outlook
+same_for-requires-clause-outlook c = rw c.in-Packed.is at c.requires.outlook

@@ -1,4 +1,4 @@
-use Rattle.std.proofs.Common.{◌≡◌, ◌-◌, refl, rules}
+use Rattle.std.proofs.Common.{◌-◌, refl}
 use Rattle.networks.specs.Network.{Network}
 use Rattle.packed_keys.specs.PackedSteps.{IsPacked}
 use Rattle.packed_keys.proofs.PackedParts.{packed-follows, packed-values}

@@ -1,11 +1,7 @@
--- Networks whose keys are folded: keys whose completions weigh and end alike become one key.
+-- Turns of keys, and what they keep.
 use Rattle.std.specs.Prelude.{◌≡◌, ℕ, zero, suc, ◌+◌, ◌<◌, ℤ, List, [], ◌∷◌}
 use Rattle.networks.specs.Completions.{over_arcs}
 use Rattle.networks.specs.Network.{Network, IsReached}
-
--- the network in which each key that is reached is folded
-abbrev pub folded : (List ℤ → List ℤ) → Network → Network
-folded fold n = record n { first = fold n.first; next = λ g k c. fold (n.next g k c) }
 
 -- A reached key and what it is turned to are alike: this is reached too, ends at the same value,
 -- and the sums over their arcs are the same of all that does not tell apart what a turn leads to.
