@@ -1,12 +1,11 @@
 -- Where groups rise and no two subjects are equal, each rising pair adds 2.
 use Rattle.std.proofs.Common.{◌≡◌, ℕ, ◌+◌, ◌*◌, ◌<◌, ◌≤◌, Bool, true, false, cond, List, [], ◌∷◌, length, map, take, drop, refl, sym, ◌∙◌, ap, subst, arith, nat_eq, nat_lt, inl, inr}
 use Rattle.std.specs.Prelude.{ℤ, pos, ◌+ℤ◌}
-use Rattle.std.specs.List.{All, AllByRecursion, count_by, flat_map, sum, sum_by}
+use Rattle.std.specs.List.{AllByRecursion, count_by, flat_map, list_all, sum, sum_by}
 use Rattle.std.proofs.lemmas.Bool.{cases_lt}
 use Rattle.std.proofs.lemmas.Int.{ints}
 use Rattle.std.proofs.lemmas.Bool.Decides.{nat_tests}
 use Rattle.std.proofs.lemmas.List.{map-id}
-use Rattle.std.proofs.lemmas.List.Elements.{recursion_from_All}
 use Rattle.std.proofs.lemmas.List.Sums.{sum_by-cons}
 use Rattle.weights.specs.declared.tails.Tail.{Tail}
 use Rattle.weights.specs.Conditional.{numerator}
@@ -30,6 +29,7 @@ use Rattle.pooled_columns.proofs.PooledValues.{pooled-rises}
 use Rattle.pooled_columns.proofs.TieColumns.{grouped}
 use Rattle.rising_pairs.specs.RisingPairs.{rising_pairs}
 use Rattle.rising_pairs.specs.RisingTails.{FitLabellings, even_value, passing_labellings}
+use Rattle.rising_pairs.proofs.OneEach.{all-one}
 use Rattle.k_sample_tests.specs.declared.used_pairs.UsedPair.{UsedPair}
 use Rattle.k_sample_tests.specs.Umbrella.{PeakedGroups, pair_of, pair_points, umbrella_says, umbrella_statistic, umbrella_test, used_pairs}
 use Rattle.k_sample_tests.proofs.FittingUmbrella.{columns-sum}
@@ -169,14 +169,14 @@ module _ (samples : PeakedGroups) where
   each-one [] a = tt
   each-one (t ∷ ts) a = (a.0, each-one ts a.1)
 
-  module _ (rises : length sizes ≤ samples.peak) (distinct : All (λ c. c ≡ 1) (column_sizes values)) (whole : sum sizes ≡ length values) where
+  module _ (rises : length sizes ≤ samples.peak) (distinct : list_all (λ c. nat_eq c 1) (column_sizes values) ≡ true) (whole : sum sizes ≡ length values) where
     statistic-rises : (xs : List ℕ) → IsLabelling sizes xs → umbrella_statistic (used_pairs samples.peak (length sizes)) values xs ≡ even_value (pos 0) 2 (rising_pairs xs)
     statistic-rises xs l =
         let ts : List Tie = tie_groups values in
         ap pos (
         used-pairs samples.peak (length sizes) rises (pair_points (paired_subjects values xs))
         ∙ ap (λ vs. over_groups (λ u v. across u v (paired_subjects vs xs) (paired_subjects vs xs)) (length sizes)) (sym (grouped (λ v. v) values (pooled-rises samples.groups) ∙ map-id values))
-        ∙ rising-points (length sizes) ts xs (groups-ascend values) (each-one ts (recursion_from_All (λ c. c ≡ 1) (column_sizes values) distinct)) (l.over.long ∙ whole ∙ sym (columns-sum samples.groups)) l.over.below
+        ∙ rising-points (length sizes) ts xs (groups-ascend values) (each-one ts (all-one (column_sizes values) distinct)) (l.over.long ∙ whole ∙ sym (columns-sum samples.groups)) l.over.below
         )
         ∙ from-none (2 * rising_pairs xs)
       where

@@ -1,6 +1,5 @@
 // Ordered groups that are prepared for their test.
-ghost use Rattle.std.specs.Prelude.{◌≡◌, true};
-ghost use Rattle.std.specs.List.{All};
+ghost use Rattle.std.specs.Prelude.{◌≡◌};
 ghost use Rattle.weights.specs.Wide.{Prepares};
 ghost use Rattle.sample_reader.specs.Data.{data_of};
 ghost use Rattle.k_sample_tests.specs.Umbrella.{umbrella_test};
@@ -14,7 +13,7 @@ use label_network::label_stages;
 use labelled::{LabelStatistic, Labelled};
 use networks::{Judge, TailSums};
 use pooled_columns::labels_in;
-use rising_pairs::rising_sums;
+use rising_pairs::{are_distinct, rising_sums};
 use room_network::Numbered;
 use sample_reader::{Groups, Labels, pooled_subjects};
 use stage_network::tail_sums_by_rooms;
@@ -56,18 +55,6 @@ impl PeakedSamples {
     {
         &self.made
     }
-}
-
-// Whether no two subjects are equal: each column has one.
-fn are_distinct(columns: &[u64]) -> bool
-    ensures { result ≡ true → All (λ c. c ≡ 1) columns.now }
-{
-    for i in 0..columns.len() {
-        if columns[i] != 1 {
-            return false;
-        }
-    }
-    true
 }
 
 /// Prepares groups with this peak.

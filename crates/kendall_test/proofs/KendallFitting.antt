@@ -107,7 +107,7 @@ module _ (sample : TwinData) where
     bound-fits = omega (arith, mul-le-mul firsts-few firsts-few)
 
     module _ (fits : number_of_labellings (column_sizes sample.second) ≤ MAX) where
-      within : IsWithin (kendall_says sample)
+      pub within : IsWithin (kendall_says sample)
       within = record {
         few = omega (arith, rows-short);
         total_fits = fits;
@@ -128,7 +128,7 @@ module _ (sample : TwinData) where
         rules_fit = λ v h. label-judge (kendall_says sample) within judge e v (value-fits v h);
       }
 
-      same-firsts : values_of_ties (tie_groups firsts) ≡ firsts
+      pub same-firsts : values_of_ties (tie_groups firsts) ≡ firsts
       same-firsts = grouped (λ v. v) firsts (pooled-rises as_groups) ∙ map-id firsts
 
       follows : (tail : Tail) → Follows (kendall_test sample) tail (kendall_stages sample)

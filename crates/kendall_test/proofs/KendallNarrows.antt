@@ -40,7 +40,7 @@ pub concordant-among : (cs : List ℕ) → concordant_pairs cs cs ≡ pairs_amon
 concordant-among [] = refl
 concordant-among (c ∷ cs) = ap (λ n. c * sum cs + n) (concordant-among cs)
 
-all-pairs : (cs : List ℕ) → sum cs ≤ 120 → pairs_among cs ≤ 14400
+pub all-pairs : (cs : List ℕ) → sum cs ≤ 120 → pairs_among cs ≤ 14400
 all-pairs cs h = omega (arith, concordant-among cs, concordant-most cs cs, mul-le-mul h h)
 
 open-next : (columns : List ℕ) (g : ℕ) → g < length columns → open_pairs columns g ≡ slice_index columns g * sum (drop (g + 1) columns) + open_pairs columns (g + 1)

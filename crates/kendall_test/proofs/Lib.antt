@@ -10,6 +10,7 @@ pub mod KendallSeats
 pub mod PairSums
 pub mod Places
 pub mod KendallFitting
+pub mod RisingOrder
 mod TableSums
 mod TurnedSums
 mod TurnedObserved

@@ -7,15 +7,18 @@ ghost use Rattle.kendall_test.specs.Kendall.{kendall_test};
 ghost use Rattle.kendall_test.specs.TurnedKendall.{turned_twins};
 
 use crate::pair_order::PairOrder;
+use crate::rising_order::rising_numerators;
 use crate::turned::turned_of;
 use labelled::LabelStatistic;
 use networks::{Judge, TailSum, TailSums};
+use rising_pairs::are_distinct;
 use stage_network::tail_sums_by_rooms;
 use std::alloc::Global;
 use turned_tables::in_ratio;
 use weights::{NoMemory, Tail, Tails};
 
-// The numerators by the network of the test as it stands.
+// The numerators of the test as it stands: by how many pairs rise where no two first values are
+// equal, or else by its network.
 fn sums_as_they_stand(
     alloc: Global,
     order: &PairOrder,
@@ -25,6 +28,9 @@ fn sums_as_they_stand(
     requires { judge ≡ judge_of (kendall_test order.now) }
     ensures { IfOk result (AreNumerators (kendall_test order.now) tails) }
 {
+    if are_distinct(order.made().columns.as_slice()) {
+        return rising_numerators(alloc, order, judge, tails);
+    }
     let stages = order.quick_stages_of(alloc, judge)?;
     let sums = tail_sums_by_rooms(alloc, &stages, tails)?;
     Ok(sums)

@@ -14,6 +14,7 @@ mod kendall_stages;
 mod kendall_sums;
 mod pair_order;
 mod pairs;
+mod rising_order;
 mod room_work;
 mod turned;
 

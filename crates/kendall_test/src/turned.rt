@@ -7,6 +7,7 @@ ghost use Rattle.kendall_test.specs.TurnedKendall.{AreInRatio, turned_twins};
 use crate::kendall_made::kendall_subjects;
 use crate::pair_order::PairOrder;
 use crate::room_work::is_less_work_turned;
+use rising_pairs::are_distinct;
 use sample_reader::Twins;
 use std::alloc::Global;
 use weights::{NoMemory, PrepareFault};
@@ -31,13 +32,17 @@ fn turned_sample(sample: &Twins) -> Result<Twins, NoMemory>
     })
 }
 
-/// The test turned, which serves where it is less work. None where it is not, and where its total
-/// is too wide.
+// Whether the test turned serves: only there no two first values are equal, or it is less work.
+fn serves_turned(columns: &[u64], rows: &[u64]) -> bool {
+    !are_distinct(columns) && (are_distinct(rows) || is_less_work_turned(columns, rows))
+}
+
+/// The test turned, where it serves. None where it does not, and where its total is too wide.
 pub(crate) fn turned_of(alloc: Global, order: &PairOrder) -> Result<Option<PairOrder>, NoMemory>
     ensures { IfOk result (λ found. IfSome found (λ turned. turned ≡ turned_twins order.now)) }
 {
     let made = order.made();
-    if !is_less_work_turned(made.columns.as_slice(), made.rows.as_slice()) {
+    if !serves_turned(made.columns.as_slice(), made.rows.as_slice()) {
         return Ok(None);
     }
     let sample = turned_sample(order.sample())?;

@@ -3,3 +3,4 @@ mod TwoGroups
 mod OneMoreGroup
 mod Counting
 mod Passing
+pub mod OneEach

@@ -3,7 +3,9 @@
 #![tactic(auto)]
 
 mod counts;
+mod distinct;
 mod tails;
 
 pub use counts::rising_counts;
+pub use distinct::are_distinct;
 pub use tails::rising_sums;
