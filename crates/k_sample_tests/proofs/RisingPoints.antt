@@ -1,7 +1,7 @@
 -- Where groups rise and no two subjects are equal, each rising pair adds 2.
 use Rattle.std.proofs.Common.{◌≡◌, ℕ, ◌+◌, ◌*◌, ◌<◌, ◌≤◌, Bool, true, false, cond, List, [], ◌∷◌, length, map, take, drop, refl, sym, ◌∙◌, ap, subst, arith, nat_eq, nat_lt, inl, inr}
 use Rattle.std.specs.Prelude.{ℤ, pos, ◌+ℤ◌}
-use Rattle.std.specs.List.{AllByRecursion, count_by, flat_map, list_all, sum, sum_by}
+use Rattle.std.specs.List.{AllByRecursion, count_by, flat_map, sum, sum_by}
 use Rattle.std.proofs.lemmas.Bool.{cases_lt}
 use Rattle.std.proofs.lemmas.Int.{ints}
 use Rattle.std.proofs.lemmas.Bool.Decides.{nat_tests}
@@ -27,7 +27,7 @@ use Rattle.labelled.proofs.LabelLaws.{fit-by, numerator-by}
 use Rattle.pooled_columns.specs.PooledColumns.{column_sizes, pooled_values}
 use Rattle.pooled_columns.proofs.PooledValues.{pooled-rises}
 use Rattle.pooled_columns.proofs.TieColumns.{grouped}
-use Rattle.rising_pairs.specs.RisingPairs.{rising_pairs}
+use Rattle.rising_pairs.specs.RisingPairs.{are_distinct, rising_pairs}
 use Rattle.rising_pairs.specs.RisingTails.{FitLabellings, even_value, passing_labellings}
 use Rattle.rising_pairs.proofs.OneEach.{all-one}
 use Rattle.k_sample_tests.specs.declared.used_pairs.UsedPair.{UsedPair}
@@ -169,7 +169,7 @@ module _ (samples : PeakedGroups) where
   each-one [] a = tt
   each-one (t ∷ ts) a = (a.0, each-one ts a.1)
 
-  module _ (rises : length sizes ≤ samples.peak) (distinct : list_all (λ c. nat_eq c 1) (column_sizes values) ≡ true) (whole : sum sizes ≡ length values) where
+  module _ (rises : length sizes ≤ samples.peak) (distinct : are_distinct (column_sizes values) ≡ true) (whole : sum sizes ≡ length values) where
     statistic-rises : (xs : List ℕ) → IsLabelling sizes xs → umbrella_statistic (used_pairs samples.peak (length sizes)) values xs ≡ even_value (pos 0) 2 (rising_pairs xs)
     statistic-rises xs l =
         let ts : List Tie = tie_groups values in

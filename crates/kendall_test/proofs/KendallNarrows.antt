@@ -16,7 +16,8 @@ use Rattle.room_network.specs.Meanings.{AreReached, IsMeasure}
 use Rattle.room_network.specs.Plans.{alone}
 use Rattle.room_network.specs.Numbers.{IsNumber, IsOutcome, so_far}
 use Rattle.room_network.specs.declared.numbers.Operation.TheVariants.{Sum}
-use Rattle.kendall_test.specs.KendallNetwork.{concordance_added, kendall_meaning, kendall_numbers, open_pairs, pairs_among, concordant_pairs, concordance}
+use Rattle.rising_pairs.specs.RisingPairs.{pairs_across}
+use Rattle.kendall_test.specs.KendallNetwork.{concordance_added, kendall_meaning, kendall_numbers, open_pairs, concordant_pairs, concordance}
 use Rattle.kendall_test.specs.KendallRooms.{counts_left, kendall_floor, kendall_plan}
 use Rattle.kendall_test.specs.KendallSteps.{AreKendallCounts, IsKendall}
 use Rattle.kendall_test.proofs.CodeLaws.{sum-first}
@@ -36,17 +37,17 @@ concordance-low x y = omega (arith, ints, concordant-most x y)
 concordance-high : (x y : List ℕ) → concordance x y ≤ℤ pos (sum x * sum y)
 concordance-high x y = omega (arith, ints, concordant-most x y)
 
-pub concordant-among : (cs : List ℕ) → concordant_pairs cs cs ≡ pairs_among cs
+pub concordant-among : (cs : List ℕ) → concordant_pairs cs cs ≡ pairs_across cs
 concordant-among [] = refl
 concordant-among (c ∷ cs) = ap (λ n. c * sum cs + n) (concordant-among cs)
 
-pub all-pairs : (cs : List ℕ) → sum cs ≤ 120 → pairs_among cs ≤ 14400
+pub all-pairs : (cs : List ℕ) → sum cs ≤ 120 → pairs_across cs ≤ 14400
 all-pairs cs h = omega (arith, concordant-among cs, concordant-most cs cs, mul-le-mul h h)
 
 open-next : (columns : List ℕ) (g : ℕ) → g < length columns → open_pairs columns g ≡ slice_index columns g * sum (drop (g + 1) columns) + open_pairs columns (g + 1)
 open-next columns g h =
     let split : drop g columns ≡ get_or columns g 0 ∷ drop (g + 1) columns = rw add-one (drop-cons columns g 0 h) in
-    ap pairs_among split
+    ap pairs_across split
 
 open-end : (columns : List ℕ) (g : ℕ) → length columns ≤ g → open_pairs columns g ≡ 0
 open-end columns g h = rw (drop_of_length-le columns {i = g} h) refl

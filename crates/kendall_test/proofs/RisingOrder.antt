@@ -1,7 +1,7 @@
 -- Where no two first values are equal, K is twice the number of rising pairs less that of all pairs with different second values.
-use Rattle.std.proofs.Common.{◌≡◌, ℕ, ◌+◌, ◌*◌, ◌<◌, ◌≤◌, List, [], ◌∷◌, map, length, true, refl, sym, ◌∙◌, ap, subst, arith, nat_eq, nat_lt}
+use Rattle.std.proofs.Common.{◌≡◌, ℕ, ◌+◌, ◌*◌, ◌<◌, ◌≤◌, List, [], ◌∷◌, map, length, true, refl, sym, ◌∙◌, ap, subst, arith, nat_lt}
 use Rattle.std.specs.Prelude.{ℤ, pos, ◌+ℤ◌, ◌-ℤ◌}
-use Rattle.std.specs.List.{AllByRecursion, count_by, list_all, sum, sum_by}
+use Rattle.std.specs.List.{AllByRecursion, count_by, sum, sum_by}
 use Rattle.std.proofs.lemmas.Bool.{le-ltb}
 use Rattle.std.proofs.lemmas.Int.{ints}
 use Rattle.std.proofs.lemmas.List.Sums.{sum_by-cons}
@@ -20,11 +20,10 @@ use Rattle.networks.specs.Judged.{judge_of, rule_in}
 use Rattle.networks.specs.declared.verdicts.Judge.{Judge}
 use Rattle.labelled.proofs.LabelLaws.{fit-by, numerator-by}
 use Rattle.pooled_columns.specs.PooledColumns.{column_sizes}
-use Rattle.rising_pairs.specs.RisingPairs.{rising_pairs}
+use Rattle.rising_pairs.specs.RisingPairs.{are_distinct, pairs_across, rising_pairs}
 use Rattle.rising_pairs.specs.RisingTails.{FitLabellings, even_value, passing_labellings}
 use Rattle.rising_pairs.proofs.OneEach.{first-one}
 use Rattle.kendall_test.specs.Kendall.{kendall_says, kendall_statistic, kendall_subjects, kendall_test, one_where_greater, one_where_less}
-use Rattle.kendall_test.specs.KendallNetwork.{pairs_among}
 use Rattle.kendall_test.proofs.CodeLaws.{sum-first}
 use Rattle.kendall_test.proofs.CountedPairs.{concordant-are, crossed}
 use Rattle.kendall_test.proofs.KendallFitting.{firsts-few, rows-sum, same-firsts, within}
@@ -47,7 +46,7 @@ one-stage f c cs x xs e same =
     let alone : crossed f (x ∷ []) xs ≡ sum_by (λ y. f x y) xs = omega arith in
     rw e (omega (arith, alone, same))
 
-stages-later : (f : ℕ → ℕ → ℕ) (cs xs : List ℕ) → list_all (λ c. nat_eq c 1) cs ≡ true → length xs ≡ sum cs → by_stages f cs xs ≡ with_later f xs
+stages-later : (f : ℕ → ℕ → ℕ) (cs xs : List ℕ) → are_distinct cs ≡ true → length xs ≡ sum cs → by_stages f cs xs ≡ with_later f xs
 stages-later f [] [] one long = refl
 stages-later f [] (x ∷ xs) one long = absurd (omega (arith, long))
 stages-later f (c ∷ cs) [] one long = absurd (omega (arith, long, sum-first c cs, (first-one c cs one).0))
@@ -74,15 +73,15 @@ both-ways (x ∷ xs) =
     )
 
 -- as many as there are pairs with different labels
-all-pairs-are : (k : ℕ) (xs : List ℕ) → AllByRecursion (λ x. x < k) xs → pairs_among (counts_of k xs) ≡ with_later one_where_less xs + with_later one_where_greater xs
+all-pairs-are : (k : ℕ) (xs : List ℕ) → AllByRecursion (λ x. x < k) xs → pairs_across (counts_of k xs) ≡ with_later one_where_less xs + with_later one_where_greater xs
 all-pairs-are k xs a = sym (concordant-among (counts_of k xs)) ∙ concordant-are k xs xs a a ∙ both-ways xs
 
-pub order-rises : (rows : List ℕ) (ts : List Tie) (xs : List ℕ) → IsAscending ts → list_all (λ c. nat_eq c 1) (counts_in ts) ≡ true → length xs ≡ sum (counts_in ts) → IsLabelling rows xs
-    → kendall_statistic (values_of_ties ts) xs ≡ even_value (pos 0 -ℤ pos (pairs_among rows)) 2 (rising_pairs xs)
+pub order-rises : (rows : List ℕ) (ts : List Tie) (xs : List ℕ) → IsAscending ts → are_distinct (counts_in ts) ≡ true → length xs ≡ sum (counts_in ts) → IsLabelling rows xs
+    → kendall_statistic (values_of_ties ts) xs ≡ even_value (pos 0 -ℤ pos (pairs_across rows)) 2 (rising_pairs xs)
 order-rises rows ts xs up one long l =
     let up-pairs = pairs-are one_where_less ts xs up long ∙ stages-later one_where_less (counts_in ts) xs one long in
     let down-pairs = pairs-are one_where_greater ts xs up long ∙ stages-later one_where_greater (counts_in ts) xs one long in
-    let all = ap pairs_among (sym l.counted) ∙ all-pairs-are (length rows) xs l.over.below in
+    let all = ap pairs_across (sym l.counted) ∙ all-pairs-are (length rows) xs l.over.below in
     omega (arith, ints, up-pairs, down-pairs, all, rising-later xs)
 
 module _ (sample : TwinData) (long : length sample.second ≡ length sample.first) (few : length sample.first ≤ 120) (fits : number_of_labellings (column_sizes sample.second) ≤ MAX) where
@@ -93,9 +92,9 @@ module _ (sample : TwinData) (long : length sample.second ≡ length sample.firs
   rows = column_sizes sample.second
 
   abbrev base : ℤ
-  base = pos 0 -ℤ pos (pairs_among rows)
+  base = pos 0 -ℤ pos (pairs_across rows)
 
-  module _ (distinct : list_all (λ c. nat_eq c 1) (column_sizes firsts) ≡ true) where
+  module _ (distinct : are_distinct (column_sizes firsts) ≡ true) where
     statistic-rises : (xs : List ℕ) → IsLabelling rows xs → kendall_statistic firsts xs ≡ even_value base 2 (rising_pairs xs)
     statistic-rises xs l =
         ap (λ vs. kendall_statistic vs xs) (sym (same-firsts sample long few fits))

@@ -14,6 +14,7 @@ use Rattle.room_network.specs.RoomNetworks.{room_network}
 use Rattle.room_network.specs.declared.numbers.Operation.TheVariants.{Sum}
 use Rattle.label_network.specs.LabelRooms.{label_weight}
 use Rattle.pooled_columns.specs.PooledColumns.{column_sizes}
+use Rattle.rising_pairs.specs.RisingPairs.{pairs_across}
 use Rattle.kendall_test.specs.Kendall.{kendall_subjects, kendall_test}
 use Rattle.kendall_test.specs.KendallRooms.{counts_left, kendall_floor}
 
@@ -28,14 +29,9 @@ concordant_pairs (a ∷ here) (b ∷ later) = a * sum later + concordant_pairs h
 abbrev pub concordance : List ℕ → List ℕ → ℤ
 concordance here later = pos (concordant_pairs here later) -ℤ pos (concordant_pairs later here)
 
--- the pairs of subjects of two different counts
-abbrev pub pairs_among : List ℕ → ℕ
-pairs_among [] = 0
-pairs_among (count ∷ counts) = count * sum counts + pairs_among counts
-
 -- the pairs of subjects not yet placed before stage g that have distinct first values
 abbrev pub open_pairs : List ℕ → ℕ → ℕ
-open_pairs columns g = pairs_among (drop g columns)
+open_pairs columns g = pairs_across (drop g columns)
 
 -- what a choice adds
 abbrev pub concordance_added : List ℕ → ℕ → ℕ → List ℤ → List ℕ → ℤ

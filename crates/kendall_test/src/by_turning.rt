@@ -81,7 +81,7 @@ fn sums_by_turning(
     })
 }
 
-/// The numerators of the asked tails, by the test turned where that is less work.
+/// The numerators of the asked tails, by the test turned where that serves.
 pub(crate) fn quick_sums(
     alloc: Global,
     order: &PairOrder,

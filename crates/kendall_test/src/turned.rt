@@ -32,7 +32,8 @@ fn turned_sample(sample: &Twins) -> Result<Twins, NoMemory>
     })
 }
 
-// Whether the test turned serves: only there no two first values are equal, or it is less work.
+// Whether the test turned serves, where some first values are equal: no two second ones are, or it
+// is less work.
 fn serves_turned(columns: &[u64], rows: &[u64]) -> bool {
     !are_distinct(columns) && (are_distinct(rows) || is_less_work_turned(columns, rows))
 }

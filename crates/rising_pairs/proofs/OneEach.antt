@@ -1,16 +1,17 @@
 -- Subjects of whom no two are equal.
 use Rattle.std.proofs.Common.{◌≡◌, ℕ, List, [], ◌∷◌, Bool, true, false, ◌&&◌, refl, nat_eq}
-use Rattle.std.specs.List.{AllByRecursion, list_all}
+use Rattle.std.specs.List.{AllByRecursion}
 use Rattle.std.proofs.lemmas.Bool.{eqb-true}
+use Rattle.rising_pairs.specs.RisingPairs.{are_distinct}
 
-pub first-one : (c : ℕ) (cs : List ℕ) → list_all (λ c. nat_eq c 1) (c ∷ cs) ≡ true → (c ≡ 1) × (list_all (λ c. nat_eq c 1) cs ≡ true)
-first-one c cs = by (nat_eq c 1) refl (list_all (λ c. nat_eq c 1) cs)
+pub first-one : (c : ℕ) (cs : List ℕ) → are_distinct (c ∷ cs) ≡ true → (c ≡ 1) × (are_distinct cs ≡ true)
+first-one c cs = by (nat_eq c 1) refl (are_distinct cs)
   where
     by : (p : Bool) → nat_eq c 1 ≡ p → (b : Bool) → (p && b) ≡ true → (c ≡ 1) × (b ≡ true)
     by true e true h = (eqb-true c 1 e, refl)
     by true e false h = absurd (cc h)
     by false e b h = absurd (cc h)
 
-pub all-one : (cs : List ℕ) → list_all (λ c. nat_eq c 1) cs ≡ true → AllByRecursion (λ c. c ≡ 1) cs
+pub all-one : (cs : List ℕ) → are_distinct cs ≡ true → AllByRecursion (λ c. c ≡ 1) cs
 all-one [] e = tt
 all-one (c ∷ cs) e = let first = first-one c cs e in (first.0, all-one cs first.1)

@@ -2,9 +2,13 @@
 -- the label of its group, and a pair rises where the later one is of the later group. Their number
 -- is that of Terpstra (1952) and Jonckheere (Biometrika 41, 1954), and of two groups that of Mann
 -- and Whitney (The Annals of Mathematical Statistics 18, 1947).
-use Rattle.std.specs.Prelude.{◌≡◌, ℕ, ◌+◌, ◌*◌, List, [], ◌∷◌, length, get_or, nat_eq, nat_lt}
-use Rattle.std.specs.List.{count_by, sum, sum_by}
+use Rattle.std.specs.Prelude.{◌≡◌, ℕ, ◌+◌, ◌*◌, List, [], ◌∷◌, length, get_or, Bool, nat_eq, nat_lt}
+use Rattle.std.specs.List.{count_by, list_all, sum, sum_by}
 use Rattle.weights.specs.Labellings.{labellings, labels}
+
+-- no two subjects are equal, of whom so many have each value that occurs
+abbrev pub are_distinct : List ℕ → Bool
+are_distinct counts = list_all (λ c. nat_eq c 1) counts
 
 -- the pairs of places of which the later one has the greater label
 abbrev pub rising_pairs : List ℕ → ℕ

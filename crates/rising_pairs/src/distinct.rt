@@ -1,10 +1,10 @@
 // Whether subjects differ.
-ghost use Rattle.std.specs.Prelude.{◌≡◌, nat_eq};
-ghost use Rattle.std.specs.List.{list_all};
+ghost use Rattle.std.specs.Prelude.{◌≡◌};
+ghost use Rattle.rising_pairs.specs.RisingPairs.{are_distinct};
 
 /// Whether no two subjects are equal, of whom so many have each value that occurs.
 pub fn are_distinct(counts: &[u64]) -> bool
-    ensures { result ≡ list_all (λ c. nat_eq c 1) counts.now }
+    ensures { result ≡ are_distinct counts.now }
 {
     for i in 0..counts.len() {
         if counts[i] != 1 {

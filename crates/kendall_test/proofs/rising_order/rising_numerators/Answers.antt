@@ -8,9 +8,9 @@ use Rattle.networks.specs.Follows.{AreNumerators}
 use Rattle.networks.specs.Judged.{judge_of, rule_in}
 use Rattle.networks.specs.EachTail.{sum_for}
 use Rattle.pooled_columns.specs.PooledColumns.{column_sizes}
+use Rattle.rising_pairs.specs.RisingPairs.{pairs_across}
 use Rattle.rising_pairs.specs.RisingTails.{passing_labellings}
 use Rattle.kendall_test.specs.Kendall.{kendall_test}
-use Rattle.kendall_test.specs.KendallNetwork.{pairs_among}
 use Rattle.kendall_test.proofs.KendallFitting.{firsts-few, rows-sum}
 use Rattle.kendall_test.proofs.RisingOrder.{fit-rising, numerator-rises}
 use Rattle.kendall_test.proofs.rising_order.rising_numerators.Goals as goal
@@ -34,14 +34,14 @@ pub rising_sums-requires-clause-fits : goal.rising_sums-requires-clause-fits
 rising_sums-requires-clause-fits c =
     let made = c.made.ensures in
     let rows : c.as_slice-rows.result.now ≡ column_sizes c.args.order.now.second = c.as_slice-rows.ensures ∙ made.rows in
-    rw (to_z-of_z w128 c.lowest_order-lowest.result (search rules) ∙ (c.lowest_order-lowest.ensures.is ∙ ap (λ ns. pos 0 -ℤ pos (pairs_among ns)) rows), rows) (fit-rising c.args.order.now made.long made.few made.total_fits c.requires.distinct c.args.judge c.requires.judge)
+    rw (to_z-of_z w128 c.lowest_order-lowest.result (search rules) ∙ (c.lowest_order-lowest.ensures.is ∙ ap (λ ns. pos 0 -ℤ pos (pairs_across ns)) rows), rows) (fit-rising c.args.order.now made.long made.few made.total_fits c.requires.distinct c.args.judge c.requires.judge)
 
 pub returns : goal.returns
 returns c =
     let made = c.made.ensures in
     let rows : c.as_slice-rows.result.now ≡ column_sizes c.args.order.now.second = c.as_slice-rows.ensures ∙ made.rows in
-    let base : ℤ = pos 0 -ℤ pos (pairs_among (column_sizes c.args.order.now.second)) in
+    let base : ℤ = pos 0 -ℤ pos (pairs_across (column_sizes c.args.order.now.second)) in
     IfOk-weaker c.rising_sums.result
     (λ sums. (t : Tail) → (sum_for sums t).sum ≡ passing_labellings (rule_in (judge_of (kendall_test c.args.order.now)) t) base 2 (column_sizes c.args.order.now.second))
     (AreNumerators (kendall_test c.args.order.now) c.args._tails)
-    (λ sums each t asked. each t ∙ sym (numerator-rises c.args.order.now made.long made.few made.total_fits c.requires.distinct t)) (rw (to_z-of_z w128 c.lowest_order-lowest.result (search rules) ∙ (c.lowest_order-lowest.ensures.is ∙ ap (λ ns. pos 0 -ℤ pos (pairs_among ns)) rows), rows, c.requires.judge) at c.rising_sums.ensures)
+    (λ sums each t asked. each t ∙ sym (numerator-rises c.args.order.now made.long made.few made.total_fits c.requires.distinct t)) (rw (to_z-of_z w128 c.lowest_order-lowest.result (search rules) ∙ (c.lowest_order-lowest.ensures.is ∙ ap (λ ns. pos 0 -ℤ pos (pairs_across ns)) rows), rows, c.requires.judge) at c.rising_sums.ensures)

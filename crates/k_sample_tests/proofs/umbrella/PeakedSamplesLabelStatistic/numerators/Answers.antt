@@ -1,5 +1,4 @@
-use Rattle.std.proofs.Common.{◌≡◌, ◌≤◌, length, true, nat_eq, sym, ◌∙◌, ap, arith}
-use Rattle.std.specs.List.{list_all}
+use Rattle.std.proofs.Common.{◌≡◌, ◌≤◌, length, true, sym, ◌∙◌, ap, arith}
 use Rattle.std.specs.Prelude.{pos}
 use Rattle.std.proofs.lemmas.Result.{IfOk-weaker}
 use Rattle.weights.specs.declared.tails.Tail.{Tail}
@@ -10,6 +9,7 @@ use Rattle.networks.specs.Judged.{judge_of, rule_in}
 use Rattle.networks.specs.EachTail.{sum_for}
 use Rattle.networks.proofs.Following.{extreme-is}
 use Rattle.pooled_columns.specs.PooledColumns.{column_sizes, pooled_values}
+use Rattle.rising_pairs.specs.RisingPairs.{are_distinct}
 use Rattle.rising_pairs.specs.RisingTails.{passing_labellings}
 use Rattle.k_sample_tests.specs.Umbrella.{PeakedGroups, umbrella_test}
 use Rattle.k_sample_tests.proofs.FittingUmbrella.{within}
@@ -22,7 +22,7 @@ rising_sums-requires-clause-fits c =
     let made = c.made-made.ensures in
     let sizes : c.as_slice-sizes.result.now ≡ group_sizes samples.groups = c.as_slice-sizes.ensures ∙ made.sizes in
     let rises : length (group_sizes samples.groups) ≤ samples.peak = omega (arith, ap (λ (s : PeakedGroups). s.peak) c.self.view_is, rw sizes at c.if-sizes-self.true) in
-    let distinct : list_all (λ n. nat_eq n 1) (column_sizes (pooled_values samples.groups)) ≡ true = rw (c.as_slice.ensures ∙ made.columns) at (sym c.are_distinct.ensures ∙ c.if-are_distinct.true) in
+    let distinct : are_distinct (column_sizes (pooled_values samples.groups)) ≡ true = rw (c.as_slice.ensures ∙ made.columns) at (sym c.are_distinct.ensures ∙ c.if-are_distinct.true) in
     rw sizes (fit-rising samples rises distinct made.whole c.args.judge c.requires.judge (within samples c.made-made.result.now made))
 
 pub returns-then-are_distinct : goal.returns-then-are_distinct
@@ -31,7 +31,7 @@ returns-then-are_distinct c =
     let made = c.made-made.ensures in
     let sizes : c.as_slice-sizes.result.now ≡ group_sizes samples.groups = c.as_slice-sizes.ensures ∙ made.sizes in
     let rises : length (group_sizes samples.groups) ≤ samples.peak = omega (arith, ap (λ (s : PeakedGroups). s.peak) c.self.view_is, rw sizes at c.if-sizes-self.true) in
-    let distinct : list_all (λ n. nat_eq n 1) (column_sizes (pooled_values samples.groups)) ≡ true = rw (c.as_slice.ensures ∙ made.columns) at (sym c.are_distinct.ensures ∙ c.if-are_distinct.true) in
+    let distinct : are_distinct (column_sizes (pooled_values samples.groups)) ≡ true = rw (c.as_slice.ensures ∙ made.columns) at (sym c.are_distinct.ensures ∙ c.if-are_distinct.true) in
     IfOk-weaker c.rising_sums.result
     (λ sums. (t : Tail) → (sum_for sums t).sum ≡ passing_labellings (rule_in (judge_of (umbrella_test samples)) t) (pos 0) 2 (group_sizes samples.groups))
     (AreNumerators (umbrella_test samples) c.args.tails)
