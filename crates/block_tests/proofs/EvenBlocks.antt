@@ -14,14 +14,14 @@ use Rattle.weights.proofs.Members.{IsLabelling, IsOver, lists_over-each, range-b
 use Rattle.weights.proofs.Ranges.{range-one}
 use Rattle.weights.proofs.Sums.{sum_by-filter, sum_by-fronts, sum_by-plus, sum_by-same, sum_by-same_where, sum_by-swap, sum_by-zero}
 use Rattle.enumerate.proofs.Steps.{count_of-reverse}
-use Rattle.turned_tables.proofs.Bijection.{alike}
+use Rattle.transposed_tables.proofs.Bijection.{alike}
+use Rattle.rank_assignments.specs.Upright.{reflected}
+use Rattle.rank_assignments.proofs.UprightSums.{sum-reflected}
 use Rattle.block_tests.specs.BlockNetworks.{first_arrangement}
 use Rattle.block_tests.specs.BlockTests.{added}
-use Rattle.block_tests.specs.Mirrors.{end_sum, is_even, pair_sums}
-use Rattle.block_tests.specs.Upright.{mirrored}
+use Rattle.block_tests.specs.EvenBlocks.{end_sum, is_even, pair_sums}
 use Rattle.block_tests.proofs.Arranged.{sum_by-first}
 use Rattle.block_tests.proofs.TreatmentSums.{length-added}
-use Rattle.block_tests.proofs.UprightSums.{sum-mirrored}
 
 -- ---- a sum over labels
 
@@ -49,16 +49,16 @@ sum-counted m (x ∷ xs) a =
 -- ---- a label and its opposite
 
 -- a label that has an opposite below n becomes this
-abbrev pub flipped : ℕ → ℕ → ℕ → ℕ
-flipped n end l = cond (nat_lt l n && (nat_lt l (end + 1) && nat_lt (end - l) n)) (end - l) l
+abbrev pub opposite_label : ℕ → ℕ → ℕ → ℕ
+opposite_label n end l = cond (nat_lt l n && (nat_lt l (end + 1) && nat_lt (end - l) n)) (end - l) l
 
 pub record HasOpposite (n end l : ℕ) : Type 0 where
   pub below : l < n
   pub within : l ≤ end
   pub back : end - l < n
 
-flip-cases : (n end l : ℕ) → (HasOpposite n end l × (flipped n end l ≡ end - l)) ⊎ ((HasOpposite n end l → ⊥) × (flipped n end l ≡ l))
-flip-cases n end l = elim (cases_lt l n) [
+opposite-cases : (n end l : ℕ) → (HasOpposite n end l × (opposite_label n end l ≡ end - l)) ⊎ ((HasOpposite n end l → ⊥) × (opposite_label n end l ≡ l))
+opposite-cases n end l = elim (cases_lt l n) [
   | inl a ↦ elim (cases_lt l (end + 1)) [
     | inl b ↦ elim (cases_lt (end - l) n) [
       | inl c ↦ inl (record { below = a; within = omega (arith, b); back = c }, rw (lt-ltb l n a, lt-ltb l (end + 1) b, lt-ltb (end - l) n c) refl)
@@ -70,70 +70,70 @@ flip-cases n end l = elim (cases_lt l n) [
 ]
 
 module _ (n end : ℕ) where
-  abbrev flip : ℕ → ℕ
-  flip l = flipped n end l
+  abbrev opposite : ℕ → ℕ
+  opposite l = opposite_label n end l
 
-  flip-twice : (l : ℕ) → flip (flip l) ≡ l
-  flip-twice l = elim (flip-cases n end l) [
+  opposite-twice : (l : ℕ) → opposite (opposite l) ≡ l
+  opposite-twice l = elim (opposite-cases n end l) [
     | inl h ↦
         (let back : end - (end - l) ≡ l = omega (arith, h.0.within) in
-        ap flip h.1 ∙ (elim (flip-cases n end (end - l)) [
+        ap opposite h.1 ∙ (elim (opposite-cases n end (end - l)) [
           | inl g ↦ g.1 ∙ back
           | inr g ↦ absurd (g.0 (record { below = h.0.back; within = omega arith; back = omega (arith, back, h.0.below) }))
         ]))
-    | inr h ↦ ap flip h.1 ∙ h.1
+    | inr h ↦ ap opposite h.1 ∙ h.1
   ]
 
-  flip-below : (l : ℕ) → l < n → flip l < n
-  flip-below l b = elim (flip-cases n end l) [
+  opposite-below : (l : ℕ) → l < n → opposite l < n
+  opposite-below l b = elim (opposite-cases n end l) [
     | inl h ↦ omega (arith, h.1, h.0.back)
     | inr h ↦ omega (arith, h.1, b)
   ]
 
-  flip-is : (l i : ℕ) → nat_eq (flip l) i ≡ nat_eq l (flip i)
-  flip-is l i = elim (eqb_tells (flip l) i) [
-    | inl e ↦ e.0 ∙ sym (eq-eqb l (flip i) (sym (flip-twice l) ∙ ap flip e.1))
-    | inr e ↦ e.0 ∙ sym (ne_eqb l (flip i) (λ same. e.1 (ap flip same ∙ flip-twice i)))
+  opposite-is : (l i : ℕ) → nat_eq (opposite l) i ≡ nat_eq l (opposite i)
+  opposite-is l i = elim (eqb_tells (opposite l) i) [
+    | inl e ↦ e.0 ∙ sym (eq-eqb l (opposite i) (sym (opposite-twice l) ∙ ap opposite e.1))
+    | inr e ↦ e.0 ∙ sym (ne_eqb l (opposite i) (λ same. e.1 (ap opposite same ∙ opposite-twice i)))
   ]
 
-  flip-turned : (l i : ℕ) → nat_eq (flip l) i ≡ nat_eq (flip i) l
-  flip-turned l i = elim (eqb_tells (flip l) i) [
-    | inl e ↦ e.0 ∙ sym (eq-eqb (flip i) l (ap flip (sym e.1) ∙ flip-twice l))
-    | inr e ↦ e.0 ∙ sym (ne_eqb (flip i) l (λ same. e.1 (ap flip (sym same) ∙ flip-twice i)))
+  opposite-swapped : (l i : ℕ) → nat_eq (opposite l) i ≡ nat_eq (opposite i) l
+  opposite-swapped l i = elim (eqb_tells (opposite l) i) [
+    | inl e ↦ e.0 ∙ sym (eq-eqb (opposite i) l (ap opposite (sym e.1) ∙ opposite-twice l))
+    | inr e ↦ e.0 ∙ sym (ne_eqb (opposite i) l (λ same. e.1 (ap opposite (sym same) ∙ opposite-twice i)))
   ]
 
-  flips-back : (xs : List ℕ) → map flip (map flip xs) ≡ xs
-  flips-back [] = refl
-  flips-back (x ∷ xs) = ap (λ l. l ∷ map flip (map flip xs)) (flip-twice x) ∙ ap (λ ls. x ∷ ls) (flips-back xs)
+  opposites-back : (xs : List ℕ) → map opposite (map opposite xs) ≡ xs
+  opposites-back [] = refl
+  opposites-back (x ∷ xs) = ap (λ l. l ∷ map opposite (map opposite xs)) (opposite-twice x) ∙ ap (λ ls. x ∷ ls) (opposites-back xs)
 
-  flips-below : (xs : List ℕ) → AllByRecursion (λ l. l < n) xs → AllByRecursion (λ l. l < n) (map flip xs)
-  flips-below [] a = tt
-  flips-below (x ∷ xs) a = (flip-below x a.0, flips-below xs a.1)
+  opposites-below : (xs : List ℕ) → AllByRecursion (λ l. l < n) xs → AllByRecursion (λ l. l < n) (map opposite xs)
+  opposites-below [] a = tt
+  opposites-below (x ∷ xs) a = (opposite-below x a.0, opposites-below xs a.1)
 
-  count-flip : (i : ℕ) (xs : List ℕ) → count_of i (map flip xs) ≡ count_of (flip i) xs
-  count-flip i [] = refl
-  count-flip i (x ∷ xs) =
-      let here : ◌≡◌ {A = ℕ} (cond (nat_eq (flip x) i) 1 0) (cond (nat_eq x (flip i)) 1 0) = ap (λ b. cond b 1 0) (flip-is x i) in
-      omega (arith, sum_by-cons (λ l. cond (nat_eq l i) 1 0) (flip x) (map flip xs), sum_by-cons (λ l. cond (nat_eq l (flip i)) 1 0) x xs, here, count-flip i xs)
+  count-opposite : (i : ℕ) (xs : List ℕ) → count_of i (map opposite xs) ≡ count_of (opposite i) xs
+  count-opposite i [] = refl
+  count-opposite i (x ∷ xs) =
+      let here : ◌≡◌ {A = ℕ} (cond (nat_eq (opposite x) i) 1 0) (cond (nat_eq x (opposite i)) 1 0) = ap (λ b. cond b 1 0) (opposite-is x i) in
+      omega (arith, sum_by-cons (λ l. cond (nat_eq l i) 1 0) (opposite x) (map opposite xs), sum_by-cons (λ l. cond (nat_eq l (opposite i)) 1 0) x xs, here, count-opposite i xs)
 
   -- over all labels, and over all lists of them
-  range-flip : (g : ℕ → ℕ) → sum_by g (labels n) ≡ sum_by (λ l. g (flip l)) (labels n)
-  range-flip g = sym (
-      sum_by-same_where (λ l. l < 0 + n) (λ l. g (flip l)) (λ l. sum_by (λ b. cond (nat_eq (flip l) b) (g b) 0) (labels n))
-      (λ l h. sym (range-one g (flip l) 0 n (omega arith) (omega (arith, flip-below l (omega (arith, h)))))) (labels n) (range-below 0 n)
-      ∙ sum_by-swap (λ l b. cond (nat_eq (flip l) b) (g b) 0) (labels n) (labels n)
-      ∙ sum_by-same_where (λ b. b < 0 + n) (λ b. sum_by (λ l. cond (nat_eq (flip l) b) (g b) 0) (labels n)) g
+  range-opposite : (g : ℕ → ℕ) → sum_by g (labels n) ≡ sum_by (λ l. g (opposite l)) (labels n)
+  range-opposite g = sym (
+      sum_by-same_where (λ l. l < 0 + n) (λ l. g (opposite l)) (λ l. sum_by (λ b. cond (nat_eq (opposite l) b) (g b) 0) (labels n))
+      (λ l h. sym (range-one g (opposite l) 0 n (omega arith) (omega (arith, opposite-below l (omega (arith, h)))))) (labels n) (range-below 0 n)
+      ∙ sum_by-swap (λ l b. cond (nat_eq (opposite l) b) (g b) 0) (labels n) (labels n)
+      ∙ sum_by-same_where (λ b. b < 0 + n) (λ b. sum_by (λ l. cond (nat_eq (opposite l) b) (g b) 0) (labels n)) g
       (λ b h.
-      sum_by-same (λ l. cond (nat_eq (flip l) b) (g b) 0) (λ l. cond (nat_eq (flip b) l) (g b) 0) (λ l. ap (λ t. cond t (g b) 0) (flip-turned l b)) (labels n)
-      ∙ range-one (λ l. g b) (flip b) 0 n (omega arith) (omega (arith, flip-below b (omega (arith, h))))) (labels n) (range-below 0 n))
+      sum_by-same (λ l. cond (nat_eq (opposite l) b) (g b) 0) (λ l. cond (nat_eq (opposite b) l) (g b) 0) (λ l. ap (λ t. cond t (g b) 0) (opposite-swapped l b)) (labels n)
+      ∙ range-one (λ l. g b) (opposite b) 0 n (omega arith) (omega (arith, opposite-below b (omega (arith, h))))) (labels n) (range-below 0 n))
 
-  lists-flip : (m : ℕ) (h : List ℕ → ℕ) → sum_by h (lists_over m n) ≡ sum_by (λ xs. h (map flip xs)) (lists_over m n)
-  lists-flip zero h = refl
-  lists-flip (suc m) h =
+  lists-opposite : (m : ℕ) (h : List ℕ → ℕ) → sum_by h (lists_over m n) ≡ sum_by (λ xs. h (map opposite xs)) (lists_over m n)
+  lists-opposite zero h = refl
+  lists-opposite (suc m) h =
       sum_by-fronts h (λ l. l) (λ l. lists_over m n) (labels n)
-      ∙ sum_by-same (λ l. sum_by (λ xs. h (l ∷ xs)) (lists_over m n)) (λ l. sum_by (λ xs. h (l ∷ map flip xs)) (lists_over m n)) (λ l. lists-flip m (λ xs. h (l ∷ xs))) (labels n)
-      ∙ range-flip (λ l. sum_by (λ xs. h (l ∷ map flip xs)) (lists_over m n))
-      ∙ sym (sum_by-fronts (λ xs. h (map flip xs)) (λ l. l) (λ l. lists_over m n) (labels n))
+      ∙ sum_by-same (λ l. sum_by (λ xs. h (l ∷ xs)) (lists_over m n)) (λ l. sum_by (λ xs. h (l ∷ map opposite xs)) (lists_over m n)) (λ l. lists-opposite m (λ xs. h (l ∷ xs))) (labels n)
+      ∙ range-opposite (λ l. sum_by (λ xs. h (l ∷ map opposite xs)) (lists_over m n))
+      ∙ sym (sum_by-fronts (λ xs. h (map opposite xs)) (λ l. l) (λ l. lists_over m n) (labels n))
 
 -- ---- pairs that add to the same
 
@@ -161,7 +161,7 @@ not-paired xs i h other =
     (ne_eqb (slice_index (pair_sums xs) 0) (slice_index (pair_sums xs) i) (λ same. other (sym same)))
 
 -- where one list has what the other lacks to a sum
-facing : (e : ℕ) (xs ys : List ℕ) → length xs ≡ length ys → list_all (nat_eq e) (added xs ys) ≡ true → (ys ≡ mirrored e xs) × AllByRecursion (λ x. x ≤ e) xs
+facing : (e : ℕ) (xs ys : List ℕ) → length xs ≡ length ys → list_all (nat_eq e) (added xs ys) ≡ true → (ys ≡ reflected e xs) × AllByRecursion (λ x. x ≤ e) xs
 facing e [] [] l t = (refl, tt)
 facing e [] (y ∷ ys) l t = absurd (omega (arith, l))
 facing e (x ∷ xs) [] l t = absurd (omega (arith, l))
@@ -178,11 +178,11 @@ lacks e x i h l = elim (eqb_tells (e - x) i) [
   | inr other ↦ other.0 ∙ sym (ne_eqb x (e - i) (λ same. other.1 (omega (arith, l, same))))
 ]
 
-count-mirrored : (e i : ℕ) (xs : List ℕ) → i ≤ e → AllByRecursion (λ x. x ≤ e) xs → count_of i (mirrored e xs) ≡ count_of (e - i) xs
-count-mirrored e i [] h a = refl
-count-mirrored e i (x ∷ xs) h a =
+count-reflected : (e i : ℕ) (xs : List ℕ) → i ≤ e → AllByRecursion (λ x. x ≤ e) xs → count_of i (reflected e xs) ≡ count_of (e - i) xs
+count-reflected e i [] h a = refl
+count-reflected e i (x ∷ xs) h a =
     let here : ◌≡◌ {A = ℕ} (cond (nat_eq (e - x) i) 1 0) (cond (nat_eq x (e - i)) 1 0) = ap (λ b. cond b 1 0) (lacks e x i a.0 h) in
-    omega (arith, sum_by-cons (λ l. cond (nat_eq l i) 1 0) (e - x) (mirrored e xs), sum_by-cons (λ l. cond (nat_eq l (e - i)) 1 0) x xs, here, count-mirrored e i xs h a.1)
+    omega (arith, sum_by-cons (λ l. cond (nat_eq l i) 1 0) (e - x) (reflected e xs), sum_by-cons (λ l. cond (nat_eq l (e - i)) 1 0) x xs, here, count-reflected e i xs h a.1)
 
 -- ---- even blocks
 
@@ -203,10 +203,10 @@ module _ (counts : List ℕ) (even : IsEven counts) where
   abbrev first : List ℕ
   first = first_arrangement counts
 
-  abbrev turn : ℕ → ℕ
-  turn l = flipped (length counts) (end_sum counts) l
+  abbrev reflect_label : ℕ → ℕ
+  reflect_label l = opposite_label (length counts) (end_sum counts) l
 
-  first-faces : (reverse first ≡ mirrored end first) × AllByRecursion (λ l. l ≤ end) first
+  first-faces : (reverse first ≡ reflected end first) × AllByRecursion (λ l. l ≤ end) first
   first-faces = facing end first (reverse first) (sym (length-reverse first)) even
 
   as-first : (xs : List ℕ) → IsLabelling counts xs → SameCounts xs first
@@ -221,17 +221,17 @@ module _ (counts : List ℕ) (even : IsEven counts) where
       as-first xs l i
       ∙ sym (count_of-reverse i first)
       ∙ ap (count_of i) first-faces.0
-      ∙ count-mirrored end i first h first-faces.1
+      ∙ count-reflected end i first h first-faces.1
       ∙ sym (as-first xs l (end - i))
 
-  flip-counts : (xs : List ℕ) → IsLabelling counts xs → SameCounts xs (map turn xs)
-  flip-counts xs l i = elim (flip-cases many end i) [
-    | inl h ↦ even-count xs i l h.0.within ∙ ap (λ j. count_of j xs) (sym h.1) ∙ sym (count-flip many end i xs)
-    | inr h ↦ ap (λ j. count_of j xs) (sym h.1) ∙ sym (count-flip many end i xs)
+  opposite-counts : (xs : List ℕ) → IsLabelling counts xs → SameCounts xs (map reflect_label xs)
+  opposite-counts xs l i = elim (opposite-cases many end i) [
+    | inl h ↦ even-count xs i l h.0.within ∙ ap (λ j. count_of j xs) (sym h.1) ∙ sym (count-opposite many end i xs)
+    | inr h ↦ ap (λ j. count_of j xs) (sym h.1) ∙ sym (count-opposite many end i xs)
   ]
 
-  flip-labelling : (xs : List ℕ) → IsLabelling counts xs → IsLabelling counts (map turn xs)
-  flip-labelling xs l = labelling_from_SameCounts counts xs (map turn xs) (sym (length-map xs turn)) (flip-counts xs l) l
+  opposite-labelling : (xs : List ℕ) → IsLabelling counts xs → IsLabelling counts (map reflect_label xs)
+  opposite-labelling xs l = labelling_from_SameCounts counts xs (map reflect_label xs) (sym (length-map xs reflect_label)) (opposite-counts xs l) l
 
   told : (xs : List ℕ) → IsOver (sum counts) (length counts) xs → has_counts counts xs ≡ true → IsLabelling counts xs
   told xs o t = record { over = o; counted = same_text (counts_of (length counts) xs) counts (sym t) }
@@ -239,24 +239,24 @@ module _ (counts : List ℕ) (even : IsEven counts) where
   tells : (xs : List ℕ) → IsLabelling counts xs → has_counts counts xs ≡ true
   tells xs l = rw l.counted (same_refl counts)
 
-  flip-over : (xs : List ℕ) → IsOver (sum counts) (length counts) xs → IsOver (sum counts) (length counts) (map turn xs)
-  flip-over xs o = record { long = length-map xs turn ∙ o.long; below = flips-below many end xs o.below }
+  opposite-over : (xs : List ℕ) → IsOver (sum counts) (length counts) xs → IsOver (sum counts) (length counts) (map reflect_label xs)
+  opposite-over xs o = record { long = length-map xs reflect_label ∙ o.long; below = opposites-below many end xs o.below }
 
-  same-counts : (xs : List ℕ) → IsOver (sum counts) (length counts) xs → has_counts counts xs ≡ has_counts counts (map turn xs)
+  same-counts : (xs : List ℕ) → IsOver (sum counts) (length counts) xs → has_counts counts xs ≡ has_counts counts (map reflect_label xs)
   same-counts xs o =
-      alike (has_counts counts xs) (has_counts counts (map turn xs))
-      (λ t. tells (map turn xs) (flip-labelling xs (told xs o t)))
-      (λ t. tells xs (subst (IsLabelling counts) (flips-back many end xs) (flip-labelling (map turn xs) (told (map turn xs) (flip-over xs o) t))))
+      alike (has_counts counts xs) (has_counts counts (map reflect_label xs))
+      (λ t. tells (map reflect_label xs) (opposite-labelling xs (told xs o t)))
+      (λ t. tells xs (subst (IsLabelling counts) (opposites-back many end xs) (opposite-labelling (map reflect_label xs) (told (map reflect_label xs) (opposite-over xs o) t))))
 
   -- a sum over all arrangements goes by those from the other end
-  pub labellings-flip : (h : List ℕ → ℕ) → sum_by h (labellings counts) ≡ sum_by (λ xs. h (map turn xs)) (labellings counts)
-  labellings-flip h =
+  pub labellings-opposite : (h : List ℕ → ℕ) → sum_by h (labellings counts) ≡ sum_by (λ xs. h (map reflect_label xs)) (labellings counts)
+  labellings-opposite h =
       let all : List (List ℕ) = lists_over (sum counts) (length counts) in
       sum_by-filter h (has_counts counts) all
-      ∙ lists-flip many end (sum counts) (λ xs. cond (has_counts counts xs) (h xs) 0)
-      ∙ sum_by-same_where (IsOver (sum counts) (length counts)) (λ xs. cond (has_counts counts (map turn xs)) (h (map turn xs)) 0) (λ xs. cond (has_counts counts xs) (h (map turn xs)) 0)
-      (λ xs o. ap (λ b. cond b (h (map turn xs)) 0) (sym (same-counts xs o))) all (lists_over-each (sum counts) (length counts))
-      ∙ sym (sum_by-filter (λ xs. h (map turn xs)) (has_counts counts) all)
+      ∙ lists-opposite many end (sum counts) (λ xs. cond (has_counts counts xs) (h xs) 0)
+      ∙ sum_by-same_where (IsOver (sum counts) (length counts)) (λ xs. cond (has_counts counts (map reflect_label xs)) (h (map reflect_label xs)) 0) (λ xs. cond (has_counts counts xs) (h (map reflect_label xs)) 0)
+      (λ xs o. ap (λ b. cond b (h (map reflect_label xs)) 0) (sym (same-counts xs o))) all (lists_over-each (sum counts) (length counts))
+      ∙ sym (sum_by-filter (λ xs. h (map reflect_label xs)) (has_counts counts) all)
 
   -- ---- arrangements from the other end
 
@@ -270,21 +270,21 @@ module _ (counts : List ℕ) (even : IsEven counts) where
         back = holds_where_counted (λ v. v < many) (end - i) xs l.over.below (omega (arith, some, even-count xs i l h));
       }
 
-  turned-is : (xs : List ℕ) → AllByRecursion (HasOpposite (length counts) (end_sum counts)) xs → map turn xs ≡ mirrored (end_sum counts) xs
-  turned-is [] a = refl
-  turned-is (x ∷ xs) a = elim (flip-cases many end x) [
-    | inl h ↦ ap (λ l. l ∷ map turn xs) h.1 ∙ ap (λ ls. (end - x) ∷ ls) (turned-is xs a.1)
+  reflected-is : (xs : List ℕ) → AllByRecursion (HasOpposite (length counts) (end_sum counts)) xs → map reflect_label xs ≡ reflected (end_sum counts) xs
+  reflected-is [] a = refl
+  reflected-is (x ∷ xs) a = elim (opposite-cases many end x) [
+    | inl h ↦ ap (λ l. l ∷ map reflect_label xs) h.1 ∙ ap (λ ls. (end - x) ∷ ls) (reflected-is xs a.1)
     | inr h ↦ absurd (h.0 a.0)
   ]
 
-  pub mirror-is : (xs : List ℕ) → IsLabelling counts xs → map turn xs ≡ mirrored (end_sum counts) xs
-  mirror-is xs l = turned-is xs (each-opposite xs l)
+  pub reflection-is : (xs : List ℕ) → IsLabelling counts xs → map reflect_label xs ≡ reflected (end_sum counts) xs
+  reflection-is xs l = reflected-is xs (each-opposite xs l)
 
   -- twice the sum of a block's cells
   pub even-sum : (xs : List ℕ) → IsLabelling counts xs → 2 * sum xs ≡ length xs * end_sum counts
   even-sum xs l =
-      let same : sum (map turn xs) ≡ sum xs =
-      sum-counted (length counts) (map turn xs) (flips-below many end xs l.over.below)
-      ∙ sum_by-same (λ i. i * count_of i (map turn xs)) (λ i. i * count_of i xs) (λ i. ap (λ n. i * n) (sym (flip-counts xs l i))) (range_with_len 0 (length counts))
+      let same : sum (map reflect_label xs) ≡ sum xs =
+      sum-counted (length counts) (map reflect_label xs) (opposites-below many end xs l.over.below)
+      ∙ sum_by-same (λ i. i * count_of i (map reflect_label xs)) (λ i. i * count_of i xs) (λ i. ap (λ n. i * n) (sym (opposite-counts xs l i))) (range_with_len 0 (length counts))
       ∙ sym (sum-counted (length counts) xs l.over.below) in
-      omega (arith, sum-mirrored end xs (cells-within xs l), ap sum (mirror-is xs l), same)
+      omega (arith, sum-reflected end xs (cells-within xs l), ap sum (reflection-is xs l), same)

@@ -31,9 +31,11 @@ use Rattle.networks.specs.Follows.{Follows}
 use Rattle.networks.proofs.AdditiveFollows.{additive_follows}
 use Rattle.labelled.specs.UnweightedTests.{CanBeAnswered}
 use Rattle.labelled.proofs.UnweightedLaws.{can-be-answered}
+use Rattle.rank_assignments.specs.BoundSteps.{IsSmall}
+use Rattle.rank_assignments.specs.Upright.{squared}
 use Rattle.block_tests.specs.BlockNetworks.{addends_of, first_arrangement, line_addends, network_by, running_addends, square_addends}
-use Rattle.block_tests.specs.BlockSteps.{AreStages, IsSmall, IsWhole, cells_sum, ways_of}
-use Rattle.block_tests.specs.BlockTests.{BlockTests, TakesCells, block_counts, block_statistic, block_test, blocks_for, bound_of, cells_in, cell_counts, cut, has_tail, measure, observed_cells, page_sum, rearrangements, rows, sides_of, square_sum, squared, treatment_sums}
+use Rattle.block_tests.specs.BlockSteps.{AreStages, IsWhole, cells_sum, ways_of}
+use Rattle.block_tests.specs.BlockTests.{BlockTests, TakesCells, block_counts, block_statistic, block_test, blocks_for, bound_of, cells_in, cell_counts, cut, has_tail, measure, observed_cells, page_sum, rearrangements, rows, sides_of, square_sum, treatment_sums}
 use Rattle.block_tests.specs.PreparedSteps.{AreBlocks, AreFitting}
 use Rattle.block_tests.specs.declared.kinds.BlockKind.{BlockKind}
 use Rattle.block_tests.specs.declared.kinds.BlockKind.TheVariants.{Friedman, Page, Cochran}

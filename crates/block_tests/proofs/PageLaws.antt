@@ -23,8 +23,9 @@ use Rattle.stage_network.proofs.DistributionLines.{distribution-is}
 use Rattle.networks.proofs.Flat.{AllAt}
 use Rattle.networks.proofs.Parts.{AreStages as AreParts, Pieces, summed}
 use Rattle.enumerate.proofs.JoinedMembers.{each-labelling}
+use Rattle.rank_assignments.specs.BoundSteps.{IsSmall}
 use Rattle.block_tests.specs.BlockNetworks.{arrangement_test, block_at, first_arrangement, line_of, no_line, line_addends, page_lines, places_from}
-use Rattle.block_tests.specs.BlockSteps.{AreStages, IsSmall, IsWhole}
+use Rattle.block_tests.specs.BlockSteps.{AreStages, IsWhole}
 use Rattle.block_tests.specs.BlockTests.{cut, page_sum, treatment_sums}
 use Rattle.block_tests.proofs.Arranged.{first-labelling, length-first}
 use Rattle.weights.proofs.Ranges.{range-different}

@@ -20,9 +20,11 @@ use Rattle.networks.specs.SoundAddends.{AddsBetween, IsAdditive, IsSquared}
 use Rattle.networks.proofs.Flat.{AllAt}
 use Rattle.networks.proofs.Parts.{AreStages as AreParts, Pieces, summed}
 use Rattle.enumerate.proofs.JoinedMembers.{each-labelling}
+use Rattle.rank_assignments.specs.BoundSteps.{IsSmall}
+use Rattle.rank_assignments.specs.Upright.{squared}
 use Rattle.block_tests.specs.BlockNetworks.{block_at, first_arrangement, greatest_block_cell, least_block_cell, square_addends}
-use Rattle.block_tests.specs.BlockSteps.{AreStages, IsSmall, IsWhole, cells_sum}
-use Rattle.block_tests.specs.BlockTests.{added, cut, square_sum, squared, treatment_sums}
+use Rattle.block_tests.specs.BlockSteps.{AreStages, IsWhole, cells_sum}
+use Rattle.block_tests.specs.BlockTests.{added, cut, square_sum, treatment_sums}
 use Rattle.block_tests.proofs.Arranged.{between-ends, cells-swapped, first-labelling, sum_by-first}
 use Rattle.block_tests.proofs.Different.{arrangements-different}
 use Rattle.block_tests.proofs.Staged.{IsArranged, all_weaker, at-head, over-blocks, over-within, some-arrangement, total-fits, whole-at}

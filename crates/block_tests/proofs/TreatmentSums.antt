@@ -1,11 +1,12 @@
 -- Sums of treatments over blocks that stand one after another.
-use Rattle.std.proofs.Common.{◌≡◌, ℕ, zero, suc, ◌+◌, ◌*◌, ◌≤◌, List, [], ◌∷◌, ◌++◌, length, take, drop, replicate, refl, sym, ◌∙◌, ap, arith, zero-add, length-take}
+use Rattle.std.proofs.Common.{◌≡◌, ℕ, zero, suc, ◌+◌, ◌-◌, ◌*◌, ◌≤◌, List, [], ◌∷◌, ◌++◌, length, take, drop, replicate, sum, refl, sym, ◌∙◌, ap, arith, zero-add, length-take}
 use Rattle.std.specs.List.{AllByRecursion}
 use Rattle.std.proofs.Math.Nat.{mul-le-mul}
 use Rattle.std.proofs.Math.Seq.{drop-append_seam, drop-nil, take-append_seam, take-nil}
 use Rattle.std.proofs.lemmas.List.{length-replicate}
 use Rattle.std.proofs.lemmas.List.Sums.{sum_by-cons}
-use Rattle.block_tests.specs.BlockTests.{added, cut, page_sum, square_sum, squared, treatment_sums}
+use Rattle.rank_assignments.specs.Upright.{reflected, squared}
+use Rattle.block_tests.specs.BlockTests.{added, cut, page_sum, square_sum, treatment_sums}
 
 -- ---- lists that are added place by place
 
@@ -34,6 +35,22 @@ pub added-zeros : (k : ℕ) (xs : List ℕ) → length xs ≡ k → added xs (re
 added-zeros zero xs e = added-none xs
 added-zeros (suc k) [] e = absurd (omega arith)
 added-zeros (suc k) (x ∷ xs) e = (let same : x + 0 ≡ x = omega arith in rw (same, added-zeros k xs (omega arith)) refl)
+
+pub reflected-added : (c a : ℕ) (s x : List ℕ) → length s ≡ length x → AllByRecursion (λ n. n ≤ c) s → AllByRecursion (λ n. n ≤ a) x → added (reflected c s) (reflected a x) ≡ reflected (c + a) (added s x)
+reflected-added c a [] [] e v w = refl
+reflected-added c a [] (m ∷ x) e v w = absurd (omega (arith, e))
+reflected-added c a (n ∷ s) [] e v w = absurd (omega (arith, e))
+reflected-added c a (n ∷ s) (m ∷ x) e v w =
+    let same : (c - n) + (a - m) ≡ (c + a) - (n + m) = omega (arith, v.0, w.0) in
+    ap (λ z. z ∷ added (reflected c s) (reflected a x)) same
+    ∙ ap (λ zs. ((c + a) - (n + m)) ∷ zs) (reflected-added c a s x (omega (arith, e)) v.1 w.1)
+
+pub sum-added : (s x : List ℕ) → length s ≡ length x → sum (added s x) ≡ sum s + sum x
+sum-added [] [] e = omega arith
+sum-added [] (m ∷ x) e = absurd (omega (arith, e))
+sum-added (n ∷ s) [] e = absurd (omega (arith, e))
+sum-added (n ∷ s) (m ∷ x) e =
+    omega (arith, sum_by-cons (λ v. v) (n + m) (added s x), sum_by-cons (λ v. v) n s, sum_by-cons (λ v. v) m x, sum-added s x (omega (arith, e)))
 
 raised : (m n : ℕ) (xs : List ℕ) → m ≤ n → AllByRecursion (λ x. x ≤ m) xs → AllByRecursion (λ x. x ≤ n) xs
 raised m n [] h a = tt

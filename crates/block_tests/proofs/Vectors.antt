@@ -7,7 +7,7 @@ use Rattle.weights.specs.declared.tails.Tail.TheVariants.{Less, Greater, Two}
 use Rattle.midranks.specs.Midranks.{doubled_midrank, midranks_among, number_below, number_equal}
 use Rattle.sample_reader.specs.CellLayouts.{BlockData}
 use Rattle.block_tests.specs.BlockTests.{BlockTests, block_test, observed_cells}
-use Rattle.block_tests.specs.Mirrors.{block_mirrors, is_even}
+use Rattle.block_tests.specs.EvenBlocks.{block_reflections, is_even}
 use Rattle.block_tests.specs.declared.kinds.BlockKind.TheVariants.{Friedman, Page, Cochran}
 
 -- two blocks of three treatments, in units of 1
@@ -92,7 +92,7 @@ untied_even = refl
 tied_even : is_even (counts_of 7 (2 ∷ 5 ∷ 5 ∷ [])) ≡ false
 tied_even = refl
 
--- of two such blocks sums are mirrored at 8 after the first one, and at 16 after the second
-untied_mirrors : block_mirrors 3 (untied ∷ untied ∷ []) ≡ 0 ∷ 0 ∷ 8 ∷ 0 ∷ 0 ∷ 16 ∷ []
+-- of two such blocks sums are reflected at 8 after the first one, and at 16 after the second
+untied_reflections : block_reflections 3 (untied ∷ untied ∷ []) ≡ 0 ∷ 0 ∷ 8 ∷ 0 ∷ 0 ∷ 16 ∷ []
 unfolding untied
-untied_mirrors = refl
+untied_reflections = refl

@@ -1,11 +1,12 @@
 -- What is kept of one block, and of the cells of blocks while they are ranked.
-use Rattle.std.specs.Prelude.{◌≡◌, ℕ, ◌*◌, ◌≤◌, ◌≤ℤ◌, ◌^◌, ℤ, pos, List, [], ◌∷◌, length}
+use Rattle.std.specs.Prelude.{◌≡◌, ℕ, ◌*◌, ◌≤◌, ℤ, List, [], ◌∷◌, length}
 use Rattle.std.specs.List.{All, sum, sum_by}
 use Rattle.weights.specs.Labellings.{number_of_labellings}
 use Rattle.weights.specs.declared.TheConstants.{MAX}
 use Rattle.networks.specs.Judged.{JudgeFits}
 use Rattle.networks.specs.declared.verdicts.Judge.{Judge}
 use Rattle.record_reader.specs.declared.TheConstants.{MOST_ROWS}
+use Rattle.rank_assignments.specs.BoundSteps.{IsSmall}
 use Rattle.block_tests.specs.BlockNetworks.{first_arrangement}
 
 -- a block of at most eight cells, which is known by their counts
@@ -28,10 +29,6 @@ ways_of (counts ∷ blocks) = number_of_labellings counts * ways_of blocks
 -- the sum of all their cells
 abbrev pub cells_sum : List (List ℕ) → ℕ
 cells_sum blocks = sum_by (λ counts. sum (first_arrangement counts)) blocks
-
--- a statistic of at most 2 ^ 60
-abbrev pub IsSmall : ℤ → Type 0
-IsSmall v = (pos 0 ≤ℤ v) × (v ≤ℤ pos (2 ^ 60))
 
 -- Blocks of k treatments that have a lawful network: their rearrangements pass no limit, nor do the
 -- numbers that the rule computes.

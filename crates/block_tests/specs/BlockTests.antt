@@ -14,6 +14,7 @@ use Rattle.weights.specs.declared.tails.Tail.TheVariants.{Less, Greater, Two}
 use Rattle.midranks.specs.Midranks.{doubled_midranks}
 use Rattle.sample_reader.specs.CellLayouts.{BlockData}
 use Rattle.sample_reader.specs.Values.{IsBinary}
+use Rattle.rank_assignments.specs.Upright.{squared}
 use Rattle.block_tests.specs.declared.kinds.BlockKind.{BlockKind}
 use Rattle.block_tests.specs.declared.kinds.BlockKind.TheVariants.{Friedman, Page, Cochran}
 
@@ -84,9 +85,6 @@ added (x ∷ xs) (y ∷ ys) = (x + y) ∷ added xs ys
 abbrev pub treatment_sums : ℕ → List (List ℕ) → List ℕ
 treatment_sums k [] = replicate k 0
 treatment_sums k (cells ∷ blocks) = added cells (treatment_sums k blocks)
-
-abbrev pub squared : ℕ → ℕ
-squared n = n * n
 
 -- the squares of the treatments' sums, added
 abbrev pub square_sum : List ℕ → ℕ

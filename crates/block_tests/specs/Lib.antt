@@ -2,8 +2,5 @@ pub mod BlockTests
 pub mod BlockNetworks
 pub mod BlockSteps
 pub mod PreparedSteps
-pub mod Upright
-pub mod Servings
-pub mod Mirrors
-pub mod BoundSteps
+pub mod EvenBlocks
 pub mod BlockStages

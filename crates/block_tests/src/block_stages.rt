@@ -2,9 +2,9 @@
 // of this type, and not of all that stands in it.
 
 use crate::page::PageBlocks;
-use crate::served_blocks::ServedBlocks;
 use crate::squares::SquareBlocks;
 use networks::{AdditiveStages, Roomed, Stages, Verdict};
+use rank_assignments::AssignedBlocks;
 use weights::Tail;
 
 /// The network of squared sums, a block a stage.
@@ -17,7 +17,7 @@ pub(crate) type PageStages = AdditiveStages<PageBlocks>;
 #[derive(Drop)]
 pub enum BlockStages {
     /// Of squared sums, with numbers that are given to treatments one after another.
-    Served(ServedBlocks),
+    Assigned(AssignedBlocks),
     /// Of squared sums.
     Squares(SquareStages),
     /// Of Page's sums.
@@ -27,13 +27,13 @@ pub enum BlockStages {
 impl Stages for BlockStages {
     ghost use Rattle.block_tests.specs.BlockStages.{of_kind};
 
-    ghost network = { of_kind ⟦<ServedBlocks as Stages>⟧.network
+    ghost network = { of_kind ⟦<AssignedBlocks as Stages>⟧.network
         ⟦<SquareStages as Stages>⟧.network
         ⟦<PageStages as Stages>⟧.network };
 
     fn stages(&self) -> usize {
         match self {
-            BlockStages::Served(n) => n.stages(),
+            BlockStages::Assigned(n) => n.stages(),
             BlockStages::Squares(n) => n.stages(),
             BlockStages::Page(n) => n.stages(),
         }
@@ -41,7 +41,7 @@ impl Stages for BlockStages {
 
     fn width(&self) -> usize {
         match self {
-            BlockStages::Served(n) => n.width(),
+            BlockStages::Assigned(n) => n.width(),
             BlockStages::Squares(n) => n.width(),
             BlockStages::Page(n) => n.width(),
         }
@@ -49,7 +49,7 @@ impl Stages for BlockStages {
 
     fn choice_width(&self) -> usize {
         match self {
-            BlockStages::Served(n) => n.choice_width(),
+            BlockStages::Assigned(n) => n.choice_width(),
             BlockStages::Squares(n) => n.choice_width(),
             BlockStages::Page(n) => n.choice_width(),
         }
@@ -57,7 +57,7 @@ impl Stages for BlockStages {
 
     fn first_key(&self, key: &mut [i128]) {
         match self {
-            BlockStages::Served(n) => n.first_key(key),
+            BlockStages::Assigned(n) => n.first_key(key),
             BlockStages::Squares(n) => n.first_key(key),
             BlockStages::Page(n) => n.first_key(key),
         }
@@ -65,7 +65,7 @@ impl Stages for BlockStages {
 
     fn first_choice(&self, stage: usize, key: &[i128], choice: &mut [u64]) -> bool {
         match self {
-            BlockStages::Served(n) => n.first_choice(stage, key, choice),
+            BlockStages::Assigned(n) => n.first_choice(stage, key, choice),
             BlockStages::Squares(n) => n.first_choice(stage, key, choice),
             BlockStages::Page(n) => n.first_choice(stage, key, choice),
         }
@@ -73,7 +73,7 @@ impl Stages for BlockStages {
 
     fn next_choice(&self, stage: usize, key: &[i128], choice: &mut [u64]) -> bool {
         match self {
-            BlockStages::Served(n) => n.next_choice(stage, key, choice),
+            BlockStages::Assigned(n) => n.next_choice(stage, key, choice),
             BlockStages::Squares(n) => n.next_choice(stage, key, choice),
             BlockStages::Page(n) => n.next_choice(stage, key, choice),
         }
@@ -81,7 +81,7 @@ impl Stages for BlockStages {
 
     fn apply(&self, stage: usize, key: &[i128], choice: &[u64], next: &mut [i128]) -> u128 {
         match self {
-            BlockStages::Served(n) => n.apply(stage, key, choice, next),
+            BlockStages::Assigned(n) => n.apply(stage, key, choice, next),
             BlockStages::Squares(n) => n.apply(stage, key, choice, next),
             BlockStages::Page(n) => n.apply(stage, key, choice, next),
         }
@@ -89,7 +89,7 @@ impl Stages for BlockStages {
 
     fn rest(&self, stage: usize, key: &[i128]) -> u128 {
         match self {
-            BlockStages::Served(n) => n.rest(stage, key),
+            BlockStages::Assigned(n) => n.rest(stage, key),
             BlockStages::Squares(n) => n.rest(stage, key),
             BlockStages::Page(n) => n.rest(stage, key),
         }
@@ -97,7 +97,7 @@ impl Stages for BlockStages {
 
     fn verdict(&self, stage: usize, key: &[i128], tail: Tail) -> Verdict {
         match self {
-            BlockStages::Served(n) => n.verdict(stage, key, tail),
+            BlockStages::Assigned(n) => n.verdict(stage, key, tail),
             BlockStages::Squares(n) => n.verdict(stage, key, tail),
             BlockStages::Page(n) => n.verdict(stage, key, tail),
         }
@@ -105,7 +105,7 @@ impl Stages for BlockStages {
 
     fn value(&self, key: &[i128]) -> i128 {
         match self {
-            BlockStages::Served(n) => n.value(key),
+            BlockStages::Assigned(n) => n.value(key),
             BlockStages::Squares(n) => n.value(key),
             BlockStages::Page(n) => n.value(key),
         }
@@ -115,29 +115,29 @@ impl Stages for BlockStages {
 impl Roomed for BlockStages {
     ghost use Rattle.block_tests.specs.BlockStages.{of_kind};
 
-    ghost room_width = { of_kind ⟦<ServedBlocks as Roomed>⟧.room_width
+    ghost room_width = { of_kind ⟦<AssignedBlocks as Roomed>⟧.room_width
         ⟦<SquareStages as Roomed>⟧.room_width
         ⟦<PageStages as Roomed>⟧.room_width };
 
-    ghost step_width = { of_kind ⟦<ServedBlocks as Roomed>⟧.step_width
+    ghost step_width = { of_kind ⟦<AssignedBlocks as Roomed>⟧.step_width
         ⟦<SquareStages as Roomed>⟧.step_width
         ⟦<PageStages as Roomed>⟧.step_width };
 
-    ghost step_of = { of_kind ⟦<ServedBlocks as Roomed>⟧.step_of
+    ghost step_of = { of_kind ⟦<AssignedBlocks as Roomed>⟧.step_of
         ⟦<SquareStages as Roomed>⟧.step_of
         ⟦<PageStages as Roomed>⟧.step_of };
 
-    ghost outlook_width = { of_kind ⟦<ServedBlocks as Roomed>⟧.outlook_width
+    ghost outlook_width = { of_kind ⟦<AssignedBlocks as Roomed>⟧.outlook_width
         ⟦<SquareStages as Roomed>⟧.outlook_width
         ⟦<PageStages as Roomed>⟧.outlook_width };
 
-    ghost outlook_of = { of_kind ⟦<ServedBlocks as Roomed>⟧.outlook_of
+    ghost outlook_of = { of_kind ⟦<AssignedBlocks as Roomed>⟧.outlook_of
         ⟦<SquareStages as Roomed>⟧.outlook_of
         ⟦<PageStages as Roomed>⟧.outlook_of };
 
     fn room_width(&self) -> usize {
         match self {
-            BlockStages::Served(n) => n.room_width(),
+            BlockStages::Assigned(n) => n.room_width(),
             BlockStages::Squares(n) => n.room_width(),
             BlockStages::Page(n) => n.room_width(),
         }
@@ -145,7 +145,7 @@ impl Roomed for BlockStages {
 
     fn cross(&self, stage: usize, key: &[i128], choice: &[u64], room: &mut [i128]) -> u128 {
         match self {
-            BlockStages::Served(n) => n.cross(stage, key, choice, room),
+            BlockStages::Assigned(n) => n.cross(stage, key, choice, room),
             BlockStages::Squares(n) => n.cross(stage, key, choice, room),
             BlockStages::Page(n) => n.cross(stage, key, choice, room),
         }
@@ -153,7 +153,7 @@ impl Roomed for BlockStages {
 
     fn step_width(&self) -> usize {
         match self {
-            BlockStages::Served(n) => n.step_width(),
+            BlockStages::Assigned(n) => n.step_width(),
             BlockStages::Squares(n) => n.step_width(),
             BlockStages::Page(n) => n.step_width(),
         }
@@ -161,7 +161,7 @@ impl Roomed for BlockStages {
 
     fn step(&self, stage: usize, room: &[i128], choice: &[u64], step: &mut [i128]) {
         match self {
-            BlockStages::Served(n) => n.step(stage, room, choice, step),
+            BlockStages::Assigned(n) => n.step(stage, room, choice, step),
             BlockStages::Squares(n) => n.step(stage, room, choice, step),
             BlockStages::Page(n) => n.step(stage, room, choice, step),
         }
@@ -178,7 +178,7 @@ impl Roomed for BlockStages {
         next: &mut [i128],
     ) {
         match self {
-            BlockStages::Served(n) => n.advance(stage, room, choice, step, partial, next),
+            BlockStages::Assigned(n) => n.advance(stage, room, choice, step, partial, next),
             BlockStages::Squares(n) => n.advance(stage, room, choice, step, partial, next),
             BlockStages::Page(n) => n.advance(stage, room, choice, step, partial, next),
         }
@@ -186,7 +186,7 @@ impl Roomed for BlockStages {
 
     fn outlook_width(&self) -> usize {
         match self {
-            BlockStages::Served(n) => n.outlook_width(),
+            BlockStages::Assigned(n) => n.outlook_width(),
             BlockStages::Squares(n) => n.outlook_width(),
             BlockStages::Page(n) => n.outlook_width(),
         }
@@ -194,7 +194,7 @@ impl Roomed for BlockStages {
 
     fn outlook(&self, stage: usize, room: &[i128], outlook: &mut [i128]) {
         match self {
-            BlockStages::Served(n) => n.outlook(stage, room, outlook),
+            BlockStages::Assigned(n) => n.outlook(stage, room, outlook),
             BlockStages::Squares(n) => n.outlook(stage, room, outlook),
             BlockStages::Page(n) => n.outlook(stage, room, outlook),
         }
@@ -210,7 +210,7 @@ impl Roomed for BlockStages {
         tail: Tail,
     ) -> Verdict {
         match self {
-            BlockStages::Served(n) => n.verdict_by(stage, room, outlook, partial, tail),
+            BlockStages::Assigned(n) => n.verdict_by(stage, room, outlook, partial, tail),
             BlockStages::Squares(n) => n.verdict_by(stage, room, outlook, partial, tail),
             BlockStages::Page(n) => n.verdict_by(stage, room, outlook, partial, tail),
         }
@@ -218,7 +218,7 @@ impl Roomed for BlockStages {
 
     fn is_shift(&self) -> bool {
         match self {
-            BlockStages::Served(n) => n.is_shift(),
+            BlockStages::Assigned(n) => n.is_shift(),
             BlockStages::Squares(n) => n.is_shift(),
             BlockStages::Page(n) => n.is_shift(),
         }
@@ -233,7 +233,7 @@ impl Roomed for BlockStages {
         tail: Tail,
     ) -> u128 {
         match self {
-            BlockStages::Served(n) => n.same_for(stage, room, outlook, partial, tail),
+            BlockStages::Assigned(n) => n.same_for(stage, room, outlook, partial, tail),
             BlockStages::Squares(n) => n.same_for(stage, room, outlook, partial, tail),
             BlockStages::Page(n) => n.same_for(stage, room, outlook, partial, tail),
         }

@@ -5,10 +5,11 @@ ghost use Rattle.weights.specs.Wide.{Prepares};
 ghost use Rattle.weights.specs.declared.TheConstants.{MAX};
 ghost use Rattle.record_reader.specs.declared.TheConstants.{MOST_ROWS};
 ghost use Rattle.sample_reader.specs.Data.{block_data_of};
+ghost use Rattle.rank_assignments.specs.BoundSteps.{IsSmall};
 ghost use Rattle.block_tests.specs.BlockTests.{TakesCells, block_counts, block_statistic};
 ghost use Rattle.block_tests.specs.BlockTests.{block_test, blocks_for, bound_of};
 ghost use Rattle.block_tests.specs.BlockTests.{block_scale, sides_of};
-ghost use Rattle.block_tests.specs.BlockSteps.{IsSmall, ways_of};
+ghost use Rattle.block_tests.specs.BlockSteps.{ways_of};
 ghost use Rattle.block_tests.specs.PreparedSteps.{AreFitting, far_of};
 
 use crate::block::{Block, lengths};

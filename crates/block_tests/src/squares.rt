@@ -2,7 +2,7 @@
 ghost use Rattle.std.specs.Prelude.{◌≡◌, ◌<◌, ◌≤◌, length, map, pos, IfOk};
 ghost use Rattle.std.specs.List.{All};
 ghost use Rattle.weights.specs.declared.TheConstants.{MAX};
-ghost use Rattle.block_tests.specs.BlockTests.{squared};
+ghost use Rattle.rank_assignments.specs.Upright.{squared};
 ghost use Rattle.block_tests.specs.BlockSteps.{AreStages, cells_sum};
 
 use crate::block::Block;

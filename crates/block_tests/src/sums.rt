@@ -1,8 +1,8 @@
 // The sums of treatments, and what is measured of them.
 ghost use Rattle.std.specs.Prelude.{◌≡◌, ℕ, ◌+◌, ◌*◌, ◌-◌, ◌<◌, ◌≤◌, length, pos, reverse, All};
 ghost use Rattle.record_reader.specs.declared.TheConstants.{MOST_ROWS};
+ghost use Rattle.rank_assignments.specs.BoundSteps.{IsSmall};
 ghost use Rattle.block_tests.specs.BlockTests.{added, block_statistic, cut, page_sum, square_sum, treatment_sums};
-ghost use Rattle.block_tests.specs.BlockSteps.{IsSmall};
 
 use crate::kinds::BlockKind;
 

@@ -4,25 +4,28 @@ ghost use Rattle.weights.specs.declared.TheConstants.{MAX};
 ghost use Rattle.weights.specs.declared.tails.Tail.{Tail};
 ghost use Rattle.networks.specs.Follows.{Follows};
 ghost use Rattle.networks.specs.Judged.{judge_of};
-ghost use Rattle.ordered_groups.specs.OrderedNetworks.{ordered_network};
+ghost use Rattle.symmetry_reduction.specs.ReducedNetworks.{reduced_network};
+ghost use Rattle.rank_assignments.specs.Upright.{squared};
+ghost use Rattle.rank_assignments.specs.Assignments.{all_assignments, assigned_sums};
+ghost use Rattle.rank_assignments.specs.Assignments.{assignment_network, has_room_for};
 ghost use Rattle.block_tests.specs.BlockNetworks.{line_addends, square_addends};
 ghost use Rattle.block_tests.specs.BlockSteps.{AreStages, cells_sum};
-ghost use Rattle.block_tests.specs.BlockTests.{block_counts, block_test, squared};
+ghost use Rattle.block_tests.specs.BlockTests.{block_counts, block_test};
+ghost use Rattle.packed_keys.specs.PackedGroups.{AddsSteps};
 ghost use Rattle.packed_keys.specs.PackedKeys.{MayBePacked, packed_network};
-ghost use Rattle.block_tests.specs.Servings.{all_servings, has_room_for, serving_network};
 ghost use Rattle.block_tests.specs.declared.kinds.BlockKind.TheVariants.{Friedman, Cochran};
 
-use crate::block::first_arrangements;
+use crate::block::{are_even, assignments_of, first_arrangements};
 use crate::block_stages::{BlockStages, PageStages, SquareStages};
 use crate::block_test::BlockStatistic;
 use crate::kinds::BlockKind;
 use crate::page::{PageBlocks, page_blocks};
-use crate::served_blocks::{OrderedBlocks, ServedBlocks, has_room_for, served_blocks};
 use crate::squares::{SquareBlocks, block_copies};
 use enumerate::next_joined;
 use labelled::UnweightedTest;
 use networks::{AdditiveStages, Judge, Stages};
-use packed_keys::{Packed, bits_for};
+use packed_keys::{PackedGroups, bits_for};
+use rank_assignments::{AssignedBlocks, OrderedBlocks, has_room_for, ordered_blocks};
 use std::alloc::Global;
 use weights::{Bytes, NoMemory, Tail};
 
@@ -53,7 +56,7 @@ fn square_stages(
 
 // The network of a test whose treatments' sums are squared, with numbers that are given to
 // treatments one after another.
-fn ordered_stages(
+fn reduced_stages(
     alloc: Global,
     test: &BlockStatistic,
     judge: Judge,
@@ -62,44 +65,50 @@ fn ordered_stages(
     requires kind { (test.now.kind ≡ Friedman) ⊎ (test.now.kind ≡ Cochran) }
     requires some { 2 ≤ test.now.blocks.treatments }
     ensures follows { IfOk result (λ s. (t : Tail) → Follows (block_test test.now) t
-        (ordered_network s.3 s.2 (serving_network s.1.servings.treatments s.1.servings.items.items
-        s.1.servings.mirrors.items s.1.servings.judge))) }
+        (reduced_network s.3 s.2 (assignment_network s.1.assignments.treatments
+        s.1.assignments.items.items s.1.assignments.reflections.items s.1.assignments.judge))) }
     ensures packs { let k = test.now.blocks.treatments in
-        let count = length (all_servings (block_counts test.now)) in
+        let count = length (all_assignments (block_counts test.now)) in
         IfOk result (λ s. has_room_for k count ≡ true
-        → MayBePacked s.1.servings.treatments (127 / k) (ordered_network s.3 s.2
-        (serving_network s.1.servings.treatments s.1.servings.items.items
-        s.1.servings.mirrors.items s.1.servings.judge))) }
-    ensures items { let vs = all_servings (block_counts test.now) in
-        IfOk result (λ s. s.1.servings.items.items ≡ vs) }
+        → MayBePacked s.1.assignments.treatments (127 / k) (reduced_network s.3 s.2
+        (assignment_network s.1.assignments.treatments s.1.assignments.items.items
+        s.1.assignments.reflections.items s.1.assignments.judge))) }
+    ensures adds { IfOk result (λ s. AddsSteps s.3 s.2 (assigned_sums s.1.assignments.treatments
+        s.1.assignments.items.items s.1.assignments.reflections.items s.1.assignments.judge)) }
+    ensures items { let vs = all_assignments (block_counts test.now) in
+        IfOk result (λ s. s.1.assignments.items.items ≡ vs) }
 {
-    let stages = served_blocks(alloc, test.blocks(), test.treatments(), judge)?;
+    let blocks = test.blocks();
+    let items = assignments_of(alloc, blocks)?;
+    let are_even = are_even(blocks);
+    let stages = ordered_blocks(alloc, items.as_slice(), test.treatments(), are_even, judge)?;
     Ok(stages)
 }
 
 // The same with the sums in one number. None exactly where one number has no room for them.
-fn served_stages(
+fn assigned_stages(
     alloc: Global,
     test: &BlockStatistic,
     judge: Judge,
-) -> Result<Option<ServedBlocks>, NoMemory>
+) -> Result<Option<AssignedBlocks>, NoMemory>
     requires judge { judge ≡ judge_of (block_test test.now) }
     requires kind { (test.now.kind ≡ Friedman) ⊎ (test.now.kind ≡ Cochran) }
     requires some { 2 ≤ test.now.blocks.treatments }
     ensures follows { IfOk result (λ made. IfSome made (λ s. (t : Tail)
-        → Follows (block_test test.now) t (packed_network s.0.1.servings.treatments s.1
-        (ordered_network s.0.3 s.0.2 (serving_network s.0.1.servings.treatments
-        s.0.1.servings.items.items s.0.1.servings.mirrors.items s.0.1.servings.judge))))) }
-    ensures room { let count = length (all_servings (block_counts test.now)) in
+        → Follows (block_test test.now) t (packed_network s.0.1.assignments.treatments s.1
+        (reduced_network s.0.3 s.0.2 (assignment_network s.0.1.assignments.treatments
+        s.0.1.assignments.items.items s.0.1.assignments.reflections.items
+        s.0.1.assignments.judge))))) }
+    ensures room { let count = length (all_assignments (block_counts test.now)) in
         IfOk result (λ made. is_some made ≡ has_room_for test.now.blocks.treatments count) }
 {
     let treatments = test.treatments();
-    let stages = ordered_stages(alloc, test, judge)?;
+    let stages = reduced_stages(alloc, test, judge)?;
     let count = stages.stages();
     if !has_room_for(treatments, count) {
         return Ok(None);
     }
-    Ok(Some(Packed::new(stages, bits_for(treatments))))
+    Ok(Some(PackedGroups::new(stages, bits_for(treatments))))
 }
 
 // The network of Page's test.
@@ -124,7 +133,7 @@ impl UnweightedTest for BlockStatistic {
 
     ghost network = { network_by addends_of };
 
-    ghost runs = { network_by running_addends };
+    ghost running = { network_by running_addends };
 
     fn sound(&self) {
         let _fitting = self.blocks();
@@ -165,8 +174,8 @@ impl UnweightedTest for BlockStatistic {
         self.sound();
         match self.kind() {
             BlockKind::Friedman if self.treatments() >= FEW => {
-                match served_stages(alloc, self, judge)? {
-                    Some(stages) => Ok(BlockStages::Served(stages)),
+                match assigned_stages(alloc, self, judge)? {
+                    Some(stages) => Ok(BlockStages::Assigned(stages)),
                     None => self.stages_of(alloc, judge),
                 }
             }

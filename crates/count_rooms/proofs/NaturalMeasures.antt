@@ -8,7 +8,7 @@ use Rattle.networks.specs.Judged.{JudgeFits}
 use Rattle.networks.specs.Network.{IsReached}
 use Rattle.networks.specs.declared.verdicts.Judge.{Judge}
 use Rattle.room_network.specs.Meanings.{AreReached, IsMeasure, Meaning}
-use Rattle.room_network.specs.Numbers.{Fits, IsNumber, IsOutcome, Numbers, number_meaning, put, so_far, start}
+use Rattle.room_network.specs.Numbers.{Fits, IsScalar, IsOutcome, Numbers, scalar_meaning, put, so_far, start}
 use Rattle.room_network.specs.Plans.{Plan, alone}
 use Rattle.room_network.specs.declared.numbers.Operation.{Operation}
 use Rattle.room_network.specs.declared.numbers.Operation.TheVariants.{Sum, Product}
@@ -80,7 +80,7 @@ module _ (plan : Plan) (op : Operation) (step : ℕ → List ℤ → List ℕ �
   numbers = record { operation = op; step = λ g room c. pos (step g room c); least = λ g room. pos (least g room); greatest = λ g room. pos (greatest g room); judge = judge }
 
   abbrev m : Meaning
-  m = number_meaning plan.floor numbers
+  m = scalar_meaning plan.floor numbers
 
   record IsPlace (g : ℕ) (r p : List ℤ) : Type 0 where
     pub room : IsReached (alone plan) g r
@@ -140,7 +140,7 @@ module _ (plan : Plan) (op : Operation) (step : ℕ → List ℤ → List ℕ �
     outcome : (g : ℕ) (r p : List ℤ) (a : AreReached m g r p) (n : ℕ) → n ≤ greatest g r → IsOutcome op judge (so_far p) (pos n)
     outcome g r p a n h = record { fits = put-here g r p a n h; ruled = subst (JudgeFits judge) (sym (now g r p a n)) (ruled _ (all g r p a n h)) }
 
-    pub natural_number : IsNumber plan.floor numbers
+    pub natural_number : IsScalar plan.floor numbers
     natural_number = record {
       narrows = natural_measure;
       steps = λ g r c p v. put-here g r p v.reached _ (b.steps g r c (here g r p v.reached).room v.before v.allowed);

@@ -17,9 +17,9 @@ use Rattle.report.specs.declared.refusals.Refusal.{Refusal}
 use Rattle.report.specs.declared.refusals.Refusal.TheVariants as refusal
 use Rattle.two_sample_tests.specs.Columns.{two_sample_network}
 use Rattle.two_sample_tests.specs.TwoSamples.{two_sample_test}
+use Rattle.kruskal_wallis.specs.KruskalWallis.{ScoredGroups}
+use Rattle.ordered_samples.specs.Umbrella.{PeakedGroups}
 use Rattle.k_sample_tests.specs.KSamples.{k_sample_network, k_sample_test}
-use Rattle.k_sample_tests.specs.KruskalWallis.{ScoredGroups}
-use Rattle.k_sample_tests.specs.Umbrella.{PeakedGroups}
 use Rattle.networks.specs.declared.one_of.OneOf.{OneOf}
 use Rattle.networks.specs.declared.one_of.OneOf.TheVariants.{First, Second}
 use Rattle.run_outcome.specs.Question.{Question, question_about}

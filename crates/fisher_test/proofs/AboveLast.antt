@@ -3,7 +3,7 @@ use Rattle.std.proofs.Common.{◌≡◌, ℕ, zero, suc, ◌<◌, List, [], ◌�
 use Rattle.std.proofs.lemmas.List.{get_or-map, length-map, take-map}
 use Rattle.weights.specs.declared.lines.Line.{Line}
 use Rattle.networks.specs.Lines.{IsAboveLast, IsAscending}
-use Rattle.fisher_test.specs.Turned.{scaled_line}
+use Rattle.fisher_test.specs.Transposed.{scaled_line}
 
 pub above-last : (lines : List Line) (i : ℕ) (d : Line) → IsAscending lines → i < length lines → IsAboveLast (get_or lines i d).value (take i lines)
 above-last [] i d a h = absurd (omega (arith, h))

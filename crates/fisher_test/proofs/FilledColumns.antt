@@ -92,10 +92,10 @@ module _ (units : ℕ) (rows : List ℕ) (room : units ≤ sum rows) where
 product-swap : (f : ℕ → ℕ) (i : ℕ) (r : List ℕ) → product_by f (swap_at i r) ≡ product_by f r
 product-swap f i [] = refl
 product-swap f zero (m ∷ []) = refl
-product-swap f zero (m ∷ n ∷ r) = turned (f n) (f m) (product_by f r)
+product-swap f zero (m ∷ n ∷ r) = transposed (f n) (f m) (product_by f r)
   where
-    turned : (a b c : ℕ) → a * (b * c) ≡ b * (a * c)
-    turned a b c = grind arith
+    transposed : (a b c : ℕ) → a * (b * c) ≡ b * (a * c)
+    transposed a b c = grind arith
 product-swap f (suc i) (m ∷ r) = ap (λ n. f m * n) (product-swap f i r)
 
 pub product-falling : (f : ℕ → ℕ) (r : List ℕ) → product_by f (falling r) ≡ product_by f r

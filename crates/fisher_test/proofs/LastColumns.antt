@@ -28,13 +28,6 @@ use Rattle.stage_network.specs.StageSteps.{Housed}
 use Rattle.networks.specs.Completions.{extreme_weight, total_weight}
 use Rattle.stage_network.proofs.Stepping.{reached_at}
 use Rattle.networks.proofs.Steps.{extreme-le-total}
-use Rattle.halves.specs.Pairs.{once, valued, weight_of}
-use Rattle.halves.specs.Summed.{value_sum}
-use Rattle.halves.proofs.Counting.{valued-le}
-use Rattle.halves.proofs.Halving.{extreme-values}
-use Rattle.halves.proofs.Merging.{run-more, segment-more}
-use Rattle.halves.proofs.RoomPairs.{segment-le, take-le, weighted-le}
-use Rattle.halves.proofs.Shifting.{values, values-step}
 use Rattle.room_network.specs.Numbers.{so_far}
 use Rattle.room_network.specs.Plans.{alone}
 use Rattle.room_network.proofs.RoomKeys.{IsKey, back_is, front_is, is_key}
@@ -48,9 +41,10 @@ use Rattle.sorted_tables.specs.GatheredChoices.{gathered_weight, is_gathered}
 use Rattle.sorted_tables.specs.SortedRooms.{sorted_plan, sorted_weight}
 use Rattle.sorted_tables.proofs.ChoiceSums.{completed, completed-same, lines-completed, lines-weigh}
 use Rattle.sorted_tables.proofs.SortedPlans.{sorted_width}
-use Rattle.fisher_test.specs.LastSteps.{AreBeforeLast, AreLast, most_in, weight_network}
+use Rattle.fisher_test.specs.LastSteps.{AreBeforeLast, AreLast, most_in, once, valued, weight_network, weight_of}
 use Rattle.fisher_test.specs.SortedWeighing.{sorted_meaning}
 use Rattle.fisher_test.specs.WeightSteps.{IsWeightKey, past_of}
+use Rattle.fisher_test.proofs.FirstHalves.{extreme-values, run-more, segment-le, segment-more, take-le, valued-le, values, values-step, weighted-le}
 use Rattle.fisher_test.proofs.SortedNarrows.{sorted_key, sorted_measure}
 
 one_number : (p : List ℤ) → length p ≡ 1 → p ≡ so_far p ∷ []
@@ -135,8 +129,7 @@ module _ (rows columns : List ℕ) (judge : Judge) where
       pub lines-light : weight_of (choice_lines (slice_index columns g) sizes) ≤ MAX
       lines-light = omega (arith, lines-weigh (slice_index columns g) sizes (omega (arith, whole)), few-labellings)
 
-      key-values : (f : ℤ → ℕ) → value_sum (weight_network rows columns judge) f g k ≡ valued (λ z. f (pos (past * nat_abs z))) (choice_lines (slice_index columns g) sizes)
-      unfolding value_sum
+      key-values : (f : ℤ → ℕ) → values (weight_network rows columns judge) f (length columns - g) g k ≡ valued (λ z. f (pos (past * nat_abs z))) (choice_lines (slice_index columns g) sizes)
       key-values f =
           let n = weight_network rows columns judge in
           let two : length columns - g ≡ 2 = omega (arith, left) in
@@ -152,7 +145,7 @@ module _ (rows columns : List ℕ) (judge : Judge) where
           let n = weight_network rows columns judge in
           let measure = sorted_measure rows columns judge a.weighing.level a.weighing.some a.ordered.falls in
           extreme-values n judge (room_intervals (sorted_meaning rows columns judge) sorted_weight (sorted_width columns rows) measure) Two g k r (omega (arith, left))
-          ∙ ap (λ (u : Rule). value_sum n (once (passes u)) g k) a.rule
+          ∙ ap (λ (u : Rule). values n (once (passes u)) (length columns - g) g k) a.rule
           ∙ key-values (once (passes (AtMost (pos (most_in judge.two)))))
 
       -- by the lines of its room
@@ -224,8 +217,8 @@ module _ (n : Network) (g : ℕ) (nodes : List Node) where
 within-quotient : (p most v : ℕ) → 1 ≤ p → nat_le v (most / p) ≡ nat_le (p * v) most
 within-quotient p most v some = by (leb_tells v (most / p)) (leb_tells (p * v) most)
   where
-    turned : v * p ≡ p * v
-    turned = grind arith
+    transposed : v * p ≡ p * v
+    transposed = grind arith
 
     by : ((nat_le v (most / p) ≡ true) × (v ≤ most / p)) ⊎ ((nat_le v (most / p) ≡ false) × (most / p < v)) → ((nat_le (p * v) most ≡ true) × (p * v ≤ most)) ⊎ ((nat_le (p * v) most ≡ false) × (most < p * v)) → nat_le v (most / p) ≡ nat_le (p * v) most
     by (inl a) (inl b) = a.0 ∙ sym b.0
@@ -233,7 +226,7 @@ within-quotient p most v some = by (leb_tells v (most / p)) (leb_tells (p * v) m
         let times : p * v ≤ p * (most / p) = mul-le-mul_left p a.1 in
         absurd (omega (arith, times, mul-div-le most p, b.1))
     by (inr a) (inl b) =
-        let more : v ≤ most / p = le-div v most p (omega (arith, some)) (omega (arith, turned, b.1)) in
+        let more : v ≤ most / p = le-div v most p (omega (arith, some)) (omega (arith, transposed, b.1)) in
         absurd (omega (arith, more, a.1))
     by (inr a) (inr b) = a.0 ∙ sym b.0
 

@@ -6,13 +6,14 @@ mod SortedNarrows
 mod SortedKeys
 mod SortedFollows
 mod SortedTests
+mod FirstHalves
 mod LastColumns
 mod FilledColumns
 pub mod FisherTests
-mod TurnedData
-mod TurnedCells
-mod TurnedTests
-mod TurnedSpreads
+mod TransposedData
+mod TransposedCells
+mod TransposedTests
+mod TransposedSpreads
 mod AboveLast
-mod TurnedParts
+mod TransposedParts
 mod Vectors

@@ -3,7 +3,7 @@ use Rattle.std.proofs.Common.{◌≡◌, ℕ, List, drop, sym}
 use Rattle.std.specs.Prelude.{ℤ, pos}
 use Rattle.networks.specs.declared.verdicts.Judge.{Judge}
 use Rattle.room_network.specs.Meanings.{AreReached}
-use Rattle.room_network.specs.Numbers.{IsNumber, IsOutcome, so_far}
+use Rattle.room_network.specs.Numbers.{IsScalar, IsOutcome, so_far}
 use Rattle.room_network.specs.declared.numbers.Operation.TheVariants.{Product}
 use Rattle.completion_bounds.specs.Fillings.{falling}
 use Rattle.label_network.specs.Meanings.{sizes_in}
@@ -24,7 +24,7 @@ module _ (rows columns : List ℕ) (width falling_width : ℕ) (highs : List ℕ
   high-outcome : (g : ℕ) (room p : List ℤ) → IsWeightKey rows columns g room p → IsOutcome Product judge (so_far p) (pos (sharper_high columns g (sizes_in room)))
   high-outcome g room p k = outcome rows columns width falling_width highs judge h g room p k _ (high-most (drop g columns) (sizes_in room))
 
-  pub sorted_number : IsNumber (sorted_floor columns rows) (sorted_numbers columns judge)
+  pub sorted_number : IsScalar (sorted_floor columns rows) (sorted_numbers columns judge)
   sorted_number = record {
     narrows = sorted_measure rows columns judge h.weighing.level h.weighing.some falls;
     steps = λ g room c p v.

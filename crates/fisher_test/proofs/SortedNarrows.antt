@@ -17,7 +17,7 @@ use Rattle.room_network.specs.Meanings.{AreReached, IsMeasure, IsMove, IsRoom, I
 use Rattle.room_network.specs.Numbers.{so_far}
 use Rattle.label_network.specs.Meanings.{sizes_in}
 use Rattle.label_network.proofs.LabelPlans.{sizes-back}
-use Rattle.label_network.proofs.Later.{fits-length}
+use Rattle.label_network.proofs.Rows.{fits-long}
 use Rattle.label_network.proofs.Narrowing.{AreLeft, chosen}
 use Rattle.sorted_tables.proofs.ChoiceSums.{labellings-falling}
 use Rattle.sorted_tables.proofs.SortedPlans.{IsLeftRoom, among-all, left-onward, left-start, sizes-fallen}
@@ -128,7 +128,7 @@ module _ (rows columns : List ℕ) (judge : Judge) (level : sum columns ≡ sum 
 
     falls_on : pos ((past_of p * number_of_labellings c) * sharper_high columns (g + 1) (sizes_in (map pos (falling (minus (sizes_in room) c))))) ≤ℤ pos (past_of p * sharper_high columns g (sizes_in room))
     falls_on =
-        let wide : 0 < length (sizes_in room) = omega (arith, fits-length (sizes_in room) rows key.within, some) in
+        let wide : 0 < length (sizes_in room) = omega (arith, fits-long (sizes_in room) rows key.within, some) in
         let step : number_of_labellings c * high_over (drop (g + 1) columns) (minus (sizes_in room) c) ≤ high_over (drop g columns) (sizes_in room) = rw later (high-onward (slice_index columns g) (drop (g + 1) columns) (sizes_in room) c choice whole wide) in
         rw (sizes-fallen (minus (sizes_in room) c), high-falling (drop (g + 1) columns) (minus (sizes_in room) c))
         (risen _ _ (less-times (past_of p) (high_over (drop g columns) (sizes_in room)) (number_of_labellings c) (high_over (drop (g + 1) columns) (minus (sizes_in room) c)) step))

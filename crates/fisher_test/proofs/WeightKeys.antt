@@ -13,17 +13,16 @@ use Rattle.completion_bounds.specs.Fillings.{greatest_weight, product_by}
 use Rattle.label_network.specs.LabelSteps.{IsHeld}
 use Rattle.room_network.specs.Numbers.{so_far}
 use Rattle.room_network.specs.Meanings.{AreReached, IsRoom, IsStep}
-use Rattle.room_network.specs.Numbers.{AreWeights, IsNumber, IsOutcome}
+use Rattle.room_network.specs.Numbers.{AreWeights, IsScalar, IsOutcome}
 use Rattle.room_network.specs.declared.numbers.Operation.TheVariants.{Product}
 use Rattle.room_network.proofs.NumberLaws.{weights-of}
 use Rattle.label_network.specs.LabelNetwork.{over_rooms, over_sizes}
 use Rattle.label_network.specs.LabelRooms.{label_floor}
 use Rattle.label_network.specs.Meanings.{IsPlace, sizes_in}
-use Rattle.label_network.proofs.Later.{fits-length}
 use Rattle.label_network.proofs.LinearKeys.{reached-stage}
 use Rattle.label_network.proofs.Narrowing.{IsLeft, chosen}
 use Rattle.label_network.proofs.OverRooms.{over_number, over_place}
-use Rattle.label_network.proofs.Rows.{length-abs}
+use Rattle.label_network.proofs.Rows.{fits-long, length-abs}
 use Rattle.label_network.proofs.Sizes.{fewer-labellings, fits-chain, held-within, sizes-of_pos}
 use Rattle.fisher_test.specs.Weighing.{weight_meaning, weight_numbers}
 use Rattle.fisher_test.specs.WeightSteps.{IsWeightKey, IsWeightMeasure, IsWeightRoom, IsWeightStep, WeightSeat, past_of}
@@ -52,7 +51,7 @@ module _ (rows columns : List ℕ) (width falling_width : ℕ) (highs : List ℕ
     pub weight_seat : WeightSeat rows columns width falling_width highs g f
     weight_seat =
         let sizes : List ℕ = sizes_in f in
-        let long : length f ≡ length rows = sym (length-abs f) ∙ fits-length sizes rows a.within in
+        let long : length f ≡ length rows = sym (length-abs f) ∙ fits-long sizes rows a.within in
         let small : sum sizes < 2 ^ 64 = omega (arith, a.level, h.weighing.level, h.weighing.units, sum_by-take-drop (λ v. v) columns g) in
         record {
           stage = a.stage;
@@ -67,7 +66,7 @@ module _ (rows columns : List ℕ) (width falling_width : ℕ) (highs : List ℕ
           least = omega (arith, least-most rows columns judge h.weighing.level h.weighing.some g sizes left, few-ways);
           greatest =
               high-at (length rows) columns highs g (number_of_labellings sizes) h.highs_are a.stage few-ways
-              ∙ ap (λ m. min (number_of_labellings sizes) (product_by (greatest_weight m) (drop g columns))) (sym (fits-length sizes rows a.within));
+              ∙ ap (λ m. min (number_of_labellings sizes) (product_by (greatest_weight m) (drop g columns))) (sym (fits-long sizes rows a.within));
         }
 
     -- a choice there
@@ -97,7 +96,7 @@ module _ (rows columns : List ℕ) (width falling_width : ℕ) (highs : List ℕ
         product = reached_product rows columns judge h.weighing.level h.weighing.some g (sizes_in f) p a.reached;
       }
 
-  pub weight_number : IsNumber (label_floor columns rows) (over_sizes (weight_numbers columns judge))
+  pub weight_number : IsScalar (label_floor columns rows) (over_sizes (weight_numbers columns judge))
   weight_number =
       over_number columns rows (weight_numbers columns judge) (weight_measure rows columns judge h.weighing.level h.weighing.some)
       (λ g f x p v. step-weights g f p (key-of g f p v.reached) v.before x v.allowed)

@@ -16,7 +16,7 @@ use Rattle.completion_bounds.proofs.Factorials.{total-is}
 use Rattle.completion_bounds.proofs.Narrowing.{greatest-step, least-step}
 use Rattle.completion_bounds.proofs.TableWeights.{labellings-parts, least-all, within}
 use Rattle.label_network.specs.Meanings.{AreReached, IsMeasure}
-use Rattle.label_network.proofs.Later.{fits-length}
+use Rattle.label_network.proofs.Rows.{fits-long}
 use Rattle.label_network.proofs.Narrowing.{IsLeft, IsNarrowing, measured, reached-kept, reached-left}
 use Rattle.fisher_test.specs.Weighing.{greatest_factor, least_factor, weight_meaning}
 use Rattle.fisher_test.specs.WeightSteps.{past_of}
@@ -48,7 +48,7 @@ module _ (rows columns : List ℕ) (judge : Judge) (level : sum columns ≡ sum 
 
       falling : (past_of p * number_of_labellings x) * greatest_factor columns (g + 1) (minus r x) ≤ past_of p * greatest_factor columns g r
       falling =
-          let wide : 0 < length r = omega (arith, fits-length r rows l.within, some) in
+          let wide : 0 < length r = omega (arith, fits-long r rows l.within, some) in
           let step : number_of_labellings x * min (number_of_labellings (minus r x)) (product_by (greatest_weight (length r)) (drop (g + 1) columns)) ≤ min (number_of_labellings r) (product_by (greatest_weight (length r)) (slice_index columns g ∷ drop (g + 1) columns)) = greatest-step (slice_index columns g) (drop (g + 1) columns) r x c wide in
           let all : past_of p * (number_of_labellings x * min (number_of_labellings (minus r x)) (product_by (greatest_weight (length r)) (drop (g + 1) columns))) ≤ past_of p * min (number_of_labellings r) (product_by (greatest_weight (length r)) (drop g columns)) = rw later (mul-le-mul_left (past_of p) step) in
           subst (λ n. (past_of p * number_of_labellings x) * min (number_of_labellings (minus r x)) (product_by (greatest_weight n) (drop (g + 1) columns)) ≤ past_of p * greatest_factor columns g r) (sym (length-minus r x))

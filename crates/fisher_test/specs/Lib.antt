@@ -1,7 +1,7 @@
 pub mod FisherExact
 pub mod Weighing
 pub mod FisherNetworks
-pub mod Turned
+pub mod Transposed
 pub mod SortedWeighing
 pub mod WeightSteps
 pub mod LastSteps

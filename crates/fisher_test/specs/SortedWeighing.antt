@@ -9,7 +9,7 @@ use Rattle.networks.specs.Judged.{judge_of}
 use Rattle.networks.specs.Network.{Network}
 use Rattle.networks.specs.declared.verdicts.Judge.{Judge}
 use Rattle.room_network.specs.Meanings.{Meaning}
-use Rattle.room_network.specs.Numbers.{Numbers, number_meaning}
+use Rattle.room_network.specs.Numbers.{Numbers, scalar_meaning}
 use Rattle.room_network.specs.RoomNetworks.{room_network}
 use Rattle.label_network.specs.LabelNetwork.{over_sizes}
 use Rattle.label_network.specs.Meanings.{sizes_in}
@@ -44,7 +44,7 @@ sorted_numbers columns judge = record (over_sizes (weight_numbers columns judge)
 
 abbrev pub sorted_meaning : List ℕ → List ℕ → Judge → Meaning
 sorted_meaning rows columns judge =
-    number_meaning (sorted_floor columns rows) (sorted_numbers columns judge)
+    scalar_meaning (sorted_floor columns rows) (sorted_numbers columns judge)
 
 abbrev pub sorted_rarity_meaning : TableData → Meaning
 sorted_rarity_meaning table =

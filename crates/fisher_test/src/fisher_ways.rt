@@ -11,7 +11,7 @@ ghost use Rattle.fisher_test.specs.SortedWeighing.{sorted_meaning, sorted_rarity
 ghost use Rattle.fisher_test.specs.FisherNetworks.{first_cell_meaning, fisher_network, rarity_meaning};
 ghost use Rattle.fisher_test.specs.Weighing.{weight_meaning};
 
-use crate::by_turning::{quick_spread, quick_sum};
+use crate::by_transposing::{quick_spread, quick_sum};
 use crate::fisher_stages::FisherStages;
 use crate::fisher_table::{FisherTable, held};
 use crate::last_columns::LastColumns;
@@ -21,7 +21,7 @@ use completion_bounds::fall;
 use enumerate::{Framed, Plain, first_labelling, is_extreme_by, next_labelling};
 use label_network::{LinearStages, label_stages, linear_stages};
 use networks::{Spread, Stages, TailSum, TailSums};
-use room_network::Numbered;
+use room_network::FromScalar;
 use sorted_tables::rise;
 use stage_network::{Prepared, tail_sums_by_rooms};
 use std::alloc::Global;
@@ -84,7 +84,7 @@ impl FisherTable {
         let rows = self.row_sums();
         let columns = self.column_sums();
         let measure = WeightMeasure::new(alloc, rows, columns, self.judge())?;
-        label_stages(alloc, columns, rows, Numbered::new(measure))
+        label_stages(alloc, columns, rows, FromScalar::new(measure))
     }
 
     // Its rows and columns in order.
@@ -209,7 +209,7 @@ impl Prepared for FisherTable {
 
     ghost network = { fisher_network };
 
-    ghost runs = { fisher_network };
+    ghost running = { fisher_network };
 
     fn has_tail(&self, tail: Tail) -> bool {
         match tail {

@@ -10,18 +10,26 @@ ghost use Rattle.stage_network.specs.ArcSteps.{IsRun, segment};
 ghost use Rattle.networks.specs.Completions.{extreme_weight};
 ghost use Rattle.networks.specs.EachTail.{sum_for};
 ghost use Rattle.completion_bounds.specs.Fillings.{falling};
-ghost use Rattle.halves.specs.Pairs.{once, valued, weight_of};
 ghost use Rattle.sorted_tables.specs.SortedRooms.{rising};
-ghost use Rattle.fisher_test.specs.LastSteps.{AreBeforeLast, AreLast, IsHalfBeforeLast, most_in, weight_network};
+ghost use Rattle.fisher_test.specs.LastSteps.{AreBeforeLast, AreLast, IsHalfBeforeLast, most_in};
+ghost use Rattle.fisher_test.specs.LastSteps.{once, valued, weight_network, weight_of};
 ghost use Rattle.fisher_test.specs.WeightSteps.{IsWeighing, past_of};
 
 use crate::fisher_table::held;
-use halves::FirstHalf;
-use networks::Judge;
+use networks::{Judge, TailSums};
 use sorted_tables::SortedRooms;
 use stage_network::StageNodes;
 use std::alloc::Global;
 use weights::{Count, Line, NoMemory, Rule, Tail, only};
+
+/// The nodes of the stage up to which a network is swept, and of each asked tail the weight that
+/// was closed on the way.
+#[derive(Drop)]
+pub(crate) struct FirstHalf<C: Count> {
+    pub stage: usize,
+    pub nodes: StageNodes<C>,
+    pub closed: TailSums,
+}
 
 /// What completes tables before their last two columns.
 #[derive(Drop)]

@@ -1,13 +1,13 @@
-// A distribution, by that of the table turned.
+// A distribution, by that of the table transposed.
 ghost use Rattle.std.specs.Prelude.{◌≡◌, ◌*◌, ◌/◌, ◌%◌, ◌<◌, ◌≤◌, map, pos, All, IfOk};
 ghost use Rattle.weights.specs.declared.TheConstants.{MAX};
 ghost use Rattle.networks.specs.Lines.{IsAscending};
-ghost use Rattle.fisher_test.specs.Turned.{IsScalable, scaled_line};
+ghost use Rattle.fisher_test.specs.Transposed.{IsScalable, scaled_line};
 
 use crate::fisher_table::held;
 use networks::Spread;
 use std::alloc::Global;
-use turned_tables::in_ratio;
+use transposed_tables::in_ratio;
 use weights::{Line, NoMemory};
 
 // A part of a total, in the ratio of another total, as values are held.

@@ -9,16 +9,14 @@ ghost use Rattle.node_pool.specs.Nodes.{weighted};
 ghost use Rattle.networks.specs.Asked.{asks};
 ghost use Rattle.networks.specs.Completions.{extreme_weight, total_weight};
 ghost use Rattle.networks.specs.EachTail.{sum_for};
-ghost use Rattle.halves.specs.MeetingSteps.{IsFirstHalf};
 ghost use Rattle.table_sums.specs.Tables.{is_two_by_two};
 ghost use Rattle.fisher_test.specs.FisherExact.{fisher_test};
-ghost use Rattle.fisher_test.specs.LastSteps.{IsHalfBeforeLast, weight_network};
+ghost use Rattle.fisher_test.specs.LastSteps.{IsFirstHalf, IsHalfBeforeLast, weight_network};
 ghost use Rattle.fisher_test.specs.SortedWeighing.{sorted_meaning};
 
 use crate::fisher_table::FisherTable;
-use crate::last_columns::LastColumns;
+use crate::last_columns::{FirstHalf, LastColumns};
 use crate::sorted_weights::SortedStages;
-use halves::FirstHalf;
 use networks::{Kept, Roomed, Stages, TailSum, only};
 use stage_network::{Sweep, Width, width_of};
 use std::alloc::Global;

@@ -12,7 +12,7 @@ use crate::fisher_table::held;
 use crate::weight_measure::{WeightMeasure, later_columns};
 use label_network::read_sizes;
 use networks::{Interval, Judge};
-use room_network::{NumberMeasure, Numbered, Operation, RoomNetwork};
+use room_network::{FromScalar, Operation, RoomNetwork, ScalarMeasure};
 use row_products::{RowBounds, RowProducts};
 use sorted_tables::SortedRooms;
 use std::alloc::Global;
@@ -31,7 +31,7 @@ pub struct SortedWeights {
 
 /// The network of a table's weight with sizes in falling order: a key has the sizes that remain,
 /// the greatest first, and then the product of the columns' weights so far.
-pub type SortedStages = RoomNetwork<SortedRooms, Numbered<SortedWeights>>;
+pub type SortedStages = RoomNetwork<SortedRooms, FromScalar<SortedWeights>>;
 
 /// The network of tables with these rows, the greatest first, and columns (how many subjects each
 /// has), the least first, with verdicts by the judge's rules.
@@ -52,7 +52,7 @@ pub(crate) fn sorted_stages(
     let products = RowProducts::new(alloc)?;
     let rooms = SortedRooms::new(alloc, columns, rows)?;
     let weights = SortedWeights { measure, products };
-    Ok(RoomNetwork::new(rooms, Numbered::new(weights)))
+    Ok(RoomNetwork::new(rooms, FromScalar::new(weights)))
 }
 
 // The narrower interval: of the lower ends the greater, and of the upper ends the lesser.
@@ -91,7 +91,7 @@ impl SortedWeights {
     }
 }
 
-impl NumberMeasure for SortedWeights {
+impl ScalarMeasure for SortedWeights {
     ghost use Rattle.sorted_tables.specs.SortedRooms.{sorted_floor};
     ghost use Rattle.fisher_test.specs.SortedWeighing.{sorted_numbers};
 

@@ -15,7 +15,7 @@ use crate::fisher_table::held;
 use completion_bounds::fall;
 use label_network::{Binomials, LabelNetwork, read_sizes};
 use networks::{Interval, Judge};
-use room_network::{NumberMeasure, Numbered, Operation};
+use room_network::{FromScalar, Operation, ScalarMeasure};
 use std::alloc::Global;
 use weights::{NoMemory, total_of};
 
@@ -41,7 +41,7 @@ pub struct WeightMeasure {
 
 /// The network of a table's weight: a key has the sizes that remain, and then the product of the
 /// columns' weights so far.
-pub type WeightStages = LabelNetwork<Numbered<WeightMeasure>>;
+pub type WeightStages = LabelNetwork<FromScalar<WeightMeasure>>;
 
 /// The columns from a stage on.
 pub(crate) fn later_columns(columns: &[u64], stage: usize) -> &[u64]
@@ -170,7 +170,7 @@ impl WeightMeasure {
     {}
 }
 
-impl NumberMeasure for WeightMeasure {
+impl ScalarMeasure for WeightMeasure {
     ghost use Rattle.label_network.specs.LabelNetwork.{over_sizes};
     ghost use Rattle.label_network.specs.LabelRooms.{label_floor};
     ghost use Rattle.fisher_test.specs.Weighing.{weight_numbers};

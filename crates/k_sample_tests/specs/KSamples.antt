@@ -4,10 +4,10 @@ use Rattle.weights.specs.declared.tails.Tail.{Tail}
 use Rattle.networks.specs.declared.one_of.OneOf.{OneOf}
 use Rattle.networks.specs.Network.{Network}
 use Rattle.networks.specs.OneOf.{of_either}
-use Rattle.k_sample_tests.specs.KruskalWallis.{ScoredGroups, kruskal_wallis_test}
-use Rattle.k_sample_tests.specs.PairCounts.{umbrella_network}
-use Rattle.k_sample_tests.specs.RankSums.{kruskal_wallis_network}
-use Rattle.k_sample_tests.specs.Umbrella.{PeakedGroups, umbrella_test}
+use Rattle.kruskal_wallis.specs.KruskalWallis.{ScoredGroups, kruskal_wallis_test}
+use Rattle.ordered_samples.specs.PairCounts.{umbrella_network}
+use Rattle.kruskal_wallis.specs.RankSums.{kruskal_wallis_network}
+use Rattle.ordered_samples.specs.Umbrella.{PeakedGroups, umbrella_test}
 
 abbrev pub k_sample_test : OneOf ScoredGroups PeakedGroups → ConditionalTest
 k_sample_test = of_either kruskal_wallis_test umbrella_test

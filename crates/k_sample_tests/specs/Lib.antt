@@ -1,10 +1,1 @@
-pub mod Umbrella
-pub mod KruskalWallis
-pub mod PairCounts
-pub mod RankSums
-pub mod CentredSums
 pub mod KSamples
-pub mod UmbrellaSteps
-pub mod RankSumSteps
-pub mod SumMeanings
-pub mod SquaredStages

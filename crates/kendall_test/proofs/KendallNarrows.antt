@@ -14,9 +14,9 @@ use Rattle.networks.specs.Network.{IsReached}
 use Rattle.networks.specs.declared.verdicts.Judge.{Judge}
 use Rattle.room_network.specs.Meanings.{AreReached, IsMeasure}
 use Rattle.room_network.specs.Plans.{alone}
-use Rattle.room_network.specs.Numbers.{IsNumber, IsOutcome, so_far}
+use Rattle.room_network.specs.Numbers.{IsScalar, IsOutcome, so_far}
 use Rattle.room_network.specs.declared.numbers.Operation.TheVariants.{Sum}
-use Rattle.rising_pairs.specs.RisingPairs.{pairs_across}
+use Rattle.concordant_pairs.specs.ConcordantPairs.{pairs_across}
 use Rattle.kendall_test.specs.KendallNetwork.{concordance_added, kendall_meaning, kendall_numbers, open_pairs, concordant_pairs, concordance}
 use Rattle.kendall_test.specs.KendallRooms.{counts_left, kendall_floor, kendall_plan}
 use Rattle.kendall_test.specs.KendallSteps.{AreKendallCounts, IsKendall}
@@ -124,7 +124,7 @@ module _ (columns rows : List ℕ) (judge : Judge) where
       high-outcome : ((v : ℤ) → unsigned_abs v ≤ 14400 → JudgeFits judge v) → IsOutcome Sum judge (so_far p) (pos (open_pairs columns g))
       high-outcome fits = record { fits = omega (arith, ints, partial-few); ruled = fits _ (omega (arith, ints, partial-few)) }
 
-  pub kendall_number : IsKendall columns rows judge → IsNumber (kendall_floor columns rows) (kendall_numbers columns rows judge)
+  pub kendall_number : IsKendall columns rows judge → IsScalar (kendall_floor columns rows) (kendall_numbers columns rows judge)
   kendall_number h = record {
     narrows = kendall_measure h.counts;
     steps = λ g room c p v. omega (arith, partial-few h.counts g room p v.reached, added-few h.counts g room (room-reached g room p v.reached) v.before c v.allowed);

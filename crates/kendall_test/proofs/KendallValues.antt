@@ -17,7 +17,7 @@ use Rattle.sample_reader.specs.PooledSample.{paired_subjects}
 use Rattle.sample_reader.specs.declared.subjects.Subject.{Subject}
 use Rattle.networks.specs.declared.verdicts.Judge.{Judge}
 use Rattle.room_network.specs.Meanings.{partial_after, way_value}
-use Rattle.label_network.specs.LaterSums.{subjects}
+use Rattle.later_scores.specs.LaterSums.{subjects}
 use Rattle.room_network.specs.Numbers.{so_far}
 use Rattle.label_network.proofs.Narrowing.{fits-self, minus-within}
 use Rattle.kendall_test.specs.Kendall.{kendall_statistic, one_where_greater, one_where_less, over_pairs}

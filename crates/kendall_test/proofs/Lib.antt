@@ -10,9 +10,9 @@ pub mod KendallSeats
 pub mod PairSums
 pub mod Places
 pub mod KendallFitting
-pub mod RisingOrder
+pub mod ConcordantOrder
 mod TableSums
-mod TurnedSums
-mod TurnedObserved
-mod TurnedRatios
+mod TransposedSums
+mod TransposedObserved
+mod TransposedRatios
 mod Vectors

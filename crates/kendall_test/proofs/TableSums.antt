@@ -1,4 +1,4 @@
--- K of a labelling is K of its table, and K of a table is K of the table turned.
+-- K of a labelling is K of its table, and K of a table is K of the table transposed.
 use Rattle.sample_reader.specs.PooledSample.{paired_subjects}
 use Rattle.std.proofs.Common.{◌≡◌, ℕ, zero, suc, ◌+◌, ◌*◌, ◌<◌, List, [], ◌∷◌, length, map, take, drop, refl, sym, ◌∙◌, ap, arith}
 use Rattle.std.specs.Prelude.{ℤ, pos, ◌-ℤ◌, replicate}
@@ -12,9 +12,9 @@ use Rattle.weights.specs.Grouped.{columns_of}
 use Rattle.weights.specs.Labellings.{counts_of}
 use Rattle.weights.proofs.Counted.{count_of}
 use Rattle.weights.proofs.Sized.{counts_of-append, plus}
-use Rattle.turned_tables.specs.Turned.{fronted, turned}
-use Rattle.turned_tables.proofs.Shapes.{length-across}
-use Rattle.turned_tables.proofs.TurnedLines.{AreLong, across, across-fronted, level-turned, long-turned, totals-turned}
+use Rattle.transposed_tables.specs.Transposed.{fronted, transposed}
+use Rattle.transposed_tables.proofs.Shapes.{length-across}
+use Rattle.transposed_tables.proofs.TransposedLines.{AreLong, across, across-fronted, level-transposed, long-transposed, totals-transposed}
 use Rattle.kendall_test.specs.Kendall.{kendall_statistic, one_where_greater, one_where_less, over_pairs}
 use Rattle.kendall_test.specs.KendallNetwork.{concordant_pairs}
 use Rattle.kendall_test.proofs.CodeLaws.{sum-first}
@@ -64,7 +64,7 @@ table-is ts k xs up long below =
     ap (λ n. pos n -ℤ pos (over_pairs one_where_greater (paired_subjects (values_of_ties ts) xs) (paired_subjects (values_of_ties ts) xs))) (pairs-are one_where_less ts xs up long ∙ over-columns concordant_pairs one_where_less k (concordant-are k) (counts_in ts) xs long below)
     ∙ ap (λ n. pos (over_later concordant_pairs k (columns_of k (counts_in ts) xs)) -ℤ pos n) (pairs-are one_where_greater ts xs up long ∙ over-columns discordant_pairs one_where_greater k (discordant-are k) (counts_in ts) xs long below)
 
--- ---- of a table turned
+-- ---- of a table transposed
 
 sum-plus : (x y : List ℕ) → length x ≡ length y → sum (plus x y) ≡ sum x + sum y
 sum-plus [] [] e = refl
@@ -109,13 +109,13 @@ over-none : (f : List ℕ → List ℕ → ℕ) → ((x : List ℕ) → f [] x �
 over-none f none zero = refl
 over-none f none (suc k) = omega (arith, none (across 0 (replicate k [])), over-none f none k)
 
-over-turned : (f : List ℕ → List ℕ → ℕ) → ((x : List ℕ) → f [] x ≡ 0) → ((n : ℕ) (x : List ℕ) (lines : List (List ℕ)) → length x ≡ length lines → AreLong n lines → over_later f (suc n) (fronted x lines) ≡ f x (map total lines) + over_later f n lines)
-    → (k : ℕ) (w : List (List ℕ)) → AreLong k w → over_later f (length w) (turned k w) ≡ over_later f k w
-over-turned f none front k [] a = over-none f none k
-over-turned f none front k (x ∷ w) a =
-    front (length w) x (turned k w) (level-turned k x w a) (long-turned k w)
-    ∙ ap (λ v. f x v + over_later f (length w) (turned k w)) (totals-turned k w a.1)
-    ∙ ap (λ n. f x (across k w) + n) (over-turned f none front k w a.1)
+over-transposed : (f : List ℕ → List ℕ → ℕ) → ((x : List ℕ) → f [] x ≡ 0) → ((n : ℕ) (x : List ℕ) (lines : List (List ℕ)) → length x ≡ length lines → AreLong n lines → over_later f (suc n) (fronted x lines) ≡ f x (map total lines) + over_later f n lines)
+    → (k : ℕ) (w : List (List ℕ)) → AreLong k w → over_later f (length w) (transposed k w) ≡ over_later f k w
+over-transposed f none front k [] a = over-none f none k
+over-transposed f none front k (x ∷ w) a =
+    front (length w) x (transposed k w) (level-transposed k x w a) (long-transposed k w)
+    ∙ ap (λ v. f x v + over_later f (length w) (transposed k w)) (totals-transposed k w a.1)
+    ∙ ap (λ n. f x (across k w) + n) (over-transposed f none front k w a.1)
 
-pub sum-turned : (k : ℕ) (w : List (List ℕ)) → AreLong k w → table_sum (length w) (turned k w) ≡ table_sum k w
-sum-turned k w a = ap (λ n. pos n -ℤ pos (over_later discordant_pairs (length w) (turned k w))) (over-turned concordant_pairs (λ x. refl) concordant-fronted k w a) ∙ ap (λ n. pos (over_later concordant_pairs k w) -ℤ pos n) (over-turned discordant_pairs none-concordant discordant-fronted k w a)
+pub sum-transposed : (k : ℕ) (w : List (List ℕ)) → AreLong k w → table_sum (length w) (transposed k w) ≡ table_sum k w
+sum-transposed k w a = ap (λ n. pos n -ℤ pos (over_later discordant_pairs (length w) (transposed k w))) (over-transposed concordant_pairs (λ x. refl) concordant-fronted k w a) ∙ ap (λ n. pos (over_later concordant_pairs k w) -ℤ pos n) (over-transposed discordant_pairs none-concordant discordant-fronted k w a)

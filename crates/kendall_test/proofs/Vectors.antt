@@ -8,7 +8,7 @@ use Rattle.sample_reader.specs.Twins.{TwinData}
 use Rattle.sample_reader.specs.PooledSample.{paired_subjects}
 use Rattle.kendall_test.specs.CountCodes.{code}
 use Rattle.kendall_test.specs.Kendall.{kendall_test, places_of}
-use Rattle.kendall_test.specs.TurnedKendall.{turned_twins}
+use Rattle.kendall_test.specs.TransposedKendall.{transposed_twins}
 
 -- three subjects, of whom the first two stand in the other order
 abbrev three : TwinData
@@ -47,17 +47,17 @@ unfolding tie_groups paired_subjects
 tied_two = refl
 
 -- the same with the two values of each subject in each other's place: as many again of twice as many
-tied_turned_sum : observed_statistic (kendall_test (turned_twins tied)) ≡ pos 2
+tied_transposed_sum : observed_statistic (kendall_test (transposed_twins tied)) ≡ pos 2
 unfolding tie_groups paired_subjects
-tied_turned_sum = refl
+tied_transposed_sum = refl
 
-tied_turned_total : total (kendall_test (turned_twins tied)) ≡ 6
+tied_transposed_total : total (kendall_test (transposed_twins tied)) ≡ 6
 unfolding tie_groups
-tied_turned_total = refl
+tied_transposed_total = refl
 
-tied_turned_two : numerator (kendall_test (turned_twins tied)) Two ≡ 4
+tied_transposed_two : numerator (kendall_test (transposed_twins tied)) Two ≡ 4
 unfolding tie_groups paired_subjects
-tied_turned_two = refl
+tied_transposed_two = refl
 
 -- ties in both columns, and subjects whose first values do not ascend
 abbrev both : TwinData

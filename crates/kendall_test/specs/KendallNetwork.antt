@@ -9,12 +9,12 @@ use Rattle.networks.specs.Judged.{judge_of}
 use Rattle.networks.specs.Network.{Network}
 use Rattle.networks.specs.declared.verdicts.Judge.{Judge}
 use Rattle.room_network.specs.Meanings.{Meaning}
-use Rattle.room_network.specs.Numbers.{Numbers, number_meaning}
+use Rattle.room_network.specs.Numbers.{Numbers, scalar_meaning}
 use Rattle.room_network.specs.RoomNetworks.{room_network}
 use Rattle.room_network.specs.declared.numbers.Operation.TheVariants.{Sum}
 use Rattle.label_network.specs.LabelRooms.{label_weight}
 use Rattle.pooled_columns.specs.PooledColumns.{column_sizes}
-use Rattle.rising_pairs.specs.RisingPairs.{pairs_across}
+use Rattle.concordant_pairs.specs.ConcordantPairs.{pairs_across}
 use Rattle.kendall_test.specs.Kendall.{kendall_subjects, kendall_test}
 use Rattle.kendall_test.specs.KendallRooms.{counts_left, kendall_floor}
 
@@ -48,7 +48,7 @@ kendall_numbers columns rows judge = record {
 
 abbrev pub kendall_meaning : List ℕ → List ℕ → Judge → Meaning
 kendall_meaning columns rows judge =
-    number_meaning (kendall_floor columns rows) (kendall_numbers columns rows judge)
+    scalar_meaning (kendall_floor columns rows) (kendall_numbers columns rows judge)
 
 abbrev pub sample_meaning : TwinData → Meaning
 sample_meaning sample = kendall_meaning (column_sizes (values_of (kendall_subjects sample)))

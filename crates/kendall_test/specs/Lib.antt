@@ -2,6 +2,6 @@ pub mod Kendall
 pub mod CountCodes
 pub mod KendallRooms
 pub mod KendallNetwork
-pub mod TurnedKendall
+pub mod TransposedKendall
 pub mod KendallSteps
 pub mod KendallMade

@@ -4,7 +4,7 @@ ghost use Rattle.weights.specs.Wide.{Prepares};
 ghost use Rattle.sample_reader.specs.Data.{twin_data_of};
 ghost use Rattle.kendall_test.specs.Kendall.{kendall_test};
 
-use crate::by_turning::quick_sums;
+use crate::by_transposing::quick_sums;
 use crate::kendall_made::kendall_subjects;
 use crate::kendall_measure::KendallMeasure;
 use crate::kendall_rooms::KendallRooms;
@@ -14,7 +14,7 @@ use crate::pair_order::PairOrder;
 use labelled::{LabelStatistic, Labelled};
 use networks::{Judge, TailSums};
 use pooled_columns::labels_in;
-use room_network::{Numbered, RoomNetwork};
+use room_network::{FromScalar, RoomNetwork};
 use sample_reader::Twins;
 use std::alloc::Global;
 use weights::{NoMemory, PrepareFault, Tail, Tails};
@@ -58,7 +58,7 @@ impl LabelStatistic for PairOrder {
 
     ghost network = { kendall_stages };
 
-    ghost runs = { kendall_stages };
+    ghost running = { kendall_stages };
 
     fn sound(&self) {
         let _made = self.made();
@@ -82,11 +82,11 @@ impl LabelStatistic for PairOrder {
         let rows = made.rows.as_slice();
         let rooms = KendallRooms::new(alloc, columns, rows)?;
         let measure = KendallMeasure::new(alloc, columns, rows, judge)?;
-        let network = RoomNetwork::new(rooms, Numbered::new(measure));
+        let network = RoomNetwork::new(rooms, FromScalar::new(measure));
         Ok(KendallStages { network })
     }
 
-    // By the test turned, where that is less work.
+    // By the test transposed, where that is less work.
     fn numerators(&self, alloc: Global, judge: Judge, tails: Tails) -> Result<TailSums, NoMemory> {
         quick_sums(alloc, self, judge, tails)
     }

@@ -6,7 +6,7 @@ ghost use Rattle.kendall_test.specs.KendallSteps.{IsKendall};
 use crate::kendall_counts::KendallCounts;
 use crate::pairs::{concordance, open_pairs};
 use networks::{Interval, Judge};
-use room_network::{NumberMeasure, Operation};
+use room_network::{Operation, ScalarMeasure};
 use std::alloc::Global;
 use weights::NoMemory;
 
@@ -38,7 +38,7 @@ impl KendallMeasure {
     }
 }
 
-impl NumberMeasure for KendallMeasure {
+impl ScalarMeasure for KendallMeasure {
     ghost use Rattle.kendall_test.specs.KendallNetwork.{kendall_numbers};
     ghost use Rattle.kendall_test.specs.KendallRooms.{kendall_floor};
 

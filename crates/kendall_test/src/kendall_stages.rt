@@ -4,11 +4,11 @@
 use crate::kendall_measure::KendallMeasure;
 use crate::kendall_rooms::KendallRooms;
 use networks::{Roomed, Stages, Verdict};
-use room_network::{Numbered, RoomNetwork};
+use room_network::{FromScalar, RoomNetwork};
 use weights::Tail;
 
 /// What stands in it: Kendall's K over the rooms of two values.
-pub(crate) type KendallNetwork = RoomNetwork<KendallRooms, Numbered<KendallMeasure>>;
+pub(crate) type KendallNetwork = RoomNetwork<KendallRooms, FromScalar<KendallMeasure>>;
 
 /// The network of Kendall's test.
 #[derive(Drop)]

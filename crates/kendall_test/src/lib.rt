@@ -2,7 +2,8 @@
 //! whose two values stand in the same order, less those whose two values stand in the other.
 #![tactic(auto)]
 
-mod by_turning;
+mod by_transposing;
+mod concordant_order;
 mod count_codes;
 mod counts;
 mod kendall;
@@ -14,13 +15,12 @@ mod kendall_stages;
 mod kendall_sums;
 mod pair_order;
 mod pairs;
-mod rising_order;
 mod room_work;
-mod turned;
+mod transposed;
 
 pub use kendall::{Kendall, prepare};
 pub use kendall_measure::KendallMeasure;
 pub use kendall_rooms::KendallRooms;
 pub use kendall_stages::KendallStages;
 pub use pair_order::PairOrder;
-pub use turned::turned_tests;
+pub use transposed::transposed_tests;

@@ -15,7 +15,8 @@ use weights::{PrepareFault, WideOf, multinomial};
 /// Kendall's K. It is seen as the two values of each subject that it was prepared of.
 #[derive(Drop)]
 pub struct PairOrder {
-    // What it was prepared of, by which contracts name it, and which the test turned is made of.
+    // What it was prepared of, by which contracts name it, and which the test transposed is made
+    // of.
     sample: Twins,
     made: KendallMade,
 }

@@ -57,6 +57,6 @@ fn work_of(columns: &[u64], rows: &[u64]) -> u128 {
 }
 
 /// Whether it is less work to give the columns to the rows' subjects than the rows to the columns'.
-pub(crate) fn is_less_work_turned(columns: &[u64], rows: &[u64]) -> bool {
+pub(crate) fn is_less_work_transposed(columns: &[u64], rows: &[u64]) -> bool {
     work_of(rows, columns) < work_of(columns, rows)
 }

@@ -6,10 +6,10 @@ use Rattle.std.specs.List.{sum}
 use Rattle.std.proofs.Math.Nat.{mul-le-mul_left, add-mul}
 use Rattle.std.proofs.lemmas.Int.{ints, unsigned_abs-mul}
 use Rattle.std.proofs.lemmas.List.Sums.{sum_by-drop_more, sum_by-take-drop}
-use Rattle.label_network.specs.LaterSums.{total_score, least_sum, greatest_sum}
+use Rattle.later_scores.specs.LaterSums.{total_score, least_sum, greatest_sum}
 use Rattle.weights.specs.Numbers.{absolute_sum}
+use Rattle.later_scores.proofs.Absolute.{least-size, greatest-size, total-size, size-plus}
 use Rattle.label_network.specs.LinearSteps.{steps_by, added_by, reach, whole_reach, HasTails}
-use Rattle.label_network.proofs.Absolute.{least-size, greatest-size, total-size, size-plus}
 
 -- what is added of the rows before row i, and what remains of them from row i - 1 on
 pub record IsAdding (part : ℕ → List ℤ → ℤ) (us : List ℤ) (ms : List ℕ) (later : List ℤ)

@@ -6,7 +6,7 @@ use Rattle.std.proofs.lemmas.Bool.{leb-true}
 use Rattle.std.proofs.lemmas.List.Sums.{sum_by-cons, sum_by-take-drop}
 use Rattle.weights.specs.Grouped.{fits}
 use Rattle.weights.proofs.Sized.{first_and}
-use Rattle.label_network.specs.LaterTables.{IsTabled}
+use Rattle.later_scores.specs.LaterTables.{IsTabled}
 use Rattle.label_network.specs.LinearSteps.{HasTails}
 use Rattle.label_network.proofs.Rows.{get-within}
 

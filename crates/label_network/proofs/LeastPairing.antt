@@ -6,7 +6,7 @@ use Rattle.std.proofs.Math.IntN.{zero-*ℤ, *ℤ-zero}
 use Rattle.std.proofs.lemmas.Int.{ints}
 use Rattle.std.proofs.lemmas.List.{length-reverse, reverse-append, drop-append-le, drop-drop}
 use Rattle.std.proofs.lemmas.List.Sums.{sum_by-cons}
-use Rattle.label_network.specs.LaterSums.{total_score, subjects, least_sum, greatest_sum}
+use Rattle.later_scores.specs.LaterSums.{total_score, subjects, least_sum, greatest_sum}
 use Rattle.label_network.specs.LinearSteps.{steps_by, least_added, greatest_added}
 use Rattle.completion_bounds.specs.Pairings.{paired}
 use Rattle.label_network.proofs.Sorting.{sort_up, length-sort, total-sort, total-parts, least_is, greatest_is}

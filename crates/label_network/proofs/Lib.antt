@@ -7,16 +7,8 @@ pub mod Climbing
 pub mod Differing
 pub mod LaterChoices
 pub mod Narrowing
-pub mod Absolute
 pub mod Rearranging
-pub mod LaterArcs
-pub mod TakenScores
-pub mod Columns
-pub mod Later
-pub mod Stages
 pub mod LinearArcs
-pub mod Building
-pub mod Lookups
 pub mod Adding
 pub mod Enough
 pub mod Ascending

@@ -8,14 +8,14 @@ use Rattle.std.proofs.lemmas.Int.{ints}
 use Rattle.std.proofs.lemmas.List.Sums.{sum_by-cons}
 use Rattle.weights.specs.Grouped.{fits, minus}
 use Rattle.weights.proofs.Sized.{sum-minus, first_and}
-use Rattle.label_network.specs.LaterSums.{total_score, part_sum}
-use Rattle.label_network.specs.LaterSteps.{better_of}
-use Rattle.label_network.specs.declared.ends.End.{End}
-use Rattle.label_network.specs.declared.ends.End.TheVariants.{Least, Greatest}
+use Rattle.later_scores.specs.LaterSums.{total_score, part_sum}
+use Rattle.later_scores.specs.LaterSteps.{better_of}
+use Rattle.later_scores.specs.declared.ends.End.{End}
+use Rattle.later_scores.specs.declared.ends.End.TheVariants.{Least, Greatest}
+use Rattle.later_scores.proofs.LaterArcs.{Nearer, more-times, part-arc, part-none, total-block}
 use Rattle.label_network.specs.Linear.{row_sum}
 use Rattle.label_network.specs.LinearSteps.{steps_by, added_by, least_added, greatest_added}
 use Rattle.label_network.proofs.Climbing.{RowsClimb, Climbs}
-use Rattle.label_network.proofs.LaterArcs.{Nearer, part-arc, more-times}
 use Rattle.completion_bounds.proofs.Products.{distribute, distribute_left}
 
 -- products of three, each with one of the factors moved
@@ -87,16 +87,6 @@ steps-arc e u (w ∷ us) (m ∷ ms) (b ∷ x) c v later a f h l =
     let apart = distribute_left (pos (sum (b ∷ x)) *ℤ (w -ℤ u)) (row_steps w us x) v in
     near-both e _ _ ((pos (sum (b ∷ x)) *ℤ (w -ℤ u)) *ℤ v) ((w -ℤ u) *ℤ part_sum (better_of e) (sum ((m - b) ∷ minus ms x)) later) (row_steps w us x *ℤ v) (steps_by (part_sum (better_of e)) w us (minus ms x) later) _ here rest apart
 
-pub total-block : (c : ℕ) (v : ℤ) (later : List ℤ) → total_score (replicate c v ++ later) ≡ (pos c *ℤ v) +ℤ total_score later
-total-block zero v later = rw (zero-*ℤ v) (plain (total_score later))
-  where
-    plain : (t : ℤ) → t ≡ pos 0 +ℤ t
-    plain t = omega (arith, ints)
-total-block (suc c) v later = rw (more-times c v) (ap (λ t. v +ℤ t) (total-block c v later) ∙ grouped v (pos c *ℤ v) (total_score later))
-  where
-    grouped : (a b t : ℤ) → a +ℤ (b +ℤ t) ≡ (b +ℤ a) +ℤ t
-    grouped a b t = omega (arith, ints)
-
 -- all that the choice adds is in the first row's score and the steps
 taken-sum : (u : ℤ) (us : List ℤ) (b : ℕ) (x : List ℕ) (c : ℕ) (v : ℤ) (later : List ℤ) → length us ≡ length x → sum (b ∷ x) ≡ c → (v *ℤ row_sum (u ∷ us) (b ∷ x)) +ℤ (u *ℤ total_score later) ≡ (row_steps u us x *ℤ v) +ℤ (u *ℤ total_score (replicate c v ++ later))
 taken-sum u us b x c v later l e =
@@ -128,11 +118,6 @@ least-added = added-arc Least
 
 pub greatest-added : (us : List ℤ) (r x : List ℕ) (c : ℕ) (v : ℤ) (later : List ℤ) → RowsClimb us → length us ≡ length r → length x ≡ length r → fits x r ≡ true → sum x ≡ c → sum r ≡ c + length later → ((v *ℤ row_sum us x) +ℤ greatest_added us (minus r x) later) ≤ℤ greatest_added us r (replicate c v ++ later)
 greatest-added = added-arc Greatest
-
--- nothing is added where no scores are left
-pub part-none : (better : ℤ → ℤ → ℤ) (j : ℕ) → part_sum better j [] ≡ pos 0
-part-none better zero = refl
-part-none better (suc j) = refl
 
 steps-none : (better : ℤ → ℤ → ℤ) (u : ℤ) (us : List ℤ) (ms : List ℕ) → steps_by (part_sum better) u us ms [] ≡ pos 0
 steps-none better u [] ms = refl

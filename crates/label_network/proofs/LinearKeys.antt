@@ -10,15 +10,18 @@ use Rattle.weights.specs.declared.TheConstants.{MAX}
 use Rattle.networks.specs.declared.verdicts.Judge.{Judge}
 use Rattle.weights.proofs.ChoiceLists.{IsChoice}
 use Rattle.completion_bounds.specs.Pairings.{greatest_score}
-use Rattle.room_network.specs.Numbers.{IsNumber, IsOutcome, so_far}
+use Rattle.room_network.specs.Numbers.{IsScalar, IsOutcome, so_far}
 use Rattle.room_network.specs.declared.numbers.Operation.TheVariants.{Sum}
+use Rattle.later_scores.specs.LaterSums.{later_scores}
+use Rattle.later_scores.proofs.Absolute.{sizes-block}
+use Rattle.later_scores.proofs.Stages.{sizes-some}
+use Rattle.later_scores.proofs.Later.{later-next}
 use Rattle.label_network.specs.LabelNetwork.{over_rooms, over_sizes}
 use Rattle.label_network.specs.LabelRooms.{label_floor}
 use Rattle.room_network.specs.Meanings.{AreReached}
 use Rattle.label_network.specs.Meanings.{Meaning, IsPlace, allowed, sizes_in}
 use Rattle.label_network.specs.Meanings.{AreReached as LabelReached}
 use Rattle.label_network.specs.declared.linear.LinearMeasure.{LinearMeasure}
-use Rattle.label_network.specs.LaterSums.{later_scores}
 use Rattle.weights.specs.Numbers.{absolute_sum}
 use Rattle.label_network.specs.Linear.{row_sum, least_paired, greatest_paired, score_of, column_sum, linear_meaning, linear_numbers, greatest_sizes}
 use Rattle.label_network.specs.LinearSteps.{least_added, greatest_added, picked, order_of, ordered_scores, whole_reach, AreAddable, HasTails, ArePlaces, IsLinearMeasure}
@@ -29,9 +32,6 @@ use Rattle.label_network.proofs.Ascending.{ascending, order-inside}
 use Rattle.label_network.proofs.Rearranging.{picked-fits}
 use Rattle.label_network.proofs.Enough.{tails-enough}
 use Rattle.label_network.proofs.LinearSizes.{picked-within, reach-within, row-size}
-use Rattle.label_network.proofs.Absolute.{sizes-block}
-use Rattle.label_network.proofs.Stages.{sizes-some}
-use Rattle.label_network.proofs.Later.{later-next}
 use Rattle.label_network.proofs.OverRooms.{over_number, over_place}
 use Rattle.label_network.proofs.LinearNarrows.{IsPartial, least-stepwise, greatest-stepwise, linear_measure, reached_left, reached_partial, rows-level, ordered-whole, low-small, high-small, low-rule, high-rule, choice-level, column-small}
 
@@ -177,7 +177,7 @@ module _ (m : LinearMeasure) where
       pub arc-fits : unsigned_abs (so_far p) + unsigned_abs (column_sum us scores g x) ≤ MAX
       arc-fits = omega (arith, sums-within, partial_is.small, column-small us rows scores columns judge h.linear g (sizes_in f) x before left choice)
 
-  pub linear_number : IsNumber (label_floor columns rows) (over_sizes (linear_numbers us scores columns judge))
+  pub linear_number : IsScalar (label_floor columns rows) (over_sizes (linear_numbers us scores columns judge))
   linear_number =
       over_number columns rows (linear_numbers us scores columns judge) (linear_measure us rows scores columns judge h.linear)
       (λ g f x p v. arc-fits g f p v.reached v.before x v.allowed) (λ g f p r. least-outcome g f p r) (λ g f p r. greatest-outcome g f p r)

@@ -12,19 +12,19 @@ use Rattle.weights.specs.InOrder.{in_order}
 use Rattle.weights.proofs.ChoiceLists.{IsChoice}
 use Rattle.completion_bounds.specs.Pairings.{greatest_score}
 use Rattle.room_network.specs.Numbers.{so_far}
+use Rattle.later_scores.specs.LaterSums.{later_scores, subjects}
+use Rattle.later_scores.proofs.Absolute.{size-plus, sizes-block}
+use Rattle.later_scores.proofs.Later.{later-length, later-next, later-end}
 use Rattle.label_network.specs.Meanings.{AreReached, IsMeasure}
-use Rattle.label_network.specs.LaterSums.{later_scores, subjects}
 use Rattle.weights.specs.Numbers.{absolute_sum}
 use Rattle.label_network.specs.Linear.{row_sum, least_paired, greatest_paired, score_of, column_sum, linear_meaning, greatest_sizes, IsLinear}
 use Rattle.label_network.specs.LinearSteps.{least_added, greatest_added, order_of, ordered, ordered_scores}
-use Rattle.label_network.proofs.Absolute.{size-plus, sizes-block}
 use Rattle.label_network.proofs.Ascending.{ascending, each-once}
 use Rattle.label_network.proofs.Rearranging.{picked-minus, picked-fits, picked-sum, picked-row, picked-length, picked_scores-length}
 use Rattle.label_network.proofs.LinearArcs.{least-added, greatest-added}
 use Rattle.label_network.proofs.Rows.{fits-long}
-use Rattle.label_network.proofs.Later.{later-length, later-next, later-end, sizes-next}
 use Rattle.label_network.proofs.LinearSizes.{row-size, picked-within, least-added-size, greatest-added-size}
-use Rattle.label_network.proofs.Narrowing.{IsLeft, IsNarrowing, left-next, reached-left, reached-kept, measured}
+use Rattle.label_network.proofs.Narrowing.{IsLeft, IsNarrowing, left-next, reached-left, reached-kept, measured, sizes-next}
 use Rattle.label_network.proofs.PairedUnits.{least_paired_is, greatest_paired_is, paired-none}
 
 -- between which sums a key ends

@@ -7,10 +7,10 @@ use Rattle.std.proofs.lemmas.List.Sorted.{IsPermutation-sym, IsPermutation-trans
 use Rattle.completion_bounds.specs.Pairings.{IsLeastPairing, IsGreatestPairing}
 use Rattle.completion_bounds.proofs.Rearranged.{Ascends, all_imp, is_least, is_greatest}
 use Rattle.weights.proofs.OneOrder.{in_order-permutes}
-use Rattle.label_network.specs.LaterSums.{subjects}
+use Rattle.later_scores.specs.LaterSums.{subjects}
+use Rattle.later_scores.proofs.Later.{length-subjects}
 use Rattle.label_network.specs.Linear.{least_paired, greatest_paired}
 use Rattle.label_network.proofs.Climbing.{Climbs, RowsClimb}
-use Rattle.label_network.proofs.Later.{length-subjects}
 use Rattle.label_network.proofs.Sorting.{sort_up, sort-climbs, length-sort}
 
 -- lists that climb ascend

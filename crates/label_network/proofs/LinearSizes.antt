@@ -10,11 +10,11 @@ use Rattle.completion_bounds.specs.Pairings.{paired, greatest_score}
 use Rattle.weights.specs.Numbers.{absolute_sum}
 use Rattle.weights.proofs.OneOrder.{sum_by-in_order}
 use Rattle.weights.proofs.Sums.{absolute_sum-by}
-use Rattle.label_network.specs.LaterSums.{subjects}
+use Rattle.later_scores.specs.LaterSums.{subjects}
+use Rattle.later_scores.proofs.Absolute.{size-plus}
 use Rattle.label_network.specs.Linear.{row_sum, score_of}
 use Rattle.label_network.proofs.Climbing.{Climbs, RowsClimb}
 use Rattle.label_network.specs.LinearSteps.{picked_scores, least_added, greatest_added, reach, whole_reach}
-use Rattle.label_network.proofs.Absolute.{size-plus}
 use Rattle.label_network.proofs.Sorting.{sort_up}
 use Rattle.label_network.proofs.LeastPairing.{least_pairing_is, greatest_pairing_is}
 

@@ -14,9 +14,9 @@ use Rattle.weights.specs.Numbers.{absolute_sum}
 use Rattle.completion_bounds.specs.Pairings.{greatest_score}
 use Rattle.completion_bounds.proofs.Products.{distribute}
 use Rattle.room_network.specs.Numbers.{so_far}
-use Rattle.label_network.specs.LaterSums.{subjects, total_score}
+use Rattle.later_scores.specs.LaterSums.{subjects, total_score}
+use Rattle.later_scores.proofs.Absolute.{size-plus, sizes-block}
 use Rattle.label_network.specs.Linear.{column_sum, linear_meaning, linear_statistic, row_sum, score_of, table_sum}
-use Rattle.label_network.proofs.Absolute.{size-plus, sizes-block}
 use Rattle.label_network.proofs.Endings.{labelling_value, partial_after}
 use Rattle.label_network.proofs.LinearSizes.{score-within}
 

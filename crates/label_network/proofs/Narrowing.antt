@@ -8,6 +8,8 @@ use Rattle.std.proofs.lemmas.List.Sums.{sum_by-drop_more}
 use Rattle.weights.specs.Grouped.{choices, fits, minus}
 use Rattle.weights.proofs.ChoiceLists.{IsChoice, choices-each}
 use Rattle.weights.proofs.Sized.{sum-minus, first_and}
+use Rattle.later_scores.specs.LaterSums.{later_scores}
+use Rattle.later_scores.proofs.Later.{later-length}
 use Rattle.label_network.specs.Meanings.{Meaning, AreReached, IsMeasure}
 
 pub chosen : (c : ℕ) (r x : List ℕ) → Contains (choices c r) x → IsChoice c r x
@@ -72,3 +74,8 @@ module _ (m : Meaning) (level : sum m.columns ≡ sum m.rows) where
       low_ends = λ r p a. i.low_end r p (reached-left (length m.columns) r p a) (reached-kept (length m.columns) r p a);
       high_ends = λ r p a. i.high_end r p (reached-left (length m.columns) r p a) (reached-kept (length m.columns) r p a);
     }
+
+-- what remains is what the column takes and the later subjects
+pub sizes-next : (m : Meaning) (scores : List ℤ) (g : ℕ) (r : List ℕ) → length scores ≡ length m.columns → g < length m.columns → IsLeft m g r → sum r ≡ slice_index m.columns g + length (later_scores scores m.columns (g + 1))
+sizes-next m scores g r e h l =
+    omega (arith, later-length scores m.columns (g + 1) e, (sum_by-drop_more (λ v. v) m.columns g 0 h), l.whole)

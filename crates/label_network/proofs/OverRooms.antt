@@ -5,7 +5,7 @@ use Rattle.std.specs.List.{Contains}
 use Rattle.weights.specs.Grouped.{minus}
 use Rattle.room_network.specs.Meanings.{Meaning as RoomMeaning}
 use Rattle.room_network.specs.Meanings.{AreReached, IsMeasure, IsMove, partial_after, way_value}
-use Rattle.room_network.specs.Numbers.{Fits, IsNumber, IsOutcome, Numbers, so_far}
+use Rattle.room_network.specs.Numbers.{Fits, IsScalar, IsOutcome, Numbers, so_far}
 use Rattle.label_network.proofs.Endings.{table_value}
 use Rattle.label_network.proofs.Endings.{partial_after as label_after}
 use Rattle.label_network.specs.LabelNetwork.{over_rooms, over_sizes}
@@ -66,7 +66,7 @@ module _ (columns rows : List ℕ) (n : Numbers (List ℕ)) where
       → ((g : ℕ) (room : List ℤ) (c : List ℕ) (p : List ℤ) → IsMove over g room c p → Fits n.operation (so_far p) (n.step g (sizes_in room) c))
       → ((g : ℕ) (room p : List ℤ) → AreReached over g room p → IsOutcome n.operation n.judge (so_far p) (n.least g (sizes_in room)))
       → ((g : ℕ) (room p : List ℤ) → AreReached over g room p → IsOutcome n.operation n.judge (so_far p) (n.greatest g (sizes_in room)))
-      → IsNumber (label_floor columns rows) (over_sizes n)
+      → IsScalar (label_floor columns rows) (over_sizes n)
   over_number narrows steps lows highs = record {
     narrows = over_measure (number_over_columns columns rows n) narrows;
     steps = steps;

@@ -8,7 +8,7 @@ use Rattle.weights.specs.InOrder.{in_order}
 use Rattle.weights.proofs.OneOrder.{IsInOrder, int-order, order-once, ordered-in_order, sum_by-in_order}
 use Rattle.completion_bounds.specs.Pairings.{paired}
 use Rattle.completion_bounds.proofs.Rearranged.{Ascends, all_imp}
-use Rattle.label_network.specs.LaterSums.{subjects}
+use Rattle.later_scores.specs.LaterSums.{subjects}
 use Rattle.label_network.specs.Linear.{least_paired, greatest_paired}
 use Rattle.label_network.specs.LinearSteps.{least_added, greatest_added, order_of, ordered, ordered_scores}
 use Rattle.label_network.proofs.Ascending.{ascending, each-once}

@@ -3,9 +3,6 @@ pub mod ChoiceOrder
 pub mod LabelRooms
 pub mod LabelNetwork
 pub mod Measures
-pub mod LaterSums
-pub mod LaterTables
 pub mod Linear
 pub mod LabelSteps
-pub mod LaterSteps
 pub mod LinearSteps

@@ -1,12 +1,12 @@
 // What the remaining sizes of rows can add, at least and at most.
 ghost use Rattle.std.specs.Prelude.{◌≡◌, ◌+◌, ◌*◌, ◌^◌, ◌<◌, ◌≤◌, length, get_or, unsigned_abs, ◌+ℤ◌, ◌-ℤ◌, ◌*ℤ◌};
 ghost use Rattle.std.specs.List.{sum};
+ghost use Rattle.later_scores.specs.LaterSums.{later_scores};
 ghost use Rattle.label_network.specs.Meanings.{sizes_in};
-ghost use Rattle.label_network.specs.LaterSums.{later_scores};
 ghost use Rattle.weights.specs.Numbers.{absolute_sum};
 ghost use Rattle.label_network.specs.LinearSteps.{picked, least_added, greatest_added, AreAddable, ArePlaces};
 
-use crate::later_scores::LaterScores;
+use later_scores::LaterScores;
 use networks::Interval;
 
 // Adds what one row's score more than the row before gives on a sum of later scores.
@@ -49,44 +49,42 @@ fn add_steps(sums: Interval, before: i128, here: i128, later: Interval) -> Inter
     }
 }
 
-impl LaterScores {
-    // The least and the greatest sum of products that rows with these scores and remaining sizes
-    // can add.
-    #[inline(always)]
-    pub(crate) fn added(
-        &self,
-        rows: &[i128],
-        order: &[usize],
-        stage: usize,
-        remaining: &[i128],
-    ) -> Interval
-        requires stage { stage ≤ length self.now.columns.items }
-        requires addable { let later =
-            later_scores self.now.scores.items self.now.columns.items stage in
-            AreAddable rows.now order.now self.now.width remaining.now later }
-        ensures low { let later =
-            later_scores self.now.scores.items self.now.columns.items stage in
-            result.low ≡ least_added rows.now (picked order.now (sizes_in remaining.now)) later }
-        ensures high { let later =
-            later_scores self.now.scores.items self.now.columns.items stage in
-            result.high
-            ≡ greatest_added rows.now (picked order.now (sizes_in remaining.now)) later }
-    {
-        if rows.len() == 0 {
-            return Interval { low: 0, high: 0 };
-        }
-        let mut left = self.count(stage);
-        let total = self.total(stage);
-        let first = add_step(0, 0, rows[0], total);
-        let mut sums = Interval {
-            low: first,
-            high: first,
-        };
-        for i in 1..rows.len() {
-            left -= size_at(order, remaining, i - 1);
-            let ends = self.ends(stage, left);
-            sums = add_steps(sums, rows[i - 1], rows[i], ends);
-        }
-        sums
+/// The least and the greatest sum of products that rows with these scores and remaining sizes can
+/// add, with the later scores of a stage.
+#[inline(always)]
+pub(crate) fn added(
+    tables: &LaterScores,
+    rows: &[i128],
+    order: &[usize],
+    stage: usize,
+    remaining: &[i128],
+) -> Interval
+    requires stage { stage ≤ length tables.now.columns.items }
+    requires addable { let later =
+        later_scores tables.now.scores.items tables.now.columns.items stage in
+        AreAddable rows.now order.now tables.now.width remaining.now later }
+    ensures low { let later =
+        later_scores tables.now.scores.items tables.now.columns.items stage in
+        result.low ≡ least_added rows.now (picked order.now (sizes_in remaining.now)) later }
+    ensures high { let later =
+        later_scores tables.now.scores.items tables.now.columns.items stage in
+        result.high
+        ≡ greatest_added rows.now (picked order.now (sizes_in remaining.now)) later }
+{
+    if rows.len() == 0 {
+        return Interval { low: 0, high: 0 };
     }
+    let mut left = tables.count(stage);
+    let total = tables.total(stage);
+    let first = add_step(0, 0, rows[0], total);
+    let mut sums = Interval {
+        low: first,
+        high: first,
+    };
+    for i in 1..rows.len() {
+        left -= size_at(order, remaining, i - 1);
+        let ends = tables.ends(stage, left);
+        sums = add_steps(sums, rows[i - 1], rows[i], ends);
+    }
+    sums
 }

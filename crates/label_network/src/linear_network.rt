@@ -9,12 +9,12 @@ ghost use Rattle.label_network.specs.Linear.{IsLinear, linear_meaning};
 use crate::linear::LinearMeasure;
 use crate::network::{LabelNetwork, label_stages};
 use networks::{Judge, Roomed, Stages, Verdict};
-use room_network::Numbered;
+use room_network::FromScalar;
 use std::alloc::Global;
 use weights::{NoMemory, Tail};
 
 // What stands in it.
-type Labels = LabelNetwork<Numbered<LinearMeasure>>;
+type Labels = LabelNetwork<FromScalar<LinearMeasure>>;
 
 /// The network of a sum over the cells of a table of row score times column score times count.
 #[derive(Drop)]
@@ -40,7 +40,7 @@ pub fn linear_stages(
         IfOk result (λ s. ⟦<LinearStages as Stages>⟧.network s ≡ label_network m) }
 {
     let measure = LinearMeasure::new(alloc, row_scores, rows, column_scores, columns, judge)?;
-    let labels = label_stages(alloc, columns, rows, Numbered::new(measure))?;
+    let labels = label_stages(alloc, columns, rows, FromScalar::new(measure))?;
     Ok(LinearStages { labels })
 }
 

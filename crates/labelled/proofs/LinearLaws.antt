@@ -15,11 +15,11 @@ use Rattle.weights.proofs.Members.{labelling_from}
 use Rattle.completion_bounds.specs.Pairings.{greatest_score}
 use Rattle.networks.specs.declared.verdicts.Judge.{Judge}
 use Rattle.networks.specs.Judged.{judge_of}
+use Rattle.later_scores.specs.LaterSums.{subjects, total_score}
+use Rattle.later_scores.proofs.Absolute.{sizes-block, total-size}
+use Rattle.later_scores.proofs.Later.{length-subjects}
 use Rattle.label_network.specs.LabelNetwork.{label_network}
-use Rattle.label_network.specs.LaterSums.{subjects, total_score}
 use Rattle.label_network.specs.Linear.{IsLinear, linear_statistic, row_sum}
-use Rattle.label_network.proofs.Absolute.{sizes-block, total-size}
-use Rattle.label_network.proofs.Later.{length-subjects}
 use Rattle.label_network.proofs.LinearNarrows.{linear_measure}
 use Rattle.label_network.proofs.LinearSizes.{row-size}
 use Rattle.label_network.proofs.LinearValues.{statistic-size, statistic-value, subjects-total}

@@ -6,8 +6,8 @@ use Rattle.std.proofs.Math.Nat.{mul-le-mul_right, mul-add}
 use Rattle.std.proofs.lemmas.Int.{ints, unsigned_abs-mul}
 use Rattle.weights.specs.Numbers.{absolute_sum}
 use Rattle.completion_bounds.specs.Pairings.{greatest_score}
+use Rattle.later_scores.proofs.Absolute.{size-plus}
 use Rattle.label_network.specs.Linear.{linear_statistic, score_of}
-use Rattle.label_network.proofs.Absolute.{size-plus}
 use Rattle.label_network.proofs.LinearSizes.{score-within}
 
 -- what the subjects before place i sum to

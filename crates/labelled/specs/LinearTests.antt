@@ -11,8 +11,8 @@ use Rattle.weights.specs.declared.wide.PrepareFault.{PrepareFault}
 use Rattle.completion_bounds.specs.Pairings.{greatest_score}
 use Rattle.networks.specs.Judged.{judge_of}
 use Rattle.networks.specs.Network.{Network}
+use Rattle.later_scores.specs.LaterSums.{subjects, total_score}
 use Rattle.label_network.specs.LabelNetwork.{label_network}
-use Rattle.label_network.specs.LaterSums.{subjects, total_score}
 use Rattle.label_network.specs.Linear.{linear_meaning, linear_statistic, row_sum}
 use Rattle.label_network.specs.Meanings.{Meaning}
 use Rattle.labelled.specs.LabelTests.{IsRefusedBy, LabelTest, label_test}

@@ -34,7 +34,7 @@ impl<S: LabelStatistic> UnweightedTest for ByLabels<S> {
 
     ghost network = { λ l. S.network l };
 
-    ghost runs = { λ l. S.runs l };
+    ghost running = { λ l. S.running l };
 
     fn sound(&self) {
         self.statistic.sound();

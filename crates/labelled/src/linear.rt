@@ -144,7 +144,7 @@ impl LabelStatistic for LinearSum {
 
     ghost network = { λ s. label_network (linear_label_meaning s) };
 
-    ghost runs = { λ s. label_network (linear_label_meaning s) };
+    ghost running = { λ s. label_network (linear_label_meaning s) };
 
     fn sound(&self) {
         let _scored = self.scored();

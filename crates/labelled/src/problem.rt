@@ -80,7 +80,7 @@ impl<T: UnweightedTest> Prepared for Unweighted<T> {
 
     ghost network = { λ u tail. T.network u };
 
-    ghost runs = { λ u tail. T.runs u };
+    ghost running = { λ u tail. T.running u };
 
     fn has_tail(&self, tail: Tail) -> bool {
         self.test.sound();

@@ -26,12 +26,12 @@ pub trait LabelStatistic {
     ghost network: { Self → Network };
 
     /// The network that runs: the written one, or one whose keys stand for those of that network.
-    ghost runs: { Self → Network };
+    ghost running: { Self → Network };
 
     /// What is known of it: no number of the test passes a limit, and the network follows it. It
     /// does nothing.
     fn sound(&self)
-        ensures { IsSound (says self.now) (runs self.now) (network self.now) };
+        ensures { IsSound (says self.now) (running self.now) (network self.now) };
 
     /// How many subjects get each label.
     fn sizes(&self) -> &[u64]
@@ -49,7 +49,7 @@ pub trait LabelStatistic {
     /// The network that runs, with verdicts by the rules of the test.
     fn stages_of(&self, alloc: Global, judge: Judge) -> Result<Self::Built, NoMemory>
         requires { judge ≡ judge_of (label_test (says self.now)) }
-        ensures { let n = runs self.now in
+        ensures { let n = running self.now in
             IfOk result (λ built. Self.Built.Stages.network built ≡ n) };
 
     /// A network that ends at the statistic too, where no key is to be counted.

@@ -28,12 +28,12 @@ pub trait UnweightedTest {
     ghost network: { Self → Network };
 
     /// The network that runs: the written one, or one whose keys stand for those of that network.
-    ghost runs: { Self → Network };
+    ghost running: { Self → Network };
 
     /// What is known of it: no number of the test passes a limit, and the network follows it. It
     /// does nothing.
     fn sound(&self)
-        ensures { CanBeAnswered (test self.now) (runs self.now) (network self.now) };
+        ensures { CanBeAnswered (test self.now) (running self.now) (network self.now) };
 
     /// The first rearrangement.
     fn first(&self, alloc: Global) -> Result<Bytes, NoMemory>
@@ -57,7 +57,7 @@ pub trait UnweightedTest {
     /// The network that runs, with verdicts by the rules of the test.
     fn stages_of(&self, alloc: Global, judge: Judge) -> Result<Self::Built, NoMemory>
         requires { judge ≡ judge_of (test self.now) }
-        ensures { let n = runs self.now in
+        ensures { let n = running self.now in
             IfOk result (λ built. Self.Built.Stages.network built ≡ n) };
 
     /// A network that ends at the statistic too, where no key is to be counted.

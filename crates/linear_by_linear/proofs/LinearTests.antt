@@ -15,8 +15,8 @@ use Rattle.weights.proofs.Members.{Contains-labellings}
 use Rattle.completion_bounds.specs.Pairings.{greatest_score}
 use Rattle.networks.specs.declared.verdicts.Judge.{Judge}
 use Rattle.networks.specs.Judged.{judge_of}
+use Rattle.later_scores.specs.LaterSums.{subjects}
 use Rattle.label_network.specs.LabelNetwork.{label_network}
-use Rattle.label_network.specs.LaterSums.{subjects}
 use Rattle.label_network.specs.Linear.{IsLinear, greatest_sizes, row_sum, table_sum}
 use Rattle.label_network.proofs.LinearNarrows.{linear_measure}
 use Rattle.label_network.proofs.LinearSizes.{row-size}

@@ -7,10 +7,10 @@ use Rattle.weights.specs.declared.tails.Tail.{Tail}
 use Rattle.networks.specs.declared.verdicts.Judge.{Judge}
 use Rattle.networks.specs.Judged.{judge_of}
 use Rattle.networks.specs.Follows.{Follows}
+use Rattle.later_scores.specs.LaterSums.{subjects}
+use Rattle.later_scores.proofs.Later.{length-subjects}
 use Rattle.label_network.specs.LabelNetwork.{label_network}
-use Rattle.label_network.specs.LaterSums.{subjects}
 use Rattle.label_network.specs.Linear.{IsLinear, linear_statistic}
-use Rattle.label_network.proofs.Later.{length-subjects}
 use Rattle.label_network.proofs.LinearNarrows.{linear_measure}
 use Rattle.label_network.proofs.LinearValues.{statistic-value}
 use Rattle.labelled.proofs.LabelLaws.{label-follows}

@@ -5,7 +5,7 @@ use Rattle.std.specs.Prelude.{ℕ, ℤ, ◌*◌, ◌*ℤ◌, List}
 use Rattle.std.specs.List.{sum}
 use Rattle.weights.specs.Conditional.{ConditionalTest, every_tail}
 use Rattle.completion_bounds.specs.Pairings.{greatest_score}
-use Rattle.label_network.specs.LaterSums.{subjects}
+use Rattle.later_scores.specs.LaterSums.{subjects}
 use Rattle.label_network.specs.Linear.{linear_statistic, row_sum}
 use Rattle.labelled.specs.LabelTests.{LabelTest, label_test}
 use Rattle.table_reader.specs.TableLayout.{TableData}

@@ -4,8 +4,8 @@ use Rattle.std.specs.Prelude.{ℤ, List, length, replicate}
 use Rattle.weights.specs.declared.tails.Tail.{Tail}
 use Rattle.networks.specs.Judged.{judge_of}
 use Rattle.networks.specs.Network.{Network}
+use Rattle.later_scores.specs.LaterSums.{subjects}
 use Rattle.label_network.specs.LabelNetwork.{label_network}
-use Rattle.label_network.specs.LaterSums.{subjects}
 use Rattle.label_network.specs.Linear.{linear_meaning}
 use Rattle.label_network.specs.Meanings.{Meaning}
 use Rattle.table_sums.specs.Tables.{column_sums, row_sums}

@@ -44,7 +44,7 @@ impl LabelStatistic for ProductSum {
 
     ghost network = { λ scored. label_network (product_meaning scored) };
 
-    ghost runs = { λ scored. label_network (product_meaning scored) };
+    ghost running = { λ scored. label_network (product_meaning scored) };
 
     fn sound(&self) {
         let _made = self.made();

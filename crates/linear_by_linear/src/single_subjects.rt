@@ -1,6 +1,6 @@
 // The columns of a table as columns of one subject each.
 ghost use Rattle.std.specs.Prelude.{◌≡◌, ◌++◌, length, replicate, IfOk, OnOk};
-ghost use Rattle.label_network.specs.LaterSums.{subjects};
+ghost use Rattle.later_scores.specs.LaterSums.{subjects};
 
 use std::alloc::Global;
 use weights::{Ints, NoMemory, Nums};

@@ -1,4 +1,4 @@
--- A network with its keys written in another way has the same laws, and ends at the same values with the same weights, where what is read of a written key comes of it by turns.
+-- A network with its keys written in another way has the same laws, and ends at the same values with the same weights, where what is read of a written key is in its orbit.
 use Rattle.std.proofs.Common.{◌≡◌, ℕ, zero, suc, ◌+◌, ◌*◌, ◌<◌, ◌≤◌, List, [], take, length, inl, inr, refl, sym, ◌∙◌, ap, subst, arith}
 use Rattle.std.specs.Prelude.{ℤ, Bool, ◌≤ℤ◌}
 use Rattle.std.specs.List.{Contains}
@@ -15,24 +15,24 @@ use Rattle.networks.specs.Laws.{IsLawful}
 use Rattle.networks.specs.Lumped.{Lumped}
 use Rattle.networks.specs.Mapped.{mapped}
 use Rattle.networks.specs.Rooms.{AreRoommates, IsRoomed}
-use Rattle.networks.specs.Turned.{IsTurned}
+use Rattle.networks.specs.Symmetries.{IsSymmetry}
 use Rattle.networks.proofs.Judging.{intervals-inside, intervals-outside, intervals-decided}
 use Rattle.networks.proofs.Lumping.{lumped-total, lumped-values, over_allowed}
 use Rattle.networks.proofs.Steps.{reached-next}
 
--- one key comes of another by turns
-pub data Turns (turned : List ℤ → List ℤ → Type 0) (k : List ℤ) : List ℤ → Type 0 where
-  unturned : (j : List ℤ) → j ≡ k → Turns turned k j
-  turned_on : (i j : List ℤ) → Turns turned k i → turned i j → Turns turned k j
+-- the keys that moves make of one
+pub data InOrbit (moved : List ℤ → List ℤ → Type 0) (k : List ℤ) : List ℤ → Type 0 where
+  unmoved : (j : List ℤ) → j ≡ k → InOrbit moved k j
+  moved_on : (i j : List ℤ) → InOrbit moved k i → moved i j → InOrbit moved k j
 
-turned-first : {turned : List ℤ → List ℤ → Type 0} (k i j : List ℤ) → turned k i → Turns turned i j → Turns turned k j
-turned-first {turned} k i _ u (unturned j e) = turned_on k j (unturned k refl) (subst (λ z. turned k z) (sym e) u)
-turned-first {turned} k i _ u (turned_on x j t v) = turned_on x j (turned-first k i x u t) v
+moved-first : {moved : List ℤ → List ℤ → Type 0} (k i j : List ℤ) → moved k i → InOrbit moved i j → InOrbit moved k j
+moved-first {moved} k i _ u (unmoved j e) = moved_on k j (unmoved k refl) (subst (λ z. moved k z) (sym e) u)
+moved-first {moved} k i _ u (moved_on x j t v) = moved_on x j (moved-first k i x u t) v
 
--- what is read of a reached key as it is written comes of it by turns
-pub record IsReadByTurns (n : Network) (turned : List ℤ → List ℤ → Type 0) (write read : List ℤ → List ℤ) : Type 0 where
-  pub turns : IsTurned n turned
-  pub reads : (g : ℕ) (k : List ℤ) → IsReached n g k → Turns turned k (read (write k))
+-- what is read of a reached key as it is written is in its orbit
+pub record IsReadInOrbit (n : Network) (moved : List ℤ → List ℤ → Type 0) (write read : List ℤ → List ℤ) : Type 0 where
+  pub symmetry : IsSymmetry n moved
+  pub reads : (g : ℕ) (k : List ℤ) → IsReached n g k → InOrbit moved k (read (write k))
 
 within : (n : Network) (g : ℕ) (k : List ℤ) → IsReached n g k → g ≤ n.count
 within n zero k r = omega arith
@@ -49,19 +49,19 @@ before-last {n} l g k c r o = elim (cases_lt g n.count) [
     none : Contains [] c → ⊥
     none (i, below, is) = omega (arith, below)
 
-module _ {n : Network} {turned : List ℤ → List ℤ → Type 0} (s : IsTurned n turned) where
-  turns-stay : (g : ℕ) (k j : List ℤ) → IsReached n g k → Turns turned k j → IsReached n g j
-  turns-stay g k _ r (unturned j e) = subst (IsReached n g) (sym e) r
-  turns-stay g k _ r (turned_on i j t u) = s.stays g i j (turns-stay g k i r t) u
+module _ {n : Network} {moved : List ℤ → List ℤ → Type 0} (s : IsSymmetry n moved) where
+  orbit-stays : (g : ℕ) (k j : List ℤ) → IsReached n g k → InOrbit moved k j → IsReached n g j
+  orbit-stays g k _ r (unmoved j e) = subst (IsReached n g) (sym e) r
+  orbit-stays g k _ r (moved_on i j t u) = s.stays g i j (orbit-stays g k i r t) u
 
-  -- what no turn changes of reached keys, turns do not change
-  turns-keep : {X : Type 0} (f : List ℤ → X) (g : ℕ) → ((k j : List ℤ) → IsReached n g k → turned k j → f j ≡ f k) → (k j : List ℤ) → IsReached n g k → Turns turned k j → f j ≡ f k
-  turns-keep f g e k _ r (unturned j is) = ap f is
-  turns-keep f g e k _ r (turned_on i j t u) = e i j (turns-stay g k i r t) u ∙ turns-keep f g e k i r t
+  -- what no exchange changes of reached keys, symmetry do not change
+  orbit-keeps : {X : Type 0} (f : List ℤ → X) (g : ℕ) → ((k j : List ℤ) → IsReached n g k → moved k j → f j ≡ f k) → (k j : List ℤ) → IsReached n g k → InOrbit moved k j → f j ≡ f k
+  orbit-keeps f g e k _ r (unmoved j is) = ap f is
+  orbit-keeps f g e k _ r (moved_on i j t u) = e i j (orbit-stays g k i r t) u ∙ orbit-keeps f g e k i r t
 
-module _ {n : Network} {turned : List ℤ → List ℤ → Type 0} {write read : List ℤ → List ℤ} (m : IsReadByTurns n turned write read) where
+module _ {n : Network} {moved : List ℤ → List ℤ → Type 0} {write read : List ℤ → List ℤ} (m : IsReadInOrbit n moved write read) where
   pub read-back : (g : ℕ) (k : List ℤ) → IsReached n g k → IsReached n g (read (write k))
-  read-back g k r = turns-stay m.turns g k (read (write k)) r (m.reads g k r)
+  read-back g k r = orbit-stays m.symmetry g k (read (write k)) r (m.reads g k r)
 
   module _ (width : ℕ) where
     abbrev q : Network
@@ -78,39 +78,39 @@ module _ {n : Network} {turned : List ℤ → List ℤ → Type 0} {write read :
     written-of zero j e = (n.first, refl, e)
     written-of (suc g) j (i, c, r, before, o, e) = (n.next g (read i) c, (read i, c, mapped-reached g i r, before, o, refl), e)
 
-    -- so each key goes on as those do that are read as turns of it
+    -- so each key goes on as those do that are read as symmetry of it
     abbrev alike : ℕ → List ℤ → List ℤ → Type 0
-    alike g k j = IsReached n g k × Turns turned k (read j)
+    alike g k j = IsReached n g k × InOrbit moved k (read j)
 
-    same-turned : (f h : List ℤ → ℕ) (g : ℕ) → ((k j : List ℤ) → alike g k j → f k ≡ h j) → (k j : List ℤ) → IsReached n g k → turned k j → f j ≡ f k
-    same-turned f h g same k j r u =
-        let there : IsReached n g j = m.turns.stays g k j r u in
+    same-moved : (f h : List ℤ → ℕ) (g : ℕ) → ((k j : List ℤ) → alike g k j → f k ≡ h j) → (k j : List ℤ) → IsReached n g k → moved k j → f j ≡ f k
+    same-moved f h g same k j r u =
+        let there : IsReached n g j = m.symmetry.stays g k j r u in
         same j (write j) (there, m.reads g j there)
-        ∙ sym (same k (write j) (r, turned-first k j (read (write j)) u (m.reads g j there)))
+        ∙ sym (same k (write j) (r, moved-first k j (read (write j)) u (m.reads g j there)))
 
     mapped-lumped : Lumped n q alike
     mapped-lumped = record {
       count = refl;
       first = (refl, m.reads 0 n.first refl);
       arcs = λ f h g k j before a same.
-          sym (turns-keep m.turns (over_arcs n f g) g (λ x y r u. m.turns.arcs f g x y (same-turned f h (g + 1) same) r u before) k (read j) a.0 a.1)
+          sym (orbit-keeps m.symmetry (over_arcs n f g) g (λ x y r u. m.symmetry.arcs f g x y (same-moved f h (g + 1) same) r u before) k (read j) a.0 a.1)
           ∙ over_allowed (n.choices g (read j)) (λ c. n.weight g (read j) c * f (n.next g (read j) c)) (λ c. n.weight g (read j) c * h (write (n.next g (read j) c))) (λ c o.
           let next : List ℤ = n.next g (read j) c in
-          let there : IsReached n (g + 1) next = reached-next n g (read j) c (turns-stay m.turns g k (read j) a.0 a.1) before o in
+          let there : IsReached n (g + 1) next = reached-next n g (read j) c (orbit-stays m.symmetry g k (read j) a.0 a.1) before o in
           ap (λ v. n.weight g (read j) c * v) (same next (write next) (there, m.reads (g + 1) next there)));
     }
 
     -- as much weight ends at values that pass, and the completions of a key weigh as much
     pub mapped-values : (p : ℤ → Bool) → value_weights q p ≡ value_weights n p
-    mapped-values p = sym (lumped-values mapped-lumped (λ k j a. sym (turns-keep m.turns n.value n.count m.turns.ends k (read j) a.0 a.1)) p)
+    mapped-values p = sym (lumped-values mapped-lumped (λ k j a. sym (orbit-keeps m.symmetry n.value n.count m.symmetry.ends k (read j) a.0 a.1)) p)
 
     pub mapped-total : (g : ℕ) (j : List ℤ) → IsReached n g (read j) → total_weight q g j ≡ total_weight n g (read j)
-    mapped-total g j r = sym (lumped-total mapped-lumped g (read j) j (within n g (read j) r) (r, unturned (read j) refl))
+    mapped-total g j r = sym (lumped-total mapped-lumped g (read j) j (within n g (read j) r) (r, unmoved (read j) refl))
 
-    -- where no turn changes the interval of a key
-    module _ (judge : Judge) (h : HasIntervals n judge) (low : (g : ℕ) (k j : List ℤ) → IsReached n g k → turned k j → h.low g j ≡ h.low g k) (high : (g : ℕ) (k j : List ℤ) → IsReached n g k → turned k j → h.high g j ≡ h.high g k) where
-      even : (f : List ℤ → ℤ) (g : ℕ) → ((k j : List ℤ) → IsReached n g k → turned k j → f j ≡ f k) → (k : List ℤ) → IsReached n g k → f k ≡ f (read (write k))
-      even f g e k r = sym (turns-keep m.turns f g e k (read (write k)) r (m.reads g k r))
+    -- where no exchange changes the interval of a key
+    module _ (judge : Judge) (h : HasIntervals n judge) (low : (g : ℕ) (k j : List ℤ) → IsReached n g k → moved k j → h.low g j ≡ h.low g k) (high : (g : ℕ) (k j : List ℤ) → IsReached n g k → moved k j → h.high g j ≡ h.high g k) where
+      even : (f : List ℤ → ℤ) (g : ℕ) → ((k j : List ℤ) → IsReached n g k → moved k j → f j ≡ f k) → (k : List ℤ) → IsReached n g k → f k ≡ f (read (write k))
+      even f g e k r = sym (orbit-keeps m.symmetry f g e k (read (write k)) r (m.reads g k r))
 
       mapped-intervals : HasIntervals q judge
       mapped-intervals = record {
@@ -164,16 +164,16 @@ module _ {n : Network} {turned : List ℤ → List ℤ → Type 0} {write read :
         mates : (g : ℕ) (j k : List ℤ) → AreRoommates q w g j k → AreRoommates n w g (read j) (read k)
         mates g j k a = record { first = mapped-reached g j a.first; second = mapped-reached g k a.second; same = by_read g j k a.first a.second a.same }
 
--- what is written may be read back as it was: then no turn is needed
+-- what is written may be read back as it was: then no exchange is needed
 abbrev pub itself : List ℤ → List ℤ → Type 0
 itself k j = j ≡ k
 
-pub reads-back : (n : Network) (write read : List ℤ → List ℤ) → ((g : ℕ) (k : List ℤ) → IsReached n g k → read (write k) ≡ k) → IsReadByTurns n itself write read
+pub reads-back : (n : Network) (write read : List ℤ → List ℤ) → ((g : ℕ) (k : List ℤ) → IsReached n g k → read (write k) ≡ k) → IsReadInOrbit n itself write read
 reads-back n write read back = record {
-  turns = record {
+  symmetry = record {
     stays = λ g k j r e. subst (IsReached n g) (sym e) r;
     arcs = λ f g k j even r e before. ap (over_arcs n f g) e;
     ends = λ k j r e. ap n.value e;
   };
-  reads = λ g k r. unturned (read (write k)) (back g k r);
+  reads = λ g k r. unmoved (read (write k)) (back g k r);
 }

@@ -6,7 +6,7 @@ use Rattle.std.proofs.lemmas.List.Sums.{sum_by-cons}
 use Rattle.weights.specs.InOrder.{put_in}
 use Rattle.weights.proofs.OneOrder.{all-in_order, length-in_order}
 use Rattle.networks.specs.PartialSums.{plus, ascending, kept}
-pub use Rattle.networks.specs.Turned.{swap_at}
+pub use Rattle.networks.specs.Symmetries.{swap_at}
 
 pub length-swap : {X : Type 0} (i : ℕ) (xs : List X) → length (swap_at i xs) ≡ length xs
 length-swap i [] = refl

@@ -92,8 +92,8 @@ module _ (n q : Network) (t : Tail) (w : StandsFor n q t) where
   }
 
 -- two networks of a tail of which the one stands for the other open as many keys
-pub opened-alike : (test : ConditionalTest) (runs network : Tail → Network) → AreWritten test runs network → OpenAlike test runs network
-opened-alike test runs network written t has = elim (written t has) [
+pub opened-alike : (test : ConditionalTest) (running network : Tail → Network) → AreWritten test running network → OpenAlike test running network
+opened-alike test running network written t has = elim (written t has) [
   | inl same ↦ ap (λ (n : Network). opened_below n t n.count) same
-  | inr w ↦ sym (ap (opened_below (network t) t) (sym w.lumped.count) ∙ opened-images (network t) (runs t) t (as-images (runs t) (network t) t w) (runs t).count (omega arith))
+  | inr w ↦ sym (ap (opened_below (network t) t) (sym w.lumped.count) ∙ opened-images (network t) (running t) t (as-images (running t) (network t) t w) (running t).count (omega arith))
 ]

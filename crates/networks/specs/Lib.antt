@@ -10,7 +10,7 @@ pub mod Lines
 pub mod Judged
 pub mod Follows
 pub mod Lumped
-pub mod Turned
+pub mod Symmetries
 pub mod Mapped
 pub mod Written
 pub mod OneOf

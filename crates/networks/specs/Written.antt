@@ -31,5 +31,5 @@ RunsFor n q t = (n ≡ q) ⊎ StandsFor n q t
 
 -- of each tail that a test has, one network runs for the other
 abbrev pub AreWritten : ConditionalTest → (Tail → Network) → (Tail → Network) → Type 0
-AreWritten test runs network =
-    (t : Tail) → test.has_tail t ≡ true → RunsFor (runs t) (network t) t
+AreWritten test running network =
+    (t : Tail) → test.has_tail t ≡ true → RunsFor (running t) (network t) t

@@ -42,7 +42,7 @@ fn signed(distance: u128) -> i128
     distance as i128
 }
 
-fn opposite(distance: u128) -> i128
+fn negated(distance: u128) -> i128
     requires { distance ≤ MAX }
     ensures { result ≡ pos 0 -ℤ pos distance }
 {
@@ -62,7 +62,7 @@ fn same_side(distance: u128, a: i128) -> u128
         → int_le (a +ℤ pos d) (pos 0 -ℤ pos distance) ≡ int_le a (pos 0 -ℤ pos distance) }
 {
     let above = same_below(a, signed(distance));
-    let beneath = same_within(a, opposite(distance));
+    let beneath = same_within(a, negated(distance));
     above.min(beneath)
 }
 

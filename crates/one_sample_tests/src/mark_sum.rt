@@ -7,10 +7,10 @@ use crate::kinds::SignKind;
 use crate::mark_stages::MarkStages;
 use crate::marks::first_marks;
 use crate::scored_marks::ScoredMarks;
-use drawn_sums::sign_sums;
 use enumerate::next_signs;
 use labelled::UnweightedTest;
 use networks::{AdditiveStages, Judge, TailSums};
+use score_convolution::sign_sums;
 use scores::labelled_sum;
 use std::alloc::Global;
 use std::marker::Model;
@@ -68,7 +68,7 @@ impl UnweightedTest for MarkSum {
 
     ghost network = { mark_network };
 
-    ghost runs = { mark_network };
+    ghost running = { mark_network };
 
     fn sound(&self) {
         let _made = self.made();
@@ -95,14 +95,11 @@ impl UnweightedTest for MarkSum {
         AdditiveStages::new(alloc, MarkStages { groups, judge })
     }
 
-    // By draws of the plus marks, or, where sums seldom meet, by two halves.
+    // By draws of the plus marks.
     fn numerators(&self, alloc: Global, judge: Judge, tails: Tails) -> Result<TailSums, NoMemory> {
         self.sound();
-        if let Some(sums) = sign_sums(alloc, self.made().scores.as_slice(), &judge, tails)? {
-            return Ok(sums);
-        }
         let stages = self.stages_of(alloc, judge)?;
-        let sums = halves::tail_sums(alloc, &stages, &judge, tails)?;
-        Ok(sums)
+        let scores = self.made().scores.as_slice();
+        sign_sums(alloc, &stages, scores, &judge, tails)
     }
 }

@@ -2,7 +2,7 @@
 use Rattle.std.proofs.Common.{◌≡◌, ℕ, ◌+◌, ◌*◌, List, [], ◌∷◌, length, map, refl, ◌∙◌, ap, arith}
 use Rattle.std.specs.Prelude.{ℤ, pos, ◌+ℤ◌, nat_abs}
 use Rattle.std.specs.List.{AllByRecursion}
-use Rattle.ordered_groups.specs.GroupSums.{AreHeld, plus_each}
+use Rattle.symmetry_reduction.specs.GroupSums.{AreHeld, plus_each}
 use Rattle.packed_keys.specs.PackedKeys.{IsDigit, numeral}
 
 size-plus : (p a : ℤ) → p ≡ pos (nat_abs p) → a ≡ pos (nat_abs a) → nat_abs (p +ℤ a) ≡ nat_abs p + nat_abs a

@@ -11,11 +11,11 @@ use Rattle.room_network.specs.Plans.{Plan}
 use Rattle.room_network.specs.RoomNetworks.{room_network}
 use Rattle.room_network.proofs.RoomKeys.{KeepsWidth, back_is, front_is, is_allowed, is_key, weighed}
 use Rattle.room_network.proofs.RoomLaws.{widths_kept}
-use Rattle.ordered_groups.specs.GroupSums.{plus_each}
-use Rattle.ordered_groups.specs.OrderedGroups.{are_in_order, groups_in_order}
-use Rattle.ordered_groups.specs.OrderedNetworks.{ordered_network}
-use Rattle.ordered_groups.proofs.GroupSums.{length-plus}
-use Rattle.ordered_groups.proofs.PlaceOrder.{order-stays}
+use Rattle.symmetry_reduction.specs.GroupSums.{plus_each}
+use Rattle.symmetry_reduction.specs.OrderedGroups.{groups_in_order, stay}
+use Rattle.symmetry_reduction.specs.declared.orders.Order.{Order}
+use Rattle.symmetry_reduction.specs.ReducedNetworks.{reduced_network}
+use Rattle.symmetry_reduction.proofs.PlaceOrder.{order-is}
 use Rattle.packed_keys.specs.PackedGroups.{shift, shifting_step}
 use Rattle.packed_keys.specs.PackedKeys.{IsDigit, numeral, packed_network, unpacked}
 use Rattle.packed_keys.specs.PackedSteps.{AreDigits, IsPacked, IsPackedGroups}
@@ -33,11 +33,11 @@ shift-long : (base : ℕ) (stays : Bool) (added rest : List ℤ) → 2 ≤ lengt
 shift-long base true added rest = omega arith
 shift-long base false added rest = omega arith
 
-pub step-long : (sizes : List ℕ) (bits : ℕ) (left added step : List ℤ) → step ≡ shifting_step sizes bits left added → 2 ≤ length step
-step-long sizes bits left added step e = subst (λ z. 2 ≤ length z) (sym e) (shift-long (2 ^ bits) (are_in_order sizes left) added (left ++ added))
+pub step-long : (order : Order) (sizes : List ℕ) (bits : ℕ) (left added step : List ℤ) → step ≡ shifting_step order sizes bits left added → 2 ≤ length step
+step-long order sizes bits left added step e = subst (λ z. 2 ≤ length z) (sym e) (shift-long (2 ^ bits) (stay order sizes left) added (left ++ added))
 
-pub step-behind : (sizes : List ℕ) (bits : ℕ) (left added step : List ℤ) → step ≡ shifting_step sizes bits left added → drop 2 step ≡ left ++ added
-step-behind sizes bits left added step e = ap (drop 2) e ∙ shift-back (2 ^ bits) (are_in_order sizes left) added (left ++ added)
+pub step-behind : (order : Order) (sizes : List ℕ) (bits : ℕ) (left added step : List ℤ) → step ≡ shifting_step order sizes bits left added → drop 2 step ≡ left ++ added
+step-behind order sizes bits left added step e = ap (drop 2) e ∙ shift-back (2 ^ bits) (stay order sizes left) added (left ++ added)
 
 shift-stays : (base : ℕ) (stays : Bool) (added rest : List ℤ) → get_or (shift base stays added ++ rest) 0 (pos 0) ≡ pos 1
     → (stays ≡ true) × (get_or (shift base stays added ++ rest) 1 (pos 0) ≡ pos (numeral base (map nat_abs added)))
@@ -47,9 +47,9 @@ shift-stays base false added rest e = absurd (none (ap nat_abs e))
     none : ◌≡◌ {A = ℕ} 0 1 → ⊥
     none h = omega (arith, h)
 
-module _ {plan : Plan} {m : Meaning} {sizes : List ℕ} {by_sums : Bool} {bits : ℕ} (i : IsPackedGroups plan m sizes by_sums bits) where
+module _ {plan : Plan} {m : Meaning} {sizes : List ℕ} {order : Order} {bits : ℕ} (i : IsPackedGroups plan m sizes order bits) where
   abbrev o : Network
-  o = ordered_network by_sums sizes (room_network m plan.weight)
+  o = reduced_network order sizes (room_network m plan.weight)
 
   abbrev w : ℕ
   w = m.floor.width
@@ -57,7 +57,7 @@ module _ {plan : Plan} {m : Meaning} {sizes : List ℕ} {by_sums : Bool} {bits :
   abbrev k : ℕ
   k = (m.floor.width + m.slots) - m.floor.width
 
-  pub packed-of : IsPacked m.floor.width bits k (ordered_network by_sums sizes (room_network m plan.weight))
+  pub packed-of : IsPacked m.floor.width bits k (reduced_network order sizes (room_network m plan.weight))
   packed-of = record { slots_are = refl; may = i.may; long = i.ordered.ordered.lawful.long }
 
   kept : KeepsWidth m.floor
@@ -80,7 +80,7 @@ module _ {plan : Plan} {m : Meaning} {sizes : List ℕ} {by_sums : Bool} {bits :
       }
 
   -- what a choice that leaves the groups in order adds
-  module _ (g : ℕ) (room partial : List ℤ) (c : List ℕ) (l : length room ≡ m.floor.width) (r : IsReached (ordered_network by_sums sizes (room_network m plan.weight)) g (room ++ partial)) (before : g < m.floor.count) (h : Contains ((ordered_network by_sums sizes (room_network m plan.weight)).choices g (room ++ partial)) c) (stays : are_in_order sizes (m.floor.next g room c) ≡ true) where
+  module _ (g : ℕ) (room partial : List ℤ) (c : List ℕ) (l : length room ≡ m.floor.width) (r : IsReached (reduced_network order sizes (room_network m plan.weight)) g (room ++ partial)) (before : g < m.floor.count) (h : Contains ((reduced_network order sizes (room_network m plan.weight)).choices g (room ++ partial)) c) (stays : stay order sizes (m.floor.next g room c) ≡ true) where
     abbrev key : List ℤ
     key = room ++ partial
 
@@ -101,12 +101,10 @@ module _ {plan : Plan} {m : Meaning} {sizes : List ℕ} {by_sums : Bool} {bits :
         let left : List ℤ = m.floor.next g room c in
         let left_long : length left ≡ w = kept.next_long g room c l in
         let sum : List ℤ = plus_each partial added in
-        let sum_long : length sum ≡ length sizes = omega (arith, length-plus partial added added-long, partial-long, i.ordered.ordered.wide, i.ordered.its_rooms.width) in
-        ap (λ q. drop w (groups_in_order by_sums sizes (m.floor.next g q c ++ m.advance g q c (drop w key)))) (front_is w room partial l)
-        ∙ ap (λ p. drop w (groups_in_order by_sums sizes (left ++ m.advance g room c p))) (back_is w room partial l)
-        ∙ ap (λ p. drop w (groups_in_order by_sums sizes (left ++ p))) (i.adds.moves g room c partial move)
-        ∙ ap (λ b. drop w (groups_in_order b sizes (left ++ sum))) i.by_left
-        ∙ ap (drop w) (order-stays sizes left sum (left_long ∙ i.ordered.its_rooms.width) sum_long stays)
+        ap (λ q. drop w (groups_in_order order sizes (m.floor.next g q c ++ m.advance g q c (drop w key)))) (front_is w room partial l)
+        ∙ ap (λ p. drop w (groups_in_order order sizes (left ++ m.advance g room c p))) (back_is w room partial l)
+        ∙ ap (λ p. drop w (groups_in_order order sizes (left ++ p))) (i.adds.moves g room c partial move stays)
+        ∙ ap (drop w) (order-is order sizes left sum (left_long ∙ i.ordered.its_rooms.width) true stays)
         ∙ back_is w left sum left_long
 
     each : AllByRecursion (IsDigit (2 ^ bits)) partial
@@ -129,16 +127,16 @@ module _ {plan : Plan} {m : Meaning} {sizes : List ℕ} {by_sums : Bool} {bits :
     numbers-fit = subst (λ s. s ≤ MAX) numbers-plus (number-small bits (drop w (o.next g key c)) (next-digits packed-of g key c r before h))
 
   abbrev packed_groups : Network
-  packed_groups = packed_network m.floor.width bits (ordered_network by_sums sizes (room_network m plan.weight))
+  packed_groups = packed_network m.floor.width bits (reduced_network order sizes (room_network m plan.weight))
 
-  pub in-digits : (g : ℕ) (room : List ℤ) (c : List ℕ) → IsArc packed_groups w g room c → g < m.floor.count → are_in_order sizes (m.floor.next g room c) ≡ true → AreDigits bits (m.step g room c)
+  pub in-digits : (g : ℕ) (room : List ℤ) (c : List ℕ) → IsArc packed_groups w g room c → g < m.floor.count → stay order sizes (m.floor.next g room c) ≡ true → AreDigits bits (m.step g room c)
   in-digits g room c v before stays =
       let there : IsArc o w g room c = in-arc packed-of g room c v in
       step-digits g room there.partial c there.wide there.reached before there.allowed stays
 
   -- a step whose first number is 1 has a second one, which leads a partial on
   pub added-next : (g : ℕ) (room partial : List ℤ) (c : List ℕ) (step : List ℤ) → length room ≡ w → IsReached packed_groups g (room ++ partial) → g < m.floor.count → Contains (packed_groups.choices g (room ++ partial)) c
-      → step ≡ shifting_step sizes bits (m.floor.next g room c) (m.step g room c) → get_or step 0 (pos 0) ≡ pos 1
+      → step ≡ shifting_step order sizes bits (m.floor.next g room c) (m.step g room c) → get_or step 0 (pos 0) ≡ pos 1
       → (unsigned_abs (get_or partial 0 (pos 0)) + unsigned_abs (get_or step 1 (pos 0)) ≤ MAX) × ((get_or partial 0 (pos 0) +ℤ get_or step 1 (pos 0)) ∷ [] ≡ drop w (packed_groups.next g (room ++ partial) c))
   added-next g room partial c step l r before h e one =
       let numbers : List ℤ = unpacked (2 ^ bits) k partial in
@@ -146,7 +144,7 @@ module _ {plan : Plan} {m : Meaning} {sizes : List ℕ} {by_sums : Bool} {bits :
       let added : List ℤ = m.step g room c in
       let here : IsReached o g (room ++ numbers) = parts-reached packed-of g room partial l r in
       let allowed : Contains (o.choices g (room ++ numbers)) c = subst (λ key. Contains (o.choices g key) c) (read-parts packed-of room partial l) h in
-      let both = shift-stays (2 ^ bits) (are_in_order sizes left) added (left ++ added) (ap (λ s. get_or s 0 (pos 0)) (sym e) ∙ one) in
+      let both = shift-stays (2 ^ bits) (stay order sizes left) added (left ++ added) (ap (λ s. get_or s 0 (pos 0)) (sym e) ∙ one) in
       let first : get_or partial 0 (pos 0) ≡ pos (numeral (2 ^ bits) (map nat_abs numbers)) = ap (λ p. get_or p 0 (pos 0)) (sym (is-packed packed-of g room partial l r)) in
       let second : get_or step 1 (pos 0) ≡ pos (numeral (2 ^ bits) (map nat_abs added)) = ap (λ s. get_or s 1 (pos 0)) e ∙ both.1 in (
         rw (first, second) (numbers-fit g room numbers c l here before allowed both.0),

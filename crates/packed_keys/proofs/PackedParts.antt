@@ -12,7 +12,7 @@ use Rattle.networks.specs.Judged.{judge_of}
 use Rattle.networks.specs.Laws.{IsLawful}
 use Rattle.networks.specs.Network.{Network, IsReached}
 use Rattle.networks.specs.Rooms.{IsArc, IsPlace, IsRoomed}
-use Rattle.networks.proofs.Mapping.{IsReadByTurns, itself, mapped-follows, mapped-lawful, mapped-reached, mapped-roomed, mapped-total, mapped-values, reads-back, written-of}
+use Rattle.networks.proofs.Mapping.{IsReadInOrbit, itself, mapped-follows, mapped-lawful, mapped-reached, mapped-roomed, mapped-total, mapped-values, reads-back, written-of}
 use Rattle.networks.proofs.Steps.{reached-next}
 use Rattle.room_network.proofs.RoomKeys.{back_is, front_is}
 use Rattle.packed_keys.specs.PackedKeys.{packed, packed_key, packed_network, unpacked, unpacked_key}
@@ -50,16 +50,16 @@ module _ {w bits slots : ℕ} {n : Network} (i : IsPacked w bits slots n) where
   kept : (g : ℕ) (key : List ℤ) → IsReached n g key → take w (write key) ≡ take w key
   kept g key r = front_is w (take w key) (packed (2 ^ bits) (drop w key)) (room-long g key r)
 
-  -- what is packed is read back, without turns
-  unturned : IsReadByTurns n itself write read
-  unturned = reads-back n write read back
+  -- what is packed is read back, without symmetry
+  unmoved : IsReadInOrbit n itself write read
+  unmoved = reads-back n write read back
 
   pub read-reached : (g : ℕ) (key : List ℤ) → IsReached (packed_network w bits n) g key → IsReached n g (read key)
-  read-reached = mapped-reached unturned (w + 1)
+  read-reached = mapped-reached unmoved (w + 1)
 
   written-back : (g : ℕ) (key : List ℤ) → IsReached (packed_network w bits n) g key → write (read key) ≡ key
   written-back g key r =
-      let of = written-of unturned (w + 1) g key r in
+      let of = written-of unmoved (w + 1) g key r in
       ap (λ j. write (read j)) of.2 ∙ ap write (back g of.0 of.1) ∙ sym of.2
 
   pub packed-long : (g : ℕ) (key : List ℤ) → IsReached (packed_network w bits n) g key → length key ≡ w + 1
@@ -71,22 +71,22 @@ module _ {w bits slots : ℕ} {n : Network} (i : IsPacked w bits slots n) where
   pub packed-lawful : IsLawful n → IsLawful (packed_network w bits n)
   packed-lawful =
       let h = i.may.judged.intervals in
-      mapped-lawful unturned (w + 1) i.may.judged.judge h (λ g k j r e. ap (h.low g) e) (λ g k j r e. ap (h.high g) e) (omega arith) (omega (arith, i.may.room)) long
+      mapped-lawful unmoved (w + 1) i.may.judged.judge h (λ g k j r e. ap (h.low g) e) (λ g k j r e. ap (h.high g) e) (omega arith) (omega (arith, i.may.room)) long
 
   pub packed-roomed : IsLawful n → IsRoomed n w → IsRoomed (packed_network w bits n) w
   packed-roomed l h =
-      mapped-roomed unturned (w + 1) l w (omega arith) h
+      mapped-roomed unmoved (w + 1) l w (omega arith) h
       (λ g j k a b e. kept g j a ∙ e ∙ sym (kept g k b))
       (λ g j k a b e. room-read g j a ∙ e ∙ sym (room-read g k b))
 
   pub packed-total : (g : ℕ) (key : List ℤ) → IsReached (packed_network w bits n) g key → total_weight (packed_network w bits n) g key ≡ total_weight n g (read key)
-  packed-total g key r = mapped-total unturned (w + 1) g key (read-reached g key r)
+  packed-total g key r = mapped-total unmoved (w + 1) g key (read-reached g key r)
 
   pub packed-values : (p : ℤ → Bool) → value_weights (packed_network w bits n) p ≡ value_weights n p
-  packed-values = mapped-values unturned (w + 1)
+  packed-values = mapped-values unmoved (w + 1)
 
   pub packed-follows : (test : ConditionalTest) (tail : Tail) → Follows test tail n → Follows test tail (packed_network w bits n)
-  packed-follows test tail f = mapped-follows unturned (w + 1) (judge_of test) f.intervals (λ g k j r e. ap (f.intervals.low g) e) (λ g k j r e. ap (f.intervals.high g) e) test tail refl f
+  packed-follows test tail f = mapped-follows unmoved (w + 1) (judge_of test) f.intervals (λ g k j r e. ap (f.intervals.low g) e) (λ g k j r e. ap (f.intervals.high g) e) test tail refl f
 
   -- a key of a room and a partial
   pub one-number : (g : ℕ) (room partial : List ℤ) → length room ≡ w → IsReached (packed_network w bits n) g (room ++ partial) → length partial ≡ 1

@@ -1,5 +1,5 @@
 // Networks of groups in order whose sums stand in one number, which most choices only add to.
-ghost use Rattle.std.specs.Prelude.{◌≡◌, ◌+◌, ◌^◌, ◌≤◌, ◌+ℤ◌, false, true, get_or, length, pos};
+ghost use Rattle.std.specs.Prelude.{◌≡◌, ◌+◌, ◌^◌, ◌≤◌, ◌+ℤ◌, true, get_or, length, pos};
 ghost use Rattle.std.specs.Prelude.{ℤ, Bool, unsigned_abs};
 ghost use Rattle.weights.specs.Conditional.{ConditionalTest};
 ghost use Rattle.weights.specs.declared.TheConstants.{MAX};
@@ -7,8 +7,8 @@ ghost use Rattle.weights.specs.declared.tails.Tail.{Tail};
 ghost use Rattle.networks.specs.Completions.{value_weights};
 ghost use Rattle.networks.specs.Follows.{Follows};
 ghost use Rattle.room_network.specs.RoomNetworks.{room_network};
-ghost use Rattle.ordered_groups.specs.OrderedGroups.{are_in_order};
-ghost use Rattle.ordered_groups.specs.OrderedNetworks.{ordered_network};
+ghost use Rattle.symmetry_reduction.specs.OrderedGroups.{stay};
+ghost use Rattle.symmetry_reduction.specs.ReducedNetworks.{reduced_network};
 ghost use Rattle.packed_keys.specs.PackedGroups.{AddsSteps, shift};
 ghost use Rattle.packed_keys.specs.PackedKeys.{MayBePacked, packed_network};
 ghost use Rattle.packed_keys.specs.PackedSteps.{AreDigits};
@@ -16,24 +16,25 @@ ghost use Rattle.packed_keys.specs.PackedSteps.{AreDigits};
 use crate::digits::packed_number;
 use crate::network::Packed;
 use networks::{Roomed, Stages, Verdict, behind, front};
-use ordered_groups::{InOrder, are_in_order};
 use room_network::{Measure, Rooms};
 use std::marker::Model;
+use symmetry_reduction::{Order, SymmetryReduced, stay};
 use weights::{Tail, plus};
 
-/// A network of rooms with its groups in order by what remains of them alone, and their sums in one
-/// number. A choice that leaves the groups in order adds a number to that one, and leads keys that
-/// ascend to keys that ascend. It is seen as the network in order and the bits of a sum.
+/// A network of rooms with its groups in order and their sums in one number. A choice after which
+/// the groups stay as they stand adds a number to that one, and leads keys that ascend to keys that
+/// ascend. It is seen as the network in order and the bits of a sum.
 #[derive(Drop)]
 pub struct PackedGroups<R: Rooms, M: Measure> {
-    stages: Packed<InOrder<R, M>>,
+    stages: Packed<SymmetryReduced<R, M>>,
 }
 
 impl<R: Rooms, M: Measure> Model for PackedGroups<R, M> {
-    ghost use Rattle.std.specs.Prelude.{ℕ, Bool, List};
+    ghost use Rattle.std.specs.Prelude.{ℕ, List};
+    ghost use Rattle.symmetry_reduction.specs.declared.orders.Order.{Order};
     ghost use Rattle.packed_keys.specs.PackedSteps.{IsPackedGroups};
 
-    ghost Value = { (R × M × List ℕ × Bool) × ℕ };
+    ghost Value = { (R × M × List ℕ × Order) × ℕ };
 
     ghost view = { λ p. p.stages };
 
@@ -42,15 +43,22 @@ impl<R: Rooms, M: Measure> Model for PackedGroups<R, M> {
         p.stages.1 };
 }
 
-// Writes whether a choice leaves groups in order, and what it then adds to the one number.
+// Writes whether groups stay as they stand after a choice, and what it then adds to the one number.
 #[inline(always)]
-fn write_shift(bits: u32, sizes: &[u64], left: &[i128], added: &[i128], numbers: &mut [i128])
+fn write_shift(
+    order: Order,
+    bits: u32,
+    sizes: &[u64],
+    left: &[i128],
+    added: &[i128],
+    numbers: &mut [i128],
+)
     requires left { length left.now ≡ length sizes.now }
-    requires digits { are_in_order sizes.now left.now ≡ true → AreDigits bits added.now }
+    requires digits { stay order sizes.now left.now ≡ true → AreDigits bits added.now }
     requires room { length numbers.old ≡ 2 }
-    ensures { numbers.new ≡ shift (2 ^ bits) (are_in_order sizes.now left.now) added.now }
+    ensures { numbers.new ≡ shift (2 ^ bits) (stay order sizes.now left.now) added.now }
 {
-    if are_in_order(sizes, left) {
+    if stay(order, sizes, left) {
         numbers[0] = 1;
         numbers[1] = packed_number(bits, added);
     } else {
@@ -59,7 +67,7 @@ fn write_shift(bits: u32, sizes: &[u64], left: &[i128], added: &[i128], numbers:
     }
 }
 
-// Whether a step's choice leaves groups in order, and only adds to the one number.
+// Whether groups stay as they stand after a step's choice, which only adds to the one number.
 #[inline(always)]
 fn only_adds(step: &[i128]) -> bool
     requires { 2 ≤ length step.now }
@@ -81,23 +89,22 @@ fn shifted(partial: &[i128], step: &[i128]) -> i128
 }
 
 impl<R: Rooms, M: Measure> PackedGroups<R, M> {
-    /// A network with its groups in order, by what remains of them alone, and their sums packed. As
-    /// much weight ends at each value, and it follows the tests that the network follows.
-    pub fn new(ordered: InOrder<R, M>, bits: u32) -> PackedGroups<R, M>
-        requires left { ordered.3 ≡ false }
+    /// A network with its groups in order, and their sums packed. As much weight ends at each
+    /// value, and it follows the tests that the network follows.
+    pub fn new(ordered: SymmetryReduced<R, M>, bits: u32) -> PackedGroups<R, M>
         requires packed { let m = M.meaning ordered.1 in
             let n = room_network m (R.plan ordered.0).weight in
-            MayBePacked m.floor.width bits (ordered_network ordered.3 ordered.2 n) }
-        requires adds { AddsSteps (M.meaning ordered.1) }
+            MayBePacked m.floor.width bits (reduced_network ordered.3 ordered.2 n) }
+        requires adds { AddsSteps ordered.3 ordered.2 (M.meaning ordered.1) }
         ensures parts { result ≡ (ordered, bits) }
         ensures ends { let m = M.meaning ordered.1 in
             let n = room_network m (R.plan ordered.0).weight in
-            let o = ordered_network ordered.3 ordered.2 n in
+            let o = reduced_network ordered.3 ordered.2 n in
             let q = packed_network m.floor.width bits o in
             (p : ℤ → Bool) → value_weights q p ≡ value_weights o p }
         ensures follows { let m = M.meaning ordered.1 in
             let n = room_network m (R.plan ordered.0).weight in
-            let o = ordered_network ordered.3 ordered.2 n in
+            let o = reduced_network ordered.3 ordered.2 n in
             let q = packed_network m.floor.width bits o in
             (test : ConditionalTest) (tail : Tail)
             → Follows test tail o → Follows test tail q }
@@ -111,7 +118,7 @@ impl<R: Rooms, M: Measure> PackedGroups<R, M> {
 
 impl<R: Rooms, M: Measure> Stages for PackedGroups<R, M> {
     ghost network = { λ p. packed_network (M.meaning p.0.1).floor.width p.1
-        (ordered_network p.0.3 p.0.2 (room_network (M.meaning p.0.1) (R.plan p.0.0).weight)) };
+        (reduced_network p.0.3 p.0.2 (room_network (M.meaning p.0.1) (R.plan p.0.0).weight)) };
 
     fn stages(&self) -> usize {
         self.stages.stages()
@@ -164,7 +171,7 @@ impl<R: Rooms, M: Measure> Roomed for PackedGroups<R, M> {
         2 + ((M.meaning p.0.1).floor.width + (M.meaning p.0.1).step_width) };
 
     ghost step_of = { λ p g room c.
-        shifting_step p.0.2 p.1 ((M.meaning p.0.1).floor.next g room c)
+        shifting_step p.0.3 p.0.2 p.1 ((M.meaning p.0.1).floor.next g room c)
         ((M.meaning p.0.1).step g room c) };
 
     ghost outlook_width = { λ p. (M.meaning p.0.1).outlook_width };
@@ -183,10 +190,12 @@ impl<R: Rooms, M: Measure> Roomed for PackedGroups<R, M> {
     fn step(&self, stage: usize, room: &[i128], choice: &[u64], step: &mut [i128]) {
         let (numbers, inner) = step.split_at_mut(2);
         self.stages.step(stage, room, choice, inner);
-        let sizes = self.stages.inner().sizes();
+        let groups = self.stages.inner();
+        let sizes = groups.sizes();
+        let order = groups.order();
         let left = front(inner, room.len());
         let added = behind(inner, room.len());
-        write_shift(self.stages.bits(), sizes, left, added, numbers);
+        write_shift(order, self.stages.bits(), sizes, left, added, numbers);
     }
 
     #[inline(always)]

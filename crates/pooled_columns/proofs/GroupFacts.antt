@@ -1,8 +1,9 @@
 -- What holds of groups and of their pooled sample.
-use Rattle.std.proofs.Common.{◌≡◌, ◌<◌, ◌≤◌, ◌^◌, length, refl, sym, ◌∙◌, ap, subst, arith}
+use Rattle.std.proofs.Common.{◌≡◌, ℕ, zero, suc, ◌<◌, ◌≤◌, ◌^◌, List, [], ◌∷◌, length, get_or, min, take, refl, sym, ◌∙◌, ap, subst, arith}
 use Rattle.std.specs.List.{All, AllByRecursion, Contains, sum}
-use Rattle.std.proofs.lemmas.List.{length-map}
+use Rattle.std.proofs.lemmas.List.{length-map, length-take}
 use Rattle.std.proofs.lemmas.List.Elements.{All-from_recursion, recursion_from_All}
+use Rattle.std.proofs.lemmas.List.Sums.{sum_by-cons}
 use Rattle.weights.specs.Labellings.{counts_of, labellings, labels}
 use Rattle.weights.proofs.Counted.{count_of}
 use Rattle.weights.proofs.Filters.{map-same}
@@ -17,6 +18,19 @@ use Rattle.sample_reader.specs.declared.subjects.Subject.{Subject}
 use Rattle.pooled_columns.specs.PooledColumns.{pooled_values}
 use Rattle.pooled_columns.proofs.PooledLabels.{pooled-counts, pooled-labels}
 use Rattle.pooled_columns.proofs.PooledValues.{length-pooled}
+
+-- no group has more than all
+pub at-within : (sizes : List ℕ) (i : ℕ) → get_or sizes i 0 ≤ sum sizes
+at-within [] i = omega arith
+at-within (n ∷ sizes) zero = omega (arith, sum_by-cons (λ v. v) n sizes)
+at-within (n ∷ sizes) (suc i) = omega (arith, at-within sizes i, sum_by-cons (λ v. v) n sizes)
+
+-- the front of eight numbers, which are enough for one of each group
+pub room-of : (n : ℕ) → n ≤ 8 → length {A = ℕ} (take n (0 ∷ 0 ∷ 0 ∷ 0 ∷ 0 ∷ 0 ∷ 0 ∷ 0 ∷ [])) ≡ n
+room-of n h = length-take n (0 ∷ 0 ∷ 0 ∷ 0 ∷ 0 ∷ 0 ∷ 0 ∷ 0 ∷ []) ∙ within n h
+  where
+    within : (n : ℕ) → n ≤ 8 → min n 8 ≡ n
+    within n h = omega (arith, h)
 
 module _ (groups : Groups) where
   pub rows-long : length (group_sizes (data_of groups)) ≡ length groups.labels

@@ -1,13 +1,16 @@
 -- Tie groups of values that rise: their scores, each as often as the group has values, are those of the values.
-use Rattle.std.proofs.Common.{◌≡◌, ℕ, ◌+◌, Bool, true, false, cond, List, [], ◌∷◌, ◌++◌, map, refl, ◌∙◌, ap, arith, add-one}
+use Rattle.std.proofs.Common.{◌≡◌, ℕ, ◌+◌, Bool, true, false, cond, List, [], ◌∷◌, ◌++◌, length, map, refl, ◌∙◌, ap, arith, add-one}
 use Rattle.std.specs.Prelude.{ℤ, ◌≤ℤ◌, int_lt, replicate}
-use Rattle.std.specs.List.{AllByRecursion}
+use Rattle.std.specs.List.{AllByRecursion, sum}
 use Rattle.std.specs.Ordering.{int_eq}
 use Rattle.std.proofs.lemmas.Int.{ints}
+use Rattle.std.proofs.lemmas.List.Sums.{sum-map}
 use Rattle.midranks.specs.Ties.{tie_groups, with_one_more}
 use Rattle.midranks.specs.declared.ties.Tie.{Tie}
+use Rattle.midranks.proofs.Places.{values_in-groups}
 use Rattle.midranks.proofs.TieLemmas.{past, same-from_test}
-use Rattle.label_network.specs.LaterSums.{subjects}
+use Rattle.later_scores.specs.LaterSums.{subjects}
+use Rattle.pooled_columns.specs.PooledColumns.{column_sizes}
 use Rattle.pooled_columns.proofs.PooledValues.{Rises}
 
 -- a value is not above the first group's
@@ -59,3 +62,7 @@ pub grouped : (f : ℤ → ℤ) (values : List ℤ) → Rises values → subject
 unfolding tie_groups
 grouped f [] up = refl
 grouped f (v ∷ vs) up = grown f v (tie_groups vs) (leads v vs up.0 up.1) ∙ ap (λ rest. f v ∷ rest) (grouped f vs up.1)
+
+-- of any values
+pub columns-sum : (values : List ℤ) → sum (column_sizes values) ≡ length values
+columns-sum values = sum-map (λ (t : Tie). t.count) (tie_groups values) ∙ values_in-groups values

@@ -34,8 +34,8 @@ put Product a b = pos (nat_abs a * nat_abs b)
 abbrev pub so_far : List ℤ → ℤ
 so_far partial = slice_index_or partial 0 (pos 0)
 
-abbrev pub number_meaning : Floor → Numbers (List ℤ) → Meaning
-number_meaning floor n = record {
+abbrev pub scalar_meaning : Floor → Numbers (List ℤ) → Meaning
+scalar_meaning floor n = record {
   floor = floor;
   slots = 1;
   step_width = 1;
@@ -67,12 +67,12 @@ pub record IsOutcome (operation : Operation) (judge : Judge) (a b : ℤ) : Type 
   pub ruled : JudgeFits judge (put operation a b)
 
 -- Intervals that narrow along every choice, of numbers that pass no limit on the way.
-pub record IsNumber (floor : Floor) (n : Numbers (List ℤ)) : Type 0 where
-  pub narrows : IsMeasure (number_meaning floor n)
+pub record IsScalar (floor : Floor) (n : Numbers (List ℤ)) : Type 0 where
+  pub narrows : IsMeasure (scalar_meaning floor n)
   pub steps : (g : ℕ) (room : List ℤ) (c : List ℕ) (p : List ℤ)
-      → IsMove (number_meaning floor n) g room c p
+      → IsMove (scalar_meaning floor n) g room c p
       → Fits n.operation (so_far p) (n.step g room c)
-  pub lows : (g : ℕ) (room p : List ℤ) → AreReached (number_meaning floor n) g room p
+  pub lows : (g : ℕ) (room p : List ℤ) → AreReached (scalar_meaning floor n) g room p
       → IsOutcome n.operation n.judge (so_far p) (n.least g room)
-  pub highs : (g : ℕ) (room p : List ℤ) → AreReached (number_meaning floor n) g room p
+  pub highs : (g : ℕ) (room p : List ℤ) → AreReached (scalar_meaning floor n) g room p
       → IsOutcome n.operation n.judge (so_far p) (n.greatest g room)

@@ -8,5 +8,5 @@ mod rooms;
 
 pub use measure::Measure;
 pub use network::RoomNetwork;
-pub use numbers::{NumberMeasure, Numbered, Operation};
+pub use numbers::{FromScalar, Operation, ScalarMeasure};
 pub use rooms::Rooms;

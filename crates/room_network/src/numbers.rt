@@ -1,7 +1,7 @@
 // What a statistic of one number offers to the network of its rooms.
 ghost use Rattle.std.specs.Prelude.{◌≡◌, ℤ, List, [], ◌∷◌, length, pos};
 ghost use Rattle.room_network.specs.Meanings.{AreReached, IsRoom, IsStep};
-ghost use Rattle.room_network.specs.Numbers.{Fits, IsNumber, Numbers, number_meaning, put, start};
+ghost use Rattle.room_network.specs.Numbers.{Fits, IsScalar, Numbers, scalar_meaning, put, start};
 ghost use Rattle.room_network.specs.Plans.{Floor};
 
 use crate::measure::Measure;
@@ -44,9 +44,9 @@ impl Operation {
 }
 
 /// What is measured of the ways through rooms, where it is one number, a sum or a product over the
-/// choices: [`Numbered`] is then a [`Measure`] whose partial is what they come to so far. Its
+/// choices: [`FromScalar`] is then a [`Measure`] whose partial is what they come to so far. Its
 /// interval puts to a partial what the later choices can come to, at least and at most.
-pub trait NumberMeasure {
+pub trait ScalarMeasure {
     /// The rooms whose ways are measured.
     ghost floor: { Self → Floor };
 
@@ -57,7 +57,7 @@ pub trait NumberMeasure {
     /// way passes a limit, nor one that the rules compute of what it comes to.
     fn judge(&self) -> &Judge
         ensures judge { result.now ≡ (numbers self.now).judge }
-        ensures sound { IsNumber (floor self.now) (numbers self.now) };
+        ensures sound { IsScalar (floor self.now) (numbers self.now) };
 
     /// How its numbers are put together.
     fn operation(&self) -> Operation
@@ -65,13 +65,13 @@ pub trait NumberMeasure {
 
     /// What a choice at a room puts to the number so far.
     fn number(&self, stage: usize, room: &[i128], choice: &[u64]) -> i128
-        requires { let m = number_meaning (floor self.now) (numbers self.now) in
+        requires { let m = scalar_meaning (floor self.now) (numbers self.now) in
             IsStep m stage room.now choice.now }
         ensures { result ≡ (numbers self.now).step stage room.now choice.now };
 
     /// What the choices from a room on put to it, at least and at most.
     fn later(&self, stage: usize, room: &[i128]) -> Interval
-        requires { IsRoom (number_meaning (floor self.now) (numbers self.now)) stage room.now }
+        requires { IsRoom (scalar_meaning (floor self.now) (numbers self.now)) stage room.now }
         ensures low { result.low ≡ (numbers self.now).least stage room.now }
         ensures high { result.high ≡ (numbers self.now).greatest stage room.now };
 
@@ -83,20 +83,20 @@ pub trait NumberMeasure {
 
 // Between which numbers a partial of a measure ends, by the outlook of its room.
 #[inline(always)]
-fn ends_of<N: NumberMeasure>(
+fn ends_of<N: ScalarMeasure>(
     measure: &N,
     _stage: usize,
     _room: &[i128],
     outlook: &[i128],
     partial: &[i128],
 ) -> Interval
-    requires reached { let m = number_meaning (N.floor measure.now) (N.numbers measure.now) in
+    requires reached { let m = scalar_meaning (N.floor measure.now) (N.numbers measure.now) in
         AreReached m _stage _room.now partial.now }
-    requires outlook { let m = number_meaning (N.floor measure.now) (N.numbers measure.now) in
+    requires outlook { let m = scalar_meaning (N.floor measure.now) (N.numbers measure.now) in
         outlook.now ≡ m.outlook _stage _room.now }
-    ensures low { let m = number_meaning (N.floor measure.now) (N.numbers measure.now) in
+    ensures low { let m = scalar_meaning (N.floor measure.now) (N.numbers measure.now) in
         result.low ≡ m.low _stage _room.now partial.now }
-    ensures high { let m = number_meaning (N.floor measure.now) (N.numbers measure.now) in
+    ensures high { let m = scalar_meaning (N.floor measure.now) (N.numbers measure.now) in
         result.high ≡ m.high _stage _room.now partial.now }
 {
     let _judge = measure.judge();
@@ -110,27 +110,27 @@ fn ends_of<N: NumberMeasure>(
 
 /// A measure of one number as a [`Measure`]. It is seen as the measure of one number.
 #[derive(Drop)]
-pub struct Numbered<N: NumberMeasure> {
+pub struct FromScalar<N: ScalarMeasure> {
     inner: N,
 }
 
-impl<N: NumberMeasure> Model for Numbered<N> {
+impl<N: ScalarMeasure> Model for FromScalar<N> {
     ghost Value = { N };
 
     ghost view = { λ numbered. numbered.inner };
 }
 
-impl<N: NumberMeasure> Numbered<N> {
+impl<N: ScalarMeasure> FromScalar<N> {
     /// The measure, with a partial.
-    pub fn new(inner: N) -> Numbered<N>
+    pub fn new(inner: N) -> FromScalar<N>
         ensures { result ≡ inner }
     {
-        Numbered { inner }
+        FromScalar { inner }
     }
 }
 
-impl<N: NumberMeasure> Measure for Numbered<N> {
-    ghost meaning = { λ n. number_meaning (N.floor n) (N.numbers n) };
+impl<N: ScalarMeasure> Measure for FromScalar<N> {
+    ghost meaning = { λ n. scalar_meaning (N.floor n) (N.numbers n) };
 
     fn slots(&self) -> usize {
         let _judge = self.inner.judge();

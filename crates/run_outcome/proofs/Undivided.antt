@@ -76,9 +76,9 @@ some-asked test choice.Two tails has is = (Two, by (test.has_tail Two) is)
     by false e = absurd cc
 
 -- the sums of an asked tail fit
-fits-of : (part : PartOf) (runs network : Tail → Network) (test : ConditionalTest) (tail : Tail) (is_asked : Bool) → (is_asked ≡ true → Serves test tail (runs tail) (network tail)) → TailFits (tail_piece part network tail is_asked)
-fits-of part runs network test tail true serves = fits-written (runs tail) (network tail) tail (serves refl).written (serves refl).lawful part.at part.parts part.part
-fits-of part runs network test tail false serves = tt
+fits-of : (part : PartOf) (running network : Tail → Network) (test : ConditionalTest) (tail : Tail) (is_asked : Bool) → (is_asked ≡ true → Serves test tail (running tail) (network tail)) → TailFits (tail_piece part network tail is_asked)
+fits-of part running network test tail true serves = fits-written (running tail) (network tail) tail (serves refl).written (serves refl).lawful part.at part.parts part.part
+fits-of part running network test tail false serves = tt
 
 there : (part : PartOf) (network : Tail → Network) (tail : Tail) (is_asked : Bool) → is_asked ≡ true → tail_piece part network tail is_asked ≢ None
 there part network tail true e none = cc
@@ -169,9 +169,9 @@ module _ (questions : Questions) (settings : Settings) (file bytes : List ℕ) (
     few_lines = few;
     some_total = answer.divisible.some_total;
     total = total-fits question.test answer.divisible.fits;
-    less = fits-of (part_at part) question.runs question.network question.test Less answer.tails.less (answer.divisible.networks Less);
-    greater = fits-of (part_at part) question.runs question.network question.test Greater answer.tails.greater (answer.divisible.networks Greater);
-    two = fits-of (part_at part) question.runs question.network question.test Two answer.tails.two (answer.divisible.networks Two);
+    less = fits-of (part_at part) question.running question.network question.test Less answer.tails.less (answer.divisible.networks Less);
+    greater = fits-of (part_at part) question.running question.network question.test Greater answer.tails.greater (answer.divisible.networks Greater);
+    two = fits-of (part_at part) question.running question.network question.test Two answer.tails.two (answer.divisible.networks Two);
     asked = some-piece part;
   }
 
@@ -180,21 +180,21 @@ module _ (questions : Questions) (settings : Settings) (file bytes : List ℕ) (
   all-own P each (part ∷ order) = (each part, all-own P each order)
 
   -- as much is extreme of the network that is written down as of what runs for it
-  is-numerator : (tail : Tail) → Serves question.test tail (question.runs tail) (question.network tail) → extreme_weight (question.network tail) tail 0 (question.network tail).first ≡ numerator question.test tail
+  is-numerator : (tail : Tail) → Serves question.test tail (question.running tail) (question.network tail) → extreme_weight (question.network tail) tail 0 (question.network tail).first ≡ numerator question.test tail
   is-numerator tail serves =
-      sym (extreme-written (question.runs tail) (question.network tail) tail serves.written) ∙ extreme-is question.test tail (question.runs tail) serves.follows
+      sym (extreme-written (question.running tail) (question.network tail) tail serves.written) ∙ extreme-is question.test tail (question.running tail) serves.follows
 
   -- each piece has the sums of its part
-  sums-of : (get : Piece → Option PieceSum) (tail : Tail) (first : ℕ) (rest : List ℕ) → Serves question.test tail (question.runs tail) (question.network tail)
+  sums-of : (get : Piece → Option PieceSum) (tail : Tail) (first : ℕ) (rest : List ℕ) → Serves question.test tail (question.running tail) (question.network tail)
       → ((part : ℕ) → get (own part) ≡ Some (piece_sum (question.network tail) tail parts.piece.at parts.piece.parts part))
       → AreSumsOf (question.network tail) tail parts.piece.at get (map own (first ∷ rest))
   sums-of get tail first rest serves each = record {
-    add = adds-up-written (question.runs tail) (question.network tail) tail serves.written serves.lawful parts.piece.at parts.piece.parts parts.alone.usable.some;
+    add = adds-up-written (question.running tail) (question.network tail) tail serves.written serves.lawful parts.piece.at parts.piece.parts parts.alone.usable.some;
     each = all-own (λ (p : Piece). get p ≡ Some (piece_sum (question.network tail) tail parts.piece.at parts.piece.parts p.part)) each (first ∷ rest);
   }
 
   -- the tail of a run that is divided, whose number is at most the total
-  pub divided : (get : Piece → Option PieceSum) (tail : Tail) (is_asked : Bool) (first : ℕ) (rest : List ℕ) → (is_asked ≡ true → Serves question.test tail (question.runs tail) (question.network tail))
+  pub divided : (get : Piece → Option PieceSum) (tail : Tail) (is_asked : Bool) (first : ℕ) (rest : List ℕ) → (is_asked ≡ true → Serves question.test tail (question.running tail) (question.network tail))
       → ((part : ℕ) → get (own part) ≡ tail_piece (part_at part) question.network tail is_asked)
       → IsDivided get (map own (first ∷ rest))
   divided get tail false first rest serves each = inl (all-own (λ (p : Piece). get p ≡ None) each (first ∷ rest))
@@ -208,7 +208,7 @@ module _ (questions : Questions) (settings : Settings) (file bytes : List ℕ) (
   abbrev told : Bool → Tail → Option ℕ
   told is_asked tail = cond is_asked (Some (numerator question.test tail)) None
 
-  told-sum : (get : Piece → Option PieceSum) (tail : Tail) (is_asked : Bool) (first : ℕ) (rest : List ℕ) (number : Option ℕ) → (is_asked ≡ true → Serves question.test tail (question.runs tail) (question.network tail))
+  told-sum : (get : Piece → Option PieceSum) (tail : Tail) (is_asked : Bool) (first : ℕ) (rest : List ℕ) (number : Option ℕ) → (is_asked ≡ true → Serves question.test tail (question.running tail) (question.network tail))
       → ((part : ℕ) → get (own part) ≡ tail_piece (part_at part) question.network tail is_asked)
       → number ≡ merged_number get (map own (first ∷ rest))
       → ((n : Network) (t : Tail) (at : ℕ) → AreSumsOf n t at get (map own (first ∷ rest)) → number ≡ Some (extreme_weight n t 0 n.first))

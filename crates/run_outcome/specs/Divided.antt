@@ -33,13 +33,13 @@ pub record Serves (test : ConditionalTest) (tail : Tail) (n q : Network) : Type 
 -- a test that the parts of a run answer for these tails: it has a tail, its total is at least 1,
 -- nothing of it is too wide, and what runs for the network of each of the tails is lawful and
 -- follows it
-pub record IsDivisible (test : ConditionalTest) (runs network : Tail → Network) (tails : Tails)
+pub record IsDivisible (test : ConditionalTest) (running network : Tail → Network) (tails : Tails)
     : Type 0 where
   pub some_tail : test.has_tail (first_tail test) ≡ true
   pub some_total : 1 ≤ total test
   pub fits : too_wide test ≡ None
   pub networks : (tail : Tail) → asks tails tail ≡ true
-      → Serves test tail (runs tail) (network tail)
+      → Serves test tail (running tail) (network tail)
 
 -- the question is there, and the parts of a run answer it for the tails that are asked
 pub record IsAnswerable (choice : TailChoice) (wanted : Result Question Refusal) : Type 0 where
@@ -47,7 +47,7 @@ pub record IsAnswerable (choice : TailChoice) (wanted : Result Question Refusal)
   pub tails : Tails
   pub is_wanted : wanted ≡ Ok question
   pub are_asked : asked choice (tails_in question.test) ≡ Some tails
-  pub divisible : IsDivisible question.test question.runs question.network tails
+  pub divisible : IsDivisible question.test question.running question.network tails
 
 -- that of the question that settings ask of a file
 abbrev pub AsksAnswerable : Questions → Settings → List ℕ → Type 0

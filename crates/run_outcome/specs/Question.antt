@@ -15,7 +15,7 @@ use Rattle.report.specs.declared.refusals.Refusal.TheVariants as refusal
 pub record Question : Type 0 where
   pub test : ConditionalTest
   pub network : Tail → Network
-  pub runs : Tail → Network
+  pub running : Tail → Network
   pub sizes : Sizes
   pub dropped : Option ℕ
   pub extra : Extra
@@ -23,10 +23,10 @@ pub record Question : Type 0 where
 -- the question that a prepared problem answers
 abbrev pub question_about : {V : Type 0} → (V → ConditionalTest) → (V → Tail → Network)
     → (V → Tail → Network) → V → Sizes → Option ℕ → Extra → Question
-question_about test_of network_of runs_of value sizes dropped extra = record {
+question_about test_of network_of running_of value sizes dropped extra = record {
   test = test_of value;
   network = network_of value;
-  runs = runs_of value;
+  running = running_of value;
   sizes = sizes;
   dropped = dropped;
   extra = extra;

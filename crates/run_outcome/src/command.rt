@@ -132,8 +132,8 @@ fn text_of_line<C: Catalogue, S: Source>(
     }
 }
 
-// The text that the words and the source ask for, or the refusal. The step above borrows the command
-// line, so that it is let go here, once, and not in each of the arms.
+// The text that the words and the source ask for, or the refusal. The step above borrows the
+// command line, so that it is let go here, once, and not in each of the arms.
 fn text_for<C: Catalogue, S: Source>(
     alloc: Global,
     words: &[String],

@@ -53,7 +53,7 @@ fn tail_piece<P: Prepared>(
     requires has { is_asked ≡ true → (P.test problem.now).has_tail tail ≡ true }
     ensures sums { let network = P.network problem.now in
         IfOk result (λ found. found ≡ tail_piece part network tail is_asked) }
-    ensures serves { let serves = Serves (P.test problem.now) tail (P.runs problem.now tail) in
+    ensures serves { let serves = Serves (P.test problem.now) tail (P.running problem.now tail) in
         is_asked ≡ true → OnOk result (serves (P.network problem.now tail)) }
 {
     if !is_asked {
@@ -84,10 +84,10 @@ pub(crate) fn piece_for<P: Prepared>(
     requires parts { 1 ≤ part.parts }
     requires has { HasTails (P.test problem.now) tails }
     requires fits { too_wide (P.test problem.now) ≡ None }
-    ensures text { let about = question_about P.test P.network P.runs problem.now in
+    ensures text { let about = question_about P.test P.network P.running problem.now in
         let question = about heading.now.sizes heading.now.dropped heading.now.extra in
         IfOk result (λ text. text ≡ piece_text (piece_for part asking tails question)) }
-    ensures divisible { let divisible = IsDivisible (P.test problem.now) (P.runs problem.now) in
+    ensures divisible { let divisible = IsDivisible (P.test problem.now) (P.running problem.now) in
         OnOk result (divisible (P.network problem.now) tails) }
 {
     let _shown = problem.has_tail(Tail::Less);

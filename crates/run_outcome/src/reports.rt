@@ -176,7 +176,7 @@ fn report_for<P: Prepared>(
 ) -> Result<Bytes, NoMemory>
     requires has { HasTails (P.test problem.now) tails }
     requires fits { too_wide (P.test problem.now) ≡ None }
-    ensures { let about = question_about P.test P.network P.runs problem.now in
+    ensures { let about = question_about P.test P.network P.running problem.now in
         let question = about heading.now.sizes heading.now.dropped heading.now.extra in
         IfOk result (λ text. text ≡ report_for asking tails question) }
 {
@@ -207,10 +207,10 @@ fn text_for<P: Prepared>(
     requires parts { HasParts asking }
     requires has { HasTails (P.test problem.now) tails }
     requires fits { too_wide (P.test problem.now) ≡ None }
-    ensures text { let about = question_about P.test P.network P.runs problem.now in
+    ensures text { let about = question_about P.test P.network P.running problem.now in
         let question = about heading.now.sizes heading.now.dropped heading.now.extra in
         IfOk result (λ text. text ≡ text_for asking tails question) }
-    ensures divisible { let divisible = IsDivisible (P.test problem.now) (P.runs problem.now) in
+    ensures divisible { let divisible = IsDivisible (P.test problem.now) (P.running problem.now) in
         OnOk result (IfSome asking.piece (λ part. divisible (P.network problem.now) tails)) }
 {
     match asking.piece {
@@ -232,9 +232,9 @@ fn report_on<P: Prepared + Drop>(
     requires has { IfOk prepared (λ problem. has ≡ tails_in (P.test problem)) }
     requires fits { IfOk prepared (λ problem. too_wide (P.test problem) ≡ None) }
     ensures { let tails = asked asking.tail has in
-        let outcome = prepared_outcome P.test P.network P.runs asking in
+        let outcome = prepared_outcome P.test P.network P.running asking in
         let told = outcome heading.now.sizes heading.now.dropped heading.now.extra in
-        let divides = IsDivided P.test P.network P.runs tails prepared in
+        let divides = IsDivided P.test P.network P.running tails prepared in
         let divided = IfSome asking.piece (λ part. divides) in
         MeetsAnd divided (told tails prepared) result }
 {
@@ -265,7 +265,7 @@ pub fn report_prepared<P: Prepared + Drop>(
     requires parts { HasParts asking }
     requires has { IfOk prepared (λ problem. has ≡ tails_in (P.test problem)) }
     requires fits { IfOk prepared (λ problem. too_wide (P.test problem) ≡ None) }
-    ensures { let answers = AnswersPrepared P.test P.network P.runs asking in
+    ensures { let answers = AnswersPrepared P.test P.network P.running asking in
         let about = answers heading.now.sizes heading.now.dropped heading.now.extra in
         about has prepared result }
 {

@@ -129,7 +129,7 @@ impl LabelStatistic for RunNumber {
 
     ghost network = { written_network };
 
-    ghost runs = { λ sequence. label_network (sequence_meaning sequence) };
+    ghost running = { λ sequence. label_network (sequence_meaning sequence) };
 
     fn sound(&self) {
         let _sizes = self.counts();

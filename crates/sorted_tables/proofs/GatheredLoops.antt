@@ -1,6 +1,6 @@
 -- What the loops over the rows of a choice keep.
 use Rattle.label_network.proofs.Rows.{get-within}
-use Rattle.std.proofs.Common.{◌≡◌, ℕ, suc, ◌+◌, ◌-◌, ◌*◌, ◌/◌, ◌^◌, ◌<◌, ◌≤◌, List, [], ◌∷◌, length, get_or, drop, Bool, true, false, cond, ◌&&◌, refl, sym, ◌∙◌, ap, subst, arith, add-one, drop-cons, drop_of_length-le, nat_eq, eq-eqb, ne_eqb, lt-ltb, le-ltb, ◌⊎◌, inl, inr}
+use Rattle.std.proofs.Common.{mul-one, ◌≡◌, ℕ, suc, ◌+◌, ◌-◌, ◌*◌, ◌/◌, ◌^◌, ◌<◌, ◌≤◌, List, [], ◌∷◌, length, get_or, drop, Bool, true, false, cond, ◌&&◌, refl, sym, ◌∙◌, ap, subst, arith, add-one, drop-cons, drop_of_length-le, nat_eq, eq-eqb, ne_eqb, lt-ltb, le-ltb, ◌⊎◌, inl, inr}
 use Rattle.std.specs.List.{sum}
 use Rattle.std.proofs.lemmas.Bool.{cases_lt, eqb-true}
 use Rattle.std.proofs.lemmas.Bool.Decides.{eqb_tells}
@@ -206,6 +206,11 @@ counted-step {r = r} {x = x} {i = i} {orders = orders} {alike_orders = alike_ord
     some : (t : Bool) → 0 < cond t (alike_rows + 1) 1
     some true = omega arith
     some false = omega arith
+
+-- a row that has not the size of the next one
+pub counted-apart : {r x : List ℕ} {i orders alike_orders equal alike_rows : ℕ} → IsCounted r x i orders alike_orders equal alike_rows → 0 < i → false ≡ stands_again r (i - 1) → IsCounted r x (i - 1) orders alike_orders 1 1
+counted-apart {r = r} {x = x} {i = i} {orders = orders} {alike_orders = alike_orders} k some apart =
+    rw (mul-one orders, mul-one alike_orders) at (counted-step k some apart (ap (λ t. t && stands_again x (i - 1)) apart) refl refl).next
 
 -- all rows
 pub counted-all : {r x : List ℕ} {i orders alike_orders equal alike_rows : ℕ} → IsCounted r x i orders alike_orders equal alike_rows → i ≡ 0 → orders / alike_orders ≡ gathered_count r x

@@ -8,6 +8,7 @@ pub mod GatheredLoops
 pub mod GatheredChoices
 pub mod RisingChoices
 pub mod RaisedLoops
+pub mod FallenSizes
 pub mod SortedWays
 pub mod SortedPlans
 pub mod ChoiceSums

@@ -11,7 +11,6 @@ ghost use Rattle.sorted_tables.specs.GatheredChoices.{gathered_weight, is_gather
 ghost use Rattle.sorted_tables.specs.SortedSteps.{gathered_count, raised, run, stands_again};
 
 use label_network::{Binomials, read_sizes, weight_in};
-use weights::total_of;
 
 // Whether there is a row after this one, of the same number.
 pub(crate) fn goes_on(numbers: &[u64], i: usize) -> bool
@@ -30,16 +29,6 @@ pub(crate) fn count_on(goes_on: bool, count: u64) -> u64
     if goes_on { count + 1 } else { 1 }
 }
 
-// Whether there is a row after this one, of the same size and with the same count.
-#[inline(always)]
-fn both_go_on(rows: &[u64], counts: &[u64], i: usize) -> bool
-    requires rows { i < length rows.now }
-    requires counts { i < length counts.now }
-    ensures { result ≡ (stands_again rows.now i && stands_again counts.now i) }
-{
-    goes_on(rows, i) && goes_on(counts, i)
-}
-
 // What a row gets at least, by the one before it.
 #[inline(always)]
 pub(crate) fn floor_of(size: u64, before: u64, count: u64) -> u64
@@ -50,15 +39,15 @@ pub(crate) fn floor_of(size: u64, before: u64, count: u64) -> u64
 
 // Writes the first choice that stands for others behind a row of a size that gets so many: as few
 // as can be from each row in turn, but from a row of the size of the one before no fewer.
-fn raise_counts(total: u64, size: u64, least: u64, rows: &[u64], counts: &mut [u64])
-    requires small { sum rows.now < 2 ^ 64 }
+fn raise_counts(total: u64, size: u64, least: u64, rows: &[u64], whole: u64, counts: &mut [u64])
+    requires whole { whole ≡ sum rows.now }
     requires few { least ≤ size }
     requires enough { least * run size rows.now ≤ total }
     requires fits { total ≤ sum rows.now }
     requires room { length counts.old ≡ length rows.now }
     ensures { counts.new ≡ raised size least total rows.now }
 {
-    let mut later = total_of(rows);
+    let mut later = whole;
     let mut left = total;
     let mut before = size;
     let mut count = least;
@@ -91,6 +80,7 @@ pub(crate) fn next_gathered(total: u64, sizes: &[i128], counts: &mut [u64]) -> b
     read_sizes(sizes, rows);
     let mut i = counts.len();
     let mut later: u64 = 0;
+    let mut behind: u64 = 0;
     let mut equal: u64 = 0;
     while i > 0 {
         i -= 1;
@@ -105,10 +95,12 @@ pub(crate) fn next_gathered(total: u64, sizes: &[i128], counts: &mut [u64]) -> b
                 rows[i],
                 counts[i],
                 &rows[i + 1..],
+                behind,
                 &mut counts[i + 1..],
             );
             return true;
         }
+        behind += rows[i];
     }
     false
 }
@@ -128,32 +120,34 @@ fn count_gathered(rows: &[u64], counts: &[u64]) -> u64
     let mut i = counts.len();
     while i > 0 {
         i -= 1;
-        equal = count_on(goes_on(rows, i), equal);
-        alike = count_on(both_go_on(rows, counts, i), alike);
-        orders *= equal;
-        alike_orders *= alike;
+        if goes_on(rows, i) {
+            equal = count_on(true, equal);
+            alike = count_on(goes_on(counts, i), alike);
+            orders *= equal;
+            alike_orders *= alike;
+        } else {
+            equal = 1;
+            alike = 1;
+        }
     }
     orders / alike_orders
 }
 
 /// In how many ways a column's subjects are labelled by all choices that are gathered into one.
+#[inline(always)]
 pub(crate) fn weight_gathered(
     binomials: &Binomials,
     column: u64,
-    sizes: &[i128],
+    rows: &[u64],
     counts: &[u64],
 ) -> u128
-    requires few { length sizes.now ≤ 8 }
-    requires sizes { AreSizes sizes.now }
+    requires few { length rows.now ≤ 8 }
     requires whole { column ≡ sum counts.now }
-    requires allowed { Contains (choices column (sizes_in sizes.now)) counts.now }
-    requires gathered { is_gathered (sizes_in sizes.now) counts.now ≡ true }
+    requires allowed { Contains (choices column rows.now) counts.now }
+    requires gathered { is_gathered rows.now counts.now ≡ true }
     requires held { IsHeld binomials.now.width counts.now }
-    requires fits { gathered_weight (sizes_in sizes.now) counts.now ≤ MAX }
-    ensures { result ≡ gathered_weight (sizes_in sizes.now) counts.now }
+    requires fits { gathered_weight rows.now counts.now ≤ MAX }
+    ensures { result ≡ gathered_weight rows.now counts.now }
 {
-    let mut numbers = [0u64; 8];
-    let rows = &mut numbers[..sizes.len()];
-    read_sizes(sizes, rows);
     weight_in(binomials, column, counts) * count_gathered(rows, counts) as u128
 }

@@ -13,7 +13,7 @@ ghost use Rattle.sorted_tables.specs.SortedSteps.{AreSorted, ChoiceSeat, IsGathe
 use crate::choice_lines::list_choices;
 use crate::gathering::{next_gathered, weight_gathered};
 use crate::orders::fall_away;
-use label_network::{Binomials, first_counts, rest_in, write_sizes};
+use label_network::{Binomials, first_counts, read_sizes, rest_in, write_sizes};
 use room_network::Rooms;
 use std::alloc::Global;
 use weights::{Line, NoMemory};
@@ -153,8 +153,11 @@ impl Rooms for SortedRooms {
         self.choice_at(stage, room, choice);
         let column = self.column(stage);
         choice_seat(&self.binomials, column, room, choice);
-        fall_away(room, choice, next);
-        weight_gathered(&self.binomials, column, room, choice)
+        let mut numbers = [0u64; 8];
+        let rows = &mut numbers[..room.len()];
+        read_sizes(room, rows);
+        fall_away(rows, choice, next);
+        weight_gathered(&self.binomials, column, rows, choice)
     }
 
     #[inline(always)]

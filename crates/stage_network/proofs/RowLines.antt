@@ -3,8 +3,8 @@ use Rattle.std.proofs.Common.{◌≡◌, ℕ, zero, suc, ◌+◌, ◌<◌, List,
 use Rattle.std.specs.Prelude.{ℤ}
 use Rattle.std.proofs.lemmas.List.{length-take-le}
 use Rattle.node_pool.specs.Nodes.{Node, node}
-use Rattle.dense_rows.specs.Rows.{row_nodes, stepped}
-use Rattle.dense_rows.proofs.RowNodes.{row-parts}
+use Rattle.count_arrays.specs.Rows.{row_nodes, stepped}
+use Rattle.count_arrays.proofs.RowNodes.{row-parts}
 use Rattle.stage_network.specs.ArcSteps.{lift}
 use Rattle.stage_network.specs.RowSteps.{Row, all_nodes, row_whole}
 use Rattle.stage_network.proofs.OpenKeys.{map-append}

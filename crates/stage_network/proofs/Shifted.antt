@@ -5,8 +5,8 @@ use Rattle.std.specs.List.{Contains, AllByRecursion, sum}
 use Rattle.std.proofs.lemmas.Int.{ints}
 use Rattle.std.proofs.lemmas.List.Sums.{sum_by-cons}
 use Rattle.node_pool.specs.Nodes.{Node, node, weighted}
-use Rattle.dense_rows.specs.Rows.{row_nodes}
-use Rattle.dense_rows.proofs.RowSums.{positive, weighted-row, row_sum-one}
+use Rattle.count_arrays.specs.Rows.{row_nodes}
+use Rattle.count_arrays.proofs.RowSums.{positive, weighted-row, row_sum-one}
 use Rattle.networks.specs.Network.{Network, IsReached}
 use Rattle.stage_network.specs.NodeSteps.{AreNodes}
 use Rattle.stage_network.specs.ArcSteps.{Arc, AllFine, IsFine, bucket, chosen, lift, segment, spread_out}

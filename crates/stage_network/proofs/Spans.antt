@@ -4,8 +4,8 @@ use Rattle.std.specs.Prelude.{ℤ, pos, ◌+ℤ◌}
 use Rattle.std.specs.List.{Contains}
 use Rattle.std.proofs.lemmas.List.{length-append, get_or_append_left, get_or_push, length_push}
 use Rattle.node_pool.specs.Nodes.{Node, node}
-use Rattle.dense_rows.specs.Rows.{row_nodes, stepped}
-use Rattle.dense_rows.proofs.RowSums.{positive}
+use Rattle.count_arrays.specs.Rows.{row_nodes, stepped}
+use Rattle.count_arrays.proofs.RowSums.{positive}
 use Rattle.networks.specs.Network.{Network, IsReached}
 use Rattle.networks.specs.Rooms.{IsArc}
 use Rattle.networks.specs.Shifts.{IsShifting}

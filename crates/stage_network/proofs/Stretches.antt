@@ -9,9 +9,9 @@ use Rattle.std.proofs.lemmas.List.Sums.{sum_by-cons, sum_by-append, sum_by-take-
 use Rattle.weights.specs.declared.tails.Tail.{Tail}
 use Rattle.weights.specs.declared.tails.Tail.TheVariants.{Less, Greater, Two}
 use Rattle.node_pool.specs.Nodes.{Node, node, weighted}
-use Rattle.dense_rows.specs.Rows.{row_nodes, stepped}
-use Rattle.dense_rows.proofs.RowSums.{positive, sum-take}
-use Rattle.dense_rows.proofs.RowNodes.{row-parts}
+use Rattle.count_arrays.specs.Rows.{row_nodes, stepped}
+use Rattle.count_arrays.proofs.RowSums.{positive, sum-take}
+use Rattle.count_arrays.proofs.RowNodes.{row-parts}
 use Rattle.networks.specs.declared.tail_sums.Verdicts.{Verdicts}
 use Rattle.networks.specs.Network.{Network, IsReached}
 use Rattle.networks.specs.Completions.{is_inside}

@@ -4,7 +4,7 @@ use Rattle.std.specs.Prelude.{length, take, drop, get_or}
 use Rattle.std.specs.List.{Contains, flat_map, AllByRecursion}
 use Rattle.weights.specs.declared.TheConstants.{MAX}
 use Rattle.node_pool.specs.Nodes.{Node, weighted}
-use Rattle.dense_rows.specs.Rows.{row_nodes}
+use Rattle.count_arrays.specs.Rows.{row_nodes}
 use Rattle.weights.specs.declared.tails.Tail.{Tail}
 use Rattle.networks.specs.declared.tail_sums.TailSums.{TailSums}
 use Rattle.networks.specs.declared.tail_sums.Kept.{Kept}

@@ -1,7 +1,7 @@
 -- A sweep over rows of cells: what it owns, and where it stands.
 use Rattle.std.specs.Prelude.{◌≡◌, ℕ, ℤ, ◌<◌, ◌≤◌, pos, List, length, map}
 use Rattle.node_pool.specs.Nodes.{Node}
-use Rattle.dense_rows.specs.Rows.{row_nodes}
+use Rattle.count_arrays.specs.Rows.{row_nodes}
 use Rattle.stage_network.specs.declared.row_arcs.RowArcs.{RowArcs}
 use Rattle.stage_network.specs.declared.row_filling.RoomRow.{RoomRow}
 use Rattle.stage_network.specs.declared.row_sweeps.RowSweep.{RowSweep}

@@ -22,7 +22,7 @@ use weights::{NoMemory, Tail, Tails};
 // The sums of the asked tails by one sweep of the network that serves them all.
 fn by_one_sweep<P: Prepared>(alloc: Global, problem: &P, tails: Tails) -> Result<TailSums, NoMemory>
     requires has { HasTails (P.test problem.now) tails }
-    requires shared { AreShared (P.test problem.now) (P.runs problem.now) }
+    requires shared { AreShared (P.test problem.now) (P.running problem.now) }
     ensures { let opened = open_keys (P.network problem.now) in
         IfOk result (λ sums. (t : Tail) → asks tails t ≡ true
         → sum_for sums t ≡ tail_of (P.test problem.now) opened t Way.Network) }

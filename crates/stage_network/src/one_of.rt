@@ -12,7 +12,7 @@ impl<A: Prepared, B: Prepared> Prepared for OneOf<A, B> {
 
     ghost network = { of_either A.network B.network };
 
-    ghost runs = { of_either A.runs B.runs };
+    ghost running = { of_either A.running B.running };
 
     fn has_tail(&self, tail: Tail) -> bool {
         match self {

@@ -27,7 +27,7 @@ pub trait Prepared: Framed {
     ghost network: { Self → Tail → Network };
 
     /// The network of each tail that runs: its keys stand for those that are written down.
-    ghost runs: { Self → Tail → Network };
+    ghost running: { Self → Tail → Network };
 
     /// Whether the test has a tail.
     fn has_tail(&self, tail: Tail) -> bool
@@ -36,7 +36,7 @@ pub trait Prepared: Framed {
 
     /// Whether one network serves all tails that the test has, so that one sweep does.
     fn is_shared(&self) -> bool
-        ensures { result ≡ true → AreShared (Self.test self.now) (runs self.now) }
+        ensures { result ≡ true → AreShared (Self.test self.now) (running self.now) }
     {
         false
     }
@@ -47,17 +47,17 @@ pub trait Prepared: Framed {
     /// as much weight.
     fn stages_of(&self, alloc: Global, tail: Tail) -> Result<Self::Built, NoMemory>
         requires { (Self.test self.now).has_tail tail ≡ true }
-        ensures built { let n = runs self.now tail in
+        ensures built { let n = running self.now tail in
             IfOk result (λ built. Self.Built.Stages.network built ≡ n) }
-        ensures follows { AllFollow (Self.test self.now) (runs self.now) }
-        ensures written { AreWritten (Self.test self.now) (runs self.now) (network self.now) };
+        ensures follows { AllFollow (Self.test self.now) (running self.now) }
+        ensures written { AreWritten (Self.test self.now) (running self.now) (network self.now) };
 
     /// A network for a tail that the test has, where no key is to be counted: it may have fewer
     /// keys than the one that is written down. Its completions too end at what is measured of the
     /// rearrangements, for the tail and for each other one that the same network serves.
     fn quick_stages_of(&self, alloc: Global, tail: Tail) -> Result<Self::Built, NoMemory>
         requires { (Self.test self.now).has_tail tail ≡ true }
-        ensures { let follows = FollowsAlong (Self.test self.now) (runs self.now) tail in
+        ensures { let follows = FollowsAlong (Self.test self.now) (running self.now) tail in
             IfOk result (λ built. follows (Self.Built.Stages.network built)) }
     {
         self.stages_of(alloc, tail)
@@ -121,15 +121,17 @@ pub trait Prepared: Framed {
 /// has as many open keys.
 pub fn network_of<P: Prepared>(alloc: Global, problem: &P, tail: Tail) -> Result<P::Built, NoMemory>
     requires { (P.test problem.now).has_tail tail ≡ true }
-    ensures built { let n = P.runs problem.now tail in
+    ensures built { let n = P.running problem.now tail in
         IfOk result (λ built. P.Built.Stages.network built ≡ n) }
-    ensures follows { AllFollow (P.test problem.now) (P.runs problem.now) }
-    ensures whole { let n = P.runs problem.now tail in
+    ensures follows { AllFollow (P.test problem.now) (P.running problem.now) }
+    ensures whole { let n = P.running problem.now tail in
         total_weight n 0 n.first ≡ total (P.test problem.now) }
-    ensures numerator { let n = P.runs problem.now tail in
+    ensures numerator { let n = P.running problem.now tail in
         extreme_weight n tail 0 n.first ≡ numerator (P.test problem.now) tail }
-    ensures written { AreWritten (P.test problem.now) (P.runs problem.now) (P.network problem.now) }
-    ensures counted { OpenAlike (P.test problem.now) (P.runs problem.now) (P.network problem.now) }
+    ensures written { AreWritten (P.test problem.now) (P.running problem.now)
+        (P.network problem.now) }
+    ensures counted { OpenAlike (P.test problem.now) (P.running problem.now)
+        (P.network problem.now) }
 {
     problem.stages_of(alloc, tail)
 }

@@ -3,7 +3,7 @@
 ghost use Rattle.std.specs.Prelude.{◌≡◌, ◌+ℤ◌, ◌+◌, ◌*◌, ◌<◌, [], ◌∷◌, ◌++◌, length, take};
 ghost use Rattle.std.specs.Prelude.{OnOk, IfOk, pos, slice_index_or};
 ghost use Rattle.node_pool.specs.Nodes.{Node};
-ghost use Rattle.dense_rows.specs.Rows.{stepped};
+ghost use Rattle.count_arrays.specs.Rows.{stepped};
 ghost use Rattle.stage_network.specs.RowSteps.{IsSpan, all_nodes};
 ghost use Rattle.stage_network.specs.RowSweeps.{AreRowsHere, AreRowsListed, HasRowBuffers};
 
@@ -12,7 +12,7 @@ use crate::row_plans::{Plan, are_thick, note, plan_of};
 use crate::row_rooms::RoomRows;
 use crate::stage_arcs::StageArcs;
 use crate::stops::Stop;
-use dense_rows::{count_keys, first_full};
+use count_arrays::{count_keys, first_full};
 use networks::{Roomed, Stages, write_key};
 use std::alloc::Global;
 use weights::{Count, NoMemory};

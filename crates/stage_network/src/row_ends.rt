@@ -3,7 +3,7 @@ ghost use Rattle.std.specs.Prelude.{◌≡◌, ℕ, ℤ, pos, ◌+◌, ◌≤◌
 ghost use Rattle.std.specs.Prelude.{length, map, OnOk, IfOk, IfSome};
 ghost use Rattle.weights.specs.declared.TheConstants.{MAX};
 ghost use Rattle.node_pool.specs.Nodes.{weighted};
-ghost use Rattle.dense_rows.specs.Rows.{row_nodes, stepped};
+ghost use Rattle.count_arrays.specs.Rows.{row_nodes, stepped};
 ghost use Rattle.networks.specs.Completions.{total_weight, ending_weight};
 ghost use Rattle.stage_network.specs.NodeSteps.{AllReached};
 ghost use Rattle.stage_network.specs.ArcSteps.{lift};

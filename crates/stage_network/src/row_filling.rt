@@ -2,7 +2,7 @@
 ghost use Rattle.std.specs.Prelude.{◌≡◌, ℕ, ℤ, pos, ◌+◌, ◌*◌, ◌<◌, List, [], ◌∷◌, length};
 ghost use Rattle.std.specs.Prelude.{map, replicate, true, OnOk, IfOk, slice_index_or};
 ghost use Rattle.node_pool.specs.Nodes.{Node, node, weighted};
-ghost use Rattle.dense_rows.specs.Rows.{row_nodes};
+ghost use Rattle.count_arrays.specs.Rows.{row_nodes};
 ghost use Rattle.stage_network.specs.ArcSteps.{spread_out, bucket, lift};
 ghost use Rattle.stage_network.specs.SweepSteps.{IsWithin};
 ghost use Rattle.stage_network.specs.RowSteps.{Row, all_nodes, moved};
@@ -14,7 +14,7 @@ use crate::row_heads::Shift;
 use crate::row_plans::room_plan;
 use crate::row_rooms::RoomRows;
 use crate::stops::Stop;
-use dense_rows::{cells_apart, place_of, pour};
+use count_arrays::{cells_apart, place_of, pour};
 use networks::{Roomed, Stages};
 use std::alloc::Global;
 use weights::Count;

@@ -1,6 +1,6 @@
 // A room's row, kept without the empty cells at its ends.
 ghost use Rattle.std.specs.Prelude.{◌≡◌, ℤ, ◌++◌, length, map, OnOk};
-ghost use Rattle.dense_rows.specs.Rows.{row_nodes};
+ghost use Rattle.count_arrays.specs.Rows.{row_nodes};
 ghost use Rattle.stage_network.specs.ArcSteps.{lift};
 ghost use Rattle.stage_network.specs.RowSteps.{all_nodes};
 ghost use Rattle.stage_network.specs.RowSweeps.{row_partials};
@@ -9,7 +9,7 @@ use crate::row_arcs::number_at;
 use crate::row_filling::RoomRow;
 use crate::row_rooms::RoomRows;
 use crate::stops::Stop;
-use dense_rows::{first_full, last_full};
+use count_arrays::{first_full, last_full};
 use weights::Count;
 
 // The cells before those behind the last key.

@@ -5,7 +5,7 @@ ghost use Rattle.std.specs.Prelude.{take, drop, OnOk, IfOk, slice_index_or, ifâ—
 ghost use Rattle.weights.specs.declared.tails.Tail.{Tail};
 ghost use Rattle.weights.specs.declared.TheConstants.{MAX};
 ghost use Rattle.node_pool.specs.Nodes.{weighted};
-ghost use Rattle.dense_rows.specs.Rows.{row_nodes};
+ghost use Rattle.count_arrays.specs.Rows.{row_nodes};
 ghost use Rattle.networks.specs.Network.{IsReached};
 ghost use Rattle.networks.specs.Completions.{is_inside};
 ghost use Rattle.networks.specs.Opened.{is_undecided};
@@ -21,7 +21,7 @@ use crate::row_arcs::number_at;
 use crate::row_filling::RoomRow;
 use crate::settling::{rest_of, verdicts_of};
 use crate::stops::Stop;
-use dense_rows::{count_keys, first_full, forget, total};
+use count_arrays::{count_keys, first_full, forget, total};
 use networks::{Kept, Roomed, Stages, TailSums, Verdicts};
 use weights::{Count, Tail, Tails};
 

@@ -12,7 +12,7 @@ use Rattle.midranks.proofs.Places.{ranks-are, values_in-groups}
 use Rattle.midranks.proofs.TieLemmas.{groups-counts}
 use Rattle.sample_reader.specs.PooledSample.{values_of}
 use Rattle.sample_reader.specs.declared.subjects.Subject.{Subject}
-use Rattle.label_network.specs.LaterSums.{subjects}
+use Rattle.later_scores.specs.LaterSums.{subjects}
 use Rattle.pooled_columns.proofs.PooledValues.{Rises}
 use Rattle.pooled_columns.proofs.TieColumns.{grouped}
 use Rattle.stratified_ranks.specs.RankRooms.{column_ranks, columns_after, rank_columns, left, second_of}

@@ -16,7 +16,7 @@ use Rattle.networks.proofs.Steps.{reached-next, total_weight-step}
 use Rattle.networks.specs.Judged.{JudgeFits}
 use Rattle.networks.specs.declared.verdicts.Judge.{Judge}
 use Rattle.room_network.specs.Meanings.{IsMeasure}
-use Rattle.room_network.specs.Numbers.{IsNumber}
+use Rattle.room_network.specs.Numbers.{IsScalar}
 use Rattle.room_network.specs.Plans.{IsPlan, Plan, alone}
 use Rattle.room_network.specs.declared.numbers.Operation.TheVariants.{Sum}
 use Rattle.room_network.proofs.RoomKeys.{choices_before, is_allowed}
@@ -214,7 +214,7 @@ module _ (columns : List Column) (f : AreFitColumns columns) where
   pub rank_measure : (judge : Judge) → IsMeasure (rank_meaning columns judge)
   rank_measure judge = natural_measure plan Sum _ _ _ bounds judge
 
-  pub rank_number : (judge : Judge) → ((v : ℤ) → unsigned_abs v ≤ sum (column_ranks columns) → JudgeFits judge v) → IsNumber (rank_floor columns) (rank_numbers columns judge)
+  pub rank_number : (judge : Judge) → ((v : ℤ) → unsigned_abs v ≤ sum (column_ranks columns) → JudgeFits judge v) → IsScalar (rank_floor columns) (rank_numbers columns judge)
   rank_number judge fits = natural_number plan Sum _ _ _ bounds judge (omega (arith, first-fits, f.ranks_fit)) (λ n h. fits (pos n) (omega (arith, h, first-fits)))
 
 -- ---- the table of later labellings

@@ -9,7 +9,7 @@ use Rattle.sample_reader.specs.PooledSample.{values_of}
 use Rattle.sample_reader.specs.declared.subjects.Subject.{Subject}
 use Rattle.networks.specs.declared.verdicts.Judge.{Judge}
 use Rattle.room_network.specs.Meanings.{Meaning}
-use Rattle.room_network.specs.Numbers.{Numbers, number_meaning}
+use Rattle.room_network.specs.Numbers.{Numbers, scalar_meaning}
 use Rattle.room_network.specs.Plans.{Floor, Plan, Weights}
 use Rattle.room_network.specs.declared.numbers.Operation.TheVariants.{Sum}
 use Rattle.count_rooms.specs.OneCount.{choices_between, chosen, remaining}
@@ -118,4 +118,4 @@ rank_numbers columns judge = record {
 }
 
 abbrev pub rank_meaning : List Column → Judge → Meaning
-rank_meaning columns judge = number_meaning (rank_floor columns) (rank_numbers columns judge)
+rank_meaning columns judge = scalar_meaning (rank_floor columns) (rank_numbers columns judge)

@@ -10,7 +10,7 @@ use crate::rank_rooms::{column_of, from_stage};
 use crate::rank_sums::{greatest_added, least_added, ranks_of};
 use count_rooms::count_in;
 use networks::{Interval, Judge};
-use room_network::{NumberMeasure, Operation};
+use room_network::{Operation, ScalarMeasure};
 use weights::List;
 
 /// The sum of the second group's ranks. What can still be added is, for each stratum, at least the
@@ -47,7 +47,7 @@ impl RankMeasure {
     {}
 }
 
-impl NumberMeasure for RankMeasure {
+impl ScalarMeasure for RankMeasure {
     ghost floor = { λ m. rank_floor m.columns };
 
     ghost numbers = { λ m. rank_numbers m.columns m.judge };

@@ -4,11 +4,11 @@
 use crate::rank_measure::RankMeasure;
 use crate::rank_rooms::RankRooms;
 use networks::{Roomed, Stages, Verdict};
-use room_network::{Numbered, RoomNetwork};
+use room_network::{FromScalar, RoomNetwork};
 use weights::Tail;
 
 /// What stands in it: the sum of ranks over the rooms of strata.
-pub(crate) type RankNetwork = RoomNetwork<RankRooms, Numbered<RankMeasure>>;
+pub(crate) type RankNetwork = RoomNetwork<RankRooms, FromScalar<RankMeasure>>;
 
 /// The network of the stratified rank sum test.
 #[derive(Drop)]

@@ -10,13 +10,13 @@ use crate::rank_rooms::RankRooms;
 use crate::rank_stages::RankStages;
 use enumerate::next_joined;
 use labelled::UnweightedTest;
-use networks::{Judge, TailSums};
-use room_network::{Numbered, RoomNetwork};
+use networks::Judge;
+use room_network::{FromScalar, RoomNetwork};
 use sample_reader::{Labels, StrataGroups};
 use scores::labelled_sum;
 use std::alloc::Global;
 use std::marker::Model;
-use weights::{Bytes, Ints, NoMemory, Nums, Tail, Tails};
+use weights::{Bytes, Ints, NoMemory, Nums, Tail};
 
 /// The sum of the second group's ranks, each among the values of its own stratum. It is seen as the
 /// samples that it was prepared of.
@@ -77,7 +77,7 @@ impl UnweightedTest for StrataRankSum {
 
     ghost network = { λ samples. ranked_strata_network (strata_subjects samples) };
 
-    ghost runs = { λ samples. ranked_strata_network (strata_subjects samples) };
+    ghost running = { λ samples. ranked_strata_network (strata_subjects samples) };
 
     fn sound(&self) {
         let _made = self.made();
@@ -104,15 +104,7 @@ impl UnweightedTest for StrataRankSum {
         let rooms = RankRooms::new(alloc, made.strata.columns.copy()?)?;
         let columns = made.strata.columns.copy()?;
         let measure = RankMeasure { columns, judge };
-        let network = RoomNetwork::new(rooms, Numbered::new(measure));
+        let network = RoomNetwork::new(rooms, FromScalar::new(measure));
         Ok(RankStages { network })
-    }
-
-    // Where sums seldom meet, by two halves.
-    fn numerators(&self, alloc: Global, judge: Judge, tails: Tails) -> Result<TailSums, NoMemory> {
-        self.sound();
-        let stages = self.stages_of(alloc, judge)?;
-        let sums = halves::tail_sums(alloc, &stages, &judge, tails)?;
-        Ok(sums)
     }
 }

@@ -75,7 +75,7 @@ impl Prepared for StrataTest {
 
     ghost network = { strata_network };
 
-    ghost runs = { strata_network };
+    ghost running = { strata_network };
 
     fn has_tail(&self, tail: Tail) -> bool {
         has_tail(self.odds(), tail)

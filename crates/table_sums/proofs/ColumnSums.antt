@@ -17,8 +17,8 @@ use Rattle.weights.proofs.FirstLabel.{number_of_labellings-positive}
 use Rattle.weights.proofs.Ranges.{range-none, range-one}
 use Rattle.weights.proofs.Sums.{sum_by-one, sum_by-swap}
 use Rattle.completion_bounds.specs.Pairings.{greatest_score}
+use Rattle.later_scores.proofs.Absolute.{size-plus}
 use Rattle.label_network.specs.Linear.{row_sum, table_sum}
-use Rattle.label_network.proofs.Absolute.{size-plus}
 use Rattle.label_network.proofs.LinearSizes.{row-size, score-within}
 use Rattle.table_sums.specs.Tables.{cell, column_of, columns_in}
 use Rattle.table_sums.specs.TableSteps.{AreScores, most_added, most_subjects}

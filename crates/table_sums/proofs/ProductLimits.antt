@@ -6,7 +6,7 @@ use Rattle.std.proofs.Math.Nat.{mul-le-mul}
 use Rattle.weights.specs.Numbers.{absolute_sum}
 use Rattle.networks.specs.declared.verdicts.Judge.{Judge}
 use Rattle.networks.specs.Judged.{JudgeFits}
-use Rattle.label_network.specs.LaterSums.{subjects}
+use Rattle.later_scores.specs.LaterSums.{subjects}
 use Rattle.label_network.specs.Linear.{IsLinear, greatest_sizes}
 use Rattle.table_sums.specs.TableSteps.{AreScores}
 use Rattle.label_network.proofs.LinearValues.{subjects-size}

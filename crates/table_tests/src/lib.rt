@@ -14,7 +14,7 @@ mod table_test;
 
 pub use fisher_test::{
     FisherStages, FisherTable, SortedStages, SortedWeights, WeightMeasure, WeightStages,
-    fisher_tails, is_two_by_two, turned_tests,
+    fisher_tails, is_two_by_two, transposed_tests,
 };
 use label_network::LinearStages;
 pub use linear_by_linear::{LinearTable, ProductSum};

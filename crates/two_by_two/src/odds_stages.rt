@@ -4,11 +4,11 @@
 use crate::odds_rooms::OddsRooms;
 use label_network::LinearMeasure;
 use networks::{Roomed, Stages, Verdict};
-use room_network::{Numbered, RoomNetwork};
+use room_network::{FromScalar, RoomNetwork};
 use weights::Tail;
 
 /// What stands in it: the first cell over the rooms of a table with odds.
-pub(crate) type CellStages = RoomNetwork<OddsRooms, Numbered<LinearMeasure>>;
+pub(crate) type CellStages = RoomNetwork<OddsRooms, FromScalar<LinearMeasure>>;
 
 /// The network of the first cell of a table with odds.
 #[derive(Drop)]

@@ -11,7 +11,7 @@ use crate::odds_weights::odds_weight;
 use enumerate::{Framed, Plain, is_extreme_by};
 use label_network::LinearMeasure;
 use networks::{Judge, Stages};
-use room_network::{Numbered, RoomNetwork};
+use room_network::{FromScalar, RoomNetwork};
 use stage_network::Prepared;
 use std::alloc::Global;
 use weights::{Bytes, Frame, NoMemory, Rule, Tail};
@@ -69,7 +69,7 @@ impl Prepared for OddsTable {
 
     ghost network = { odds_network };
 
-    ghost runs = { odds_network };
+    ghost running = { odds_network };
 
     fn has_tail(&self, tail: Tail) -> bool {
         let _total = self.total();
@@ -102,7 +102,7 @@ impl OddsTable {
         let columns = self.fisher().column_sums();
         let cell = LinearMeasure::new(alloc, &[1, 0], rows, &[1, 0], columns, judge)?;
         let rooms = OddsRooms::new(alloc, self.odds(), columns, rows, total)?;
-        let cell = RoomNetwork::new(rooms, Numbered::new(cell));
+        let cell = RoomNetwork::new(rooms, FromScalar::new(cell));
         Ok(OddsStages { cell })
     }
 }

@@ -17,8 +17,8 @@ use Rattle.sample_reader.specs.Groups.{group_sizes}
 use Rattle.networks.specs.declared.verdicts.Judge.{Judge}
 use Rattle.networks.specs.Judged.{judge_of, rule_in}
 use Rattle.labelled.proofs.LabelLaws.{fit-by, numerator-by}
-use Rattle.rising_pairs.specs.RisingPairs.{rising_pairs}
-use Rattle.rising_pairs.specs.RisingTails.{FitLabellings, even_value, passing_labellings}
+use Rattle.concordant_pairs.specs.ConcordantPairs.{concordant_pairs}
+use Rattle.concordant_pairs.specs.ConcordantTails.{FitLabellings, even_value, passing_labellings}
 use Rattle.two_sample_tests.specs.declared.even_scores.EvenScores.{EvenScores}
 use Rattle.two_sample_tests.specs.EvenSteps.{AreEven, RiseBy, least_sum, pairs_of}
 use Rattle.two_sample_tests.specs.SampleSteps.{AreFitting}
@@ -68,7 +68,7 @@ second-adds n step r p v =
     omega (arith, ints, raised n step v, suc-times n v, all)
 
 even-sum : (step : ℕ) (scores : List ℤ) (xs : List ℕ) (first : ℤ) → RiseBy first step scores → length xs ≡ length scores → AllByRecursion (λ y. y < 2) xs
-    → labelled_sum 1 scores xs ≡ (pos (count_of 1 xs) *ℤ first) +ℤ pos (step * (rising_pairs xs + pairs_of (count_of 1 xs)))
+    → labelled_sum 1 scores xs ≡ (pos (count_of 1 xs) *ℤ first) +ℤ pos (step * (concordant_pairs xs + pairs_of (count_of 1 xs)))
 even-sum step [] [] first rise long all = nothing first step
   where
     nothing : (v : ℤ) (step : ℕ) → pos 0 ≡ (pos 0 *ℤ v) +ℤ pos (step * (0 + 0))
@@ -79,24 +79,24 @@ even-sum step [] (x ∷ xs) first rise long all = absurd (omega (arith, long))
 even-sum step (s ∷ scores) [] first rise long all = absurd (omega (arith, long))
 even-sum step (s ∷ scores) (x ∷ xs) first rise long all = by x all.0 (even-sum step scores xs (first +ℤ pos step) rise.1 (omega (arith, long)) all.1)
   where
-    by : (x : ℕ) → x < 2 → labelled_sum 1 scores xs ≡ (pos (count_of 1 xs) *ℤ (first +ℤ pos step)) +ℤ pos (step * (rising_pairs xs + pairs_of (count_of 1 xs)))
-        → labelled_sum 1 (s ∷ scores) (x ∷ xs) ≡ (pos (count_of 1 (x ∷ xs)) *ℤ first) +ℤ pos (step * (rising_pairs (x ∷ xs) + pairs_of (count_of 1 (x ∷ xs))))
+    by : (x : ℕ) → x < 2 → labelled_sum 1 scores xs ≡ (pos (count_of 1 xs) *ℤ (first +ℤ pos step)) +ℤ pos (step * (concordant_pairs xs + pairs_of (count_of 1 xs)))
+        → labelled_sum 1 (s ∷ scores) (x ∷ xs) ≡ (pos (count_of 1 (x ∷ xs)) *ℤ first) +ℤ pos (step * (concordant_pairs (x ∷ xs) + pairs_of (count_of 1 (x ∷ xs))))
     by zero h rest =
         let same : count_of 1 (0 ∷ xs) ≡ count_of 1 xs = sum_by-cons (λ y. cond (nat_eq y 1) 1 0) 0 xs ∙ none (count_of 1 xs) in
         ap (λ t. pos 0 +ℤ t) rest
-        ∙ first-adds (count_of 1 xs) step (rising_pairs xs) (pairs_of (count_of 1 xs)) first
-        ∙ ap (λ n. (pos (count_of 1 xs) *ℤ first) +ℤ pos (step * ((n + rising_pairs xs) + pairs_of (count_of 1 xs)))) (sym (more-than_none xs all.1))
-        ∙ ap (λ n. (pos n *ℤ first) +ℤ pos (step * (rising_pairs (0 ∷ xs) + pairs_of n))) (sym same)
+        ∙ first-adds (count_of 1 xs) step (concordant_pairs xs) (pairs_of (count_of 1 xs)) first
+        ∙ ap (λ n. (pos (count_of 1 xs) *ℤ first) +ℤ pos (step * ((n + concordant_pairs xs) + pairs_of (count_of 1 xs)))) (sym (more-than_none xs all.1))
+        ∙ ap (λ n. (pos n *ℤ first) +ℤ pos (step * (concordant_pairs (0 ∷ xs) + pairs_of n))) (sym same)
       where
         none : (n : ℕ) → 0 + n ≡ n
         none n = omega arith
     by (suc zero) h rest =
         let one : count_of 1 (1 ∷ xs) ≡ suc (count_of 1 xs) = sum_by-cons (λ y. cond (nat_eq y 1) 1 0) 1 xs ∙ more (count_of 1 xs) in
         ap (λ t. s +ℤ t) rest
-        ∙ ap (λ v. v +ℤ ((pos (count_of 1 xs) *ℤ (first +ℤ pos step)) +ℤ pos (step * (rising_pairs xs + pairs_of (count_of 1 xs))))) rise.0
-        ∙ second-adds (count_of 1 xs) step (rising_pairs xs) (pairs_of (count_of 1 xs)) first
-        ∙ ap (λ n. (pos (suc (count_of 1 xs)) *ℤ first) +ℤ pos (step * ((n + rising_pairs xs) + (pairs_of (count_of 1 xs) + count_of 1 xs)))) (sym (more-than_one xs all.1))
-        ∙ ap (λ n. (pos n *ℤ first) +ℤ pos (step * (rising_pairs (1 ∷ xs) + pairs_of n))) (sym one)
+        ∙ ap (λ v. v +ℤ ((pos (count_of 1 xs) *ℤ (first +ℤ pos step)) +ℤ pos (step * (concordant_pairs xs + pairs_of (count_of 1 xs))))) rise.0
+        ∙ second-adds (count_of 1 xs) step (concordant_pairs xs) (pairs_of (count_of 1 xs)) first
+        ∙ ap (λ n. (pos (suc (count_of 1 xs)) *ℤ first) +ℤ pos (step * ((n + concordant_pairs xs) + (pairs_of (count_of 1 xs) + count_of 1 xs)))) (sym (more-than_one xs all.1))
+        ∙ ap (λ n. (pos n *ℤ first) +ℤ pos (step * (concordant_pairs (1 ∷ xs) + pairs_of n))) (sym one)
       where
         more : (n : ℕ) → 1 + n ≡ suc n
         more n = omega arith
@@ -116,16 +116,16 @@ module _ (samples : TwoSamples) (f : AreFitting samples) (even : EvenScores) (ar
   abbrev base : ℤ
   base = least_sum even (slice_index sizes 1)
 
-  sum-rises : (xs : List ℕ) → IsLabelling sizes xs → labelled_sum 1 (pooled_scores samples) xs ≡ even_value base even.step (rising_pairs xs)
+  sum-rises : (xs : List ℕ) → IsLabelling sizes xs → labelled_sum 1 (pooled_scores samples) xs ≡ even_value base even.step (concordant_pairs xs)
   sum-rises xs l =
       let two : length sizes ≡ 2 = ap length f.sizes_are in
       let second : count_of 1 xs ≡ slice_index sizes 1 = ap (λ counts. slice_index counts 1) (rw two at l.counted) in
       even-sum even.step (pooled_scores samples) xs even.first are.rise (l.over.long ∙ f.labels.are.whole) (rw two at l.over.below)
-      ∙ ap (λ n. (pos n *ℤ even.first) +ℤ pos (even.step * (rising_pairs xs + pairs_of n))) second
-      ∙ parted even.first (slice_index sizes 1) even.step (rising_pairs xs) (pairs_of (slice_index sizes 1))
+      ∙ ap (λ n. (pos n *ℤ even.first) +ℤ pos (even.step * (concordant_pairs xs + pairs_of n))) second
+      ∙ parted even.first (slice_index sizes 1) even.step (concordant_pairs xs) (pairs_of (slice_index sizes 1))
 
   pub numerator-rises : (tail : Tail) → numerator (two_sample_test samples) tail ≡ passing_labellings (rule_in (judge_of (two_sample_test samples)) tail) base even.step sizes
-  numerator-rises = numerator-by (two_sample_says samples) (λ xs. even_value base even.step (rising_pairs xs)) sum-rises
+  numerator-rises = numerator-by (two_sample_says samples) (λ xs. even_value base even.step (concordant_pairs xs)) sum-rises
 
-  pub fit-rising : (judge : Judge) → judge ≡ judge_of (two_sample_test samples) → FitLabellings judge base even.step sizes
-  fit-rising judge e = fit-by (two_sample_says samples) (λ xs. even_value base even.step (rising_pairs xs)) sum-rises judge e (is-within samples f)
+  pub fit-concordant : (judge : Judge) → judge ≡ judge_of (two_sample_test samples) → FitLabellings judge base even.step sizes
+  fit-concordant judge e = fit-by (two_sample_says samples) (λ xs. even_value base even.step (concordant_pairs xs)) sum-rises judge e (is-within samples f)

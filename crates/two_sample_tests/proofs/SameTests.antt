@@ -4,7 +4,7 @@ use Rattle.std.specs.Prelude.{ℤ, pos, ◌+ℤ◌, ◌*ℤ◌, slice_index}
 use Rattle.std.proofs.Math.IntN.{zero-*ℤ}
 use Rattle.std.proofs.lemmas.Int.{ints}
 use Rattle.weights.specs.Numbers.{absolute_sum}
-use Rattle.label_network.specs.LaterSums.{total_score}
+use Rattle.later_scores.specs.LaterSums.{total_score}
 use Rattle.label_network.specs.Linear.{linear_statistic, row_sum, score_of}
 use Rattle.labelled.specs.LinearTests.{linear_says}
 use Rattle.scores.specs.Scores.{labelled_sum}

@@ -7,13 +7,13 @@ ghost use Rattle.two_sample_tests.specs.TwoSamples.{two_sample_test};
 ghost use Rattle.two_sample_tests.specs.SampleSteps.{AreScored};
 
 use crate::even_scores::{even_scores, least_sum};
-use drawn_sums::drawn_sums;
+use concordant_pairs::concordant_sums;
 use label_network::LinearStages;
 use labelled::{LabelStatistic, Labelled, LinearSum};
 use networks::{Judge, TailSums};
 use pooled_columns::prepare_scored;
-use rising_pairs::rising_sums;
 use sample_reader::{Groups, Labels};
+use score_convolution::drawn_sums;
 use scores::{ScoreKind, labelled_sum};
 use std::alloc::Global;
 use std::marker::Model;
@@ -100,7 +100,7 @@ impl LabelStatistic for ScoreSum {
 
     ghost network = { λ samples. label_network (two_sample_meaning samples) };
 
-    ghost runs = { λ samples. label_network (two_sample_meaning samples) };
+    ghost running = { λ samples. label_network (two_sample_meaning samples) };
 
     fn sound(&self) {
         let _made = self.made();
@@ -123,7 +123,7 @@ impl LabelStatistic for ScoreSum {
     }
 
     // Where scores rise by one step, by how many pairs of subjects rise; else by draws of the
-    // second sample, or, where sums seldom meet, by two halves.
+    // smaller sample.
     fn numerators(&self, alloc: Global, judge: Judge, tails: Tails) -> Result<TailSums, NoMemory> {
         self.sound();
         let made = self.made().scored();
@@ -131,13 +131,10 @@ impl LabelStatistic for ScoreSum {
         let sizes = made.sizes.as_slice();
         if let Some(even) = even_scores(scores) {
             let base = least_sum(even, sizes[1]);
-            return rising_sums(alloc, sizes, base, even.step, &judge);
-        }
-        if let Some(sums) = drawn_sums(alloc, scores, sizes[1] as usize, &judge, tails)? {
-            return Ok(sums);
+            return concordant_sums(alloc, sizes, base, even.step, &judge);
         }
         let stages = self.stages_of(alloc, judge)?;
-        let sums = halves::tail_sums(alloc, &stages, &judge, tails)?;
-        Ok(sums)
+        let drawn = sizes[1] as usize;
+        drawn_sums(alloc, &stages, scores, drawn, &judge, tails)
     }
 }

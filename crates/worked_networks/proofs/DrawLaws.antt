@@ -15,7 +15,7 @@ use Rattle.networks.specs.declared.verdicts.Judge.{Judge}
 use Rattle.networks.proofs.Apart.{one_apart, two_apart}
 use Rattle.networks.proofs.Judging.{fits-between}
 use Rattle.room_network.specs.Meanings.{AreReached, IsMeasure, IsMove, Meaning}
-use Rattle.room_network.specs.Numbers.{Fits, IsNumber, IsOutcome, number_meaning, so_far}
+use Rattle.room_network.specs.Numbers.{Fits, IsScalar, IsOutcome, scalar_meaning, so_far}
 use Rattle.room_network.specs.Plans.{IsPlan, alone}
 use Rattle.room_network.specs.declared.numbers.Operation.TheVariants.{Sum}
 use Rattle.weights.proofs.Items.{one_item}
@@ -252,7 +252,7 @@ record IsHeld (g : ℕ) (room p : List ℤ) : Type 0 where
 
 module _ (judge : Judge) where
   abbrev m : Meaning
-  m = number_meaning box.floor (white_numbers judge)
+  m = scalar_meaning box.floor (white_numbers judge)
 
   held-there : (g : ℕ) (room p : List ℤ) → AreReached m g room p → IsHeld g room p
   held-there zero room p r = record { found_there = at_first refl r.0; so = 0; partial = r.1; few = omega arith }
@@ -303,7 +303,7 @@ module _ (judge : Judge) where
       subst (λ j. IsOutcome Sum j (so_far p) (pos n)) (sym e)
       (subst (λ q. IsOutcome Sum some_white (so_far q) (pos n)) (sym here.partial) (outcome here.so n (omega (arith, few, here.few, stage-few g room here.found_there))))
 
-  pub white-number : judge ≡ some_white → IsNumber box.floor (white_numbers judge)
+  pub white-number : judge ≡ some_white → IsScalar box.floor (white_numbers judge)
   white-number e = record {
     narrows = white_measure;
     steps = step-fits;

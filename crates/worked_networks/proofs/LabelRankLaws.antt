@@ -18,7 +18,7 @@ use Rattle.networks.specs.Judged.{JudgeFits, judge_of}
 use Rattle.networks.proofs.Following.{judge-fits}
 use Rattle.networks.proofs.Judging.{fits-between}
 use Rattle.room_network.specs.Meanings.{AreReached, IsMove}
-use Rattle.room_network.specs.Numbers.{Fits, IsNumber, IsOutcome, so_far}
+use Rattle.room_network.specs.Numbers.{Fits, IsScalar, IsOutcome, so_far}
 use Rattle.room_network.specs.declared.numbers.Operation.TheVariants.{Sum}
 use Rattle.label_network.specs.LabelNetwork.{over_rooms, over_sizes}
 use Rattle.label_network.specs.LabelRooms.{label_floor}
@@ -219,7 +219,7 @@ module _ (judge : Judge) where
         let few : s.so + 2 * (g + 1) * slice_index c 1 ≤ MAX = omega (arith, most, s.small, v.before, added-small g (slice_index c 1) v.before (omega (arith, one-subject))) in
         subst (λ q. Fits Sum (so_far q) (pos (2 * (g + 1) * slice_index c 1))) (sym s.partial) few
 
-  pub rank-number : judge ≡ judge_of rank_test → IsNumber (label_floor six samples) (over_sizes (rank_numbers judge))
+  pub rank-number : judge ≡ judge_of rank_test → IsScalar (label_floor six samples) (over_sizes (rank_numbers judge))
   rank-number e = over_number six samples (rank_numbers judge)
       (measured m refl IsSeat narrowing starts one-number)
       step-fits

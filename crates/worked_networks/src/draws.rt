@@ -5,7 +5,7 @@ ghost use Rattle.networks.specs.Judged.{rule_in};
 ghost use Rattle.worked_networks.specs.Draws.{GivesDraws, draws, first_colour, some_white, whites};
 
 use networks::{Interval, Judge, TailSum};
-use room_network::{NumberMeasure, Numbered, Operation, RoomNetwork, Rooms};
+use room_network::{FromScalar, Operation, RoomNetwork, Rooms, ScalarMeasure};
 use stage_network::tail_sum;
 use std::alloc::Global;
 use weights::{NoMemory, Rule, Tail};
@@ -91,7 +91,7 @@ pub struct WhiteBalls {
     ghost ruled: { judge ≡ some_white },
 }
 
-impl NumberMeasure for WhiteBalls {
+impl ScalarMeasure for WhiteBalls {
     ghost use Rattle.worked_networks.specs.Draws.{box, white_numbers};
 
     ghost floor = { λ _. box.floor };
@@ -133,6 +133,6 @@ pub fn white_draws(alloc: Global, tail: Tail) -> Result<TailSum, NoMemory>
         two: Rule::AtLeast(1),
     };
     drawing_law();
-    let stages = RoomNetwork::new(DrawRooms, Numbered::new(WhiteBalls { judge }));
+    let stages = RoomNetwork::new(DrawRooms, FromScalar::new(WhiteBalls { judge }));
     tail_sum(alloc, &stages, tail)
 }

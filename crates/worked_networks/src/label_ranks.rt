@@ -7,7 +7,7 @@ ghost use Rattle.worked_networks.specs.LabelRanks.{first_ranks, last_ranks, rank
 
 use label_network::{ByIntervals, LabelStages, label_stages, read_sizes};
 use networks::{Interval, Judge, TailSum};
-use room_network::{NumberMeasure, Numbered, Operation};
+use room_network::{FromScalar, Operation, ScalarMeasure};
 use stage_network::tail_sum;
 use std::alloc::Global;
 use weights::{NoMemory, Rule, Tail};
@@ -49,7 +49,7 @@ fn last_ranks(left: u64) -> u64
     left * (13 - left)
 }
 
-impl NumberMeasure for LabelRanks {
+impl ScalarMeasure for LabelRanks {
     ghost use Rattle.label_network.specs.LabelNetwork.{over_sizes};
     ghost use Rattle.label_network.specs.LabelRooms.{label_floor};
     ghost use Rattle.worked_networks.specs.LabelRanks.{rank_numbers, samples, six};
@@ -81,10 +81,10 @@ impl NumberMeasure for LabelRanks {
 }
 
 // The measure, with the rules of the test.
-fn rank_measure() -> Numbered<LabelRanks>
+fn rank_measure() -> FromScalar<LabelRanks>
     ensures { result.judge ≡ judge_of rank_test }
 {
-    Numbered::new(LabelRanks {
+    FromScalar::new(LabelRanks {
         judge: Judge {
             less: Rule::AtMost(30),
             greater: Rule::AtLeast(30),

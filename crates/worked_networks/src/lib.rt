@@ -5,8 +5,6 @@
 mod blocks;
 mod draws;
 mod from_lines;
-#[cfg(test)]
-mod halved;
 mod label_ranks;
 mod ranks;
 mod signed_ranks;

@@ -152,7 +152,7 @@ impl Prepared for SignedRanks {
 
     ghost network = { λ _. worked_network };
 
-    ghost runs = { λ _. worked_network };
+    ghost running = { λ _. worked_network };
 
     fn has_tail(&self, _tail: Tail) -> bool {
         true

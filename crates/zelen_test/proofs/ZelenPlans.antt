@@ -12,7 +12,7 @@ use Rattle.networks.specs.Network.{IsReached}
 use Rattle.networks.specs.Judged.{JudgeFits}
 use Rattle.networks.specs.declared.verdicts.Judge.{Judge}
 use Rattle.room_network.specs.Meanings.{IsMeasure, partial_after, way_value}
-use Rattle.room_network.specs.Numbers.{IsNumber, so_far}
+use Rattle.room_network.specs.Numbers.{IsScalar, so_far}
 use Rattle.room_network.specs.declared.numbers.Operation.TheVariants.{Product}
 use Rattle.room_network.specs.Plans.{Gives, IsPlan, Plan, alone}
 use Rattle.room_network.proofs.RoomKeys.{KeepsWidth, choices_before, is_allowed}
@@ -169,7 +169,7 @@ module _ (strata : List Stratum) (total : ℕ) where
     pub zelen_measure : (judge : Judge) → IsMeasure (zelen_meaning strata total judge)
     zelen_measure judge = natural_measure plan Product _ _ _ bounds judge
 
-    pub zelen_number : (judge : Judge) → number_with strata total ≤ MAX → ((v : ℤ) → JudgeFits judge v) → IsNumber (zelen_floor strata total) (zelen_numbers strata judge)
+    pub zelen_number : (judge : Judge) → number_with strata total ≤ MAX → ((v : ℤ) → JudgeFits judge v) → IsScalar (zelen_floor strata total) (zelen_numbers strata judge)
     zelen_number judge fits ruled = natural_number plan Product _ _ _ bounds judge fits (λ n h. ruled (pos n))
 
   -- ---- the value of a way

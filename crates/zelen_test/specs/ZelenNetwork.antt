@@ -7,7 +7,7 @@ use Rattle.networks.specs.Judged.{judge_of}
 use Rattle.networks.specs.Network.{Network}
 use Rattle.networks.specs.declared.verdicts.Judge.{Judge}
 use Rattle.room_network.specs.Meanings.{Meaning}
-use Rattle.room_network.specs.Numbers.{Numbers, number_meaning}
+use Rattle.room_network.specs.Numbers.{Numbers, scalar_meaning}
 use Rattle.room_network.specs.Plans.{Floor, Plan, Weights}
 use Rattle.room_network.specs.RoomNetworks.{room_network}
 use Rattle.room_network.specs.declared.numbers.Operation.TheVariants.{Product}
@@ -79,7 +79,7 @@ zelen_numbers strata judge = record {
 
 abbrev pub zelen_meaning : List Stratum → ℕ → Judge → Meaning
 zelen_meaning strata sum judge =
-    number_meaning (zelen_floor strata sum) (zelen_numbers strata judge)
+    scalar_meaning (zelen_floor strata sum) (zelen_numbers strata judge)
 
 abbrev pub observed_sum_network : List Stratum → Network
 observed_sum_network strata =

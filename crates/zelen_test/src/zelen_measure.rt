@@ -10,7 +10,7 @@ ghost use Rattle.zelen_test.specs.ZelenSteps.{AreLesser, AreSumCounts, IsZelenMe
 use crate::sum_counts::SumCounts;
 use count_rooms::count_in;
 use networks::{Interval, Judge};
-use room_network::{NumberMeasure, Operation};
+use room_network::{Operation, ScalarMeasure};
 use std::alloc::Global;
 use strata_cells::{Stratum, cell_weight};
 use weights::{List, NoMemory};
@@ -108,7 +108,7 @@ impl ZelenMeasure {
     }
 }
 
-impl NumberMeasure for ZelenMeasure {
+impl ScalarMeasure for ZelenMeasure {
     ghost use Rattle.zelen_test.specs.ZelenNetwork.{zelen_floor, zelen_numbers};
 
     ghost floor = { λ m. zelen_floor m.counts.strata m.counts.sum };

@@ -4,11 +4,11 @@
 use crate::zelen_measure::ZelenMeasure;
 use crate::zelen_rooms::ZelenRooms;
 use networks::{Roomed, Stages, Verdict};
-use room_network::{Numbered, RoomNetwork};
+use room_network::{FromScalar, RoomNetwork};
 use weights::Tail;
 
 /// What stands in it: the weight over the rooms of strata.
-pub(crate) type ZelenNetwork = RoomNetwork<ZelenRooms, Numbered<ZelenMeasure>>;
+pub(crate) type ZelenNetwork = RoomNetwork<ZelenRooms, FromScalar<ZelenMeasure>>;
 
 /// The network of Zelen's test.
 #[derive(Drop)]

@@ -13,7 +13,7 @@ use crate::zelen_rooms::ZelenRooms;
 use crate::zelen_stages::ZelenStages;
 use enumerate::{Framed, Plain, is_extreme_by};
 use networks::Judge;
-use room_network::{Numbered, RoomNetwork};
+use room_network::{FromScalar, RoomNetwork};
 use stage_network::Prepared;
 use std::alloc::Global;
 use strata_cells::Stratum;
@@ -91,7 +91,7 @@ impl Prepared for Zelen {
 
     ghost network = { zelen_network };
 
-    ghost runs = { zelen_network };
+    ghost running = { zelen_network };
 
     fn has_tail(&self, tail: Tail) -> bool {
         match tail {
@@ -109,7 +109,7 @@ impl Prepared for Zelen {
         let rooms = ZelenRooms::new(counts_of(alloc, &made.strata, made.sum)?);
         let counts = counts_of(alloc, &made.strata, made.sum)?;
         let measure = ZelenMeasure::new(alloc, counts, Judge::of(&made.frame))?;
-        let network = RoomNetwork::new(rooms, Numbered::new(measure));
+        let network = RoomNetwork::new(rooms, FromScalar::new(measure));
         Ok(ZelenStages { network })
     }
 }

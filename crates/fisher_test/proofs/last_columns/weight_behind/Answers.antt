@@ -3,7 +3,7 @@ use Rattle.std.specs.Prelude.{ℤ, pos, nat_abs, int_le}
 use Rattle.std.proofs.lemmas.Int.{to_z-of_z}
 use mir.Syntax.{w128}
 use mir.Val.{to_z, of_z}
-use Rattle.halves.specs.Pairs.{once, valued}
+use Rattle.fisher_test.specs.LastSteps.{once, valued}
 use Rattle.fisher_test.specs.WeightSteps.{past_of}
 use Rattle.fisher_test.proofs.LastColumns.{valued-within}
 use Rattle.fisher_test.proofs.last_columns.weight_behind.Goals as goal

@@ -5,7 +5,7 @@ use mir.Syntax.{w128}
 use mir.Val.{to_z, of_z}
 use Rattle.std.proofs.lemmas.List.{take_all}
 use Rattle.weights.specs.declared.lines.Line.{Line}
-use Rattle.halves.specs.Pairs.{once, valued}
+use Rattle.fisher_test.specs.LastSteps.{once, valued}
 use Rattle.fisher_test.proofs.LastColumns.{line-next, lines-few}
 use Rattle.fisher_test.proofs.last_columns.weight_up_to.Goals as goal
 

@@ -1,6 +1,6 @@
 use Rattle.std.proofs.Common.{◌≡◌, take}
 use Rattle.std.specs.Prelude.{int_le}
-use Rattle.halves.specs.Pairs.{once, valued}
+use Rattle.fisher_test.specs.LastSteps.{once, valued}
 use Rattle.fisher_test.proofs.last_columns.weight_up_to.Given as goal
 
 -- the lines before this one

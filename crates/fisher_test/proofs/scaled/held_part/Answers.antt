@@ -1,6 +1,6 @@
 use Rattle.std.proofs.Common.{◌∙◌, ◌*◌, ap, sym, arith, pos, rules, FitsSigned, to_z-of_z}
 use mir.Syntax.{w128}
-use Rattle.turned_tables.proofs.Reduced.{quotient, ratio-within}
+use Rattle.transposed_tables.proofs.Reduced.{quotient, ratio-within}
 use Rattle.fisher_test.proofs.scaled.held_part.Goals as goal
 
 pub held-requires : goal.held-requires

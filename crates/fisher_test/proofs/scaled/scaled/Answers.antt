@@ -2,7 +2,7 @@ use Rattle.std.proofs.Common.{◌≡◌, ◌∙◌, ◌*◌, ◌/◌, ap, sym, a
 use Rattle.std.specs.Prelude.{nat_abs}
 use mir.Syntax.{w128}
 use Rattle.std.proofs.lemmas.Int.{ints}
-use Rattle.turned_tables.proofs.Reduced.{quotient}
+use Rattle.transposed_tables.proofs.Reduced.{quotient}
 use Rattle.fisher_test.proofs.scaled.scaled.Goals as goal
 
 pub returns : goal.returns

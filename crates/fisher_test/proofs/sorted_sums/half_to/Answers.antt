@@ -4,7 +4,7 @@ use Rattle.stage_network.specs.SweepSteps.{IsSweeping, first_course}
 use Rattle.networks.specs.declared.tail_sums.Kept.{Kept}
 use Rattle.networks.specs.declared.tail_sums.Kept.TheVariants.{Open}
 use Rattle.stage_network.proofs.Courses.{sweeping-nodes}
-use Rattle.halves.proofs.Halving.{first-extreme, first-light}
+use Rattle.fisher_test.proofs.FirstHalves.{first-extreme, first-light}
 use Rattle.fisher_test.proofs.sorted_sums.half_to.Goals as goal
 
 pub advance_to-requires : goal.advance_to-requires

@@ -3,7 +3,7 @@ use Rattle.weights.specs.declared.tails.Tail.TheVariants.{Two}
 use Rattle.node_pool.specs.Nodes.{weighted}
 use Rattle.networks.specs.Completions.{extreme_weight, total_weight}
 use Rattle.networks.specs.EachTail.{sum_for}
-use Rattle.halves.specs.MeetingSteps.{IsFirstHalf}
+use Rattle.fisher_test.specs.LastSteps.{IsFirstHalf}
 use Rattle.room_network.specs.Meanings.{Meaning}
 use Rattle.room_network.specs.RoomNetworks.{room_network}
 use Rattle.sorted_tables.specs.SortedRooms.{sorted_weight}

@@ -2,7 +2,7 @@ use Rattle.std.proofs.Common.{◌≡◌, ◌+◌, ◌*◌, ◌^◌, ◌<◌, ari
 use Rattle.std.specs.Prelude.{ℤ, ◌+ℤ◌, ◌-ℤ◌, ◌*ℤ◌, unsigned_abs}
 use Rattle.std.specs.Int.{w128}
 use Rattle.std.proofs.lemmas.Int.{to_z-of_z, fits_signed_from_abs, unsigned_abs-mul}
-use Rattle.label_network.proofs.Absolute.{size-plus}
+use Rattle.later_scores.proofs.Absolute.{size-plus}
 use Rattle.label_network.proofs.added.add_step.Goals as goal
 
 record Fitting (sum d later : ℤ) : Type 0 where

@@ -1,5 +1,5 @@
 use Rattle.std.proofs.Common.{◌≡◌, ◌++◌, drop}
-use Rattle.label_network.specs.LaterSums.{subjects}
+use Rattle.later_scores.specs.LaterSums.{subjects}
 use Rattle.linear_by_linear.proofs.single_subjects.subject_scores.Given as goal
 
 abbrev pub invariant-loop-i : goal.invariant-loop-i

@@ -9,7 +9,7 @@ pub returns-clause-sums : goal.returns-clause-sums
 returns-clause-sums g c =
     let part = c.args.part in
     let asked : c.args.is_asked ≡ true = search rules in
-    let n : Network = g.P.Prepared.runs c.args.problem.now c.args.tail in
+    let n : Network = g.P.Prepared.running c.args.problem.now c.args.tail in
     let q : Network = g.P.Prepared.network c.args.problem.now c.args.tail in
     let cut : c.in_ok-sums.sums ≡ piece_sum n c.args.tail part.at part.parts part.part =
     c.in_ok-sums.ensures.sums ∙ ap (λ m. piece_sum m c.args.tail part.at part.parts part.part) c.in_ok-stages.ensures.built in

@@ -1,7 +1,6 @@
 use Rattle.std.proofs.Common.{◌≡◌, ◌≤◌, ◌*◌, ℕ, List, sym, ◌∙◌, ap, arith}
 use Rattle.std.specs.List.{sum}
 use Rattle.weights.specs.Labellings.{number_of_labellings}
-use Rattle.label_network.specs.Meanings.{sizes_in}
 use Rattle.label_network.proofs.Narrowing.{chosen}
 use Rattle.sorted_tables.specs.GatheredChoices.{gathered_weight}
 use Rattle.sorted_tables.specs.SortedSteps.{gathered_count}
@@ -19,13 +18,13 @@ weighed counts rows weight number w n =
 
 pub weight_in-requires-clause-fits : goal.weight_in-requires-clause-fits
 weight_in-requires-clause-fits c =
-    let itself : number_of_labellings c.args.counts.now ≤ gathered_weight (sizes_in c.args.sizes.now) c.args.counts.now = weighs-itself c.args.column (sizes_in c.args.sizes.now) c.args.counts.now (chosen c.args.column (sizes_in c.args.sizes.now) c.args.counts.now c.requires.allowed) c.requires.gathered in
+    let itself : number_of_labellings c.args.counts.now ≤ gathered_weight c.args.rows.now c.args.counts.now = weighs-itself c.args.column c.args.rows.now c.args.counts.now (chosen c.args.column c.args.rows.now c.args.counts.now c.requires.allowed) c.requires.gathered in
     omega (arith, itself, c.requires.fits)
 
 pub overflow_mul-result : goal.overflow_mul-result
 overflow_mul-result c =
-    let product : c.weight_in.result * c.count_gathered.result ≡ gathered_weight (sizes_in c.args.sizes.now) c.args.counts.now = weighed (c.args.counts.now) (sizes_in c.args.sizes.now) c.weight_in.result c.count_gathered.result c.weight_in.ensures (c.count_gathered.ensures ∙ ap (λ rows. gathered_count rows c.args.counts.now) c.read_sizes.ensures) in
+    let product : c.weight_in.result * c.count_gathered.result ≡ gathered_weight c.args.rows.now c.args.counts.now = weighed c.args.counts.now c.args.rows.now c.weight_in.result c.count_gathered.result c.weight_in.ensures c.count_gathered.ensures in
     omega (arith, product, c.requires.fits)
 
 pub returns : goal.returns
-returns c = weighed (c.args.counts.now) (sizes_in c.args.sizes.now) c.weight_in.result c.count_gathered.result c.weight_in.ensures (c.count_gathered.ensures ∙ ap (λ rows. gathered_count rows c.args.counts.now) c.read_sizes.ensures)
+returns c = weighed c.args.counts.now c.args.rows.now c.weight_in.result c.count_gathered.result c.weight_in.ensures c.count_gathered.ensures

@@ -11,4 +11,4 @@ returns g c =
     let sum = rw built at c.in_ok-sum.ensures.sum in
     let opened = rw built at c.in_ok-sum.ensures.opened in
     tail_sum_is c.in_ok-sum.sum (numerator test c.args.tail) (open_keys (g.P.Prepared.network c.args.problem.now) c.args.tail)
-    (sum ∙ extreme-is test c.args.tail (g.P.Prepared.runs c.args.problem.now c.args.tail) (c.network_of.ensures.follows c.args.tail c.requires)) (opened ∙ c.network_of.ensures.counted c.args.tail c.requires)
+    (sum ∙ extreme-is test c.args.tail (g.P.Prepared.running c.args.problem.now c.args.tail) (c.network_of.ensures.follows c.args.tail c.requires)) (opened ∙ c.network_of.ensures.counted c.args.tail c.requires)

@@ -11,7 +11,7 @@ use Rattle.stage_network.proofs.answering.by_one_sweep.Goals as goal
 pub returns : goal.returns
 returns g c t a =
     let test = g.P.Plain.test c.args.problem.now in
-    let runs = g.P.Prepared.runs c.args.problem.now in
+    let runs = g.P.Prepared.running c.args.problem.now in
     let has : test.has_tail t ≡ true = c.requires.has t a in
     let same : g.P.Built.Stages.network c.in_ok-stages.stages ≡ runs t = c.in_ok-stages.ensures.built ∙ c.requires.shared c.in-Some.tail t (c.requires.has c.in-Some.tail c.in-Some.ensures.asked) has in
     tail_sum_is (sum_for c.in_ok-sums.sums t) (numerator test t) (open_keys (g.P.Prepared.network c.args.problem.now) t)

@@ -12,7 +12,7 @@ network_of-requires g c = rw c.first_tail-tail.ensures.first c.first_tail-tail.e
 pub returns-clause-lines : goal.returns-clause-lines
 returns-clause-lines g c =
     let test = g.P.Plain.test c.args.problem.now in
-    let runs = g.P.Prepared.runs c.args.problem.now in
+    let runs = g.P.Prepared.running c.args.problem.now in
     let n = g.P.Built.Stages.network c.in_ok-stages.stages in
     let first = first_tail test in
     let shown = c.first_tail-tail.ensures.shown in

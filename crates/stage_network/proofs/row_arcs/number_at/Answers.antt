@@ -2,7 +2,7 @@ use Rattle.std.proofs.Common.{ap, sym, ◌∙◌, rules}
 use Rattle.std.specs.Prelude.{◌+ℤ◌}
 use Rattle.std.proofs.lemmas.Int.{to_z-of_z}
 use mir.Syntax.{w128}
-use Rattle.dense_rows.proofs.RowSums.{stepped-is}
+use Rattle.count_arrays.proofs.RowSums.{stepped-is}
 use Rattle.stage_network.proofs.row_arcs.number_at.Goals as goal
 
 pub returns : goal.returns

@@ -2,7 +2,7 @@ use Rattle.std.proofs.Common.{◌≡◌, ◌<◌, ◌++◌, ℕ, List, length, m
 use Rattle.std.specs.Prelude.{ℤ, pos}
 use Rattle.std.proofs.lemmas.Int.{to_z-of_z}
 use mir.Syntax.{w128}
-use Rattle.dense_rows.specs.Rows.{row_nodes}
+use Rattle.count_arrays.specs.Rows.{row_nodes}
 use Rattle.stage_network.specs.ArcSteps.{lift}
 use Rattle.stage_network.specs.RowSteps.{Row, row_whole}
 use Rattle.stage_network.proofs.RowLines.{rows-more}

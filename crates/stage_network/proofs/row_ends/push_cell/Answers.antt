@@ -3,8 +3,8 @@ use Rattle.std.specs.Prelude.{ℤ, pos}
 use Rattle.std.proofs.lemmas.Int.{to_z-of_z}
 use mir.Syntax.{w128}
 use Rattle.node_pool.specs.Nodes.{node}
-use Rattle.dense_rows.specs.Rows.{row_nodes, stepped}
-use Rattle.dense_rows.proofs.RowSums.{positive}
+use Rattle.count_arrays.specs.Rows.{row_nodes, stepped}
+use Rattle.count_arrays.proofs.RowSums.{positive}
 use Rattle.stage_network.specs.ArcSteps.{lift}
 use Rattle.stage_network.proofs.row_ends.push_cell.Goals as goal
 

@@ -3,7 +3,7 @@ use Rattle.std.specs.Prelude.{pos, ◌+ℤ◌}
 use Rattle.std.proofs.lemmas.Int.{to_z-of_z}
 use mir.Syntax.{w128}
 use Rattle.node_pool.specs.Nodes.{weighted}
-use Rattle.dense_rows.specs.Rows.{row_nodes, stepped}
+use Rattle.count_arrays.specs.Rows.{row_nodes, stepped}
 use Rattle.stage_network.specs.RowSteps.{moved}
 use Rattle.stage_network.proofs.Shifted.{row-weight}
 use Rattle.stage_network.proofs.Spans.{no_row}

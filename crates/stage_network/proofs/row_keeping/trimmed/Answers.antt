@@ -1,6 +1,6 @@
 use Rattle.std.proofs.Common.{ap, sym, ◌∙◌}
 use Rattle.std.proofs.lemmas.List.{take-map}
-use Rattle.dense_rows.specs.Rows.{row_nodes}
+use Rattle.count_arrays.specs.Rows.{row_nodes}
 use Rattle.stage_network.proofs.row_keeping.trimmed.Goals as goal
 
 pub returns : goal.returns

@@ -1,6 +1,6 @@
 use Rattle.std.proofs.Common.{◌≡◌, ◌+◌, ◌-◌, ℕ, List, length, map, take, drop, get_or, ap, sym, ◌∙◌, arith}
 use Rattle.std.proofs.lemmas.List.{take_all, length-drop, length-map, drop-map, get_or-drop}
-use Rattle.dense_rows.specs.Rows.{row_nodes, stepped}
+use Rattle.count_arrays.specs.Rows.{row_nodes, stepped}
 use Rattle.stage_network.proofs.Stretches.{front-empty}
 use Rattle.stage_network.proofs.row_settling.next_full.Goals as goal
 

@@ -6,7 +6,7 @@ use Rattle.std.proofs.lemmas.Slice.{take-put_mid_below, between-put_mid, drop-pu
 use borrow.Rule.Slice.PartMut.{put_mid}
 use mir.Syntax.{w128}
 use Rattle.node_pool.specs.Nodes.{weighted}
-use Rattle.dense_rows.specs.Rows.{row_nodes, stepped}
+use Rattle.count_arrays.specs.Rows.{row_nodes, stepped}
 use Rattle.networks.specs.Asked.{asked}
 use Rattle.networks.specs.Network.{Network, IsReached}
 use Rattle.stage_network.specs.NodeSteps.{AllReached}

@@ -1,7 +1,7 @@
 use Rattle.std.proofs.Common.{◌≡◌, ◌-◌, ◌<◌, ◌≤◌, length, map, take, drop, get_or}
 use Rattle.std.specs.Prelude.{pos}
 use Rattle.weights.specs.declared.tails.Tail.{Tail}
-use Rattle.dense_rows.specs.Rows.{row_nodes}
+use Rattle.count_arrays.specs.Rows.{row_nodes}
 use Rattle.networks.specs.Asked.{asked}
 use Rattle.stage_network.specs.NodeSteps.{open_nodes, opened_in}
 use Rattle.networks.specs.EachTail.{sum_for}

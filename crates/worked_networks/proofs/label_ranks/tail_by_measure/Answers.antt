@@ -6,7 +6,7 @@ use Rattle.weights.specs.Conditional.{numerator}
 use Rattle.networks.specs.Completions.{extreme_weight}
 use Rattle.networks.specs.declared.verdicts.Judge.{Judge}
 use Rattle.networks.specs.Judged.{judge_of}
-use Rattle.room_network.specs.Numbers.{number_meaning}
+use Rattle.room_network.specs.Numbers.{scalar_meaning}
 use Rattle.label_network.specs.LabelNetwork.{over_sizes}
 use Rattle.label_network.specs.LabelRooms.{label_floor}
 use Rattle.label_network.specs.Measures.{Measured, by_intervals, extreme_labellings, measured_network}
@@ -15,7 +15,7 @@ use Rattle.worked_networks.specs.LabelRanks.{rank_numbers, rank_test, samples, s
 use Rattle.worked_networks.proofs.label_ranks.tail_by_measure.Goals as goal
 
 abbrev ranks : Judge → Measured
-ranks judge = by_intervals six samples (number_meaning (label_floor six samples) (over_sizes (rank_numbers judge)))
+ranks judge = by_intervals six samples (scalar_meaning (label_floor six samples) (over_sizes (rank_numbers judge)))
 
 -- of the 20 labellings as many are extreme as the test says
 numerators : (t : Tail) → extreme_labellings (ranks (judge_of rank_test)) t ≡ numerator rank_test t
@@ -28,7 +28,7 @@ counted : (m : Measured) (t : Tail) (sum : ℕ) → m ≡ ranks (judge_of rank_t
 counted m t sum e a b = a ∙ b ∙ subst (λ n. extreme_labellings n t ≡ numerator rank_test t) (sym e) (numerators t)
 
 abbrev measure_of : List ℕ × List ℕ × LabelRanks → Measured
-measure_of v = by_intervals v.0 v.1 (number_meaning (label_floor six samples) (over_sizes (rank_numbers v.2.judge)))
+measure_of v = by_intervals v.0 v.1 (scalar_meaning (label_floor six samples) (over_sizes (rank_numbers v.2.judge)))
 
 same : (v : List ℕ × List ℕ × LabelRanks) → v.0 ≡ six → v.1 ≡ samples → v.2.judge ≡ judge_of rank_test → measure_of v ≡ ranks (judge_of rank_test)
 same v a b e = rw (a, b, e) refl

@@ -3,7 +3,7 @@ use Rattle.std.proofs.lemmas.Int.{to_z-of_z}
 use Rattle.block_tests.proofs.block_stages.BlockStagesRoomed.same_for.Goals as goal
 
 pub same_for-requires-clause-reached : goal.same_for-requires-clause-reached
-same_for-requires-clause-reached c = rw (to_z-of_z w128 c.args.partial c.ranges.partial) (rw c.in-Served.is at c.requires.reached)
+same_for-requires-clause-reached c = rw (to_z-of_z w128 c.args.partial c.ranges.partial) (rw c.in-Assigned.is at c.requires.reached)
 
 pub same_for-requires-in-Squares-clause-reached : goal.same_for-requires-in-Squares-clause-reached
 same_for-requires-in-Squares-clause-reached c = rw (to_z-of_z w128 c.args.partial c.ranges.partial) (rw c.in-Squares.is at c.requires.reached)
@@ -11,8 +11,8 @@ same_for-requires-in-Squares-clause-reached c = rw (to_z-of_z w128 c.args.partia
 pub same_for-requires-in-Page-clause-reached : goal.same_for-requires-in-Page-clause-reached
 same_for-requires-in-Page-clause-reached c = rw (to_z-of_z w128 c.args.partial c.ranges.partial) (rw c.in-Page.is at c.requires.reached)
 
-pub returns-in-Served : goal.returns-in-Served
-returns-in-Served c = rw c.in-Served.is (λ d few. rw (to_z-of_z w128 c.args.partial c.ranges.partial) at (c.same_for.ensures d few))
+pub returns-in-Assigned : goal.returns-in-Assigned
+returns-in-Assigned c = rw c.in-Assigned.is (λ d few. rw (to_z-of_z w128 c.args.partial c.ranges.partial) at (c.same_for.ensures d few))
 
 pub returns-in-Squares : goal.returns-in-Squares
 returns-in-Squares c = rw c.in-Squares.is (λ d few. rw (to_z-of_z w128 c.args.partial c.ranges.partial) at (c.same_for-in-Squares.ensures d few))

@@ -1,7 +1,7 @@
 use Rattle.block_tests.proofs.block_stages.BlockStagesStages.apply.Goals as goal
 
 pub apply-requires-clause-reached : goal.apply-requires-clause-reached
-apply-requires-clause-reached c = rw c.in-Served.is at c.requires.reached
+apply-requires-clause-reached c = rw c.in-Assigned.is at c.requires.reached
 
 pub apply-requires-in-Squares-clause-reached : goal.apply-requires-in-Squares-clause-reached
 apply-requires-in-Squares-clause-reached c = rw c.in-Squares.is at c.requires.reached

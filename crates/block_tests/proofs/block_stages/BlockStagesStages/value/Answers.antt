@@ -7,4 +7,4 @@ moved : {A : Type 0} (net : A → Network) (i j : A) (key : List ℤ) → i ≡ 
 moved net i j key e reached = subst (λ v. IsReached (net v) (net v).count key) e reached
 
 pub value-requires : goal.value-requires
-value-requires c = moved (of_kind _ _ _) _ _ c.args.key.now c.in-Served.is c.requires
+value-requires c = moved (of_kind _ _ _) _ _ c.args.key.now c.in-Assigned.is c.requires

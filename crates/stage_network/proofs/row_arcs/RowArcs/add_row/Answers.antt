@@ -3,7 +3,7 @@ use Rattle.std.specs.Prelude.{ℤ, pos}
 use Rattle.std.proofs.lemmas.Int.{to_z-of_z}
 use Rattle.std.proofs.lemmas.List.{length-map, with_items_is}
 use mir.Syntax.{w128}
-use Rattle.dense_rows.specs.Rows.{row_nodes, stepped}
+use Rattle.count_arrays.specs.Rows.{row_nodes, stepped}
 use Rattle.stage_network.proofs.Roomwise.{lift-length}
 use Rattle.stage_network.specs.RowSteps.{Row, row_whole}
 use Rattle.stage_network.proofs.Spans.{no_row, spans, first-key, before-more}

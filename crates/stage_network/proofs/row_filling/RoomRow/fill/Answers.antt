@@ -3,8 +3,8 @@ use Rattle.std.specs.Prelude.{ℤ, pos}
 use Rattle.std.proofs.lemmas.List.{take_all, with_items_is}
 use mir.Syntax.{w128}
 use Rattle.node_pool.specs.Nodes.{weighted}
-use Rattle.dense_rows.specs.Rows.{row_nodes}
-use Rattle.dense_rows.proofs.RowNodes.{row-none}
+use Rattle.count_arrays.specs.Rows.{row_nodes}
+use Rattle.count_arrays.proofs.RowNodes.{row-none}
 use Rattle.stage_network.specs.ArcSteps.{IsPlace, spread_out, bucket, lift}
 use Rattle.stage_network.proofs.Roomwise.{lift-weighted, whole-weighted}
 use Rattle.stage_network.proofs.Gathered.{spread-here}

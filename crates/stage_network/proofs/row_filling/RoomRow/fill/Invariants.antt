@@ -1,7 +1,7 @@
 use Rattle.std.proofs.Common.{◌≡◌, ◌≤◌, ◌+◌, ℕ, List, suc, length, map, get_or, take, drop}
 use Rattle.std.specs.Prelude.{ℤ, pos}
 use Rattle.node_pool.specs.Nodes.{weighted}
-use Rattle.dense_rows.specs.Rows.{row_nodes}
+use Rattle.count_arrays.specs.Rows.{row_nodes}
 use Rattle.stage_network.specs.ArcSteps.{Arc, spread_out, bucket}
 use Rattle.stage_network.specs.RowSteps.{all_nodes}
 use Rattle.stage_network.proofs.row_filling.RoomRow.fill.Given as goal

@@ -4,7 +4,7 @@ use Rattle.std.proofs.lemmas.Int.{to_z-of_z}
 use Rattle.std.proofs.lemmas.List.{take_all, length-drop, drop-map}
 use Rattle.std.proofs.lemmas.List.Concat.{flat_map-append}
 use mir.Syntax.{w128}
-use Rattle.dense_rows.specs.Rows.{row_nodes, stepped}
+use Rattle.count_arrays.specs.Rows.{row_nodes, stepped}
 use Rattle.stage_network.specs.ArcSteps.{lift}
 use Rattle.stage_network.specs.RowSteps.{Row, all_nodes, row_whole}
 use Rattle.stage_network.proofs.row_filling.RoomRow.keep.Goals as goal

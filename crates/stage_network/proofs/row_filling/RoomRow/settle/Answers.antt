@@ -3,7 +3,7 @@ use Rattle.std.specs.Prelude.{pos}
 use Rattle.std.proofs.lemmas.Int.{to_z-of_z}
 use Rattle.std.proofs.lemmas.List.{with_items_is}
 use mir.Syntax.{w128}
-use Rattle.dense_rows.specs.Rows.{row_nodes}
+use Rattle.count_arrays.specs.Rows.{row_nodes}
 use Rattle.stage_network.specs.ArcSteps.{lift}
 use Rattle.stage_network.proofs.Sweeps.{closed-none, staying-none}
 use Rattle.stage_network.proofs.row_filling.RoomRow.settle.Goals as goal

@@ -4,7 +4,7 @@ use Rattle.std.specs.List.{IsDistinct}
 use Rattle.std.proofs.lemmas.Int.{ints}
 use Rattle.weights.specs.declared.TheConstants.{MAX}
 use Rattle.node_pool.specs.Nodes.{Node, node, key_eq, keys, weighted}
-use Rattle.dense_rows.proofs.RowNodes.{row-heavy, row-distinct}
+use Rattle.count_arrays.proofs.RowNodes.{row-heavy, row-distinct}
 use Rattle.networks.specs.Completions.{total_weight}
 use Rattle.stage_network.specs.NodeSteps.{AllHeavy}
 use Rattle.stage_network.specs.ArcSteps.{spread_out, bucket, lift}

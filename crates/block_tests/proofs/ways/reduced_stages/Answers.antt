@@ -1,0 +1,72 @@
+use Rattle.std.proofs.Common.{◌≡◌, ◌∙◌, ◌⊎◌, ℕ, List, ap, refl, subst, sym}
+use Rattle.std.specs.List.{list_all}
+use Rattle.weights.specs.declared.tails.Tail.{Tail}
+use Rattle.weights.specs.declared.tails.Tail.TheVariants.{Greater}
+use Rattle.networks.specs.Follows.{Follows}
+use Rattle.networks.specs.Judged.{judge_of}
+use Rattle.rank_assignments.specs.Reflections.{AreReflections}
+use Rattle.rank_assignments.specs.Assignments.{alike, all_assignments, assigned_network, assignment_network}
+use Rattle.rank_assignments.proofs.ReflectionSteps.{are-reflections}
+use Rattle.rank_assignments.proofs.PackedAssignments.{assigned-adds, packed-sums}
+use Rattle.block_tests.specs.BlockTests.{BlockTests, block_counts, block_test}
+use Rattle.block_tests.specs.EvenBlocks.{block_reflections, is_even}
+use Rattle.block_tests.specs.PreparedSteps.{AreFitting}
+use Rattle.block_tests.specs.declared.kinds.BlockKind.TheVariants.{Cochran, Friedman}
+use Rattle.block_tests.proofs.AssignmentFollows.{tests-follow, tests-assignments}
+use Rattle.block_tests.proofs.ways.reduced_stages.Goals as goal
+use Rattle.block_tests.proofs.ways.reduced_stages.Goals.{In_ok-stages}
+
+pub ordered_blocks-requires : goal.ordered_blocks-requires
+ordered_blocks-requires c =
+    rw (c.treatments.ensures, c.as_slice.ensures.value ∙ c.in_ok-items.ensures ∙ ap all_assignments c.blocks-blocks.ensures.blocks, c.requires.judge)
+    (tests-assignments c.args.test.now c.blocks-blocks.ensures.fitting c.requires.kind Greater)
+
+-- reflections that are made of a test's blocks
+record AreFor (tests : BlockTests) (reflections : List ℕ) : Type 0 where
+  reflections_are : AreReflections tests.blocks.treatments (all_assignments (block_counts tests)) reflections
+  follows : (t : Tail) → Follows (block_test tests) t (assignment_network tests.blocks.treatments (all_assignments (block_counts tests)) reflections (judge_of (block_test tests)))
+
+made-for : (tests : BlockTests) → AreFitting tests → (tests.kind ≡ Friedman) ⊎ (tests.kind ≡ Cochran) → (reflections : List ℕ) → reflections ≡ block_reflections tests.blocks.treatments (block_counts tests) → AreFor tests reflections
+made-for tests f kind reflections e =
+    subst (AreFor tests) (sym e) (record {
+      reflections_are = are-reflections (list_all is_even (block_counts tests)) tests.blocks.treatments (all_assignments (block_counts tests));
+      follows = tests-follow tests f kind;
+    })
+
+-- the assignments are those of the test's blocks
+items-are : (c : In_ok-stages) → c.as_slice.result.now ≡ all_assignments (block_counts c.args.test.now)
+items-are c = c.as_slice.ensures.value ∙ c.in_ok-items.ensures ∙ ap all_assignments c.blocks-blocks.ensures.blocks
+
+-- what is made for the test here
+made : (c : In_ok-stages) → AreFor c.args.test.now c.in_ok-stages.stages.1.assignments.reflections.items
+made c =
+    made-for c.args.test.now c.blocks-blocks.ensures.fitting c.requires.kind c.in_ok-stages.stages.1.assignments.reflections.items
+    (c.in_ok-stages.ensures.reflections ∙ rw (c.treatments.ensures, items-are c, c.are_even-are_even.ensures ∙ ap (list_all is_even) c.blocks-blocks.ensures.blocks) refl)
+
+-- it follows the test with its treatments in order
+in-order : (c : In_ok-stages) (t : Tail)
+    → Follows (block_test c.args.test.now) t (assigned_network c.args.test.now.blocks.treatments (all_assignments (block_counts c.args.test.now)) c.in_ok-stages.stages.1.assignments.reflections.items (judge_of (block_test c.args.test.now)))
+in-order c t =
+    let follows = rw (c.treatments.ensures, items-are c, c.requires.judge) at (c.in_ok-stages.ensures.follows (block_test c.args.test.now) t c.requires.judge) in
+    follows ((made c).follows t)
+
+pub returns-clause-follows : goal.returns-clause-follows
+returns-clause-follows c t =
+    let here = (goal.at.returns-clause-follows c).In_ok-stages in
+    rw (c.in_ok-stages.ensures.order, c.in_ok-stages.ensures.sizes ∙ ap alike c.treatments.ensures, c.in_ok-stages.ensures.treatments ∙ c.treatments.ensures, c.in_ok-stages.ensures.items ∙ items-are here, c.in_ok-stages.ensures.judge ∙ c.requires.judge)
+    (in-order here t)
+
+pub returns-clause-packs : goal.returns-clause-packs
+returns-clause-packs c room =
+    let here = (goal.at.returns-clause-packs c).In_ok-stages in
+    let k : ℕ = c.args.test.now.blocks.treatments in
+    rw (c.in_ok-stages.ensures.order, c.in_ok-stages.ensures.sizes ∙ ap alike c.treatments.ensures, c.in_ok-stages.ensures.treatments ∙ c.treatments.ensures, c.in_ok-stages.ensures.items ∙ items-are here, c.in_ok-stages.ensures.judge ∙ c.requires.judge)
+    (packed-sums k (all_assignments (block_counts c.args.test.now)) (judge_of (block_test c.args.test.now)) (tests-assignments c.args.test.now c.blocks-blocks.ensures.fitting c.requires.kind Greater) c.in_ok-stages.stages.1.assignments.reflections.items (made here).reflections_are c.requires.some room
+    (record { judge = judge_of (block_test c.args.test.now); intervals = (in-order here Greater).intervals })
+    (rw (c.treatments.ensures, items-are here, c.requires.judge) at c.in_ok-stages.ensures.reached))
+
+pub returns-clause-adds : goal.returns-clause-adds
+returns-clause-adds c =
+    let here = (goal.at.returns-clause-adds c).In_ok-stages in
+    rw (c.in_ok-stages.ensures.order, c.in_ok-stages.ensures.sizes ∙ ap alike c.treatments.ensures, c.in_ok-stages.ensures.treatments ∙ c.treatments.ensures, c.in_ok-stages.ensures.items ∙ items-are here, c.in_ok-stages.ensures.judge ∙ c.requires.judge)
+    (assigned-adds c.args.test.now.blocks.treatments (all_assignments (block_counts c.args.test.now)) (judge_of (block_test c.args.test.now)) (tests-assignments c.args.test.now c.blocks-blocks.ensures.fitting c.requires.kind Greater) c.in_ok-stages.stages.1.assignments.reflections.items (made here).reflections_are)

@@ -1,0 +1,3 @@
+pub mod ConcordantPairs
+pub mod ConcordantTails
+pub mod ConcordantSteps

@@ -1,0 +1,9 @@
+use Rattle.std.proofs.Common.{◌≡◌, ℕ, ◌<◌, length, get_or, map}
+use Rattle.count_arrays.proofs.rows.forget.Given as goal
+
+-- no cell before this one has a key
+abbrev pub invariant-loop-i : goal.invariant-loop-i
+invariant-loop-i g l = record {
+  long : length l.cells ≡ length l.fn.cells;
+  none : (j : ℕ) → j < l.i → get_or (map g.C.Count.number l.cells) j 0 ≡ 0;
+}

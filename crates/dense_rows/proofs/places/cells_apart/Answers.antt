@@ -1,9 +1,0 @@
-use Rattle.std.proofs.Common.{◌≡◌, ◌*◌, ap, ◌∙◌, arith}
-use Rattle.std.specs.Prelude.{pos, ◌+ℤ◌}
-use Rattle.std.proofs.lemmas.Int.{ints}
-use Rattle.dense_rows.specs.Rows.{stepped}
-use Rattle.dense_rows.proofs.RowSums.{mapped, stepped-is}
-use Rattle.dense_rows.proofs.places.cells_apart.Goals as goal
-
-pub returns : goal.returns
-returns c = mapped c.times_in.result (λ i. i * c.args.stride ≡ c.args.of) (λ i. stepped (pos 0) (pos c.args.stride) i ≡ pos c.args.of) (λ i e. stepped-is (pos 0) c.args.stride i ∙ (omega (arith, ints, e))) c.times_in.ensures

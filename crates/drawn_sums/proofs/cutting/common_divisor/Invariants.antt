@@ -1,8 +1,0 @@
-use Rattle.std.proofs.Common.{◌∷◌, take}
-use Rattle.std.specs.Prelude.{pos}
-use Rattle.drawn_sums.specs.DrawSizes.{IsStride}
-use Rattle.drawn_sums.proofs.cutting.common_divisor.Given as goal
-
--- that of 0 and the scores before this one
-abbrev pub invariant-loop-i : goal.invariant-loop-i
-invariant-loop-i l = IsStride (pos 0 ∷ take l.i l.scores) l.divisor

@@ -1,7 +1,0 @@
-use Rattle.std.proofs.Common.{◌≡◌, take}
-use Rattle.drawn_sums.specs.Draws.{score_total}
-use Rattle.drawn_sums.proofs.left.score_total.Given as goal
-
--- the scores before this one
-abbrev pub invariant-loop-i : goal.invariant-loop-i
-invariant-loop-i l = l.total ≡ score_total (take l.i l.scores)

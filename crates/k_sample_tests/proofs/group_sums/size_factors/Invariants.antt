@@ -1,5 +1,0 @@
-use Rattle.std.proofs.Common.{◌≡◌, ◌/◌, map, take}
-use Rattle.k_sample_tests.proofs.group_sums.size_factors.Given as goal
-
-abbrev pub invariant-loop-size : goal.invariant-loop-size
-invariant-loop-size l = l.factors.items ≡ map (λ n. l.multiple / n) (take l.size-index l.sizes)

@@ -1,5 +1,0 @@
-use Rattle.k_sample_tests.proofs.Placing.{IsPlacing}
-use Rattle.k_sample_tests.proofs.pair_points.place_columns.Given as goal
-
-abbrev pub invariant-loop-g : goal.invariant-loop-g
-invariant-loop-g l = IsPlacing l.pairs l.rows l.columns l.labels l.fn.left l.g l.left l.later l.sum

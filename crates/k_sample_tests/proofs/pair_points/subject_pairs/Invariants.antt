@@ -1,6 +1,0 @@
-use Rattle.std.proofs.Common.{◌≡◌, ◌+◌, drop}
-use Rattle.k_sample_tests.specs.Umbrella.{subject_pairs}
-use Rattle.k_sample_tests.proofs.pair_points.subject_pairs.Given as goal
-
-abbrev pub invariant-loop-i : goal.invariant-loop-i
-invariant-loop-i l = l.sum + subject_pairs (drop l.i l.pairs) l.sizes ≡ subject_pairs l.pairs l.sizes

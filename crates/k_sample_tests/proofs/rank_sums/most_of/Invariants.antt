@@ -1,5 +1,0 @@
-use Rattle.k_sample_tests.proofs.EnoughScores.{IsEnoughTo}
-use Rattle.k_sample_tests.proofs.rank_sums.most_of.Given as goal
-
-abbrev pub invariant-loop-i : goal.invariant-loop-i
-invariant-loop-i l = IsEnoughTo l.fn.sizes l.i l.most

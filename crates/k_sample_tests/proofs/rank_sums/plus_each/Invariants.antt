@@ -1,9 +1,0 @@
-use Rattle.std.proofs.Common.{◌≡◌, take, length}
-use Rattle.ordered_groups.specs.GroupSums.{plus_each}
-use Rattle.k_sample_tests.proofs.rank_sums.plus_each.Given as goal
-
-abbrev pub invariant-loop-i : goal.invariant-loop-i
-invariant-loop-i l = record {
-  long : length l.next ≡ length l.partial;
-  filled : take l.i l.next ≡ take l.i (plus_each l.partial l.added);
-}

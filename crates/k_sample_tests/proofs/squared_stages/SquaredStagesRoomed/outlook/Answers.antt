@@ -1,4 +1,0 @@
-use Rattle.k_sample_tests.proofs.squared_stages.SquaredStagesRoomed.outlook.Goals as goal
-
-pub outlook-requires-clause-place : goal.outlook-requires-clause-place
-outlook-requires-clause-place c = rw c.in-Packed.is at c.requires.place

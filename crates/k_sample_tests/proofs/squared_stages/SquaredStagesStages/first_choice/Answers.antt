@@ -1,4 +1,0 @@
-use Rattle.k_sample_tests.proofs.squared_stages.SquaredStagesStages.first_choice.Goals as goal
-
-pub first_choice-requires-clause-reached : goal.first_choice-requires-clause-reached
-first_choice-requires-clause-reached c = rw c.in-Packed.is at c.requires.reached

@@ -1,8 +1,0 @@
-use Rattle.std.proofs.Common.{◌≡◌, arith, drop}
-use Rattle.std.specs.Prelude.{pos}
-use Rattle.std.proofs.lemmas.Int.{ints}
-use Rattle.kendall_test.proofs.KendallNarrows.{all-pairs}
-use Rattle.kendall_test.proofs.rising_order.lowest_order.Goals as goal
-
-pub returns-clause-small : goal.returns-clause-small
-returns-clause-small c = omega (arith, ints, c.open_pairs.ensures, all-pairs c.args.rows.now c.requires)

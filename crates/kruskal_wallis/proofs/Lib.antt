@@ -1,0 +1,15 @@
+mod RankNarrows
+mod CentredSquares
+mod CentredNarrows
+mod RankValues
+mod RankWriting
+mod RankKeys
+mod Corners
+mod CentredKeys
+mod EnoughScores
+mod GroupSums
+mod FittingKruskalWallis
+mod EqualKeys
+mod PackedCentred
+mod FittingCentred
+mod Vectors

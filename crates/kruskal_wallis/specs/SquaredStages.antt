@@ -1,0 +1,17 @@
+-- The networks of a test of Kruskal and Wallis, under one type.
+use Rattle.std.specs.Prelude.{ℕ, List}
+use Rattle.symmetry_reduction.specs.declared.orders.Order.{Order}
+use Rattle.label_network.specs.declared.rooms.LabelRooms.{LabelRooms}
+use Rattle.kruskal_wallis.specs.declared.centred_sums.CentredSums.{CentredSums}
+use Rattle.kruskal_wallis.specs.declared.rank_sums.RankSums.{RankSums}
+use Rattle.kruskal_wallis.specs.declared.squared_stages.SquaredStages.{SquaredStages}
+use Rattle.kruskal_wallis.specs.declared.squared_stages.SquaredStages.TheVariants.{Packed, Ordered, Written}
+
+-- what is said of the one that it is
+abbrev pub of_kind :
+    {X : Type 0} → ((LabelRooms × CentredSums × List ℕ × Order) × ℕ → X)
+    → (LabelRooms × RankSums × List ℕ × Order → X) → (LabelRooms × RankSums → X)
+    → SquaredStages → X
+of_kind f g h (Packed n) = f n
+of_kind f g h (Ordered n) = g n
+of_kind f g h (Written n) = h n

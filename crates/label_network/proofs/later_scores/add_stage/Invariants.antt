@@ -1,4 +1,0 @@
-use Rattle.label_network.proofs.later_scores.add_stage.Given as goal
-
-abbrev pub ghost-add_column : goal.ghost-add_column
-ghost-add_column g a = g.rest

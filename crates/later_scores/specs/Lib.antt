@@ -1,0 +1,3 @@
+pub mod LaterSums
+pub mod LaterTables
+pub mod LaterSteps

@@ -1,4 +1,0 @@
-use Rattle.ordered_groups.proofs.network.InOrder.sound.Goals as goal
-
-pub returns : goal.returns
-returns g c = rw (← c.self.view_is) ((g.R.Rooms.plan c.self.inside.rooms, c.self.invariant))

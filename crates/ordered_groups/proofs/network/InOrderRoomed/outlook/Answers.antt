@@ -1,5 +1,0 @@
-use Rattle.ordered_groups.proofs.OrderedParts.{in-place}
-use Rattle.ordered_groups.proofs.network.InOrderRoomed.outlook.Goals as goal
-
-pub outlook-requires-clause-place : goal.outlook-requires-clause-place
-outlook-requires-clause-place g c = in-place c.self.invariant c.args.stage c.args.room.now (rw (← c.self.view_is) at c.requires.place)

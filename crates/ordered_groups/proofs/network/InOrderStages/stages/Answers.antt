@@ -1,4 +1,0 @@
-use Rattle.ordered_groups.proofs.network.InOrderStages.stages.Goals as goal
-
-pub returns-clause-lawful : goal.returns-clause-lawful
-returns-clause-lawful g c = rw (← c.self.view_is) c.self.invariant.ordered.lawful

@@ -1,4 +1,0 @@
-use Rattle.ordered_groups.proofs.network.InOrderStages.verdict.Goals as goal
-
-pub verdict-requires : goal.verdict-requires
-verdict-requires g c = c.self.invariant.ordered.reached c.args.stage c.args.key.now (rw (← c.self.view_is) at c.requires)

@@ -1,0 +1,9 @@
+mod PairPoints
+mod PairFits
+mod PairValues
+mod PairKeys
+mod Placing
+mod Gathering
+mod FittingUmbrella
+mod ConcordantPoints
+mod Vectors

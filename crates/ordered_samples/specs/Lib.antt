@@ -1,0 +1,3 @@
+pub mod Umbrella
+pub mod PairCounts
+pub mod UmbrellaSteps

@@ -1,0 +1,17 @@
+-- Words for the bodies: bounds and sums that pass no limit.
+use Rattle.std.specs.Prelude.{ℕ, ◌≡◌, ◌≤◌, ◌<◌, ◌≤ℤ◌, ◌^◌, ℤ, pos, nat_abs, List, get_or, length}
+use Rattle.rank_assignments.specs.declared.assignment.Bounds.{Bounds}
+
+-- a statistic of at most 2 ^ 60
+abbrev pub IsSmall : ℤ → Type 0
+IsSmall v = (pos 0 ≤ℤ v) × (v ≤ℤ pos (2 ^ 60))
+
+pub record AreSmallBounds (b : Bounds) : Type 0 where
+  pub near : b.near ≤ 8000000000000000
+  pub far : b.far ≤ 8000000000000000
+
+-- sums after a number more
+pub record AreGained (sums : List ℤ) : Type 0 where
+  pub each : (i : ℕ) → i < length sums
+      → get_or sums i (pos 0) ≡ pos (nat_abs (get_or sums i (pos 0)))
+  pub small : (i : ℕ) → i < length sums → nat_abs (get_or sums i (pos 0)) ≤ 3000000

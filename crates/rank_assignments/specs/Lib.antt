@@ -1,0 +1,4 @@
+pub mod Upright
+pub mod BoundSteps
+pub mod Assignments
+pub mod Reflections

@@ -1,6 +1,0 @@
-mod FirstRising
-mod TwoGroups
-mod OneMoreGroup
-mod Counting
-mod Passing
-pub mod OneEach

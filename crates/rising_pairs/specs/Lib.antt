@@ -1,3 +1,0 @@
-pub mod RisingPairs
-pub mod RisingTails
-pub mod RisingSteps

@@ -1,0 +1,14 @@
+use Rattle.std.proofs.Common.{rules, ◌∷◌, [], ℤ, ◌∙◌, ap, FitsSigned}
+use mir.Syntax.{w128}
+use mir.Val.{to_z, of_z}
+use Rattle.std.proofs.lemmas.Int.{to_z-of_z}
+use Rattle.room_network.specs.Numbers.{start}
+use Rattle.weights.proofs.Items.{one_item}
+use Rattle.room_network.proofs.numbers.FromScalarMeasure.first.Goals as goal
+
+pub returns : goal.returns
+returns g c =
+    let s : FitsSigned w128 c.start.result = search rules in
+    rw (← c.self.view_is)
+    (one_item c.args.partial.now (to_z w128 (of_z w128 c.start.result)) c.requires
+    ∙ ap (λ (z : ℤ). z ∷ []) (to_z-of_z w128 c.start.result s ∙ c.start.ensures ∙ ap start c.operation.ensures))

@@ -1,0 +1,19 @@
+mod DrawSums
+mod DrawnLabels
+mod ScoreTotals
+mod Strides
+mod Counted
+mod Widths
+mod BothParts
+mod MeetingFits
+mod Subjects
+mod TwoGroups
+mod RowSteps
+mod RowsOf
+mod SignRows
+mod RowPairs
+mod LeftDraws
+mod Bounding
+mod Spots
+mod SpotMerges
+pub mod Numerators

@@ -1,0 +1,6 @@
+pub mod GroupSums
+pub mod PlaceOrder
+pub mod PlaceWriting
+pub mod PlaceCodes
+pub mod ReducedKeys
+pub mod ReducedParts

@@ -1,0 +1,24 @@
+use Rattle.std.proofs.Common.{subst}
+use Rattle.networks.specs.Network.{Network}
+use Rattle.networks.specs.Rooms.{IsRoomed}
+use Rattle.room_network.specs.RoomNetworks.{room_network}
+use Rattle.symmetry_reduction.proofs.ReducedKeys.{reduced-follows, reduced-reached, reduced-values, stays-lawful}
+use Rattle.symmetry_reduction.proofs.network.SymmetryReduced.new.Goals as goal
+
+pub returns-clause-ends : goal.returns-clause-ends
+returns-clause-ends g c = reduced-values c.args.order c.requires.ordered c.stages-lawful.ensures.lawful
+
+pub returns-clause-follows : goal.returns-clause-follows
+returns-clause-follows g c = reduced-follows c.args.order c.requires.ordered c.stages-lawful.ensures.lawful
+
+pub returns-clause-reached : goal.returns-clause-reached
+returns-clause-reached g c = reduced-reached c.args.order c.requires.ordered c.stages-lawful.ensures.lawful
+
+pub invariant_of-result : goal.invariant_of-result
+invariant_of-result g c =
+    let n : Network = room_network (g.M.Measure.meaning c.args.stages.1) (g.R.Rooms.plan c.args.stages.0).weight in
+    record {
+      its_rooms = c.requires.rooms;
+      sound = c.stages-sound.ensures.sound;
+      ordered = stays-lawful c.args.order c.requires.ordered c.stages-lawful.ensures.lawful (subst (IsRoomed n) c.requires.rooms.width c.room_width-roomed.ensures.roomed);
+    }

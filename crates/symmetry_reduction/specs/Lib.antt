@@ -1,0 +1,4 @@
+pub mod OrderedGroups
+pub mod GroupSums
+pub mod ReducedNetworks
+pub mod OrderSteps

@@ -1,0 +1,5 @@
+pub mod TransposedLines
+pub mod Shapes
+pub mod Bijection
+pub mod Weighed
+pub mod Reduced

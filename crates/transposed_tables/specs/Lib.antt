@@ -1,0 +1,2 @@
+pub mod Transposed
+pub mod TransposedLaws

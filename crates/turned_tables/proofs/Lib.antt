@@ -1,5 +1,0 @@
-pub mod TurnedLines
-pub mod Shapes
-pub mod Bijection
-pub mod Weighed
-pub mod Reduced
