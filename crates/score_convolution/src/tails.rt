@@ -81,6 +81,35 @@ fn cell_sums(
     }
 }
 
+// Where so many subjects are cut in the middle.
+fn middle_of(subjects: usize) -> usize
+    ensures { result ≤ subjects }
+{
+    subjects / 2
+}
+
+// Those of ascending scores in lists, which are as long as there are draws: so both parts have as
+// many subjects.
+fn list_sums(
+    alloc: Global,
+    sorted: &[i128],
+    drawn: usize,
+    stride: u128,
+    sides: &TailSides,
+    tails: Tails,
+) -> Result<TailSums, NoMemory>
+    requires subjects { AreSubjects stride sorted.now }
+    requires few { 2 * drawn ≤ length sorted.now }
+    requires fits { binomial (length sorted.now) drawn ≤ MAX }
+    requires ordered { (t : Tail) → AreOrdered (sides_for sides.now t) }
+    ensures { IfOk result (λ sums. (t : Tail) → asks tails t ≡ true → (sum_for sums t).sum
+        ≡ draw_sum (drawn_at (is_in (sides_for sides.now t)) drawn) 0 (pos 0) sorted.now) }
+{
+    let cut = middle_of(sorted.len());
+    let (first, second) = sorted.split_at(cut);
+    sums_in::<SumList>(alloc, first, second, drawn, stride, sides, tails)
+}
+
 // Those of ascending scores: by rows of cells where these are short, or by a network that has the
 // same, where few of its keys are open, or by lists.
 fn sorted_sums<S: Roomed>(
@@ -112,7 +141,7 @@ fn sorted_sums<S: Roomed>(
     if let Some(sums) = few_sums(alloc, stages, tails)? {
         return Ok(sums);
     }
-    sums_in::<SumList>(alloc, first, second, drawn, stride, sides, tails)
+    list_sums(alloc, sorted, drawn, stride, sides, tails)
 }
 
 /// How many labellings of two groups have a sum of the second one's scores that passes the rule of

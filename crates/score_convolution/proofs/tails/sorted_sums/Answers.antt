@@ -1,9 +1,0 @@
-use Rattle.std.proofs.Common.{length, arith}
-use Rattle.score_convolution.proofs.Widths.{counted-wide}
-use Rattle.score_convolution.proofs.tails.sorted_sums.Goals as goal
-
-pub sums_in-requires-clause-first : goal.sums_in-requires-clause-first
-sums_in-requires-clause-first g c = counted-wide c.split_at.result.0.now (length c.args.sorted.now) c.args.drawn (omega (arith, c.split_at.ensures.front_len, c.cut_of-cut.ensures)) c.requires.few c.requires.fits
-
-pub sums_in-requires-clause-second : goal.sums_in-requires-clause-second
-sums_in-requires-clause-second g c = counted-wide c.split_at.result.1.now (length c.args.sorted.now) c.args.drawn (omega (arith, c.split_at.ensures.back_len)) c.requires.few c.requires.fits
