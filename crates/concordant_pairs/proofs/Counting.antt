@@ -13,7 +13,7 @@ use Rattle.weights.proofs.FirstLabel.{number_of_labellings-positive}
 use Rattle.weights.proofs.Ranges.{range-one}
 use Rattle.weights.proofs.Sums.{sum_by-one, sum_by-same, sum_by-same_where, sum_by-swap, sum_by-zero}
 use Rattle.label_network.proofs.Sizes.{fewer-labellings}
-use Rattle.concordant_pairs.specs.ConcordantPairs.{SumsAlike, pairs_across, concordant_count, concordant_pairs}
+use Rattle.concordant_pairs.specs.ConcordantPairs.{SumsAlike, pairs_across, concordant_pairs}
 use Rattle.concordant_pairs.specs.ConcordantSteps.{AreCounts, AreMixed, mixed_count, mixed_total}
 use Rattle.concordant_pairs.proofs.FirstConcordant.{concordant_sum-same}
 use Rattle.concordant_pairs.proofs.TwoGroups.{two, two-same}
@@ -66,17 +66,7 @@ one-beyond i most h u l = grind (arith, nat_tests, h, l)
 pub beyond-count : (rest : List ℕ) (n m i : ℕ) → n * m + pairs_across rest < i → mixed_count rest n m i ≡ 0
 beyond-count rest n m i h = beyond-mixed rest n m (one_at i) (beyond-pairs rest) (one-beyond i (n * m + pairs_across rest) h)
 
-beyond-concordant : (sizes : List ℕ) (i : ℕ) → pairs_across sizes < i → concordant_count sizes i ≡ 0
-beyond-concordant sizes i h = beyond-pairs sizes (one_at i) (one-beyond i (pairs_across sizes) h)
-
 -- ---- lists of counts
-
-pub no-groups : AreCounts [] (1 ∷ [])
-no-groups = record { each = at; long = omega arith }
-  where
-    at : (u : ℕ) → get_or (1 ∷ []) u 0 ≡ concordant_count [] u
-    at zero = refl
-    at (suc u) = sym (beyond-concordant [] (suc u) (omega arith))
 
 pub nobody-yet : (rest : List ℕ) (m : ℕ) (counts : List ℕ) → AreCounts rest counts → AreMixed rest 0 m counts
 nobody-yet rest m counts are = record {

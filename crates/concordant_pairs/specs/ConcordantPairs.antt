@@ -1,5 +1,5 @@
--- Pairs of subjects that rise: subjects without ties stand in the order of their values, each with
--- the label of its group, and a pair rises where the later one is of the later group. Their number
+-- Concordant pairs: subjects without ties stand in the order of their values, each with the label
+-- of its group, and a pair is concordant where the later one is of the later group. Their number
 -- is that of Terpstra (1952) and Jonckheere (Biometrika 41, 1954), and of two groups that of Mann
 -- and Whitney (The Annals of Mathematical Statistics 18, 1947).
 use Rattle.std.specs.Prelude.{◌≡◌, ℕ, ◌+◌, ◌*◌, List, [], ◌∷◌, length, get_or, Bool, nat_eq, nat_lt}

@@ -135,7 +135,7 @@ fn with_group(
 }
 
 /// How many labellings of groups of these sizes have each number of concordant pairs, from that of
-/// no pair to that of all: a pair of subjects rises where the later one is of the later group.
+/// no pair to that of all: a pair is concordant where the later subject is of the later group.
 /// Groups are added one by one, the last first. A group of j subjects and others of m add as two
 /// groups do: with a j-th subject the counts are those before, as a polynomial in q, multiplied by
 /// 1 - q^(m + j) and divided by 1 - q^j, as in the numbers of Gauss.

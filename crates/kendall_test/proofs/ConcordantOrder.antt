@@ -29,7 +29,7 @@ use Rattle.kendall_test.proofs.CountedPairs.{concordant-are, crossed}
 use Rattle.kendall_test.proofs.KendallFitting.{firsts-few, rows-sum, same-firsts, within}
 use Rattle.kendall_test.proofs.KendallNarrows.{concordant-among}
 use Rattle.kendall_test.proofs.KendallValues.{by_stages, counts_in, pairs-are, values_of_ties}
-use Rattle.kendall_test.proofs.Places.{sizes-sum}
+use Rattle.pooled_columns.proofs.TieColumns.{columns-sum}
 
 -- what each member of a list adds with the later ones
 abbrev pub with_later : (ℕ → ℕ → ℕ) → List ℕ → ℕ
@@ -98,7 +98,7 @@ module _ (sample : TwinData) (long : length sample.second ≡ length sample.firs
     statistic-rises : (xs : List ℕ) → IsLabelling rows xs → kendall_statistic firsts xs ≡ even_value base 2 (concordant_pairs xs)
     statistic-rises xs l =
         ap (λ vs. kendall_statistic vs xs) (sym (same-firsts sample long few fits))
-        ∙ order-rises rows (tie_groups firsts) xs (groups-ascend firsts) distinct (l.over.long ∙ rows-sum sample long few ∙ sym (sizes-sum firsts)) l
+        ∙ order-rises rows (tie_groups firsts) xs (groups-ascend firsts) distinct (l.over.long ∙ rows-sum sample long few ∙ sym (columns-sum firsts)) l
 
     pub numerator-rises : (tail : Tail) → numerator (kendall_test sample) tail ≡ passing_labellings (rule_in (judge_of (kendall_test sample)) tail) base 2 rows
     numerator-rises = numerator-by (kendall_says sample) (λ xs. even_value base 2 (concordant_pairs xs)) statistic-rises

@@ -32,7 +32,7 @@ use Rattle.labelled.proofs.LabelLaws.{label-judge}
 use Rattle.pooled_columns.specs.PooledColumns.{column_sizes}
 use Rattle.pooled_columns.proofs.PooledLabels.{pooled-counts, pooled-labels}
 use Rattle.pooled_columns.proofs.PooledValues.{length-pooled, pooled-rises}
-use Rattle.pooled_columns.proofs.TieColumns.{grouped}
+use Rattle.pooled_columns.proofs.TieColumns.{columns-sum, grouped}
 use Rattle.weights.specs.Grouped.{columns_of}
 use Rattle.kendall_test.specs.Kendall.{kendall_says, kendall_statistic, kendall_subjects, kendall_test, place_among, places_of}
 use Rattle.kendall_test.specs.KendallNetwork.{kendall_stages, sample_meaning}
@@ -41,7 +41,7 @@ use Rattle.kendall_test.proofs.KendallNarrows.{kendall_measure}
 use Rattle.kendall_test.proofs.KendallPlans.{kendall_gives, moved}
 use Rattle.kendall_test.proofs.KendallValues.{value-is, values_of_ties}
 use Rattle.kendall_test.proofs.PairSums.{statistic-few}
-use Rattle.kendall_test.proofs.Places.{groups-few, places-below, places-counted, sizes-sum}
+use Rattle.kendall_test.proofs.Places.{groups-few, places-below, places-counted}
 
 -- ---- of a sample that was read
 
@@ -90,14 +90,14 @@ module _ (sample : TwinData) where
     labels-counted = map-same (λ i. count_of i (labels_of (kendall_subjects sample))) (λ i. count_of i (places_of sample.second)) (λ i. sym (pooled-counts as_groups as-many i)) (labels (length rows)) ∙ places-counted sample.second
 
     pub rows-sum : sum (column_sizes sample.second) ≡ length (values_of (kendall_subjects sample))
-    rows-sum = sizes-sum sample.second ∙ long ∙ sym firsts-long
+    rows-sum = columns-sum sample.second ∙ long ∙ sym firsts-long
 
     pub rows-short : length (column_sizes sample.second) ≤ 120
     rows-short = omega (arith, length-map (tie_groups sample.second) (λ (t : Tie). t.count), groups-few sample.second, long, few)
 
     pub are-kendall_counts : number_of_labellings (column_sizes sample.second) ≤ MAX → AreKendallCounts (column_sizes (values_of (kendall_subjects sample))) (column_sizes sample.second)
     are-kendall_counts fits = record {
-      level = sizes-sum firsts ∙ sym rows-sum;
+      level = columns-sum firsts ∙ sym rows-sum;
       few = omega (arith, rows-sum, firsts-few);
       short = rows-short;
       total = fits;
@@ -140,7 +140,7 @@ module _ (sample : TwinData) where
                 let l : IsLabelling rows xs = labelling_from rows xs o in
                 measured-is (kendall_test sample) refl tail xs
                 ∙ ap (λ vs. kendall_statistic vs xs) (sym same-firsts)
-                ∙ value-is (column_sizes firsts) rows (judge_of (kendall_test sample)) (tie_groups firsts) xs refl (groups-ascend firsts) (l.over.long ∙ rows-sum ∙ sym (sizes-sum firsts)) (omega (arith, l.over.long, rows-sum, firsts-few)) l.over.below l.counted;
+                ∙ value-is (column_sizes firsts) rows (judge_of (kendall_test sample)) (tie_groups firsts) xs refl (groups-ascend firsts) (l.over.long ∙ rows-sum ∙ sym (columns-sum firsts)) (omega (arith, l.over.long, rows-sum, firsts-few)) l.over.below l.counted;
           })
 
       pub kendall-sound : IsSound (kendall_says sample) (kendall_stages sample) (kendall_stages sample)

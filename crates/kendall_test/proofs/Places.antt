@@ -5,16 +5,17 @@ use Rattle.std.specs.List.{All, AllByRecursion, HoldsAt, range_with_len, sum, su
 use Rattle.std.proofs.lemmas.Int.{ints}
 use Rattle.std.proofs.lemmas.List.{get_or_default, length-map}
 use Rattle.std.proofs.lemmas.List.Elements.{recursion_from_All}
-use Rattle.std.proofs.lemmas.List.Sums.{sum_by-cons, sum-map}
+use Rattle.std.proofs.lemmas.List.Sums.{sum_by-cons}
 use Rattle.weights.specs.Labellings.{counts_of, labels}
 use Rattle.weights.proofs.Counted.{count_of}
 use Rattle.weights.proofs.Filters.{all_map, map-same}
 use Rattle.weights.proofs.Sums.{sum_by-map}
 use Rattle.midranks.specs.Ties.{IsAscending, tie_groups}
 use Rattle.midranks.specs.declared.ties.Tie.{Tie}
-use Rattle.midranks.proofs.Places.{group-exists, values_in-groups}
+use Rattle.midranks.proofs.Places.{group-exists}
 use Rattle.midranks.proofs.TieLemmas.{all-weaker, groups-ascend, groups-counts, sum_by-groups, summed, test-less, test-not_less}
 use Rattle.pooled_columns.specs.PooledColumns.{column_sizes}
+use Rattle.pooled_columns.proofs.TieColumns.{columns-sum}
 use Rattle.kendall_test.specs.Kendall.{place_among, places_of}
 use Rattle.kendall_test.proofs.CodeLaws.{sum-first}
 
@@ -49,11 +50,8 @@ some-each : (ts : List Tie) → AllByRecursion (λ t. 0 < t.count) ts → length
 some-each [] a = omega arith
 some-each (t ∷ ts) a = omega (arith, some-each ts a.1, a.0, sum-first t.count (map (λ (t : Tie). t.count) ts))
 
-pub sizes-sum : (values : List ℤ) → sum (column_sizes values) ≡ length values
-sizes-sum values = sum-map (λ (t : Tie). t.count) (tie_groups values) ∙ values_in-groups values
-
 pub groups-few : (values : List ℤ) → length (tie_groups values) ≤ length values
-groups-few values = omega (arith, some-each (tie_groups values) (groups-counts values), sizes-sum values)
+groups-few values = omega (arith, some-each (tie_groups values) (groups-counts values), columns-sum values)
 
 -- each place is that of a group
 pub places-below : (values : List ℤ) → AllByRecursion (λ l. l < length (tie_groups values)) (places_of values)

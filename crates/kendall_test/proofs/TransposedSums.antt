@@ -25,7 +25,7 @@ use Rattle.networks.specs.Follows.{statistic_sums}
 use Rattle.labelled.proofs.LabelLaws.{total-of}
 use Rattle.pooled_columns.specs.PooledColumns.{column_sizes}
 use Rattle.pooled_columns.proofs.PooledValues.{pooled-rises}
-use Rattle.pooled_columns.proofs.TieColumns.{grouped}
+use Rattle.pooled_columns.proofs.TieColumns.{columns-sum, grouped}
 use Rattle.transposed_tables.specs.Transposed.{transposed}
 use Rattle.transposed_tables.proofs.Bijection.{sums}
 use Rattle.transposed_tables.proofs.Shapes.{wide-table}
@@ -33,7 +33,6 @@ use Rattle.transposed_tables.proofs.Weighed.{weighed-transposed}
 use Rattle.kendall_test.specs.Kendall.{kendall_says, kendall_statistic, kendall_subjects, kendall_test, place_among, places_of}
 use Rattle.kendall_test.specs.TransposedKendall.{transposed_twins}
 use Rattle.kendall_test.proofs.KendallValues.{values_of_ties}
-use Rattle.kendall_test.proofs.Places.{sizes-sum}
 use Rattle.kendall_test.proofs.TableSums.{sum-transposed, table-is, table_sum}
 
 -- ---- sums over tables
@@ -84,7 +83,7 @@ module _ (t : TwinData) where
     first-columns = ap (map (λ (t : Tie). t.count)) same-groups
 
     pub level : sum columns ≡ sum rows
-    level = sizes-sum t.first ∙ sym long ∙ sym (sizes-sum t.second)
+    level = columns-sum t.first ∙ sym long ∙ sym (columns-sum t.second)
 
     -- ---- K of a labelling
 

@@ -95,7 +95,7 @@ impl UnweightedTest for MarkSum {
         AdditiveStages::new(alloc, MarkStages { groups, judge })
     }
 
-    // By draws of the plus marks.
+    // By draws of the plus marks, or by the network while that has few open keys.
     fn numerators(&self, alloc: Global, judge: Judge, tails: Tails) -> Result<TailSums, NoMemory> {
         self.sound();
         let stages = self.stages_of(alloc, judge)?;

@@ -101,9 +101,6 @@ module _ (k : ℕ) (vs : List Assignment) (judge : Judge) (a : AreAssignments k 
 
   -- what a choice makes of the ends
   module _ (f : ℕ → ℕ → ℕ) (g : ℕ) (room partial : List ℤ) (c : List ℕ) (h : g < length vs) (s : IsAssigned g room partial) (o : IsChoice (assignment_at vs g).count (sizes_in room) c) where
-    abbrev ends-here : ℕ
-    ends-here = over_ends f (ahead_at k vs g) (sizes_in room) (sizes_in partial)
-
     abbrev ends-there : List ℤ → ℕ
     ends-there next = over_ends f (ahead_at k vs (g + 1)) (sizes_in next) (gained (assignment_at vs g).value c (sizes_in partial))
 

@@ -1,14 +1,14 @@
 -- Steps of the bodies that build assignments and look them up.
-use Rattle.std.proofs.Common.{◌≡◌, ℕ, zero, suc, ◌+◌, ◌-◌, ◌*◌, ◌<◌, ◌≤◌, List, [], ◌∷◌, ◌++◌, map, take, drop, length, get_or, Bool, true, false, inl, inr, refl, sym, ◌∙◌, ap, subst, arith, add-one, drop-cons, drop_of_length-le, length-append, nat_eq, nat_le, div-le_self}
+use Rattle.std.proofs.Common.{◌≡◌, ℕ, zero, suc, ◌+◌, ◌-◌, ◌*◌, ◌<◌, ◌≤◌, List, [], ◌∷◌, ◌++◌, map, take, drop, length, get_or, Bool, true, false, inl, inr, refl, sym, ◌∙◌, ap, subst, arith, add-one, length-append, nat_le, div-le_self}
 use Rattle.std.specs.Prelude.{ℤ, pos, nat_abs, All}
 use Rattle.std.specs.List.{sum, AllByRecursion}
 use Rattle.std.proofs.Math.Nat.{mul-le-mul}
 use Rattle.std.proofs.Math.Seq.{get_or-append_seam}
 use Rattle.std.proofs.lemmas.Bool.{cases_lt}
 use Rattle.std.proofs.lemmas.Int.{ints}
-use Rattle.std.proofs.lemmas.List.{get_or_append_left, get_or_default, take_all, take_more, length-drop}
+use Rattle.std.proofs.lemmas.List.{get_or_append_left, get_or_default, take_all, length-drop}
 use Rattle.std.proofs.lemmas.List.Elements.{All-from_recursion, recursion_from_All}
-use Rattle.std.proofs.lemmas.List.Sums.{sum_by-cons, sum_by-drop_more, sum_by_more}
+use Rattle.std.proofs.lemmas.List.Sums.{sum_by-cons, sum_by_more}
 use Rattle.weights.specs.declared.TheConstants.{MAX}
 use Rattle.weights.specs.Grouped.{fits}
 use Rattle.weights.specs.Numbers.{binomial}
@@ -21,7 +21,7 @@ use Rattle.label_network.specs.Meanings.{sizes_in}
 use Rattle.label_network.proofs.Rows.{abs-at, length-abs, pos-at, get-within}
 use Rattle.label_network.proofs.Sizes.{sizes-of_pos}
 use Rattle.rank_assignments.specs.BoundSteps.{IsSmall}
-use Rattle.rank_assignments.specs.Assignments.{AreAhead, AreMarks, AreAssignments, AreSums, IsSmallAhead, ahead, ahead_at, all_assignments, before, around, centre, gained, given, no_assignment, over_ends, raises, assignment_at, assignment_of, assignments}
+use Rattle.rank_assignments.specs.Assignments.{AreAhead, AreMarks, AreAssignments, AreSums, IsSmallAhead, ahead, ahead_at, before, around, centre, gained, given, no_assignment, over_ends, raises, assignment_at, assignments}
 use Rattle.rank_assignments.specs.declared.assignment.Assignment.{Assignment}
 use Rattle.rank_assignments.specs.declared.assignment.Ahead.{Ahead}
 use Rattle.rank_assignments.proofs.AssignmentRooms.{AreOnes, IsAssignedRoom, ahead-here}
@@ -114,18 +114,6 @@ module _ (k : ℕ) (vs : List Assignment) (judge : Judge) (a : AreAssignments k 
 
   -- ---- the table
 
-  pub ahead-first : AreAhead k vs 0 (ahead k [] ∷ [])
-  ahead-first = record {
-    long = refl;
-    each = λ i d h.
-        (let here : i ≡ 0 = omega (arith, h) in
-        let none : drop (length vs - 0) vs ≡ [] = drop_of_length-le vs {i = length vs - 0} (omega arith) in
-        ap (λ n. get_or (ahead k [] ∷ []) n d) here ∙ sym (ap (ahead k) none) ∙ ap (λ n. ahead_at k vs (length vs - n)) (sym here));
-  }
-
-  pub found-assignment : (g : ℕ) (v : Assignment) → g < length vs → v ≡ get_or vs g v → v ≡ assignment_at vs g
-  found-assignment g v h e = e ∙ get_or_default vs g v no_assignment h
-
   pub found-ahead : (done i : ℕ) (table : List Ahead) (z : Ahead) → AreAhead k vs done table → i ≤ done → z ≡ get_or table i z → z ≡ ahead_at k vs (length vs - i)
   found-ahead done i table z t h e = e ∙ t.each i z h
 
@@ -155,64 +143,11 @@ module _ (k : ℕ) (vs : List Assignment) (judge : Judge) (a : AreAssignments k 
 
 -- ---- assignments are added
 
-pub assignments-cons : (i c : ℕ) (counts : List ℕ) → assignments i (c ∷ counts) ≡ assignment_of i c (nat_eq (sum counts) 0) ++ assignments (i + 1) counts
-assignments-cons i zero counts = refl
-assignments-cons i (suc c) counts = refl
-
 -- one count more of a block
 pub record IsAdding (counts : List ℕ) (old items : List Assignment) (value left : ℕ) : Type 0 where
   pub within : value ≤ length counts
   pub left_is : left ≡ sum (drop value counts)
   pub all : items ++ assignments value (drop value counts) ≡ old ++ assignments 0 counts
-
-pub adding-first : (counts : List ℕ) (old : List Assignment) (left : ℕ) → left ≡ sum counts → IsAdding counts old old 0 left
-adding-first counts old left e = record { within = omega arith; left_is = e; all = refl }
-
-pub adding-less : (counts : List ℕ) (value count : ℕ) → value < length counts → count ≡ get_or counts value count → sum (drop value counts) ≡ count + sum (drop (value + 1) counts)
-adding-less counts value count h e = (let more = sum_by-drop_more (λ v. v) counts value 0 h in let same = e ∙ get_or_default counts value count 0 h in omega (arith, more, same))
-
-append-assoc : {X : Type 0} (xs ys zs : List X) → (xs ++ ys) ++ zs ≡ xs ++ (ys ++ zs)
-append-assoc [] ys zs = refl
-append-assoc (x ∷ xs) ys zs = ap (λ us. x ∷ us) (append-assoc xs ys zs)
-
-pub adding-next : (counts : List ℕ) (old items new : List Assignment) (value left count rest : ℕ) → value < length counts → IsAdding counts old items value left → count ≡ get_or counts value count → rest ≡ left - count → new ≡ items ++ assignment_of value count (nat_eq rest 0) → IsAdding counts old new (value + 1) rest
-adding-next counts old items new value left count rest h a e f g =
-    let less : sum (drop value counts) ≡ count + sum (drop (value + 1) counts) = adding-less counts value count h e in
-    let rest_is : rest ≡ sum (drop (value + 1) counts) = omega (arith, f, a.left_is, less) in
-    let same : get_or counts value 0 ≡ count = sym (e ∙ get_or_default counts value count 0 h) in
-    let split : drop value counts ≡ count ∷ drop (value + 1) counts = rw add-one (drop-cons counts value 0 h) ∙ ap (λ c. c ∷ drop (value + 1) counts) same in
-    record {
-      within = omega (arith, h);
-      left_is = rest_is;
-      all =
-          ap (λ us. us ++ assignments (value + 1) (drop (value + 1) counts)) g
-          ∙ append-assoc items (assignment_of value count (nat_eq rest 0)) (assignments (value + 1) (drop (value + 1) counts))
-          ∙ ap (λ n. items ++ (assignment_of value count (nat_eq n 0) ++ assignments (value + 1) (drop (value + 1) counts))) rest_is
-          ∙ ap (λ us. items ++ us) (sym (assignments-cons value count (drop (value + 1) counts)))
-          ∙ ap (λ cs. items ++ assignments value cs) (sym split)
-          ∙ a.all;
-    }
-
-append-none : {X : Type 0} (xs : List X) → xs ++ [] ≡ xs
-append-none [] = refl
-append-none (x ∷ xs) = ap (λ us. x ∷ us) (append-none xs)
-
-pub adding-last : (counts : List ℕ) (old items : List Assignment) (value left : ℕ) → length counts ≤ value → IsAdding counts old items value left → items ≡ old ++ assignments 0 counts
-adding-last counts old items value left h a =
-    let none : drop value counts ≡ [] = drop_of_length-le counts {i = value} h in
-    sym (append-none items) ∙ ap (λ cs. items ++ assignments value cs) (sym none) ∙ a.all
-
-all-append : (xs ys : List (List ℕ)) → all_assignments (xs ++ ys) ≡ all_assignments xs ++ all_assignments ys
-all-append [] ys = refl
-all-append (x ∷ xs) ys = ap (λ us. assignments 0 x ++ us) (all-append xs ys) ∙ sym (append-assoc (assignments 0 x) (all_assignments xs) (all_assignments ys))
-
--- one block more
-pub all-more : (blocks : List (List ℕ)) (i : ℕ) (b : List ℕ) → i < length blocks → b ≡ get_or blocks i b → all_assignments (take (i + 1) blocks) ≡ all_assignments (take i blocks) ++ assignments 0 b
-all-more blocks i b h e =
-    let same : get_or blocks i [] ≡ b = sym (e ∙ get_or_default blocks i b [] h) in
-    ap all_assignments (take_more blocks i [] h)
-    ∙ all-append (take i blocks) (get_or blocks i [] ∷ [])
-    ∙ ap (λ us. all_assignments (take i blocks) ++ us) (append-none (assignments 0 (get_or blocks i [])) ∙ ap (assignments 0) same)
 
 -- ---- sums and marks
 

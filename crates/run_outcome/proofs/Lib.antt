@@ -11,6 +11,5 @@ pub mod Promised
 pub mod Readings
 pub mod RunNameShape
 pub mod Showable
-pub mod Shifts
 pub mod Undivided
 pub mod Words

@@ -10,7 +10,6 @@ use Rattle.piece_texts.specs.Places.{IsFirst, NoneBelow}
 use Rattle.report.specs.Refusals.{refusal_line_text}
 use Rattle.report.specs.declared.refusals.Refusal.{Refusal}
 use Rattle.report.specs.declared.refusals.Refusal.TheVariants as refusal
-use Rattle.run_outcome.specs.CauseSteps.{ComesTo}
 use Rattle.run_outcome.specs.MergedRuns.{MergeComes, MergeOutcome, MergePromises, MergesTo}
 use Rattle.run_outcome.specs.Outcome.{Outcome}
 use Rattle.run_outcome.specs.Promises.{ComesExactly, status_asked, status_of}
@@ -204,20 +203,3 @@ merging-refused questions (refusal.TooWide what) held s o t p told is line = abs
 merging-refused questions refusal.WriteFault held s o t p told is line = absurd is
 merging-refused questions refusal.ReadFault held s o t p told is line = by-source questions held s o t p told is line
 merging-refused questions refusal.NoMemory held s o t p told is line = by-memory questions held s o t p told line
-
--- what pieces come to is not told by the outcome of the words
-pub merging-comes : (reads rose : Type 0) (held : Option (List ℕ)) (result : Outcome) → reads → MergeComes rose held result → ComesTo (reads × rose) None result
-merging-comes reads rose held (Ok text) is comes = tt
-merging-comes reads rose held (Err refusal.NoMemory) is comes = tt
-merging-comes reads rose held (Err refusal.ReadFault) is comes = (is, comes)
-merging-comes reads rose held (Err refusal.WriteFault) is comes = absurd comes
-merging-comes reads rose held (Err (refusal.Usage fault)) is comes = absurd comes
-merging-comes reads rose held (Err (refusal.Unfit name)) is comes = absurd comes
-merging-comes reads rose held (Err (refusal.Row fault)) is comes = tt
-merging-comes reads rose held (Err refusal.TooLong) is comes = tt
-merging-comes reads rose held (Err (refusal.PieceLine number)) is comes = tt
-merging-comes reads rose held (Err (refusal.Foreign piece)) is comes = tt
-merging-comes reads rose held (Err (refusal.Doubled piece)) is comes = tt
-merging-comes reads rose held (Err (refusal.MissingPart part)) is comes = tt
-merging-comes reads rose held (Err (refusal.Unequal piece)) is comes = tt
-merging-comes reads rose held (Err (refusal.TooWide what)) is comes = absurd comes

@@ -29,13 +29,6 @@ most-few zero a b = grind arith
 most-few (suc zero) a b = grind arith
 most-few (suc (suc n)) a b = grind (arith, clamps)
 
--- the two numbers of an outlook after each label
-pub least-at : (last a b : ℕ) → last ≤ 2 → get_or (runs_outlook a b) (2 * last) (pos 0) ≡ pos (least_to_come last a b)
-least-at zero a b h = refl
-least-at (suc zero) a b h = refl
-least-at (suc (suc zero)) a b h = refl
-least-at (suc (suc (suc n))) a b h = absurd (omega (arith, h))
-
 pub most-at : (last a b : ℕ) → last ≤ 2 → get_or (runs_outlook a b) (2 * last + 1) (pos 0) ≡ pos (most_to_come last a b)
 most-at zero a b h = refl
 most-at (suc zero) a b h = refl

@@ -18,9 +18,6 @@ started f n u scores =
     let none : u ≡ u +ℤ pos 0 = omega (arith, ints) in
     ap (λ m. draw_sum f m u scores) zero_more ∙ ap (λ z. draw_sum f (0 + n) z scores) none ∙ draw-moved f n u 0 (pos 0) scores
 
-none-above : (p : ℤ → Bool) (drawn : ℕ) → NoneAbove drawn (drawn_at p drawn)
-none-above p drawn n v h = elsewhere (once p) drawn n v (λ e. omega (arith, h, e))
-
 module _ {K : Type 0} (cells_of : K → List ℕ) (limit stride drawn : ℕ) (p : ℤ → Bool) where
   met-draws : (others : List ℤ) (behind : List (DrawRow K)) → AreDraws cells_of limit drawn stride others behind → (n : ℕ) (u : ℤ) → met cells_of p drawn stride behind n u ≡ draw_sum (drawn_at p drawn) n u others
   met-draws others behind are n u =

@@ -1,5 +1,5 @@
 -- How many draws there are, and that what is asked of them is no more.
-use Rattle.std.proofs.Common.{◌≡◌, ℕ, zero, suc, ◌+◌, ◌-◌, ◌*◌, ◌^◌, ◌≤◌, List, [], ◌∷◌, length, Bool, true, false, cond, nat_eq, sym, ◌∙◌, ap, arith, pow-suc}
+use Rattle.std.proofs.Common.{◌≡◌, ℕ, zero, suc, ◌+◌, ◌-◌, ◌*◌, ◌≤◌, List, [], ◌∷◌, length, Bool, true, false, cond, nat_eq, sym, ◌∙◌, ap, arith}
 use Rattle.std.specs.Prelude.{ℤ, ◌+ℤ◌}
 use Rattle.std.proofs.Math.Nat.{le_of_mul-le-mul_left, mul-le-mul_right}
 use Rattle.weights.specs.Numbers.{binomial}
@@ -113,8 +113,3 @@ module _ (p : ℤ → Bool) where
   drawn-within drawn v scores =
       let all : 0 + drawn ≡ drawn = omega arith in
       omega (arith, drawn-few 0 drawn v scores, ap (λ d. draw_sum (drawn_at p d) 0 v scores) all)
-
--- of any number
-pub signed-within : (g : ℤ → ℕ) → ((v : ℤ) → g v ≤ 1) → (n : ℕ) (v : ℤ) (scores : List ℤ) → draw_sum (λ m. g) n v scores ≤ 2 ^ length scores
-signed-within g few n v [] = few v
-signed-within g few n v (s ∷ scores) = omega (arith, signed-within g few n v scores, signed-within g few (n + 1) (v +ℤ s) scores, pow-suc 2 (length scores))

@@ -107,10 +107,6 @@ module _ {K : Type 0} (cells_of : K → List ℕ) (stride : ℕ) where
   rows-same f g e n [] = refl
   rows-same f g e n (row ∷ rows) = omega (arith, cells-same (f n) (g n) (e n) stride row.lowest (cells_of row.tally), rows-same f g e (n + 1) rows)
 
-  pub rows-plus : (f g : ℕ → ℤ → ℕ) (n : ℕ) (rows : List (DrawRow K)) → of_rows (λ m v. f m v + g m v) n rows ≡ of_rows f n rows + of_rows g n rows
-  rows-plus f g n [] = refl
-  rows-plus f g n (row ∷ rows) = omega (arith, cells-plus (f n) (g n) stride row.lowest (cells_of row.tally), rows-plus f g (n + 1) rows)
-
   pub rows-none : (f : ℕ → ℤ → ℕ) (n : ℕ) (rows : List (DrawRow K)) → ((m : ℕ) (v : ℤ) → n ≤ m → f m v ≡ 0) → of_rows f n rows ≡ 0
   rows-none f n [] none = refl
   rows-none f n (row ∷ rows) none = omega (arith, cells-none (f n) (λ v. none n v (omega arith)) stride row.lowest (cells_of row.tally), rows-none f (n + 1) rows (λ m v h. none m v (omega (arith, h))))

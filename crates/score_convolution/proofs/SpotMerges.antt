@@ -1,10 +1,10 @@
 -- Two lists of spots that are merged into one.
-use Rattle.std.proofs.Common.{◌≡◌, ℕ, zero, suc, ◌+◌, ◌-◌, ◌*◌, ◌^◌, ◌<◌, ◌≤◌, ◌⊎◌, inl, inr, List, [], ◌∷◌, ◌++◌, length, drop, get_or, max, min, refl, ap, arith, lit≤}
+use Rattle.std.proofs.Common.{◌≡◌, ℕ, ◌+◌, ◌-◌, ◌*◌, ◌^◌, ◌<◌, ◌≤◌, ◌⊎◌, inl, inr, List, [], ◌∷◌, ◌++◌, length, drop, get_or, max, min, arith, lit≤}
 use Rattle.std.proofs.lemmas.Bool.{cases_lt}
 use Rattle.weights.specs.declared.TheConstants.{MAX}
 use Rattle.score_convolution.specs.Places.{Rise, behind, draws_of, spots_sum}
 use Rattle.score_convolution.specs.declared.lists.Spot.{Spot}
-use Rattle.score_convolution.proofs.Spots.{behind-at, behind-push, rise-at, rise-first, rise-push, spots-last, spots-push, spots-same}
+use Rattle.score_convolution.proofs.Spots.{behind-at, behind-push, rise-at, rise-first, rise-push, spots-last, spots-push}
 
 -- the spots so far, and what is left of both lists, the second of which is moved by so many
 pub record Merges (ones others : List Spot) (by i j : ℕ) (spots : List Spot) : Type 0 where
@@ -15,32 +15,6 @@ pub record Merges (ones others : List Spot) (by i j : ℕ) (spots : List Spot) :
   pub others_rise : Rise (behind 0 spots - by) (drop j others)
   pub told : (f : ℕ → ℕ) → spots_sum f spots + (spots_sum (λ p. f (0 + p)) (drop i ones) + spots_sum (λ p. f (by + p)) (drop j others)) ≡ spots_sum f ones + spots_sum (λ p. f (by + p)) others
   pub long : behind 0 spots ≤ max (behind 0 ones) (by + behind 0 others)
-
-moved-none : (f : ℕ → ℕ) (spots : List Spot) → spots_sum (λ p. f (0 + p)) spots ≡ spots_sum f spots
-moved-none f spots = spots-same (λ p. f (0 + p)) f (λ p. ap f (let e : 0 + p ≡ p = omega arith in e)) spots
-
-pub merges-none : (ones others : List Spot) (by : ℕ) → Rise 0 ones → Rise 0 others → Merges ones others by 0 0 []
-merges-none ones others by r s = record {
-  first = omega arith;
-  second = omega arith;
-  rise = tt;
-  ones_rise = r;
-  others_rise = rise-first 0 (0 - by) others 0 s (λ d h. omega arith);
-  told = λ f. omega (arith, moved-none f ones);
-  long = omega arith;
-}
-
-none-left : (f : ℕ → ℕ) (spots : List Spot) (i : ℕ) → length spots ≤ i → spots_sum f (drop i spots) ≡ 0
-none-left f spots i h = ap (spots_sum f) (empty spots i h)
-  where
-    empty : (xs : List Spot) (i : ℕ) → length xs ≤ i → drop i xs ≡ []
-    empty [] zero h = refl
-    empty [] (suc i) h = refl
-    empty (x ∷ xs) zero h = absurd (omega (arith, h))
-    empty (x ∷ xs) (suc i) h = empty xs i (omega (arith, h))
-
-pub merges-all : (ones others : List Spot) (by i j : ℕ) (spots : List Spot) → Merges ones others by i j spots → length ones ≤ i → length others ≤ j → (f : ℕ → ℕ) → spots_sum f spots ≡ spots_sum f ones + spots_sum (λ p. f (by + p)) others
-merges-all ones others by i j spots m h l f = omega (arith, m.told f, none-left (λ p. f (0 + p)) ones i h, none-left (λ p. f (by + p)) others j l)
 
 -- what is left is no more than all
 pub left-few : (ones : List Spot) (i next draws : ℕ) (place by : ℕ) → ((f : ℕ → ℕ) → draws * f place + spots_sum (λ p. f (by + p)) (drop next ones) ≡ spots_sum (λ p. f (by + p)) (drop i ones)) → draws ≤ draws_of ones

@@ -58,10 +58,6 @@ spots-last f (s ∷ spots) (suc i) = omega (arith, spots-last f spots i)
 
 -- ---- rising places
 
-pub rise-later : (n m : ℕ) (spots : List Spot) → m ≤ n → Rise n spots → Rise m spots
-rise-later n m [] h r = tt
-rise-later n m (s ∷ spots) h r = (omega (arith, h, r.0), r.1)
-
 -- where the first stands further on, so do all
 pub rise-first : (n m : ℕ) (spots : List Spot) (i : ℕ) → Rise n (drop i spots) → ((d : Spot) → i < length spots → m ≤ (get_or spots i d).place) → Rise m (drop i spots)
 rise-first n m [] zero r first = tt
@@ -76,12 +72,6 @@ rise-at n (s ∷ spots) zero d h r = r
 rise-at n (s ∷ spots) (suc i) d h r =
     let one : suc i + 1 ≡ suc (i + 1) = omega arith in
     rw one (rise-at n spots i d (omega (arith, h)) r)
-
-pub rise-all : (spots : List Spot) (i n : ℕ) → length spots ≤ i → Rise n (drop i spots)
-rise-all [] zero n h = tt
-rise-all [] (suc i) n h = tt
-rise-all (s ∷ spots) zero n h = absurd (omega (arith, h))
-rise-all (s ∷ spots) (suc i) n h = rise-all spots i n (omega (arith, h))
 
 pub rise-between : (n : ℕ) (spots : List Spot) (i j : ℕ) (d e : Spot) → Rise n spots → i < j → j < length spots → (get_or spots i d).place < (get_or spots j e).place
 rise-between n [] i j d e r h k = absurd (omega (arith, k))
@@ -117,19 +107,7 @@ pub all-near : (limit by n : ℕ) (spots : List Spot) → Rise n spots → by + 
 all-near limit by n [] r h = tt
 all-near limit by n (s ∷ spots) r h = (omega (arith, behind-from (s.place + 1) spots r.1, h), all-near limit by (s.place + 1) spots r.1 h)
 
-pub near-at : (limit by : ℕ) (spots : List Spot) (i : ℕ) (d : Spot) → AllNear limit by spots → i < length spots → by + (get_or spots i d).place ≤ limit
-near-at limit by [] i d all h = absurd (omega (arith, h))
-near-at limit by (s ∷ spots) zero d all h = all.0
-near-at limit by (s ∷ spots) (suc i) d all h = near-at limit by spots i d all.1 (omega (arith, h))
-
 -- ---- places that are enough
-
-pub enough-more : (least : ℕ) (spots : List Spot) (i : ℕ) (d : Spot) → i < length spots → least ≤ (get_or spots i d).place → AllEnough least (drop (i + 1) spots) → AllEnough least (drop i spots)
-enough-more least [] i d h one rest = absurd (omega (arith, h))
-enough-more least (s ∷ spots) zero d h one rest = (one, rest)
-enough-more least (s ∷ spots) (suc i) d h one rest =
-    let e : suc i + 1 ≡ suc (i + 1) = omega arith in
-    enough-more least spots i d (omega (arith, h)) one (rw e at rest)
 
 pub enough-fewer : (least less : ℕ) (spots : List Spot) → less ≤ least → AllEnough least spots → AllEnough less spots
 enough-fewer least less [] h all = tt

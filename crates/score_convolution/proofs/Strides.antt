@@ -8,7 +8,7 @@ use Rattle.std.proofs.lemmas.Int.{ints}
 use Rattle.std.proofs.lemmas.List.{take_more, get_or-append-add, get_or_append_left, length-append}
 use Rattle.std.proofs.lemmas.List.Elements.{Contains-append_left, Contains-append_right, Contains-get_or, Contains-push_cases, All-from_recursion}
 use Rattle.std.proofs.lemmas.List.Sorted.{All-permutation, Contains-permutation, IsPermutation-sym}
-use Rattle.std.proofs.lemmas.Nat.Gcd.{dvd_trans, dvd-zero}
+use Rattle.std.proofs.lemmas.Nat.Gcd.{dvd_trans}
 use Rattle.networks.specs.PartialSums.{ascending}
 use Rattle.weights.proofs.OneOrder.{IsInOrder, in_order-permutes, int-order, ordered-in_order}
 use Rattle.score_convolution.specs.Subjects.{AreApart, Ascend}
@@ -37,24 +37,7 @@ divides-between d a b o p q =
     let is : (a -ℤ o) -ℤ (b -ℤ o) ≡ a -ℤ b = omega (arith, ints) in
     subst (λ z. d ∣ unsigned_abs z) is (divides-apart d (a -ℤ o) (b -ℤ o) p q)
 
-none-apart : (d : ℕ) (x a b : ℤ) → x ≡ a → x ≡ b → d ∣ unsigned_abs (a -ℤ b)
-none-apart d x a b e f =
-    let is : 0 ≡ unsigned_abs (a -ℤ b) = omega (arith, ints, e, f) in
-    subst (λ n. d ∣ n) is (dvd-zero d)
-
 -- ---- scores apart
-
-first-or-later : (x : ℤ) (xs : List ℤ) (a : ℤ) (k : ℕ) → k < suc (length xs) → get_or (x ∷ xs) k a ≡ a → (x ≡ a) ⊎ Contains xs a
-first-or-later x xs a zero h e = inl e
-first-or-later x xs a (suc k) h e = inr (k, omega (arith, h), e)
-
-only-one : (x a : ℤ) → Contains (x ∷ []) a → x ≡ a
-only-one x a c = elim (first-or-later x [] a c.0 c.1 c.2) [ inl e ↦ e | inr later ↦ absurd (omega (arith, later.1)) ]
-
--- with one score, or none
-pub apart-first_one : (xs : List ℤ) → AreApart 0 (take 1 xs)
-apart-first_one [] a b p q = absurd (omega (arith, p.1))
-apart-first_one (x ∷ xs) a b p q = none-apart 0 x a b (only-one x a p) (only-one x b q)
 
 -- with one score more
 apart-more : (first : ℤ) (xs : List ℤ) (y : ℤ) (s g : ℕ) → AreApart s (first ∷ xs) → IsGcd s (unsigned_abs (y -ℤ first)) g → AreApart g ((first ∷ xs) ++ y ∷ [])

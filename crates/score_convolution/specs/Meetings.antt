@@ -3,8 +3,7 @@ use Rattle.std.specs.Prelude.{ℕ, ℤ, ◌+◌, ◌-◌, ◌*◌, ◌+ℤ◌, �
 use Rattle.std.specs.Prelude.{◌<◌, Bool, cond, nat_eq, unsigned_abs}
 use Rattle.weights.specs.declared.TheConstants.{MAX}
 use Rattle.weights.specs.declared.tails.Tail.{Tail}
-use Rattle.score_convolution.specs.Sides.{once}
-use Rattle.score_convolution.specs.Sides.{is_in, sides_for}
+use Rattle.score_convolution.specs.Sides.{is_in, once, sides_for}
 use Rattle.score_convolution.specs.declared.sides.TailSides.{TailSides}
 use Rattle.score_convolution.specs.DrawRows.{IsDrawRow, row_draws, rows_draws}
 use Rattle.score_convolution.specs.declared.rows.DrawRow.{DrawRow}

@@ -16,8 +16,8 @@ pub(crate) fn in_order(alloc: Global, scores: &[i128]) -> Result<Vec<i128>, NoMe
     Ok(sorted)
 }
 
-/// A number of which every two scores are a multiple apart, the greatest one; 0 where all are
-/// equal.
+/// A number of which every two scores are a multiple apart; 0 where all are equal. It is the
+/// greatest one, by which the rows are shortest: the contract wants any.
 pub(crate) fn common_stride(scores: &[i128]) -> u128
     ensures { AreApart result scores.now }
 {
@@ -28,7 +28,7 @@ pub(crate) fn common_stride(scores: &[i128]) -> u128
     stride
 }
 
-/// A number of which every score is a multiple, the greatest one; 0 where all are 0.
+/// A number of which every score is a multiple; 0 where all are 0. It is the greatest one too.
 pub(crate) fn common_divisor(scores: &[i128]) -> u128
     ensures { AreApart result (pos 0 ∷ scores.now) }
 {

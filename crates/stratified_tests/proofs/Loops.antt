@@ -7,7 +7,7 @@ use Rattle.weights.specs.declared.odds.Odds.{Odds}
 use Rattle.weights.specs.declared.TheConstants.{MAX}
 use Rattle.strata_cells.specs.declared.stratum.Stratum.{Stratum}
 use Rattle.strata_cells.specs.Strata.{size, stratum_at}
-use Rattle.strata_cells.proofs.StrataSums.{next-drop, past-drop}
+use Rattle.strata_cells.proofs.StrataSums.{next-drop}
 use Rattle.stratified_tests.specs.StrataTests.{multiple_of}
 use Rattle.stratified_tests.specs.StrataSteps.{AreOdds, strata_total, stratum_total}
 use Rattle.stratified_tests.proofs.Multiples.{last-within}
@@ -21,9 +21,6 @@ pub record IsTotalled (odds : Option Odds) (strata : List Stratum) (i all : ℕ)
   pub fits : all ≤ MAX
 
 module _ (odds : Option Odds) (strata : List Stratum) where
-  pub product-first : IsTotalled odds strata 0 1
-  product-first = record { product = omega arith; some = omega arith; fits = omega arith }
-
   module _ (o : AreOdds odds) (i all : ℕ) (h : i < length strata) (s : IsTotalled odds strata i all) where
     next : strata_total odds (drop i strata) ≡ stratum_total odds (stratum_at strata i) * strata_total odds (drop (i + 1) strata)
     next = rw (next-drop strata i h) refl
@@ -47,12 +44,6 @@ module _ (odds : Option Odds) (strata : List Stratum) where
       where
         by : (m n : ℕ) → strata_total odds (drop i strata) ≡ m * n → all * m * n ≡ strata_total odds strata
         by m n e = (let whole : all * (m * n) ≡ strata_total odds strata = rw e at s.product in omega (arith, whole))
-
-  pub product-whole : (i all : ℕ) → length strata ≤ i → IsTotalled odds strata i all → all ≡ strata_total odds strata
-  product-whole i all h s =
-      let over : strata_total odds (drop i strata) ≡ 1 = rw (past-drop strata i h) refl in
-      let whole : all * 1 ≡ strata_total odds strata = rw over at s.product in
-      omega (arith, whole)
 
 -- the multiple of the last strata
 pub record IsMultiple (strata : List Stratum) (done multiple : ℕ) : Type 0 where

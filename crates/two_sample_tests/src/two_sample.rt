@@ -122,8 +122,8 @@ impl LabelStatistic for ScoreSum {
         self.made().stages_of(alloc, judge)
     }
 
-    // Where scores rise by one step, by how many pairs of subjects rise; else by draws of the
-    // smaller sample.
+    // Where scores rise by one step, by how many pairs of subjects are concordant; else by draws of
+    // the smaller sample, or by the network while that has few open keys.
     fn numerators(&self, alloc: Global, judge: Judge, tails: Tails) -> Result<TailSums, NoMemory> {
         self.sound();
         let made = self.made().scored();
