@@ -1,10 +1,10 @@
 -- Two lists of spots that are merged into one.
-use Rattle.std.proofs.Common.{◌≡◌, ℕ, ◌+◌, ◌-◌, ◌*◌, ◌^◌, ◌<◌, ◌≤◌, ◌⊎◌, inl, inr, List, [], ◌∷◌, ◌++◌, length, drop, get_or, max, min, arith, lit≤}
+use Rattle.std.proofs.Common.{◌≡◌, ℕ, ◌+◌, ◌-◌, ◌*◌, ◌^◌, ◌<◌, ◌≤◌, ◌⊎◌, inl, inr, List, [], ◌∷◌, ◌++◌, ap, length, drop, get_or, max, min, arith, lit≤}
 use Rattle.std.proofs.lemmas.Bool.{cases_lt}
 use Rattle.weights.specs.declared.TheConstants.{MAX}
 use Rattle.score_convolution.specs.Places.{Rise, behind, draws_of, spots_sum}
 use Rattle.score_convolution.specs.declared.lists.Spot.{Spot}
-use Rattle.score_convolution.proofs.Spots.{behind-at, behind-push, rise-at, rise-first, rise-push, spots-last, spots-push}
+use Rattle.score_convolution.proofs.Spots.{behind-at, behind-push, rise-at, rise-first, rise-push, spots-last, spots-push, spots-same}
 
 -- the spots so far, and what is left of both lists, the second of which is moved by so many
 pub record Merges (ones others : List Spot) (by i j : ℕ) (spots : List Spot) : Type 0 where
@@ -15,6 +15,20 @@ pub record Merges (ones others : List Spot) (by i j : ℕ) (spots : List Spot) :
   pub others_rise : Rise (behind 0 spots - by) (drop j others)
   pub told : (f : ℕ → ℕ) → spots_sum f spots + (spots_sum (λ p. f (0 + p)) (drop i ones) + spots_sum (λ p. f (by + p)) (drop j others)) ≡ spots_sum f ones + spots_sum (λ p. f (by + p)) others
   pub long : behind 0 spots ≤ max (behind 0 ones) (by + behind 0 others)
+
+-- none so far
+pub merges-none : (ones others : List Spot) (by : ℕ) → Rise 0 ones → Rise 0 others → Merges ones others by 0 0 []
+merges-none ones others by r s =
+    let none : 0 - by ≡ 0 = omega arith in
+    record {
+      first = omega arith;
+      second = omega arith;
+      rise = tt;
+      ones_rise = r;
+      others_rise = rw none s;
+      told = λ f. omega (arith, spots-same (λ p. f (0 + p)) f (λ p. (let same : 0 + p ≡ p = omega arith in ap f same)) ones);
+      long = omega arith;
+    }
 
 -- what is left is no more than all
 pub left-few : (ones : List Spot) (i next draws : ℕ) (place by : ℕ) → ((f : ℕ → ℕ) → draws * f place + spots_sum (λ p. f (by + p)) (drop next ones) ≡ spots_sum (λ p. f (by + p)) (drop i ones)) → draws ≤ draws_of ones

@@ -11,6 +11,10 @@ placed_pairs place [] others = 0
 placed_pairs place (c ∷ ones) others =
     c * sum (drop place others) + placed_pairs (place - 1) ones others
 
+-- the spot for which two counts stand
+abbrev pub spot_of : {C : Type 0} → (C → ℕ) → C × C → Spot
+spot_of number pair = record { place = number pair.0; draws = number pair.1 }
+
 -- spots stand at rising places, from one on
 abbrev pub Rise : ℕ → List Spot → Type 0
 Rise place [] = ⊤

@@ -16,7 +16,7 @@ ghost use Rattle.score_convolution.specs.DrawRows.{IsDrawRow, row_draws};
 ghost use Rattle.score_convolution.specs.DrawnSums.{passing_signs};
 
 use crate::cells::Cells;
-use crate::cutting::{are_few_sums, common_divisor, in_order};
+use crate::cutting::{are_few_sums, are_near_sums, common_divisor, in_order};
 use crate::few_keys::few_sums;
 use crate::lists::SumList;
 use crate::pairs::row_pairs;
@@ -26,7 +26,7 @@ use crate::tallies::Tally;
 use networks::{Judge, Roomed, TailSums};
 use stage_network::tail_sums_by_rooms;
 use std::alloc::Global;
-use weights::{Narrow, NoMemory, Tails};
+use weights::{Narrow, NoMemory, Tails, Wide};
 
 // A score and 0, the lesser first.
 fn beside_none(score: i128) -> (i128, i128)
@@ -140,5 +140,8 @@ pub fn sign_sums<S: Roomed>(
     if let Some(sums) = few_sums(alloc, stages, tails)? {
         return Ok(sums);
     }
-    half_sums::<SumList>(alloc, sorted.as_slice(), stride, &sides, tails)
+    if are_near_sums(scores, stride) {
+        return half_sums::<SumList<Narrow>>(alloc, sorted.as_slice(), stride, &sides, tails);
+    }
+    half_sums::<SumList<Wide>>(alloc, sorted.as_slice(), stride, &sides, tails)
 }

@@ -16,7 +16,7 @@ ghost use Rattle.score_convolution.specs.Meetings.{drawn_at};
 ghost use Rattle.score_convolution.specs.Sides.{AreOrdered, is_in, sides_for};
 
 use crate::cells::Cells;
-use crate::cutting::{common_stride, cut_of, have_ties, in_order, is_dense};
+use crate::cutting::{are_near_sums, common_stride, cut_of, have_ties, in_order, is_dense};
 use crate::draws::draw_rows;
 use crate::few_keys::few_sums;
 use crate::left::left_sides;
@@ -83,7 +83,7 @@ fn cell_sums(
 
 // Where so many subjects are cut in the middle.
 fn middle_of(subjects: usize) -> usize
-    ensures { result ≤ subjects }
+    ensures { 2 * result ≤ subjects }
 {
     subjects / 2
 }
@@ -107,7 +107,11 @@ fn list_sums(
 {
     let cut = middle_of(sorted.len());
     let (first, second) = sorted.split_at(cut);
-    sums_in::<SumList>(alloc, first, second, drawn, stride, sides, tails)
+    if second.len() <= FEW && are_near_sums(sorted, stride) {
+        sums_in::<SumList<Narrow>>(alloc, first, second, drawn, stride, sides, tails)
+    } else {
+        sums_in::<SumList<Wide>>(alloc, first, second, drawn, stride, sides, tails)
+    }
 }
 
 // Those of ascending scores: by rows of cells where these are short, or by a network that has the

@@ -5,7 +5,7 @@ use Rattle.score_convolution.proofs.lists.pairs_from.Given as goal
 
 -- the pairs of the spots before this one; all upper spots are enough for each later one
 abbrev pub invariant-loop-i : goal.invariant-loop-i
-invariant-loop-i l = record {
+invariant-loop-i g l = record {
   upper : IsUpper l.others l.upper;
   above : (j : ℕ) (d : Spot) → l.i ≤ j → j < length l.ones → AllEnough (l.fn.place - (get_or l.ones j d).place) (drop l.upper.index l.others);
   pairs : l.pairs ≡ spots_sum (λ p. spots_sum (enough (l.fn.place - p)) l.others) (take l.i l.ones);
