@@ -1,5 +1,5 @@
 -- One number holds the treatments' sums of every reached key, and within a block choices only add to it.
-use Rattle.std.proofs.Common.{◌≡◌, ℕ, zero, suc, ◌+◌, ◌-◌, ◌*◌, ◌/◌, ◌^◌, ◌<◌, ◌≤◌, List, [], ◌∷◌, map, take, drop, get_or, length, replicate, Bool, true, false, cond, refl, sym, ◌∙◌, ap, subst, arith}
+use Rattle.std.proofs.Common.{◌≡◌, ℕ, zero, suc, ◌+◌, ◌-◌, ◌*◌, ◌/◌, ◌^◌, ◌<◌, ◌≤◌, List, [], ◌∷◌, map, take, drop, get_or, length, replicate, Bool, true, false, cond, refl, sym, ◌∙◌, ap, subst, arith, nat_lt}
 use Rattle.std.specs.Prelude.{ℤ, pos}
 use Rattle.std.specs.Ordering.{int_eq}
 use Rattle.std.specs.List.{AllByRecursion, list_any}
@@ -15,12 +15,12 @@ use Rattle.label_network.proofs.Narrowing.{chosen}
 use Rattle.label_network.proofs.Rows.{length-abs}
 use Rattle.symmetry_reduction.specs.GroupSums.{AreHeld, plus_each}
 use Rattle.symmetry_reduction.specs.OrderedGroups.{stay}
-use Rattle.symmetry_reduction.specs.declared.orders.Order.TheVariants.{Whole}
+use Rattle.symmetry_reduction.specs.declared.orders.Order.TheVariants.{Sums, Whole}
 use Rattle.packed_keys.specs.PackedGroups.{AddsSteps}
 use Rattle.packed_keys.specs.PackedKeys.{IsDigit, MayBePacked}
 use Rattle.packed_keys.proofs.Widths.{bits-few, bits-fit}
 use Rattle.rank_assignments.specs.Reflections.{AreReflections}
-use Rattle.rank_assignments.specs.Assignments.{AreAssignments, alike, gained, has_room_for, one_each, raises, assigned_network, assigned_sums, assignment_at, assignment_network, unassigned}
+use Rattle.rank_assignments.specs.Assignments.{AreAssignments, alike, gained, has_room_for, one_each, order_for, raises, assigned_network, assigned_sums, assignment_at, assignment_network, unassigned}
 use Rattle.rank_assignments.specs.Upright.{reflection_at, upright}
 use Rattle.rank_assignments.specs.declared.assignment.Assignment.{Assignment}
 use Rattle.rank_assignments.proofs.AssignedNarrows.{IsAssigned, assigned}
@@ -53,9 +53,13 @@ all-unassigned : (k : ℕ) → list_any (λ r. int_eq r (pos 0)) (unassigned k) 
 all-unassigned zero = refl
 all-unassigned (suc k) = all-unassigned k
 
-stays-within : (k : ℕ) (closes : Bool) (room : List ℤ) → stay Whole (alike k) (cond closes (unassigned k) room) ≡ true → closes ≡ false
-stays-within k true room e = absurd (cc (sym e ∙ all-unassigned k))
-stays-within k false room e = refl
+stays-within : (k : ℕ) (closes : Bool) (room : List ℤ) → stay (order_for k) (alike k) (cond closes (unassigned k) room) ≡ true → closes ≡ false
+stays-within k closes room = by (nat_lt k 7) closes
+  where
+    by : (b closes : Bool) → stay (cond b Whole Sums) (alike k) (cond closes (unassigned k) room) ≡ true → closes ≡ false
+    by true true e = absurd (cc (sym e ∙ all-unassigned k))
+    by true false e = refl
+    by false closes e = absurd (cc e)
 
 module _ (k : ℕ) (vs : List Assignment) (judge : Judge) (a : AreAssignments k vs judge) (reflections : List ℕ) (m : AreReflections k vs reflections) where
   -- a reached key in order is one of the assignments, whose sums are digits
@@ -85,7 +89,7 @@ module _ (k : ℕ) (vs : List Assignment) (judge : Judge) (a : AreAssignments k 
       by (suc n) f = absurd (cc (sym e ∙ (m.each g h (omega (arith, f))).closes))
 
   -- so there a choice adds a number to those that get it
-  pub assigned-adds : AddsSteps Whole (alike k) (assigned_sums k vs reflections judge)
+  pub assigned-adds : AddsSteps (order_for k) (alike k) (assigned_sums k vs reflections judge)
   assigned-adds = record {
     steps = refl;
     wide = λ g room c p v. length-raises (assignment_at vs g).value c ∙ long g room c p v;

@@ -16,7 +16,8 @@ use Rattle.room_network.specs.RoomNetworks.{room_network}
 use Rattle.label_network.specs.ChoiceOrder.{later_choices}
 use Rattle.label_network.specs.Meanings.{sizes_in}
 use Rattle.symmetry_reduction.specs.ReducedNetworks.{reduced_network}
-use Rattle.symmetry_reduction.specs.declared.orders.Order.TheVariants.{Whole}
+use Rattle.symmetry_reduction.specs.declared.orders.Order.{Order}
+use Rattle.symmetry_reduction.specs.declared.orders.Order.TheVariants.{Sums, Whole}
 use Rattle.rank_assignments.specs.BoundSteps.{IsSmall}
 use Rattle.rank_assignments.specs.Upright.{reflection_at, squared, upright}
 use Rattle.rank_assignments.specs.declared.assignment.Assignment.{Assignment}
@@ -188,11 +189,15 @@ assignment_network k vs reflections judge =
 abbrev pub alike : ℕ → List ℕ
 alike k = replicate k 1
 
--- with the treatments in order by their sums wherever all are to be assigned, which is between
--- blocks
+-- how they are put in order by their sums: wherever all are to be assigned, which is between
+-- blocks, and seven and more after each number too
+abbrev pub order_for : ℕ → Order
+order_for k = if nat_lt k 7 then Whole else Sums
+
+-- with the treatments in that order
 abbrev pub assigned_network : ℕ → List Assignment → List ℕ → Judge → Network
 assigned_network k vs reflections judge =
-    reduced_network Whole (alike k) (assignment_network k vs reflections judge)
+    reduced_network (order_for k) (alike k) (assignment_network k vs reflections judge)
 
 -- one number has a digit for each of k treatments that holds its sum after so many assignments
 abbrev pub has_room_for : ℕ → ℕ → Bool

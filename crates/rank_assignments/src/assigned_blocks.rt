@@ -5,10 +5,10 @@ ghost use Rattle.weights.specs.declared.tails.Tail.{Tail};
 ghost use Rattle.networks.specs.Follows.{Follows};
 ghost use Rattle.networks.specs.Judged.{judge_of};
 ghost use Rattle.networks.specs.Network.{IsReached};
-ghost use Rattle.symmetry_reduction.specs.declared.orders.Order.TheVariants.{Whole};
 ghost use Rattle.rank_assignments.specs.Reflections.{reflections_of};
 ghost use Rattle.rank_assignments.specs.Assignments.{AreAssignments, alike, has_room_for};
 ghost use Rattle.rank_assignments.specs.Assignments.{assigned_network, assignment_network};
+ghost use Rattle.rank_assignments.specs.Assignments.{order_for};
 
 use crate::assigned_sums::{AssignedSums, AssignmentRooms};
 use crate::assignment::Assignment;
@@ -40,6 +40,20 @@ pub fn has_room_for(treatments: usize, count: usize) -> bool
     16 * (count as u64) < 1 << bits_for(treatments)
 }
 
+// Of so many treatments and more, keys that differ in order alone are too many within a block.
+const MANY: usize = 7;
+
+// How treatments are put in order by their sums: between blocks, or after each number too.
+fn order_for(treatments: usize) -> Order
+    ensures { result ≡ order_for treatments }
+{
+    if treatments < MANY {
+        Order::Whole
+    } else {
+        Order::Sums
+    }
+}
+
 // These assignments in memory of their own.
 fn all_of(
     alloc: Global,
@@ -69,7 +83,7 @@ pub fn ordered_blocks(
 ) -> Result<OrderedBlocks, NoMemory>
     requires { AreAssignments treatments items.now judge }
     ensures sizes { IfOk result (λ s. s.2 ≡ alike treatments) }
-    ensures order { IfOk result (λ s. s.3 ≡ Whole) }
+    ensures order { IfOk result (λ s. s.3 ≡ order_for treatments) }
     ensures treatments { IfOk result (λ s. s.1.assignments.treatments ≡ treatments) }
     ensures items { IfOk result (λ s. s.1.assignments.items.items ≡ items.now) }
     ensures judge { IfOk result (λ s. s.1.assignments.judge ≡ judge) }
@@ -99,6 +113,6 @@ pub fn ordered_blocks(
     let beside = AssignmentRooms {
         assignments: beside,
     };
-    let ordered = SymmetryReduced::new(stages, beside, sizes, Order::Whole);
+    let ordered = SymmetryReduced::new(stages, beside, sizes, order_for(treatments));
     Ok(ordered)
 }

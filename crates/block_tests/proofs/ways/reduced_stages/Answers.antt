@@ -5,7 +5,7 @@ use Rattle.weights.specs.declared.tails.Tail.TheVariants.{Greater}
 use Rattle.networks.specs.Follows.{Follows}
 use Rattle.networks.specs.Judged.{judge_of}
 use Rattle.rank_assignments.specs.Reflections.{AreReflections}
-use Rattle.rank_assignments.specs.Assignments.{alike, all_assignments, assigned_network, assignment_network}
+use Rattle.rank_assignments.specs.Assignments.{alike, all_assignments, assigned_network, assignment_network, order_for}
 use Rattle.rank_assignments.proofs.ReflectionSteps.{are-reflections}
 use Rattle.rank_assignments.proofs.PackedAssignments.{assigned-adds, packed-sums}
 use Rattle.block_tests.specs.BlockTests.{BlockTests, block_counts, block_test}
@@ -53,14 +53,14 @@ in-order c t =
 pub returns-clause-follows : goal.returns-clause-follows
 returns-clause-follows c t =
     let here = (goal.at.returns-clause-follows c).In_ok-stages in
-    rw (c.in_ok-stages.ensures.order, c.in_ok-stages.ensures.sizes ∙ ap alike c.treatments.ensures, c.in_ok-stages.ensures.treatments ∙ c.treatments.ensures, c.in_ok-stages.ensures.items ∙ items-are here, c.in_ok-stages.ensures.judge ∙ c.requires.judge)
+    rw (c.in_ok-stages.ensures.order ∙ ap order_for c.treatments.ensures, c.in_ok-stages.ensures.sizes ∙ ap alike c.treatments.ensures, c.in_ok-stages.ensures.treatments ∙ c.treatments.ensures, c.in_ok-stages.ensures.items ∙ items-are here, c.in_ok-stages.ensures.judge ∙ c.requires.judge)
     (in-order here t)
 
 pub returns-clause-packs : goal.returns-clause-packs
 returns-clause-packs c room =
     let here = (goal.at.returns-clause-packs c).In_ok-stages in
     let k : ℕ = c.args.test.now.blocks.treatments in
-    rw (c.in_ok-stages.ensures.order, c.in_ok-stages.ensures.sizes ∙ ap alike c.treatments.ensures, c.in_ok-stages.ensures.treatments ∙ c.treatments.ensures, c.in_ok-stages.ensures.items ∙ items-are here, c.in_ok-stages.ensures.judge ∙ c.requires.judge)
+    rw (c.in_ok-stages.ensures.order ∙ ap order_for c.treatments.ensures, c.in_ok-stages.ensures.sizes ∙ ap alike c.treatments.ensures, c.in_ok-stages.ensures.treatments ∙ c.treatments.ensures, c.in_ok-stages.ensures.items ∙ items-are here, c.in_ok-stages.ensures.judge ∙ c.requires.judge)
     (packed-sums k (all_assignments (block_counts c.args.test.now)) (judge_of (block_test c.args.test.now)) (tests-assignments c.args.test.now c.blocks-blocks.ensures.fitting c.requires.kind Greater) c.in_ok-stages.stages.1.assignments.reflections.items (made here).reflections_are c.requires.some room
     (record { judge = judge_of (block_test c.args.test.now); intervals = (in-order here Greater).intervals })
     (rw (c.treatments.ensures, items-are here, c.requires.judge) at c.in_ok-stages.ensures.reached))
@@ -68,5 +68,5 @@ returns-clause-packs c room =
 pub returns-clause-adds : goal.returns-clause-adds
 returns-clause-adds c =
     let here = (goal.at.returns-clause-adds c).In_ok-stages in
-    rw (c.in_ok-stages.ensures.order, c.in_ok-stages.ensures.sizes ∙ ap alike c.treatments.ensures, c.in_ok-stages.ensures.treatments ∙ c.treatments.ensures, c.in_ok-stages.ensures.items ∙ items-are here, c.in_ok-stages.ensures.judge ∙ c.requires.judge)
+    rw (c.in_ok-stages.ensures.order ∙ ap order_for c.treatments.ensures, c.in_ok-stages.ensures.sizes ∙ ap alike c.treatments.ensures, c.in_ok-stages.ensures.treatments ∙ c.treatments.ensures, c.in_ok-stages.ensures.items ∙ items-are here, c.in_ok-stages.ensures.judge ∙ c.requires.judge)
     (assigned-adds c.args.test.now.blocks.treatments (all_assignments (block_counts c.args.test.now)) (judge_of (block_test c.args.test.now)) (tests-assignments c.args.test.now c.blocks-blocks.ensures.fitting c.requires.kind Greater) c.in_ok-stages.stages.1.assignments.reflections.items (made here).reflections_are)

@@ -60,9 +60,9 @@ returns-clause-reflections c =
 pub returns-clause-follows : goal.returns-clause-follows
 returns-clause-follows c =
     let f = given (goal.at.returns-clause-follows c).After-new-stages in
-    rw (c.new-ordered.ensures.parts) (rw (f.sizes, f.treatments, f.items, f.judge_is) at c.new-ordered.ensures.follows)
+    rw (c.new-ordered.ensures.parts) (rw (c.order_for.ensures, f.sizes, f.treatments, f.items, f.judge_is) at c.new-ordered.ensures.follows)
 
 pub returns-clause-reached : goal.returns-clause-reached
 returns-clause-reached c =
     let f = given (goal.at.returns-clause-reached c).After-new-stages in
-    rw (c.new-ordered.ensures.parts) (rw (f.sizes, f.treatments, f.items, f.judge_is) at c.new-ordered.ensures.reached)
+    rw (c.new-ordered.ensures.parts) (rw (c.order_for.ensures, f.sizes, f.treatments, f.items, f.judge_is) at c.new-ordered.ensures.reached)
