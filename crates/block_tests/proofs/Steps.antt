@@ -30,9 +30,6 @@ module _ (k : ℕ) (blocks : List (List ℕ)) (whole : All (IsWhole k) blocks) (
   own : IsLabelling (block_at blocks g) c
   own = labelling_from (block_at blocks g) c m
 
-  pub choice-long : length c ≡ k
-  choice-long = own.over.long ∙ (whole-at k blocks g whole h).treatments
-
   pub choice-small : All (λ z. z < 256) c
   choice-small i d l = (let few = (whole-at k blocks g whole h).few in let b : get_or c i d < length (block_at blocks g) = All-from_recursion (λ z. z < length (block_at blocks g)) c own.over.below i d l in omega (arith, b, few))
 
@@ -122,11 +119,6 @@ lists-within : (n k : ℕ) → k ≤ 17 → length (lists_over n k) ≤ power n
 unfolding power
 lists-within zero k few = omega arith
 lists-within (suc n) k few = lists-step n k (power n) few (lists-within n k few)
-
-power-some : (n : ℕ) → 1 ≤ power n
-unfolding power
-power-some zero = omega arith
-power-some (suc n) = omega (arith, power-some n)
 
 power-rises : (n m : ℕ) → power n ≤ power (n + m)
 unfolding power

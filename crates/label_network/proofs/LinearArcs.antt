@@ -123,8 +123,3 @@ steps-none : (better : ℤ → ℤ → ℤ) (u : ℤ) (us : List ℤ) (ms : List
 steps-none better u [] ms = refl
 steps-none better u (w ∷ us) [] = refl
 steps-none better u (w ∷ us) (m ∷ ms) = rw (part-none better (sum (m ∷ ms)), *ℤ-zero (w -ℤ u), steps-none better w us ms) refl
-
-pub added-none : (better : ℤ → ℤ → ℤ) (us : List ℤ) (ms : List ℕ) → added_by (part_sum better) us ms [] ≡ pos 0
-added-none better [] ms = refl
-added-none better (u ∷ us) [] = refl
-added-none better (u ∷ us) (m ∷ ms) = rw (*ℤ-zero u, steps-none better u us ms) refl

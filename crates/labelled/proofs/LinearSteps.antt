@@ -1,6 +1,5 @@
 -- The linear statistic, one subject after another.
-use Rattle.std.proofs.Common.{◌≡◌, ℕ, ◌+◌, ◌*◌, ◌<◌, ◌≤◌, ◌∙◌, List, [], length, drop, get_or, refl, ap, arith, add-one, drop-cons, drop_of_length-le}
-use Rattle.std.proofs.Math.IntN.{+ℤ_idl}
+use Rattle.std.proofs.Common.{◌≡◌, ℕ, ◌+◌, ◌*◌, ◌<◌, ◌≤◌, ◌∙◌, List, length, drop, get_or, refl, ap, arith, add-one, drop-cons}
 use Rattle.std.specs.Prelude.{ℤ, pos, ◌+ℤ◌, ◌*ℤ◌, unsigned_abs}
 use Rattle.std.proofs.Math.Nat.{mul-le-mul_right, mul-add}
 use Rattle.std.proofs.lemmas.Int.{ints, unsigned_abs-mul}
@@ -18,13 +17,7 @@ pub record IsSummed (us scores : List ℤ) (labels : List ℕ) (i : ℕ) (sum : 
 joined : (s t p r all : ℤ) → s +ℤ t ≡ all → t ≡ p +ℤ r → (s +ℤ p) +ℤ r ≡ all
 joined s t p r all a b = omega (arith, ints, a, b)
 
-ended : (s t all : ℤ) → s +ℤ t ≡ all → t ≡ pos 0 → s ≡ all
-ended s t all a b = omega (arith, ints, a, b)
-
 module _ (us scores : List ℤ) (labels : List ℕ) where
-  pub summed-first : IsSummed us scores labels 0 (pos 0)
-  summed-first = record { summing = +ℤ_idl (linear_statistic us scores labels); small = omega arith }
-
   module _ (i : ℕ) (here : i < length scores) (there : i < length labels) (s : ℤ) (a : IsSummed us scores labels i s) where
     abbrev u : ℤ
     u = score_of us (get_or labels i 0)
@@ -49,8 +42,3 @@ module _ (us scores : List ℤ) (labels : List ℕ) where
       summing = joined s _ (u *ℤ v) _ _ a.summing step;
       small = omega (arith, a.small, sizes, product, unsigned_abs-mul u v, size-plus s (u *ℤ v));
     }
-
-  pub summed-end : (i : ℕ) (s : ℤ) → length scores ≤ i → IsSummed us scores labels i s → s ≡ linear_statistic us scores labels
-  summed-end i s h a =
-      let none : drop i scores ≡ [] = drop_of_length-le scores {i = i} h in
-      ended s _ _ a.summing (ap (λ ss. linear_statistic us ss (drop i labels)) none)

@@ -6,13 +6,10 @@ use Rattle.weights.specs.Conditional.{ConditionalTest, every_tail}
 use Rattle.weights.specs.Labellings.{labellings, number_of_labellings}
 use Rattle.weights.specs.Numbers.{absolute_sum}
 use Rattle.weights.specs.declared.TheConstants.{MAX}
-use Rattle.weights.specs.declared.tails.Tail.{Tail}
 use Rattle.weights.specs.declared.wide.PrepareFault.{PrepareFault}
 use Rattle.completion_bounds.specs.Pairings.{greatest_score}
 use Rattle.networks.specs.Judged.{judge_of}
-use Rattle.networks.specs.Network.{Network}
 use Rattle.later_scores.specs.LaterSums.{subjects, total_score}
-use Rattle.label_network.specs.LabelNetwork.{label_network}
 use Rattle.label_network.specs.Linear.{linear_meaning, linear_statistic, row_sum}
 use Rattle.label_network.specs.Meanings.{Meaning}
 use Rattle.labelled.specs.LabelTests.{IsRefusedBy, LabelTest, label_test}
@@ -40,9 +37,6 @@ abbrev pub linear_label_meaning : ScoredLabels → Meaning
 linear_label_meaning s =
     linear_meaning s.label_scores s.sizes s.column_scores s.columns
     (judge_of (linear_label_test s))
-
-abbrev pub linear_label_network : ScoredLabels → Tail → Network
-linear_label_network s tail = label_network (linear_label_meaning s)
 
 -- labels and subjects with scores, as many subjects as labels, in columns of one score
 pub record AreScoredLabels (s : ScoredLabels) : Type 0 where

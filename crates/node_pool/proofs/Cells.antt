@@ -63,10 +63,6 @@ rest width n cells long = omega (arith, long, length-drop (width + 1) cells)
 key-long : (width n : ℕ) (cells : List ℤ) → length cells ≡ suc n * (width + 1) → length (take width cells) ≡ width
 key-long width n cells long = length-take-le width cells (omega (arith, front width n cells long))
 
-pub keys-long : (width n : ℕ) (cells : List ℤ) → length cells ≡ n * (width + 1) → length (keys_of width n cells) ≡ n * width
-keys-long width zero cells long = omega arith
-keys-long width (suc n) cells long = omega (arith, length-append (take width cells) (keys_of width n (drop (width + 1) cells)), key-long width n cells long, keys-long width n (drop (width + 1) cells) (rest width n cells long))
-
 -- ---- the cell at a place
 
 pub key-at : (width n i : ℕ) (cells : List ℤ) → length cells ≡ n * (width + 1) → i < n → key_at width (keys_of width n cells) i ≡ cell_key width cells i

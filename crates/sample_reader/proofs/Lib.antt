@@ -1,6 +1,5 @@
 mod Appearances
 mod BinaryBlocks
-mod DroppedGroups
 mod LabelSets
 mod LayoutVectors
 mod OrderLemmas

@@ -128,7 +128,7 @@ pub(crate) fn are_few_sums(scores: &[i128], stride: u128) -> bool
     absolute_sum(scores) / stride <= most
 }
 
-/// Whether the places of all sums of these scores are numbers of 64 bits.
+/// Whether the scores are so small that the places of all their sums are numbers of 64 bits.
 pub(crate) fn are_near_sums(scores: &[i128], stride: u128) -> bool
     requires { 0 < stride }
 {
