@@ -20,6 +20,7 @@ pub mod LinearNarrows
 pub mod LinearValues
 pub mod RowOrder
 pub mod Summing
+pub mod LinearPairings
 pub mod Rows
 pub mod Sizes
 pub mod LabelPlans
