@@ -29,7 +29,8 @@ use Rattle.room_network.proofs.RoomLaws.{room_intervals}
 use Rattle.label_network.specs.Meanings.{sizes_in}
 use Rattle.rank_assignments.specs.Reflections.{AreReflections}
 use Rattle.rank_assignments.specs.Assignments.{AreAssignments, ahead, all_assignments, one_each, assigned_sums, assignment_at, assignment_network, assignment_plan, assignments, unassigned}
-use Rattle.rank_assignments.specs.Upright.{reflection_at, squared}
+use Rattle.rank_assignments.specs.Upright.{reflection_at}
+use Rattle.networks.specs.Distances.{squared}
 use Rattle.rank_assignments.specs.declared.assignment.Assignment.{Assignment}
 use Rattle.rank_assignments.proofs.ReflectionSteps.{are-reflections, reflections-even}
 use Rattle.rank_assignments.proofs.AssignedNarrows.{IsAssigned, assigned-first, assigned_measure}

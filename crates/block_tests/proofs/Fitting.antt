@@ -25,16 +25,17 @@ use Rattle.weights.proofs.Sums.{sum_by-flat_map, sum_by-map, sum_by-same}
 use Rattle.sample_reader.specs.Data.{block_data_of}
 use Rattle.sample_reader.specs.declared.samples.Blocks.{Blocks}
 use Rattle.enumerate.proofs.JoinedMembers.{all-joined, each-labelling, joined-front}
-use Rattle.networks.specs.Addends.{Addends, additive_network}
+use Rattle.networks.specs.declared.additive.CentredSquares.{CentredSquares}
+use Rattle.networks.specs.Addends.{Addends, additive_network, from_zero}
 use Rattle.networks.specs.Network.{Network}
 use Rattle.networks.specs.Follows.{Follows}
 use Rattle.networks.proofs.AdditiveFollows.{additive_follows}
 use Rattle.labelled.specs.UnweightedTests.{CanBeAnswered}
 use Rattle.labelled.proofs.UnweightedLaws.{can-be-answered}
 use Rattle.rank_assignments.specs.BoundSteps.{IsSmall}
-use Rattle.rank_assignments.specs.Upright.{squared}
+use Rattle.networks.specs.Distances.{squared}
 use Rattle.block_tests.specs.BlockNetworks.{addends_of, first_arrangement, line_addends, network_by, running_addends, square_addends}
-use Rattle.block_tests.specs.BlockSteps.{AreStages, IsWhole, cells_sum, ways_of}
+use Rattle.block_tests.specs.BlockSteps.{AreSquares, AreStages, IsWhole, cells_sum, ways_of}
 use Rattle.block_tests.specs.BlockTests.{BlockTests, TakesCells, block_counts, block_statistic, block_test, blocks_for, bound_of, cells_in, cell_counts, cut, has_tail, measure, observed_cells, page_sum, rearrangements, rows, sides_of, square_sum, treatment_sums}
 use Rattle.block_tests.specs.PreparedSteps.{AreBlocks, AreFitting}
 use Rattle.block_tests.specs.declared.kinds.BlockKind.{BlockKind}
@@ -42,7 +43,7 @@ use Rattle.block_tests.specs.declared.kinds.BlockKind.TheVariants.{Friedman, Pag
 use Rattle.block_tests.proofs.PageImages.{runs-for}
 use Rattle.block_tests.proofs.PageLaws.{page-measured, page-stages, page_additive, page_pieces}
 use Rattle.block_tests.proofs.Rows.{each-row, each-taken, length-cells, length-cut, midranks-sum, row-small, row-sum, row-whole}
-use Rattle.block_tests.proofs.SquareLaws.{square-stages, square_additive, square_pieces, squares-measured}
+use Rattle.block_tests.proofs.SquareLaws.{square-stages, square_additive, square_pieces, squares-from-zero, squares-measured}
 use Rattle.block_tests.proofs.Staged.{IsArranged, all_weaker, each-weighs, parts-arranged}
 use Rattle.block_tests.proofs.TreatmentSums.{length-sums, page-within, squares-within, sums-within}
 
@@ -93,9 +94,6 @@ pub statistic-small : (kind : BlockKind) (n k : ℕ) (r : List ℕ) → n ≤ 10
 statistic-small kind n k r few narrow small =
     (omega (arith, ints), (let top : measure kind (treatment_sums k (cut k n r)) ≤ 2 ^ 60 = by kind in omega (arith, ints, top)))
   where
-    sums : List ℕ
-    sums = treatment_sums k (cut k n r)
-
     long : length (treatment_sums k (cut k n r)) ≡ k
     long = length-sums k n r
 
@@ -306,19 +304,20 @@ module _ (tests : BlockTests) (f : AreFitting tests) where
 
   -- ---- the network
 
-  squares-follow : (tail : Tail) → (tests.kind ≡ Friedman) ⊎ (tests.kind ≡ Cochran) → Follows (block_test tests) tail (additive_network (square_addends (block_test tests).bound tests.blocks.treatments (block_counts tests) (judge_of (block_test tests))))
-  squares-follow tail e =
+  pub squares-follow : (x : CentredSquares) → AreSquares tests.blocks.treatments (block_counts tests) x → (tail : Tail) → (tests.kind ≡ Friedman) ⊎ (tests.kind ≡ Cochran)
+      → Follows (block_test tests) tail (additive_network (square_addends x tests.blocks.treatments (block_counts tests) (judge_of (block_test tests))))
+  squares-follow x r tail e =
       let k : ℕ = tests.blocks.treatments in
       let blocks : List (List ℕ) = block_counts tests in
       let judge : Judge = judge_of (block_test tests) in
-      let a : Addends = square_addends (block_test tests).bound k blocks judge in
+      let a : Addends = square_addends x k blocks judge in
       additive_follows (block_test tests) tail a square_pieces (IsArranged (length blocks) k) (map labellings blocks)
-      (square_additive (block_test tests).bound k blocks judge are-stages (bounded tests f.blocks e) bound-fits)
+      (square_additive x k blocks judge are-stages r)
       (record {
         reference = refl;
         judge_is = refl;
         counted = length-map blocks labellings;
-        stages = square-stages (block_test tests).bound k blocks judge whole-all;
+        stages = square-stages x k blocks judge whole-all;
         each = parts-arranged k blocks whole-all blocks 0 refl;
         joined = record {
           measures = λ xs all. measured_at tests tail (concat xs) ∙ squared-is e (concat xs) ∙ ap (λ n. pos (square_sum (treatment_sums k (cut k n (concat xs))))) (sym (blocks-many tests f.blocks)) ∙ squares-measured (length blocks) k xs all;
@@ -353,6 +352,10 @@ module _ (tests : BlockTests) (f : AreFitting tests) where
       paged : tests.kind ≡ Page → (r : List ℕ) → block_statistic tests.kind tests.blocks.blocks tests.blocks.treatments r ≡ pos (page_sum 1 (treatment_sums tests.blocks.treatments (cut tests.blocks.treatments tests.blocks.blocks r)))
       paged e r = rw e refl
 
+  -- as they are written
+  from-zero-follow : (tail : Tail) → (tests.kind ≡ Friedman) ⊎ (tests.kind ≡ Cochran) → Follows (block_test tests) tail (additive_network (square_addends (from_zero (block_test tests).bound) tests.blocks.treatments (block_counts tests) (judge_of (block_test tests))))
+  from-zero-follow tail e = squares-follow (from_zero (block_test tests).bound) (squares-from-zero tests.blocks.treatments (block_test tests).bound (block_counts tests) (bounded tests f.blocks e) bound-fits) tail e
+
   of_kind : BlockKind → Network
   of_kind kind = additive_network (running_addends kind (block_test tests).bound tests.blocks.treatments (block_counts tests) (judge_of (block_test tests)))
 
@@ -361,9 +364,9 @@ module _ (tests : BlockTests) (f : AreFitting tests) where
   follows tail = by tests.kind refl
     where
       by : (kind : BlockKind) → tests.kind ≡ kind → Follows (block_test tests) tail (network_by running_addends tests)
-      by Friedman e = subst (λ kind. Follows (block_test tests) tail (of_kind kind)) (sym e) (squares-follow tail (inl e))
+      by Friedman e = subst (λ kind. Follows (block_test tests) tail (of_kind kind)) (sym e) (from-zero-follow tail (inl e))
       by Page e = subst (λ kind. Follows (block_test tests) tail (of_kind kind)) (sym e) (page-follows tail e)
-      by Cochran e = subst (λ kind. Follows (block_test tests) tail (of_kind kind)) (sym e) (squares-follow tail (inr e))
+      by Cochran e = subst (λ kind. Follows (block_test tests) tail (of_kind kind)) (sym e) (from-zero-follow tail (inr e))
 
   pub can-be : CanBeAnswered (block_test tests) (network_by running_addends tests) (network_by addends_of tests)
   can-be = can-be-answered (block_test tests) (centred tests f.blocks) (λ r. refl) (has-first tests.kind) (total-some tests) f.total_fits follows (runs-for tests)

@@ -1,6 +1,6 @@
 -- The network of Page's sum is lawful, and its completions end at Page's sums.
 use Rattle.std.proofs.Common.{◌≡◌, ◌≢◌, ℕ, zero, suc, ◌+◌, ◌*◌, ◌-◌, ◌<◌, ◌≤◌, List, [], ◌∷◌, ◌++◌, length, drop, map, get_or, set, reverse, Bool, true, false, cond, int_lt, refl, sym, ◌∙◌, ap, arith}
-use Rattle.std.specs.Prelude.{ℤ, pos, ◌+ℤ◌, ◌≤ℤ◌, slice_index, slice_index_or, Contains}
+use Rattle.std.specs.Prelude.{ℤ, pos, ◌+ℤ◌, ◌≤ℤ◌, nat_abs, slice_index, slice_index_or, Contains}
 use Rattle.std.specs.List.{All, AllByRecursion, concat, range_with_len, sum_by}
 use Rattle.std.specs.Ordering.{int_eq}
 use Rattle.std.proofs.Math.Nat.{mul-le-mul_right}
@@ -15,7 +15,8 @@ use Rattle.weights.proofs.FirstLabel.{number_of_labellings-positive}
 use Rattle.weights.proofs.Filters.{all_map}
 use Rattle.weights.proofs.Members.{IsLabelling, range-below}
 use Rattle.weights.proofs.Sums.{sum_by-filter, sum_by-map, sum_by-one, sum_by-same}
-use Rattle.networks.specs.Addends.{over_stages, reach, stage_total, stride}
+use Rattle.networks.specs.Addends.{reach, stage_total, stride}
+use Rattle.networks.proofs.AdditiveKeys.{least_small, most_small, over_stages-some}
 use Rattle.networks.specs.Follows.{statistic_sums}
 use Rattle.networks.specs.Lines.{IsSpreadOf}
 use Rattle.networks.specs.SoundAddends.{AddsBetween, IsAdditive}
@@ -31,7 +32,7 @@ use Rattle.block_tests.proofs.Arranged.{first-labelling, length-first}
 use Rattle.weights.proofs.Ranges.{range-different}
 use Rattle.block_tests.proofs.Lines.{over-lines}
 use Rattle.block_tests.proofs.PageOrder.{page-least, page-most}
-use Rattle.block_tests.proofs.SquareLaws.{first-small, over-pos, over-stages-within}
+use Rattle.block_tests.proofs.SquareLaws.{first-small}
 use Rattle.block_tests.proofs.Staged.{IsArranged, all_weaker, at-head, over-within, total-fits, whole-at}
 use Rattle.block_tests.proofs.TreatmentSums.{page-added, page-within, page-zeros, sums-front, sums-none}
 
@@ -150,12 +151,8 @@ module _ (k : ℕ) (blocks : List (List ℕ)) (judge : Judge) (s : AreStages k b
       let all : reach (line_addends blocks judge) ≤ length blocks * 1152 = over-within (stride (line_addends blocks judge)) (length blocks) 1152 (λ g h. (let low = least-small g h in let high = most-small g h in omega (arith, low, high))) in
       omega (arith, all, s.few)
 
-  end-fits : (f : ℕ → ℕ) → ((g : ℕ) → g < length blocks → f g ≤ 1152) → IsSmall (pos 0 +ℤ over_stages (λ g. pos (f g)) (length blocks - 0) 0)
-  end-fits f each =
-      let some = over-pos f (length blocks - 0) 0 in
-      let most : over_stages (λ g. pos (f g)) (length blocks - 0) 0 ≤ℤ pos ((length blocks - 0) * 1152) = over-stages-within f 1152 (length blocks) (length blocks - 0) 0 each (omega arith) in
-      let few : (length blocks - 0) * 1152 ≤ 11520000 = omega (arith, s.few) in
-      (omega (arith, ints, some.1), omega (arith, ints, most, few))
+  end-fits : (e : ℤ) → pos 0 ≤ℤ e → nat_abs e + 0 ≤ reach (line_addends blocks judge) → IsSmall (pos 0 +ℤ e)
+  end-fits e some h = (omega (arith, ints, some), (let few : nat_abs e ≤ 11520000 = omega (arith, h, reach-small) in omega (arith, ints, some, few)))
 
   pub page_additive : IsAdditive (line_addends blocks judge)
   page_additive = record {
@@ -168,8 +165,8 @@ module _ (k : ℕ) (blocks : List (List ℕ)) (judge : Judge) (s : AreStages k b
     between = λ g h. page-adds blocks judge g;
     sums_fit = omega (arith, reach-small);
     measured = refl;
-    low_fits = s.judge_fits _ (end-fits (λ g. page_sum 1 (reverse (first_arrangement (block_at blocks g)))) least-small);
-    high_fits = s.judge_fits _ (end-fits (λ g. page_sum 1 (first_arrangement (block_at blocks g))) most-small);
+    low_fits = s.judge_fits _ (end-fits _ (over_stages-some (line_addends blocks judge).least (length blocks - 0) (λ g h. omega (arith, ints)) (length blocks - 0) 0 (omega arith)) (least_small (line_addends blocks judge) 0 (omega arith)));
+    high_fits = s.judge_fits _ (end-fits _ (over_stages-some (line_addends blocks judge).most (length blocks - 0) (λ g h. omega (arith, ints)) (length blocks - 0) 0 (omega arith)) (most_small (line_addends blocks judge) 0 (omega arith)));
   }
 
 -- ---- rearrangements

@@ -14,16 +14,19 @@ use Rattle.weights.specs.declared.TheConstants.{MAX}
 use Rattle.networks.specs.declared.verdicts.Judge.{Judge}
 use Rattle.weights.proofs.Members.{IsLabelling}
 use Rattle.weights.proofs.Sums.{sum_by-map, sum_by-one}
-use Rattle.networks.specs.Addends.{over_earlier, over_stages, raised_squares, reach, square, stride}
+use Rattle.networks.specs.declared.additive.CentredSquares.{CentredSquares}
+use Rattle.networks.specs.Addends.{Addends, from_mean, from_zero, least_sum_to_come, most_sum_to_come, over_earlier, reach, square, stride, summed_ends}
 use Rattle.networks.specs.PartialSums.{plus}
 use Rattle.networks.specs.SoundAddends.{AddsBetween, IsAdditive, IsSquared}
 use Rattle.networks.proofs.Flat.{AllAt}
 use Rattle.networks.proofs.Parts.{AreStages as AreParts, Pieces, summed}
 use Rattle.enumerate.proofs.JoinedMembers.{each-labelling}
 use Rattle.rank_assignments.specs.BoundSteps.{IsSmall}
-use Rattle.rank_assignments.specs.Upright.{squared}
+use Rattle.networks.specs.Distances.{far_square, farthest, near_square, nearest, squared}
+use Rattle.networks.proofs.AdditiveKeys.{least_small, most_small}
+use Rattle.networks.proofs.SquaredDistances.{mean-within, squares-rise}
 use Rattle.block_tests.specs.BlockNetworks.{block_at, first_arrangement, greatest_block_cell, least_block_cell, square_addends}
-use Rattle.block_tests.specs.BlockSteps.{AreStages, IsWhole, cells_sum}
+use Rattle.block_tests.specs.BlockSteps.{AreSquares, AreStages, IsWhole, cells_sum}
 use Rattle.block_tests.specs.BlockTests.{added, cut, square_sum, treatment_sums}
 use Rattle.block_tests.proofs.Arranged.{between-ends, cells-swapped, first-labelling, sum_by-first}
 use Rattle.block_tests.proofs.Different.{arrangements-different}
@@ -36,9 +39,9 @@ pos-between : (a b : ℕ) (x : List ℕ) → AllByRecursion (λ z. (a ≤ z) × 
 pos-between a b [] h = tt
 pos-between a b (z ∷ x) h = ((omega (arith, ints, h.0.0), omega (arith, ints, h.0.1)), pos-between a b x h.1)
 
-wide_between : (bound k : ℕ) (blocks : List (List ℕ)) (judge : Judge) (g : ℕ) → All (IsWhole k) blocks → g < length blocks → AllByRecursion (AddsBetween (square_addends bound k blocks judge) g) (labellings (block_at blocks g))
-wide_between bound k blocks judge g whole h =
-    all_weaker (IsLabelling (block_at blocks g)) (AddsBetween (square_addends bound k blocks judge) g)
+wide_between : (squares : CentredSquares) (k : ℕ) (blocks : List (List ℕ)) (judge : Judge) (g : ℕ) → All (IsWhole k) blocks → g < length blocks → AllByRecursion (AddsBetween (square_addends squares k blocks judge) g) (labellings (block_at blocks g))
+wide_between squares k blocks judge g whole h =
+    all_weaker (IsLabelling (block_at blocks g)) (AddsBetween (square_addends squares k blocks judge) g)
     (λ x l. record {
       wide = length-map x pos ∙ l.over.long ∙ (whole-at k blocks g whole h).treatments;
       between = pos-between (least_block_cell (block_at blocks g)) (greatest_block_cell (block_at blocks g)) x (between-ends (block_at blocks g) x l);
@@ -54,99 +57,121 @@ cell-small counts i few = elim (cases_lt i (length (first_arrangement counts))) 
   | inr l ↦ (let none : slice_index (first_arrangement counts) i ≡ 0 = get_or_past (first_arrangement counts) i 0 l in omega (arith, none))
 ]
 
-stride-small : (bound k : ℕ) (blocks : List (List ℕ)) (judge : Judge) → All (IsWhole k) blocks → (g : ℕ) → g < length blocks → stride (square_addends bound k blocks judge) g ≤ 16
-stride-small bound k blocks judge whole g h =
+stride-small : (squares : CentredSquares) (k : ℕ) (blocks : List (List ℕ)) (judge : Judge) → All (IsWhole k) blocks → (g : ℕ) → g < length blocks → stride (square_addends squares k blocks judge) g ≤ 16
+stride-small squares k blocks judge whole g h =
     let few = (whole-at k blocks g whole h).few in
     let least : least_block_cell (block_at blocks g) ≤ 16 = cell-small (block_at blocks g) 0 few in
     let most : greatest_block_cell (block_at blocks g) ≤ 16 = cell-small (block_at blocks g) (length (first_arrangement (block_at blocks g)) - 1) few in
     omega (arith, least, most)
 
--- what all stages add to a square
-raised-small : (k s : ℕ) → raised_squares (pos s) (replicate k (pos 0)) ≡ k * (s * s)
-raised-small zero s = omega arith
-raised-small (suc k) s =
-    let first : square (pos 0 +ℤ pos s) ≡ s * s = ap square (let e : pos 0 +ℤ pos s ≡ pos s = omega (arith, ints) in e) in
-    omega (arith, sum_by-cons (λ z. square (z +ℤ pos s)) (pos 0) (replicate k (pos 0)), first, raised-small k s)
+-- what is said of the ends of sums that are nothing yet
+zeros-ends : (f : ℕ → ℕ → ℕ) (l h : ℤ) (n k : ℕ) → f (nat_abs (pos 0 +ℤ l)) (nat_abs (pos 0 +ℤ h)) ≤ n → summed_ends f l h (replicate k (pos 0)) ≤ k * n
+zeros-ends f l h n zero e = omega arith
+zeros-ends f l h n (suc k) e = omega (arith, sum_by-cons (λ z. f (nat_abs (z +ℤ l)) (nat_abs (z +ℤ h))) (pos 0) (replicate k (pos 0)), e, zeros-ends f l h n k e)
 
-pub over-pos : (f : ℕ → ℕ) (m g : ℕ) → (n : ℕ) × (over_stages (λ i. pos (f i)) m g ≡ pos n)
-over-pos f zero g = (0, refl)
-over-pos f (suc m) g = (let rest = over-pos f m (g + 1) in (f g + rest.0, (let e : over_stages (λ i. pos (f i)) m (g + 1) ≡ pos rest.0 = rest.1 in omega (arith, ints, e))))
+-- so the first interval is small
+module _ (q beside k : ℕ) (l h : ℤ) (narrow : k ≤ 8) (centre : q ≤ 33554432) (few : beside ≤ 2251799813685248) (low : nat_abs l + 0 ≤ 160000) (high : nat_abs h + 0 ≤ 160000) where
+  low-here : nat_abs (pos 0 +ℤ l) ≤ 160000
+  low-here = grind (arith, ints, low)
 
-pub over-stages-within : (f : ℕ → ℕ) (most count m g : ℕ) → ((i : ℕ) → i < count → f i ≤ most) → g + m ≤ count → over_stages (λ i. pos (f i)) m g ≤ℤ pos (m * most)
-over-stages-within f most count zero g each h = omega (arith, ints)
-over-stages-within f most count (suc m) g each h =
-    let rest = over-stages-within f most count m (g + 1) each (omega arith) in
-    let here = each g (omega arith) in
-    let all : suc m * most ≡ most + m * most = omega arith in
-    rw all (omega (arith, ints, rest, here))
+  high-here : nat_abs (pos 0 +ℤ h) ≤ 160000
+  high-here = grind (arith, ints, high)
 
-end-small : (k n : ℕ) (e : ℤ) → k ≤ 8 → n ≤ 10000 → (m : ℕ) × (e ≡ pos m) → e ≤ℤ pos (n * 16) → IsSmall (pos (raised_squares e (replicate k (pos 0))))
-end-small k n e narrow few (m, is) h =
-    let most : m ≤ n * 16 = omega (arith, ints, h, is) in
-    let top : m ≤ 160000 = omega (arith, most, few) in
-    let sum : raised_squares e (replicate k (pos 0)) ≡ k * (m * m) = ap (λ z. raised_squares z (replicate k (pos 0))) is ∙ raised-small k m in
-    let all : k * (m * m) ≤ 8 * (160000 * 160000) = mul-le-mul narrow (mul-le-mul top top) in
-    (omega (arith, ints), (let t : raised_squares e (replicate k (pos 0)) ≤ 2 ^ 60 = omega (arith, sum, all) in omega (arith, ints, t)))
+  ends-small : (f : ℕ → ℕ → ℕ) → f (nat_abs (pos 0 +ℤ l)) (nat_abs (pos 0 +ℤ h)) ≤ squared 33714432 → IsSmall (pos (beside + summed_ends f l h (replicate k (pos 0))))
+  ends-small f e =
+      let same : squared 33714432 ≤ squared 33714432 = omega arith in
+      let all : k * squared 33714432 ≤ 8 * squared 33714432 = mul-le-mul narrow same in
+      let top : beside + summed_ends f l h (replicate k (pos 0)) ≤ 2 ^ 60 = omega (arith, zeros-ends f l h (squared 33714432) k e, all, few) in
+      (omega (arith, ints), omega (arith, ints, top))
+
+  near-small : IsSmall (pos (beside + summed_ends (near_square q) l h (replicate k (pos 0))))
+  near-small = ends-small (near_square q) (squares-rise (nearest q (nat_abs (pos 0 +ℤ l)) (nat_abs (pos 0 +ℤ h))) 33714432 (omega (arith, low-here, centre)))
+
+  far-small : IsSmall (pos (beside + summed_ends (far_square q) l h (replicate k (pos 0))))
+  far-small = ends-small (far_square q) (squares-rise (farthest q (nat_abs (pos 0 +ℤ l)) (nat_abs (pos 0 +ℤ h))) 33714432 (omega (arith, high-here, centre)))
 
 least-small : (n b : ℕ) → IsSmall (pos n) → IsSmall (pos (min b n))
 least-small n b h = (omega (arith, ints), (let k : min b n ≤ n = omega arith in omega (arith, ints, k, h.1)))
 
-module _ (bound k : ℕ) (blocks : List (List ℕ)) (judge : Judge) (s : AreStages k blocks judge) (bounded : squared (cells_sum blocks) ≤ bound) (bound_fits : bound ≤ MAX) where
-  reach-small : reach (square_addends bound k blocks judge) ≤ 160000
+module _ (squares : CentredSquares) (k : ℕ) (blocks : List (List ℕ)) (judge : Judge) (s : AreStages k blocks judge) (r : AreSquares k blocks squares) where
+  reach-small : reach (square_addends squares k blocks judge) ≤ 160000
   reach-small =
-      let all : reach (square_addends bound k blocks judge) ≤ length blocks * 16 = over-within (stride (square_addends bound k blocks judge)) (length blocks) 16 (stride-small bound k blocks judge s.whole) in
+      let all : reach (square_addends squares k blocks judge) ≤ length blocks * 16 = over-within (stride (square_addends squares k blocks judge)) (length blocks) 16 (stride-small squares k blocks judge s.whole) in
       omega (arith, all, s.few)
 
   each_sum : ℕ → ℕ
   each_sum g = sum (first_arrangement (block_at blocks g))
 
-  squared_sums : IsSquared (square_addends bound k blocks judge) bound
+  squared_sums : IsSquared (square_addends squares k blocks judge) squares
   unfolding each_sum
   squared_sums =
-      let reached : reach (square_addends bound k blocks judge) ≤ 160000 = reach-small in
       let all : over_earlier (λ g. sum (first_arrangement (block_at blocks g))) (length blocks) ≡ cells_sum blocks = over-blocks (λ counts. sum (first_arrangement counts)) blocks (length blocks) (omega arith) ∙ ap (sum_by (λ counts. sum (first_arrangement counts))) (take-length blocks) in
       record {
         least_some = λ g h. omega (arith, ints);
         most_some = λ g h. omega (arith, ints);
         each = λ g. sum (first_arrangement (block_at blocks g));
         alike = λ g h. all_weaker (IsLabelling (block_at blocks g)) (λ x. sum_by nat_abs (map pos x) ≡ sum (first_arrangement (block_at blocks g))) (λ x l. sum_by-map nat_abs pos x ∙ sum_by-first (λ v. v) (block_at blocks g) x l) (labellings (block_at blocks g)) (each-labelling (block_at blocks g));
-        bounded = rw all bounded;
-        bound_fits = bound_fits;
-        squares_fit = (let sq : k * (reach (square_addends bound k blocks judge) * reach (square_addends bound k blocks judge)) ≤ 8 * (160000 * 160000) = mul-le-mul s.narrow (mul-le-mul reached reached) in omega (arith, sq));
+        bounded = rw all r.bounded;
+        within = rw all r.within;
+        beside_is = rw all r.beside_is;
+        bound_fits = r.bound_fits;
+        reach_small = omega (arith, reach-small);
+        centre_small = r.centre_small;
+        beside_small = r.beside_small;
       }
 
-  pub square_additive : IsAdditive (square_addends bound k blocks judge)
+  pub square_additive : IsAdditive (square_addends squares k blocks judge)
   square_additive =
-      let least = end-small k (length blocks) (over_stages (λ i. pos (least_block_cell (block_at blocks i))) (length blocks - 0) 0) s.narrow s.few (over-pos (λ i. least_block_cell (block_at blocks i)) (length blocks - 0) 0) (low-end) in
-      let most = end-small k (length blocks) (over_stages (λ i. pos (greatest_block_cell (block_at blocks i))) (length blocks - 0) 0) s.narrow s.few (over-pos (λ i. greatest_block_cell (block_at blocks i)) (length blocks - 0) 0) (high-end) in
+      let a : Addends = square_addends squares k blocks judge in
+      let least : nat_abs (least_sum_to_come a 0) + 0 ≤ 160000 = omega (arith, least_small a 0 (omega arith), reach-small) in
+      let most : nat_abs (most_sum_to_come a 0) + 0 ≤ 160000 = omega (arith, most_small a 0 (omega arith), reach-small) in
       record {
         slots_some = s.some;
         slots_few = omega (arith, s.narrow);
         some_choice = λ g h. some-arrangement (block_at blocks g);
         different = λ g h. arrangements-different (block_at blocks g);
         weighty = λ g c h m. omega arith;
-        fits = total-fits (square_addends bound k blocks judge) blocks (λ g h. sum_by-one (labellings (block_at blocks g))) s.ways_fit;
-        between = λ g h. wide_between bound k blocks judge g s.whole h;
+        fits = total-fits (square_addends squares k blocks judge) blocks (λ g h. sum_by-one (labellings (block_at blocks g))) s.ways_fit;
+        between = λ g h. wide_between squares k blocks judge g s.whole h;
         sums_fit = omega (arith, reach-small);
         measured = squared_sums;
-        low_fits = s.judge_fits _ least;
-        high_fits = s.judge_fits _ (least-small _ bound most);
+        low_fits = s.judge_fits _ (near-small squares.centre squares.beside k (least_sum_to_come a 0) (most_sum_to_come a 0) s.narrow r.centre_small r.beside_small least most);
+        high_fits = s.judge_fits _ (least-small _ squares.bound (far-small squares.centre squares.beside k (least_sum_to_come a 0) (most_sum_to_come a 0) s.narrow r.centre_small r.beside_small least most));
       }
-    where
-      low-end : over_stages (λ i. pos (least_block_cell (block_at blocks i))) (length blocks - 0) 0 ≤ℤ pos (length blocks * 16)
-      low-end = (let e : length blocks - 0 ≡ length blocks = omega arith in rw e (over-stages-within (λ i. least_block_cell (block_at blocks i)) 16 (length blocks) (length blocks) 0 (λ g h. cell-small (block_at blocks g) 0 (whole-at k blocks g s.whole h).few) (omega arith)))
 
-      high-end : over_stages (λ i. pos (greatest_block_cell (block_at blocks i))) (length blocks - 0) 0 ≤ℤ pos (length blocks * 16)
-      high-end = (let e : length blocks - 0 ≡ length blocks = omega arith in rw e (over-stages-within (λ i. greatest_block_cell (block_at blocks i)) 16 (length blocks) (length blocks) 0 (λ g h. cell-small (block_at blocks g) (length (first_arrangement (block_at blocks g)) - 1) (whole-at k blocks g s.whole h).few) (omega arith)))
+-- ---- what tells the squares
+
+pub squares-from-zero : (k bound : ℕ) (blocks : List (List ℕ)) → squared (cells_sum blocks) ≤ bound → bound ≤ MAX → AreSquares k blocks (from_zero bound)
+squares-from-zero k bound blocks h fits = record {
+  bounded = h;
+  within = omega arith;
+  beside_is = omega arith;
+  bound_fits = fits;
+  centre_small = omega arith;
+  beside_small = omega arith;
+}
+
+pub squares-from-mean : (k bound : ℕ) (blocks : List (List ℕ)) (total : ℕ) (x : CentredSquares) → total ≡ cells_sum blocks → x ≡ from_mean k total bound → squared (cells_sum blocks) ≤ bound → bound ≤ MAX
+    → x.centre ≤ 33554432 → x.beside ≤ 2251799813685248 → AreSquares k blocks x
+squares-from-mean k bound blocks total x is e h fits centre beside =
+    let same : x ≡ from_mean k (cells_sum blocks) bound = e ∙ ap (λ n. from_mean k n bound) is in
+    subst (AreSquares k blocks) (sym same) (record {
+      bounded = h;
+      within = mean-within k (cells_sum blocks);
+      beside_is = refl;
+      bound_fits = fits;
+      centre_small = subst (λ (y : CentredSquares). y.centre ≤ 33554432) same centre;
+      beside_small = subst (λ (y : CentredSquares). y.beside ≤ 2251799813685248) same beside;
+    })
 
 -- ---- rearrangements
 
 abbrev pub square_pieces : Pieces
 square_pieces = record { mass = λ g x. 1; added = λ g x. map pos x }
 
-stage-parts : (bound k : ℕ) (blocks : List (List ℕ)) (judge : Judge) → All (IsWhole k) blocks → (rest : List (List ℕ)) (g : ℕ) → drop g blocks ≡ rest → AreParts (square_addends bound k blocks judge) square_pieces g (map labellings rest)
-stage-parts bound k blocks judge whole [] g e = tt
-stage-parts bound k blocks judge whole (b ∷ rest) g e =
+stage-parts : (squares : CentredSquares) (k : ℕ) (blocks : List (List ℕ)) (judge : Judge) → All (IsWhole k) blocks → (rest : List (List ℕ)) (g : ℕ) → drop g blocks ≡ rest → AreParts (square_addends squares k blocks judge) square_pieces g (map labellings rest)
+stage-parts squares k blocks judge whole [] g e = tt
+stage-parts squares k blocks judge whole (b ∷ rest) g e =
     let here = at-head blocks g b rest [] e in
     let own : IsWhole k b = subst (IsWhole k) here.0 (whole-at k blocks g whole here.2) in (
       record {
@@ -154,7 +179,7 @@ stage-parts bound k blocks judge whole (b ∷ rest) g e =
         closed = λ sorted i f. cells-swapped b i (λ v. 1 * f v);
         wide = all_weaker (IsLabelling b) (λ x. length (map pos x) ≡ k) (λ x l. length-map x pos ∙ l.over.long ∙ own.treatments) (labellings b) (each-labelling b);
       },
-      stage-parts bound k blocks judge whole rest (g + 1) here.1,
+      stage-parts squares k blocks judge whole rest (g + 1) here.1,
     )
 
 plus-pos : (xs ys : List ℕ) → length xs ≡ length ys → plus (map pos xs) (map pos ys) ≡ map pos (added xs ys)
@@ -183,5 +208,5 @@ squares-measured n k xs all =
     ap pos (sym (ap (sum_by square) (ap (λ zs. summed (λ g x. map pos x) 0 zs xs) (zeros-pos k) ∙ summed-is n k n 0 (replicate k 0) xs all (omega arith) (length-replicate k 0) ∙ ap (map pos) (zeros-added k (treatment_sums k (cut k n (concat xs))) (length-sums k n (concat xs))))
     ∙ squares-pos (treatment_sums k (cut k n (concat xs)))))
 
-pub square-stages : (bound k : ℕ) (blocks : List (List ℕ)) (judge : Judge) → All (IsWhole k) blocks → AreParts (square_addends bound k blocks judge) square_pieces 0 (map labellings blocks)
-square-stages bound k blocks judge whole = stage-parts bound k blocks judge whole blocks 0 refl
+pub square-stages : (squares : CentredSquares) (k : ℕ) (blocks : List (List ℕ)) (judge : Judge) → All (IsWhole k) blocks → AreParts (square_addends squares k blocks judge) square_pieces 0 (map labellings blocks)
+square-stages squares k blocks judge whole = stage-parts squares k blocks judge whole blocks 0 refl

@@ -5,7 +5,8 @@ use Rattle.std.proofs.Math.Nat.{mul-le-mul}
 use Rattle.std.proofs.Math.Seq.{drop-append_seam, drop-nil, take-append_seam, take-nil}
 use Rattle.std.proofs.lemmas.List.{length-replicate}
 use Rattle.std.proofs.lemmas.List.Sums.{sum_by-cons}
-use Rattle.rank_assignments.specs.Upright.{reflected, squared}
+use Rattle.rank_assignments.specs.Upright.{reflected}
+use Rattle.networks.specs.Distances.{squared}
 use Rattle.block_tests.specs.BlockTests.{added, cut, page_sum, square_sum, treatment_sums}
 
 -- ---- lists that are added place by place

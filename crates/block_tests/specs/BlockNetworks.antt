@@ -12,8 +12,9 @@ use Rattle.networks.specs.Judged.{judge_of}
 use Rattle.networks.specs.declared.verdicts.Judge.{Judge}
 use Rattle.weights.specs.declared.tails.Tail.{Tail}
 use Rattle.enumerate.specs.Walk.{members_after}
-use Rattle.networks.specs.Addends.{Addends, additive_network}
+use Rattle.networks.specs.Addends.{Addends, additive_network, from_zero}
 use Rattle.networks.specs.Network.{Network}
+use Rattle.networks.specs.declared.additive.CentredSquares.{CentredSquares}
 use Rattle.networks.specs.declared.additive.SumValue.TheVariants.{First, Squares}
 use Rattle.block_tests.specs.BlockTests.{BlockTests, block_counts, block_test, page_sum, is_upper}
 use Rattle.block_tests.specs.declared.kinds.BlockKind.{BlockKind}
@@ -36,8 +37,9 @@ greatest_block_cell counts =
 
 -- ---- the sums of all treatments, and their squares
 
-abbrev pub square_addends : ℕ → ℕ → List (List ℕ) → Judge → Addends
-square_addends bound k blocks judge = record {
+-- with the centre that distances are measured from
+abbrev pub square_addends : CentredSquares → ℕ → List (List ℕ) → Judge → Addends
+square_addends squares k blocks judge = record {
   count = length blocks;
   slots = k;
   choice_width = k;
@@ -48,7 +50,7 @@ square_addends bound k blocks judge = record {
   least = λ g. pos (least_block_cell (block_at blocks g));
   most = λ g. pos (greatest_block_cell (block_at blocks g));
   sorted = true;
-  value = Squares bound;
+  value = Squares squares;
   judge = judge;
 }
 
@@ -121,9 +123,9 @@ line_addends blocks judge = record {
 -- ---- the networks
 
 abbrev pub addends_of : BlockKind → ℕ → ℕ → List (List ℕ) → Judge → Addends
-addends_of Friedman bound k = square_addends bound k
+addends_of Friedman bound k = square_addends (from_zero bound) k
 addends_of Page bound k = page_addends k
-addends_of Cochran bound k = square_addends bound k
+addends_of Cochran bound k = square_addends (from_zero bound) k
 
 -- one for all tails, of the addends of a kind
 abbrev pub network_by : (BlockKind → ℕ → ℕ → List (List ℕ) → Judge → Addends) → BlockTests → Network
@@ -137,9 +139,9 @@ abbrev pub block_network : BlockTests → Tail → Network
 block_network tests tail = network_by addends_of tests
 
 abbrev pub running_addends : BlockKind → ℕ → ℕ → List (List ℕ) → Judge → Addends
-running_addends Friedman bound k = square_addends bound k
+running_addends Friedman bound k = square_addends (from_zero bound) k
 running_addends Page bound k = line_addends
-running_addends Cochran bound k = square_addends bound k
+running_addends Cochran bound k = square_addends (from_zero bound) k
 
 -- the network that runs: its keys are those that are written
 abbrev pub running_network : BlockTests → Tail → Network

@@ -3,7 +3,9 @@ use Rattle.std.specs.Prelude.{◌≡◌, ℕ, ◌*◌, ◌≤◌, ℤ, List, [],
 use Rattle.std.specs.List.{All, sum, sum_by}
 use Rattle.weights.specs.Labellings.{number_of_labellings}
 use Rattle.weights.specs.declared.TheConstants.{MAX}
+use Rattle.networks.specs.Distances.{around, squared}
 use Rattle.networks.specs.Judged.{JudgeFits}
+use Rattle.networks.specs.declared.additive.CentredSquares.{CentredSquares}
 use Rattle.networks.specs.declared.verdicts.Judge.{Judge}
 use Rattle.record_reader.specs.declared.TheConstants.{MOST_ROWS}
 use Rattle.rank_assignments.specs.BoundSteps.{IsSmall}
@@ -39,3 +41,12 @@ pub record AreStages (k : ℕ) (blocks : List (List ℕ)) (judge : Judge) : Type
   pub whole : All (IsWhole k) blocks
   pub ways_fit : ways_of blocks ≤ MAX
   pub judge_fits : (v : ℤ) → IsSmall v → JudgeFits judge v
+
+-- Squares of the sums of k treatments, told by their distances from a centre.
+pub record AreSquares (k : ℕ) (blocks : List (List ℕ)) (s : CentredSquares) : Type 0 where
+  pub bounded : squared (cells_sum blocks) ≤ s.bound
+  pub within : k * squared s.centre ≤ 2 * (s.centre * cells_sum blocks)
+  pub beside_is : s.beside ≡ around k s.centre (cells_sum blocks)
+  pub bound_fits : s.bound ≤ MAX
+  pub centre_small : s.centre ≤ 33554432
+  pub beside_small : s.beside ≤ 2251799813685248

@@ -14,7 +14,7 @@ use Rattle.weights.specs.declared.tails.Tail.TheVariants.{Less, Greater, Two}
 use Rattle.midranks.specs.Midranks.{doubled_midranks}
 use Rattle.sample_reader.specs.CellLayouts.{BlockData}
 use Rattle.sample_reader.specs.Values.{IsBinary}
-use Rattle.rank_assignments.specs.Upright.{squared}
+use Rattle.networks.specs.Distances.{squared}
 use Rattle.block_tests.specs.declared.kinds.BlockKind.{BlockKind}
 use Rattle.block_tests.specs.declared.kinds.BlockKind.TheVariants.{Friedman, Page, Cochran}
 

@@ -63,11 +63,11 @@ fn ways_of(blocks: &[Block]) -> Option<u128>
     Some(ways)
 }
 
-// The sum of cells.
-fn sum_of(cells: &[u8]) -> u64
+/// The sum of cells.
+pub(crate) fn sum_of(cells: &[u8]) -> u64
     requires { length cells.now ≤ 80000 }
     ensures is { result ≡ sum cells.now }
-    ensures small { result ≤ 20400000 }
+    ensures small { result ≤ 255 * length cells.now }
 {
     let mut all = 0;
     for cell in cells {

@@ -2,12 +2,14 @@
 ghost use Rattle.std.specs.Prelude.{◌≡◌, ◌<◌, ◌≤◌, length, map, pos, IfOk};
 ghost use Rattle.std.specs.List.{All};
 ghost use Rattle.weights.specs.declared.TheConstants.{MAX};
-ghost use Rattle.rank_assignments.specs.Upright.{squared};
-ghost use Rattle.block_tests.specs.BlockSteps.{AreStages, cells_sum};
+ghost use Rattle.networks.specs.Distances.{squared};
+ghost use Rattle.record_reader.specs.declared.TheConstants.{MOST_ROWS};
+ghost use Rattle.block_tests.specs.BlockSteps.{AreSquares, AreStages, cells_sum};
 
 use crate::block::Block;
+use crate::block_test::sum_of;
 use enumerate::next_labelling;
-use networks::{Additive, Interval, Judge, SumValue};
+use networks::{Additive, CentredSquares, Interval, Judge, SumValue};
 use std::alloc::Global;
 use weights::NoMemory;
 
@@ -16,11 +18,10 @@ use weights::NoMemory;
 pub struct SquareBlocks {
     blocks: Vec<Block>,
     treatments: usize,
-    bound: u128,
+    squares: CentredSquares,
     judge: Judge,
     ghost sound: { AreStages treatments blocks.items judge },
-    ghost bounded: { squared (cells_sum blocks.items) ≤ bound },
-    ghost bound_fits: { bound ≤ MAX },
+    ghost squares_are: { AreSquares treatments blocks.items squares },
 }
 
 /// The same blocks in memory of their own.
@@ -65,26 +66,49 @@ fn write_sums(choice: &[u64], added: &mut [i128])
     }
 }
 
+// The sum of the cells of blocks.
+fn cells_sum(blocks: &[Block]) -> u64
+    requires { length blocks.now ≤ MOST_ROWS }
+    ensures is { result ≡ cells_sum blocks.now }
+    ensures small { result ≤ 20400000 }
+{
+    let mut all = 0;
+    for block in blocks {
+        all += sum_of(block.first());
+    }
+    all
+}
+
+/// What tells the squares of the sums of k treatments by their distances from the mean.
+pub(crate) fn squares_from_mean(blocks: &[Block], treatments: usize, bound: u128) -> CentredSquares
+    requires few { length blocks.now ≤ MOST_ROWS }
+    requires some { 1 ≤ treatments }
+    requires bounded { squared (cells_sum blocks.now) ≤ bound }
+    requires fits { bound ≤ MAX }
+    ensures { AreSquares treatments blocks.now result }
+{
+    CentredSquares::from_mean(treatments as u64, cells_sum(blocks), bound)
+}
+
 impl SquareBlocks {
-    /// The blocks of k treatments, with the bound of their squares.
+    /// The blocks of k treatments, with what tells their squares.
     pub(crate) fn new(
         blocks: Vec<Block>,
         treatments: usize,
-        bound: u128,
+        squares: CentredSquares,
         judge: Judge,
     ) -> SquareBlocks
         requires sound { AreStages treatments blocks.items judge }
-        requires bounded { squared (cells_sum blocks.items) ≤ bound }
-        requires bound_fits { bound ≤ MAX }
+        requires squares { AreSquares treatments blocks.items squares }
         ensures blocks { result.blocks.items ≡ blocks.items }
         ensures treatments { result.treatments ≡ treatments }
-        ensures bound { result.bound ≡ bound }
+        ensures squares { result.squares ≡ squares }
         ensures judge { result.judge ≡ judge }
     {
         SquareBlocks {
             blocks,
             treatments,
-            bound,
+            squares,
             judge,
         }
     }
@@ -93,7 +117,7 @@ impl SquareBlocks {
 impl Additive for SquareBlocks {
     ghost use Rattle.block_tests.specs.BlockNetworks.{square_addends};
 
-    ghost addends = { λ s. square_addends s.bound s.treatments s.blocks.items s.judge };
+    ghost addends = { λ s. square_addends s.squares s.treatments s.blocks.items s.judge };
 
     fn stages(&self) -> usize {
         self.blocks.len()
@@ -142,7 +166,7 @@ impl Additive for SquareBlocks {
     }
 
     fn value(&self) -> SumValue {
-        SumValue::Squares(self.bound)
+        SumValue::Squares(self.squares)
     }
 
     fn judge(&self) -> Judge {

@@ -1,15 +1,14 @@
 // Both ways to the answer of a test of blocks.
 ghost use Rattle.std.specs.Prelude.{◌≡◌, ◌/◌, ◌≤◌, ◌⊎◌, is_some, length, true, IfOk, IfSome};
-ghost use Rattle.weights.specs.declared.TheConstants.{MAX};
 ghost use Rattle.weights.specs.declared.tails.Tail.{Tail};
+ghost use Rattle.networks.specs.Addends.{additive_network};
 ghost use Rattle.networks.specs.Follows.{Follows};
 ghost use Rattle.networks.specs.Judged.{judge_of};
 ghost use Rattle.symmetry_reduction.specs.ReducedNetworks.{reduced_network};
-ghost use Rattle.rank_assignments.specs.Upright.{squared};
 ghost use Rattle.rank_assignments.specs.Assignments.{all_assignments, assigned_sums};
 ghost use Rattle.rank_assignments.specs.Assignments.{assignment_network, has_room_for};
 ghost use Rattle.block_tests.specs.BlockNetworks.{line_addends, square_addends};
-ghost use Rattle.block_tests.specs.BlockSteps.{AreStages, cells_sum};
+ghost use Rattle.block_tests.specs.BlockSteps.{AreSquares, AreStages};
 ghost use Rattle.block_tests.specs.BlockTests.{block_counts, block_test};
 ghost use Rattle.packed_keys.specs.PackedGroups.{AddsSteps};
 ghost use Rattle.packed_keys.specs.PackedKeys.{MayBePacked, packed_network};
@@ -20,10 +19,10 @@ use crate::block_stages::{BlockStages, PageStages, SquareStages};
 use crate::block_test::BlockStatistic;
 use crate::kinds::BlockKind;
 use crate::page::{PageBlocks, page_blocks};
-use crate::squares::{SquareBlocks, block_copies};
+use crate::squares::{SquareBlocks, block_copies, squares_from_mean};
 use enumerate::next_joined;
 use labelled::UnweightedTest;
-use networks::{AdditiveStages, Judge, Stages};
+use networks::{AdditiveStages, CentredSquares, Judge, Stages};
 use packed_keys::{PackedGroups, bits_for};
 use rank_assignments::{AssignedBlocks, OrderedBlocks, has_room_for, ordered_blocks};
 use std::alloc::Global;
@@ -32,26 +31,41 @@ use weights::{Bytes, NoMemory, Tail};
 // Of fewer treatments than these all arrangements of a block are tried.
 const FEW: usize = 5;
 
-// The network of a test whose treatments' sums are squared.
+// The network of a test whose treatments' sums are squared, told by distances from a centre.
 fn square_stages(
     alloc: Global,
     test: &BlockStatistic,
+    squares: CentredSquares,
     judge: Judge,
 ) -> Result<SquareStages, NoMemory>
     requires stages { let k = test.now.blocks.treatments in
         AreStages k (block_counts test.now) judge }
-    requires bounded { let bound = (block_test test.now).bound in
-        squared (cells_sum (block_counts test.now)) ≤ bound }
-    requires fits { (block_test test.now).bound ≤ MAX }
-    ensures { let bound = (block_test test.now).bound in
-        let k = test.now.blocks.treatments in
-        let a = square_addends bound k (block_counts test.now) judge in
+    requires squares { let k = test.now.blocks.treatments in
+        AreSquares k (block_counts test.now) squares }
+    ensures { let k = test.now.blocks.treatments in
+        let a = square_addends squares k (block_counts test.now) judge in
         IfOk result (λ s.
-        square_addends s.bound s.treatments s.blocks.items s.judge ≡ a) }
+        square_addends s.squares s.treatments s.blocks.items s.judge ≡ a) }
 {
     let blocks = block_copies(alloc, test.blocks())?;
-    let inside = SquareBlocks::new(blocks, test.treatments(), test.bound(), judge);
+    let inside = SquareBlocks::new(blocks, test.treatments(), squares, judge);
     AdditiveStages::new(alloc, inside)
+}
+
+// The same with the mean of the sums as the centre, which closes more keys.
+fn centred_stages(
+    alloc: Global,
+    test: &BlockStatistic,
+    judge: Judge,
+) -> Result<SquareStages, NoMemory>
+    requires judge { judge ≡ judge_of (block_test test.now) }
+    requires kind { (test.now.kind ≡ Friedman) ⊎ (test.now.kind ≡ Cochran) }
+    ensures { IfOk result (λ s. (t : Tail) → Follows (block_test test.now) t
+        (additive_network (square_addends s.squares s.treatments s.blocks.items s.judge))) }
+{
+    let blocks = test.blocks();
+    let squares = squares_from_mean(blocks, test.treatments(), test.bound());
+    square_stages(alloc, test, squares, judge)
 }
 
 // The network of a test whose treatments' sums are squared, with numbers that are given to
@@ -163,7 +177,8 @@ impl UnweightedTest for BlockStatistic {
                 Ok(BlockStages::Page(stages))
             }
             BlockKind::Friedman | BlockKind::Cochran => {
-                let stages = square_stages(alloc, self, judge)?;
+                let squares = CentredSquares::from_zero(self.bound());
+                let stages = square_stages(alloc, self, squares, judge)?;
                 Ok(BlockStages::Squares(stages))
             }
         }
@@ -173,14 +188,19 @@ impl UnweightedTest for BlockStatistic {
     fn quick_stages_of(&self, alloc: Global, judge: Judge) -> Result<Self::Built, NoMemory> {
         self.sound();
         match self.kind() {
+            BlockKind::Page => self.stages_of(alloc, judge),
             BlockKind::Friedman if self.treatments() >= FEW => {
                 match assigned_stages(alloc, self, judge)? {
                     Some(stages) => Ok(BlockStages::Assigned(stages)),
-                    None => self.stages_of(alloc, judge),
+                    None => {
+                        let stages = centred_stages(alloc, self, judge)?;
+                        Ok(BlockStages::Squares(stages))
+                    }
                 }
             }
-            BlockKind::Friedman | BlockKind::Page | BlockKind::Cochran => {
-                self.stages_of(alloc, judge)
+            BlockKind::Friedman | BlockKind::Cochran => {
+                let stages = centred_stages(alloc, self, judge)?;
+                Ok(BlockStages::Squares(stages))
             }
         }
     }

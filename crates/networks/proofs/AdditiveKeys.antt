@@ -23,6 +23,10 @@ over_stages-step f count g h = ap (λ m. over_stages f m g) (let e : count - g �
 pub over_stages-none : (f : ℕ → ℤ) (count : ℕ) → over_stages f (count - count) count ≡ pos 0
 over_stages-none f count = ap (λ m. over_stages f m count) (let e : count - count ≡ 0 = omega arith in e)
 
+pub over_stages-some : (f : ℕ → ℤ) (n : ℕ) → ((g : ℕ) → g < n → pos 0 ≤ℤ f g) → (m g : ℕ) → g + m ≡ n → pos 0 ≤ℤ over_stages f m g
+over_stages-some f n some zero g e = omega (arith, ints)
+over_stages-some f n some (suc m) g e = omega (arith, ints, some g (omega arith), over_stages-some f n some m (g + 1) (omega arith))
+
 pub over_earlier-≤ : (f : ℕ → ℕ) (g m : ℕ) → over_earlier f g ≤ over_earlier f (g + m)
 over_earlier-≤ f g zero = (let e : over_earlier f g ≡ over_earlier f (g + 0) = ap (over_earlier f) (let z : g ≡ g + 0 = omega arith in z) in omega (arith, e))
 over_earlier-≤ f g (suc m) = (let e : over_earlier f (g + suc m) ≡ over_earlier f (suc (g + m)) = ap (over_earlier f) (let z : g + suc m ≡ suc (g + m) = omega arith in z) in omega (arith, e, over_earlier-≤ f g m))
@@ -69,6 +73,19 @@ module _ (a : Addends) where
   reached_stage zero k r = omega arith
   reached_stage (suc g) k r = omega (arith, r.3)
 
+  least-stride : (g : ℕ) → nat_abs (a.least g) ≤ stride a g
+  least-stride g = omega arith
+
+  most-stride : (g : ℕ) → nat_abs (a.most g) ≤ stride a g
+  most-stride g = omega arith
+
+  -- what is still to come, and the earlier strides, are within the reach
+  pub least_small : (g : ℕ) → g ≤ a.count → nat_abs (over_stages a.least (a.count - g) g) + over_earlier (stride a) g ≤ reach a
+  least_small g h = (let e : over_earlier (stride a) (g + (a.count - g)) ≡ reach a = ap (over_earlier (stride a)) (let z : g + (a.count - g) ≡ a.count = omega arith in z) in omega (arith, e, later-small a.least (stride a) least-stride (a.count - g) g))
+
+  pub most_small : (g : ℕ) → g ≤ a.count → nat_abs (over_stages a.most (a.count - g) g) + over_earlier (stride a) g ≤ reach a
+  most_small g h = (let e : over_earlier (stride a) (g + (a.count - g)) ≡ reach a = ap (over_earlier (stride a)) (let z : g + (a.count - g) ≡ a.count = omega arith in z) in omega (arith, e, later-small a.most (stride a) most-stride (a.count - g) g))
+
   module _ (s : IsAdditive a) where
     pub choice_between : (g : ℕ) (k : List ℤ) (c : List ℕ) → g < a.count → Contains ((additive_network a).choices g k) c → AddsBetween a g c
     choice_between g k c h m = All-contains (AddsBetween a g) (a.choices g) c (All-from_recursion _ _ (s.between g h)) (allowed-before g k c h m)
@@ -88,19 +105,6 @@ module _ (a : Addends) where
         All-from_recursion (λ z. nat_abs z ≤ MAX) (plus k (a.adds g c))
         (all_weaker (λ z. nat_abs z ≤ over_earlier (stride a) g + stride a g) (λ z. nat_abs z ≤ MAX) (λ z h. omega (arith, h, within, s.sums_fit)) (plus k (a.adds g c))
         (plus-small (a.least g) (a.most g) (over_earlier (stride a) g) k (a.adds g c) (reached_small g k r) (choice_between g k c before allowed).between))
-
-    least-stride : (g : ℕ) → nat_abs (a.least g) ≤ stride a g
-    least-stride g = omega arith
-
-    most-stride : (g : ℕ) → nat_abs (a.most g) ≤ stride a g
-    most-stride g = omega arith
-
-    -- what is still to come, and the earlier strides, are within the reach
-    pub least_small : (g : ℕ) → g ≤ a.count → nat_abs (over_stages a.least (a.count - g) g) + over_earlier (stride a) g ≤ reach a
-    least_small g h = (let e : over_earlier (stride a) (g + (a.count - g)) ≡ reach a = ap (over_earlier (stride a)) (let z : g + (a.count - g) ≡ a.count = omega arith in z) in omega (arith, e, later-small a.least (stride a) least-stride (a.count - g) g))
-
-    pub most_small : (g : ℕ) → g ≤ a.count → nat_abs (over_stages a.most (a.count - g) g) + over_earlier (stride a) g ≤ reach a
-    most_small g h = (let e : over_earlier (stride a) (g + (a.count - g)) ≡ reach a = ap (over_earlier (stride a)) (let z : g + (a.count - g) ≡ a.count = omega arith in z) in omega (arith, e, later-small a.most (stride a) most-stride (a.count - g) g))
 
 -- a room of no numbers
 pub no_room : (room partial : List ℤ) → length room ≡ 0 → room ++ partial ≡ partial

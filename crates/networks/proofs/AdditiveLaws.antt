@@ -14,13 +14,15 @@ use Rattle.networks.specs.Laws.{IsLawful}
 use Rattle.networks.specs.Judged.{HasIntervals, rule_in}
 use Rattle.networks.specs.PartialSums.{plus, kept}
 use Rattle.networks.specs.Addends.{Addends, additive_network, first_sum, high, high_end, least_sum_to_come, low, low_end, most_sum_to_come, square, totals, sum_value_of, zeros}
+use Rattle.networks.specs.Distances.{far_square, near_square}
 use Rattle.networks.specs.SoundAddends.{AddsBetween, IsAdditive, IsMeasured}
 use Rattle.networks.proofs.Apart.{none_apart}
 use Rattle.networks.proofs.Swaps.{IsEvenAt, sum_by-swap_at, swap_at}
 use Rattle.networks.proofs.Judging.{fits-high, fits-low, intervals-inside, intervals-outside, intervals-decided}
 use Rattle.networks.proofs.Bridge.{choices-before, additive_total}
 use Rattle.networks.proofs.AdditiveKeys.{allowed-before, choice_between, choices-past, over_stages-none, over_stages-step, reached_length}
-use Rattle.networks.proofs.SquaredEnds.{least_at_end, most_at_end, squares_bounded, squares_fall, squares_rise}
+use Rattle.networks.proofs.SquaredDistances.{far-falls, near-rises}
+use Rattle.networks.proofs.SquaredEnds.{ends_fall, ends_rise, far_at_end, near_at_end, squares_bounded}
 
 -- one sum
 
@@ -40,30 +42,30 @@ first-between l h (x ∷ xs) e w = w.0
 
 module _ (a : Addends) (s : IsAdditive a) where
   low-arc : (v : SumValue) → IsMeasured a v → (g : ℕ) (k : List ℤ) (c : List ℕ) → IsReached (additive_network a) g k → g < a.count → Contains ((additive_network a).choices g k) c
-      → low_end v (least_sum_to_come a g) k ≤ℤ low_end v (least_sum_to_come a (g + 1)) (kept a.sorted (plus k (a.adds g c)))
+      → low_end v (least_sum_to_come a g) (most_sum_to_come a g) k ≤ℤ low_end v (least_sum_to_come a (g + 1)) (most_sum_to_come a (g + 1)) (kept a.sorted (plus k (a.adds g c)))
   low-arc First one g k c r h m =
       let w : AddsBetween a g c = choice_between a s g k c h m in
       let b : (a.least g ≤ℤ first_sum (a.adds g c)) × (first_sum (a.adds g c) ≤ℤ a.most g) = first-between (a.least g) (a.most g) (a.adds g c) (w.wide ∙ one) w.between in
       omega (arith, ints, b.0, over_stages-step a.least a.count g h, first-next a.sorted k (a.adds g c) (reached_length a g k r ∙ one) (w.wide ∙ one))
-  low-arc (Squares bound) q g k c r h m = (let up = squares_rise a s bound q g k c r h m in omega (arith, ints, up))
+  low-arc (Squares x) q g k c r h m = (let up = ends_rise a s x q (near_square x.centre) g k c r h m (near-rises x.centre) in omega (arith, ints, up))
 
   high-arc : (v : SumValue) → IsMeasured a v → (g : ℕ) (k : List ℤ) (c : List ℕ) → IsReached (additive_network a) g k → g < a.count → Contains ((additive_network a).choices g k) c
-      → high_end v (most_sum_to_come a (g + 1)) (kept a.sorted (plus k (a.adds g c))) ≤ℤ high_end v (most_sum_to_come a g) k
+      → high_end v (least_sum_to_come a (g + 1)) (most_sum_to_come a (g + 1)) (kept a.sorted (plus k (a.adds g c))) ≤ℤ high_end v (least_sum_to_come a g) (most_sum_to_come a g) k
   high-arc First one g k c r h m =
       let w : AddsBetween a g c = choice_between a s g k c h m in
       let b : (a.least g ≤ℤ first_sum (a.adds g c)) × (first_sum (a.adds g c) ≤ℤ a.most g) = first-between (a.least g) (a.most g) (a.adds g c) (w.wide ∙ one) w.between in
       omega (arith, ints, b.1, over_stages-step a.most a.count g h, first-next a.sorted k (a.adds g c) (reached_length a g k r ∙ one) (w.wide ∙ one))
-  high-arc (Squares bound) q g k c r h m = (let down = squares_fall a s bound q g k c r h m in omega (arith, ints, down))
+  high-arc (Squares x) q g k c r h m = (let down = ends_fall a s x q (far_square x.centre) g k c r h m (far-falls x.centre) in omega (arith, ints, down))
 
-  low-last : (v : SumValue) → IsMeasured a v → (k : List ℤ) → IsReached (additive_network a) a.count k → low_end v (least_sum_to_come a a.count) k ≡ sum_value_of v k
+  low-last : (v : SumValue) → IsMeasured a v → (k : List ℤ) → IsReached (additive_network a) a.count k → low_end v (least_sum_to_come a a.count) (most_sum_to_come a a.count) k ≡ sum_value_of v k
   low-last First one k r = omega (arith, ints, over_stages-none a.least a.count)
-  low-last (Squares bound) q k r = ap pos (least_at_end a s bound q k)
+  low-last (Squares x) q k r = ap pos (near_at_end a s x q k r)
 
-  high-last : (v : SumValue) → IsMeasured a v → (k : List ℤ) → IsReached (additive_network a) a.count k → high_end v (most_sum_to_come a a.count) k ≡ sum_value_of v k
+  high-last : (v : SumValue) → IsMeasured a v → (k : List ℤ) → IsReached (additive_network a) a.count k → high_end v (least_sum_to_come a a.count) (most_sum_to_come a a.count) k ≡ sum_value_of v k
   high-last First one k r = omega (arith, ints, over_stages-none a.most a.count)
-  high-last (Squares bound) q k r =
-      let most_of : sum_by square k ≤ bound = squares_bounded a s bound q k r in
-      ap (λ n. pos (min bound n)) (most_at_end a s bound q k) ∙ ap pos (let e : min bound (sum_by square k) ≡ sum_by square k = omega arith in e)
+  high-last (Squares x) q k r =
+      let most_of : sum_by square k ≤ x.bound = squares_bounded a s x q k r in
+      ap (λ n. pos (min x.bound n)) (far_at_end a s x q k r) ∙ ap pos (let e : min x.bound (sum_by square k) ≡ sum_by square k = omega arith in e)
 
   pub additive_intervals : HasIntervals (additive_network a) a.judge
   additive_intervals = record {
@@ -85,7 +87,7 @@ module _ (a : Addends) (s : IsAdditive a) where
       alone zero (x ∷ []) e = refl
       alone (suc i) (x ∷ []) e = refl
       alone i (x ∷ y ∷ ys) e = absurd (omega arith)
-  even-value (Squares bound) q i k l = ap pos (sum_by-swap_at square i k)
+  even-value (Squares x) q i k l = ap pos (sum_by-swap_at square i k)
 
   pub value_even : IsEvenAt a.slots (sum_value_of a.value)
   value_even = even-value a.value s.measured

@@ -12,6 +12,7 @@ pub mod Bridge
 pub mod Flat
 pub mod Following
 pub mod AdditiveKeys
+pub mod SquaredDistances
 pub mod SquaredEnds
 pub mod AdditiveLaws
 pub mod AdditiveFollows

@@ -1,20 +1,24 @@
--- Sums that are not negative: the sum of their squares ends between those of the least and the greatest ends.
-use Rattle.std.proofs.Common.{◌≡◌, ℕ, zero, suc, ◌+◌, ◌-◌, ◌*◌, ◌<◌, ◌≤◌, List, [], ◌∷◌, length, refl, sym, ◌∙◌, ap, arith, subst}
+-- Sums that are not negative: what is said of their ends, added, narrows along arcs to what is said of the last sums, whose squares it tells.
+use Rattle.std.proofs.Common.{◌≡◌, ℕ, zero, suc, ◌+◌, ◌-◌, ◌*◌, ◌<◌, ◌≤◌, List, [], ◌∷◌, length, map, refl, sym, ◌∙◌, ap, arith, subst}
 use Rattle.std.specs.Prelude.{ℤ, pos, ◌+ℤ◌, ◌≤ℤ◌, nat_abs, replicate}
-use Rattle.std.specs.List.{Contains, AllByRecursion, sum_by}
+use Rattle.std.specs.List.{Contains, AllByRecursion, sum, sum_by}
 use Rattle.std.proofs.lemmas.Int.{ints}
 use Rattle.std.proofs.lemmas.List.Elements.{All-contains, All-from_recursion}
 use Rattle.std.proofs.lemmas.List.Sums.{sum_by-cons}
-use Rattle.std.proofs.Math.Nat.{mul-le-mul}
+use Rattle.std.proofs.lemmas.List.{length-map}
+use Rattle.weights.proofs.Sums.{sum_by-map, sum_by-same}
+use Rattle.networks.specs.declared.additive.CentredSquares.{CentredSquares}
+use Rattle.networks.specs.Distances.{around, far_square, near_square, squared}
 use Rattle.networks.specs.Network.{IsReached}
 use Rattle.networks.specs.PartialSums.{plus, kept}
-use Rattle.networks.specs.Addends.{Addends, additive_network, over_stages, over_earlier, least_sum_to_come, most_sum_to_come, square, raised_squares}
+use Rattle.networks.specs.Addends.{Addends, additive_network, over_stages, over_earlier, least_sum_to_come, most_sum_to_come, square, summed_ends}
 use Rattle.networks.specs.SoundAddends.{AddsBetween, IsAdditive, IsSquared}
 use Rattle.networks.proofs.Swaps.{all_kept, sum_by-kept}
-use Rattle.networks.proofs.AdditiveKeys.{over_stages-step, over_stages-none, allowed-before, reached_length, choice_between}
+use Rattle.networks.proofs.SquaredDistances.{Falls, Rises, far-end, from-nought, near-end}
+use Rattle.networks.proofs.AdditiveKeys.{over_stages-step, over_stages-none, over_stages-some, allowed-before, reached_length, choice_between}
 
-square-≤ : (x y : ℤ) → pos 0 ≤ℤ x → x ≤ℤ y → square x ≤ square y
-square-≤ x y n h = (let less : nat_abs x ≤ nat_abs y = grind (arith, ints) in mul-le-mul less less)
+abs-rise : (x y : ℤ) → pos 0 ≤ℤ x → x ≤ℤ y → nat_abs x ≤ nat_abs y
+abs-rise x y n h = grind (arith, ints)
 
 -- numbers between two, place by place
 
@@ -24,29 +28,40 @@ NotNegative k = AllByRecursion (λ z. pos 0 ≤ℤ z) k
 abbrev Within : ℤ → ℤ → List ℤ → Type 0
 Within l u v = AllByRecursion (λ z. (l ≤ℤ z) × (z ≤ℤ u)) v
 
-squares-above : (l u s : ℤ) (k v : List ℤ) → pos 0 ≤ℤ l → pos 0 ≤ℤ s → NotNegative k → Within l u v → length v ≡ length k → raised_squares (l +ℤ s) k ≤ raised_squares s (plus k v)
-squares-above l u s [] v a b n w e = omega arith
-squares-above l u s (x ∷ xs) [] a b n w e = absurd (omega arith)
-squares-above l u s (x ∷ xs) (v ∷ vs) a b n w e =
-    omega (
-      arith,
-      sum_by-cons (λ z. square (z +ℤ (l +ℤ s))) x xs,
-      sum_by-cons (λ z. square (z +ℤ s)) (x +ℤ v) (plus xs vs),
-      square-≤ (x +ℤ (l +ℤ s)) ((x +ℤ v) +ℤ s) (omega (arith, ints, n.0, a, b)) (omega (arith, ints, w.0.0)),
-      squares-above l u s xs vs a b n.1 w.1 (omega arith),
-    )
+-- a number, of which a part is no longer to come
+low-closer : (l s x v : ℤ) → pos 0 ≤ℤ l → pos 0 ≤ℤ s → pos 0 ≤ℤ x → l ≤ℤ v → nat_abs (x +ℤ (l +ℤ s)) ≤ nat_abs ((x +ℤ v) +ℤ s)
+low-closer l s x v a b n w = abs-rise (x +ℤ (l +ℤ s)) ((x +ℤ v) +ℤ s) (omega (arith, ints, n, a, b)) (omega (arith, ints, w))
 
-squares-below : (l u s : ℤ) (k v : List ℤ) → pos 0 ≤ℤ l → pos 0 ≤ℤ s → NotNegative k → Within l u v → length v ≡ length k → raised_squares s (plus k v) ≤ raised_squares (u +ℤ s) k
-squares-below l u s [] v a b n w e = omega arith
-squares-below l u s (x ∷ xs) [] a b n w e = absurd (omega arith)
-squares-below l u s (x ∷ xs) (v ∷ vs) a b n w e =
-    omega (
-      arith,
-      sum_by-cons (λ z. square (z +ℤ (u +ℤ s))) x xs,
-      sum_by-cons (λ z. square (z +ℤ s)) (x +ℤ v) (plus xs vs),
-      square-≤ ((x +ℤ v) +ℤ s) (x +ℤ (u +ℤ s)) (omega (arith, ints, n.0, w.0.0, a, b)) (omega (arith, ints, w.0.1)),
-      squares-below l u s xs vs a b n.1 w.1 (omega arith),
-    )
+high-closer : (l u t x v : ℤ) → pos 0 ≤ℤ l → pos 0 ≤ℤ t → pos 0 ≤ℤ x → l ≤ℤ v → v ≤ℤ u → nat_abs ((x +ℤ v) +ℤ t) ≤ nat_abs (x +ℤ (u +ℤ t))
+high-closer l u t x v a b n w up = abs-rise ((x +ℤ v) +ℤ t) (x +ℤ (u +ℤ t)) (omega (arith, ints, n, w, a, b)) (omega (arith, ints, up))
+
+abbrev at-end : (ℕ → ℕ → ℕ) → ℤ → ℤ → ℤ → ℕ
+at-end f l h z = f (nat_abs (z +ℤ l)) (nat_abs (z +ℤ h))
+
+module _ (l u s t : ℤ) (a : pos 0 ≤ℤ l) (b : pos 0 ≤ℤ s) (c : pos 0 ≤ℤ t) where
+  ends-rise : (f : ℕ → ℕ → ℕ) → Rises f → (k v : List ℤ) → NotNegative k → Within l u v → length v ≡ length k → summed_ends f (l +ℤ s) (u +ℤ t) k ≤ summed_ends f s t (plus k v)
+  ends-rise f m [] v n w e = omega arith
+  ends-rise f m (x ∷ xs) [] n w e = absurd (omega arith)
+  ends-rise f m (x ∷ xs) (v ∷ vs) n w e =
+      omega (
+        arith,
+        sum_by-cons (at-end f (l +ℤ s) (u +ℤ t)) x xs,
+        sum_by-cons (at-end f s t) (x +ℤ v) (plus xs vs),
+        m _ _ _ _ (low-closer l s x v a b n.0 w.0.0) (high-closer l u t x v a c n.0 w.0.0 w.0.1),
+        ends-rise f m xs vs n.1 w.1 (omega arith),
+      )
+
+  ends-fall : (f : ℕ → ℕ → ℕ) → Falls f → (k v : List ℤ) → NotNegative k → Within l u v → length v ≡ length k → summed_ends f s t (plus k v) ≤ summed_ends f (l +ℤ s) (u +ℤ t) k
+  ends-fall f m [] v n w e = omega arith
+  ends-fall f m (x ∷ xs) [] n w e = absurd (omega arith)
+  ends-fall f m (x ∷ xs) (v ∷ vs) n w e =
+      omega (
+        arith,
+        sum_by-cons (at-end f (l +ℤ s) (u +ℤ t)) x xs,
+        sum_by-cons (at-end f s t) (x +ℤ v) (plus xs vs),
+        m _ _ _ _ (low-closer l s x v a b n.0 w.0.0) (high-closer l u t x v a c n.0 w.0.0 w.0.1),
+        ends-fall f m xs vs n.1 w.1 (omega arith),
+      )
 
 plus-not_negative : (l u : ℤ) (k v : List ℤ) → pos 0 ≤ℤ l → NotNegative k → Within l u v → NotNegative (plus k v)
 plus-not_negative l u [] v a n w = tt
@@ -58,12 +73,18 @@ zeros-not_negative zero = tt
 zeros-not_negative (suc n) = (omega (arith, ints), zeros-not_negative n)
 
 -- raised by nothing
-unraised-one : (z : ℤ) → square (z +ℤ pos 0) ≡ square z
-unraised-one z = ap square (let e : z +ℤ pos 0 ≡ z = omega (arith, ints) in e)
+pub unraised : (f : ℕ → ℕ → ℕ) (k : List ℤ) → summed_ends f (pos 0) (pos 0) k ≡ sum_by (λ t. f t t) (map nat_abs k)
+unraised f [] = refl
+unraised f (x ∷ xs) =
+    let none : x +ℤ pos 0 ≡ x = omega (arith, ints) in
+    sum_by-cons (at-end f (pos 0) (pos 0)) x xs
+    ∙ ap (λ z. f (nat_abs z) (nat_abs z) + summed_ends f (pos 0) (pos 0) xs) none
+    ∙ ap (λ n. f (nat_abs x) (nat_abs x) + n) (unraised f xs)
+    ∙ sym (sum_by-cons (λ t. f t t) (nat_abs x) (map nat_abs xs))
 
-pub unraised : (k : List ℤ) → raised_squares (pos 0) k ≡ sum_by square k
-unraised [] = refl
-unraised (x ∷ xs) = omega (arith, sum_by-cons (λ z. square (z +ℤ pos 0)) x xs, sum_by-cons square x xs, unraised-one x, unraised xs)
+-- and seen from nought
+pub from-zero : (k : List ℤ) → summed_ends (near_square 0) (pos 0) (pos 0) k ≡ sum_by square k
+from-zero k = unraised (near_square 0) k ∙ sum_by-same (λ t. near_square 0 t t) squared from-nought (map nat_abs k) ∙ sum_by-map squared nat_abs k
 
 -- squares add up to at most the square of the sum
 squares-≤-square : (k : List ℤ) → sum_by square k ≤ sum_by nat_abs k * sum_by nat_abs k
@@ -88,11 +109,7 @@ magnitude-zeros : (n : ℕ) → sum_by nat_abs (replicate n (pos 0)) ≡ 0
 magnitude-zeros zero = refl
 magnitude-zeros (suc n) = sum_by-cons nat_abs (pos 0) (replicate n (pos 0)) ∙ ap (λ m. 0 + m) (magnitude-zeros n)
 
-over_stages-some : (f : ℕ → ℤ) (n : ℕ) → ((g : ℕ) → g < n → pos 0 ≤ℤ f g) → (m g : ℕ) → g + m ≡ n → pos 0 ≤ℤ over_stages f m g
-over_stages-some f n some zero g e = omega (arith, ints)
-over_stages-some f n some (suc m) g e = omega (arith, ints, some g (omega arith), over_stages-some f n some m (g + 1) (omega arith))
-
-module _ (a : Addends) (s : IsAdditive a) (bound : ℕ) (q : IsSquared a bound) where
+module _ (a : Addends) (s : IsAdditive a) (squares : CentredSquares) (q : IsSquared a squares) where
   least_later : (g : ℕ) → g < a.count → pos 0 ≤ℤ over_stages a.least (a.count - (g + 1)) (g + 1)
   least_later g h = over_stages-some a.least a.count q.least_some (a.count - (g + 1)) (g + 1) (omega arith)
 
@@ -115,34 +132,56 @@ module _ (a : Addends) (s : IsAdditive a) (bound : ℕ) (q : IsSquared a bound) 
       ∙ ap (λ m. m + sum_by nat_abs (a.adds g c)) (reached-magnitude g j r)
       ∙ ap (λ m. over_earlier q.each g + m) here
 
-  pub squares_bounded : (k : List ℤ) → IsReached (additive_network a) a.count k → sum_by square k ≤ bound
+  pub squares_bounded : (k : List ℤ) → IsReached (additive_network a) a.count k → sum_by square k ≤ squares.bound
   squares_bounded k r = omega (arith, squares-≤-square k, ap (λ m. m * m) (reached-magnitude a.count k r), q.bounded)
 
-  pub squares_rise : (g : ℕ) (k : List ℤ) (c : List ℕ) → IsReached (additive_network a) g k → g < a.count → Contains ((additive_network a).choices g k) c → raised_squares (least_sum_to_come a g) k ≤ raised_squares (least_sum_to_come a (g + 1)) (kept a.sorted (plus k (a.adds g c)))
-  squares_rise g k c r h m =
-      let t = least_sum_to_come a (g + 1) in
-      let w : AddsBetween a g c = choice_between a s g k c h m in
-      omega (
-        arith,
-        ap (λ d. raised_squares d k) (over_stages-step a.least a.count g h),
-        squares-above (a.least g) (a.most g) t k (a.adds g c) (q.least_some g h) (least_later g h) (reached-not_negative g k r) w.between (w.wide ∙ sym (reached_length a g k r)),
-        sum_by-kept (λ z. square (z +ℤ t)) a.sorted (plus k (a.adds g c)),
-      )
+  -- what is to come after a stage, and with it
+  to-come : (f : ℕ → ℕ → ℕ) (g : ℕ) (k : List ℤ) → g < a.count → summed_ends f (least_sum_to_come a g) (most_sum_to_come a g) k ≡ summed_ends f (a.least g +ℤ least_sum_to_come a (g + 1)) (a.most g +ℤ most_sum_to_come a (g + 1)) k
+  to-come f g k h = ap (λ d. summed_ends f d (most_sum_to_come a g) k) (over_stages-step a.least a.count g h) ∙ ap (λ d. summed_ends f (a.least g +ℤ least_sum_to_come a (g + 1)) d k) (over_stages-step a.most a.count g h)
 
-  pub squares_fall : (g : ℕ) (k : List ℤ) (c : List ℕ) → IsReached (additive_network a) g k → g < a.count → Contains ((additive_network a).choices g k) c → raised_squares (most_sum_to_come a (g + 1)) (kept a.sorted (plus k (a.adds g c))) ≤ raised_squares (most_sum_to_come a g) k
-  squares_fall g k c r h m =
-      let t = most_sum_to_come a (g + 1) in
-      let w : AddsBetween a g c = choice_between a s g k c h m in
-      omega (
-        arith,
-        ap (λ d. raised_squares d k) (over_stages-step a.most a.count g h),
-        squares-below (a.least g) (a.most g) t k (a.adds g c) (q.least_some g h) (most_later g h) (reached-not_negative g k r) w.between (w.wide ∙ sym (reached_length a g k r)),
-        sum_by-kept (λ z. square (z +ℤ t)) a.sorted (plus k (a.adds g c)),
-      )
+  module _ (f : ℕ → ℕ → ℕ) (g : ℕ) (k : List ℤ) (c : List ℕ) (r : IsReached (additive_network a) g k) (h : g < a.count) (m : Contains ((additive_network a).choices g k) c) where
+    onward : AddsBetween a g c
+    onward = choice_between a s g k c h m
+
+    pub ends_rise : Rises f → summed_ends f (least_sum_to_come a g) (most_sum_to_come a g) k ≤ summed_ends f (least_sum_to_come a (g + 1)) (most_sum_to_come a (g + 1)) (kept a.sorted (plus k (a.adds g c)))
+    ends_rise rises =
+        omega (
+          arith,
+          to-come f g k h,
+          ends-rise (a.least g) (a.most g) (least_sum_to_come a (g + 1)) (most_sum_to_come a (g + 1)) (q.least_some g h) (least_later g h) (most_later g h) f rises k (a.adds g c) (reached-not_negative g k r) onward.between (onward.wide ∙ sym (reached_length a g k r)),
+          sum_by-kept (at-end f (least_sum_to_come a (g + 1)) (most_sum_to_come a (g + 1))) a.sorted (plus k (a.adds g c)),
+        )
+
+    pub ends_fall : Falls f → summed_ends f (least_sum_to_come a (g + 1)) (most_sum_to_come a (g + 1)) (kept a.sorted (plus k (a.adds g c))) ≤ summed_ends f (least_sum_to_come a g) (most_sum_to_come a g) k
+    ends_fall falls =
+        omega (
+          arith,
+          to-come f g k h,
+          ends-fall (a.least g) (a.most g) (least_sum_to_come a (g + 1)) (most_sum_to_come a (g + 1)) (q.least_some g h) (least_later g h) (most_later g h) f falls k (a.adds g c) (reached-not_negative g k r) onward.between (onward.wide ∙ sym (reached_length a g k r)),
+          sum_by-kept (at-end f (least_sum_to_come a (g + 1)) (most_sum_to_come a (g + 1))) a.sorted (plus k (a.adds g c)),
+        )
 
   -- at the last stage nothing is to come
-  pub least_at_end : (k : List ℤ) → raised_squares (least_sum_to_come a a.count) k ≡ sum_by square k
-  least_at_end k = ap (λ d. raised_squares d k) (over_stages-none a.least a.count) ∙ unraised k
+  nothing-left : (f : ℕ → ℕ → ℕ) (k : List ℤ) → summed_ends f (least_sum_to_come a a.count) (most_sum_to_come a a.count) k ≡ sum_by (λ t. f t t) (map nat_abs k)
+  nothing-left f k = ap (λ d. summed_ends f d (most_sum_to_come a a.count) k) (over_stages-none a.least a.count) ∙ ap (λ d. summed_ends f (pos 0) d k) (over_stages-none a.most a.count) ∙ unraised f k
 
-  pub most_at_end : (k : List ℤ) → raised_squares (most_sum_to_come a a.count) k ≡ sum_by square k
-  most_at_end k = ap (λ d. raised_squares d k) (over_stages-none a.most a.count) ∙ unraised k
+  module _ (k : List ℤ) (r : IsReached (additive_network a) a.count k) where
+    last-long : length (map nat_abs k) ≡ a.slots
+    last-long = length-map k nat_abs ∙ reached_length a a.count k r
+
+    last-total : sum (map nat_abs k) ≡ over_earlier q.each a.count
+    last-total = sum_by-map (λ n. n) nat_abs k ∙ reached-magnitude a.count k r
+
+    pub near_at_end : squares.beside + summed_ends (near_square squares.centre) (least_sum_to_come a a.count) (most_sum_to_come a a.count) k ≡ sum_by square k
+    near_at_end =
+        ap (λ n. n + summed_ends (near_square squares.centre) (least_sum_to_come a a.count) (most_sum_to_come a a.count) k) q.beside_is
+        ∙ ap (λ n. around a.slots squares.centre (over_earlier q.each a.count) + n) (nothing-left (near_square squares.centre) k)
+        ∙ near-end a.slots squares.centre (over_earlier q.each a.count) (map nat_abs k) q.within last-long last-total
+        ∙ sum_by-map squared nat_abs k
+
+    pub far_at_end : squares.beside + summed_ends (far_square squares.centre) (least_sum_to_come a a.count) (most_sum_to_come a a.count) k ≡ sum_by square k
+    far_at_end =
+        ap (λ n. n + summed_ends (far_square squares.centre) (least_sum_to_come a a.count) (most_sum_to_come a a.count) k) q.beside_is
+        ∙ ap (λ n. around a.slots squares.centre (over_earlier q.each a.count) + n) (nothing-left (far_square squares.centre) k)
+        ∙ far-end a.slots squares.centre (over_earlier q.each a.count) (map nat_abs k) q.within last-long last-total
+        ∙ sum_by-map squared nat_abs k

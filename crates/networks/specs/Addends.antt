@@ -1,13 +1,15 @@
 -- Networks whose choices do not depend on the key: each choice adds numbers to the sums of the
 -- key, of which the first, or the sum of all squares, is the value. The intervals of the squares
--- are those of boxes: each sum ends between two numbers.
-use Rattle.std.specs.Prelude.{ℕ, zero, suc, ◌+◌, ◌-◌, ◌*◌, min, max, ℤ, pos, ◌+ℤ◌, nat_abs, List, [], ◌∷◌, Bool, true, false, replicate, nat_lt, slice_index_or, if◌then◌else◌}
+-- are those of boxes: each sum ends between two numbers, and so does its distance from a centre.
+use Rattle.std.specs.Prelude.{ℕ, zero, suc, ◌+◌, ◌-◌, ◌*◌, ◌/◌, min, max, ℤ, pos, ◌+ℤ◌, nat_abs, List, [], ◌∷◌, Bool, true, false, replicate, nat_lt, slice_index_or, if◌then◌else◌}
 use Rattle.std.specs.List.{sum_by}
+use Rattle.networks.specs.declared.additive.CentredSquares.{CentredSquares}
 use Rattle.networks.specs.declared.additive.SumValue.{SumValue}
 use Rattle.networks.specs.declared.additive.SumValue.TheVariants.{First, Squares}
 use Rattle.networks.specs.declared.verdicts.Judge.{Judge}
 use Rattle.networks.specs.Network.{Network}
 use Rattle.networks.specs.Judged.{rule_in, verdict_of}
+use Rattle.networks.specs.Distances.{around, far_square, near_square}
 use Rattle.networks.specs.PartialSums.{plus, kept}
 
 pub record Addends : Type 0 where
@@ -48,30 +50,40 @@ first_sum k = slice_index_or k 0 (pos 0)
 abbrev pub square : ℤ → ℕ
 square z = nat_abs z * nat_abs z
 
--- the squares of the sums, each raised by s
-abbrev pub raised_squares : ℤ → List ℤ → ℕ
-raised_squares s k = sum_by (λ z. square (z +ℤ s)) k
+-- squares told by distances from 0, and from the mean, rounded down, of sums with a total
+abbrev pub from_zero : ℕ → CentredSquares
+from_zero bound = record { centre = 0; beside = 0; bound = bound }
+
+abbrev pub from_mean : ℕ → ℕ → ℕ → CentredSquares
+from_mean sums total bound =
+    record { centre = total / sums; beside = around sums (total / sums) total; bound = bound }
+
+-- what is said of the two numbers between which each sum ends, added: it is still raised by l at
+-- least, and by h at most
+abbrev pub summed_ends : (ℕ → ℕ → ℕ) → ℤ → ℤ → List ℤ → ℕ
+summed_ends f l h k = sum_by (λ z. f (nat_abs (z +ℤ l)) (nat_abs (z +ℤ h))) k
 
 -- what is measured of the last sums
 abbrev pub sum_value_of : SumValue → List ℤ → ℤ
 sum_value_of First k = first_sum k
-sum_value_of (Squares bound) k = pos (sum_by square k)
+sum_value_of (Squares s) k = pos (sum_by square k)
 
--- the least value that sums end at where each is still raised by s at least
-abbrev pub low_end : SumValue → ℤ → List ℤ → ℤ
-low_end First s k = first_sum k +ℤ s
-low_end (Squares bound) s k = pos (raised_squares s k)
+-- the least value that such sums end at
+abbrev pub low_end : SumValue → ℤ → ℤ → List ℤ → ℤ
+low_end First l h k = first_sum k +ℤ l
+low_end (Squares s) l h k = pos (s.beside + summed_ends (near_square s.centre) l h k)
 
--- and the greatest where each is raised by s at most
-abbrev pub high_end : SumValue → ℤ → List ℤ → ℤ
-high_end First s k = first_sum k +ℤ s
-high_end (Squares bound) s k = pos (min bound (raised_squares s k))
+-- and the greatest
+abbrev pub high_end : SumValue → ℤ → ℤ → List ℤ → ℤ
+high_end First l h k = first_sum k +ℤ h
+high_end (Squares s) l h k =
+    pos (min s.bound (s.beside + summed_ends (far_square s.centre) l h k))
 
 abbrev pub low : Addends → ℕ → List ℤ → ℤ
-low a g k = low_end a.value (least_sum_to_come a g) k
+low a g k = low_end a.value (least_sum_to_come a g) (most_sum_to_come a g) k
 
 abbrev pub high : Addends → ℕ → List ℤ → ℤ
-high a g k = high_end a.value (most_sum_to_come a g) k
+high a g k = high_end a.value (least_sum_to_come a g) (most_sum_to_come a g) k
 
 abbrev pub zeros : Addends → List ℤ
 zeros a = replicate a.slots (pos 0)

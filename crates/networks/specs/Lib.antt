@@ -15,6 +15,7 @@ pub mod Mapped
 pub mod Written
 pub mod OneOf
 pub mod PartialSums
+pub mod Distances
 pub mod Addends
 pub mod SoundAddends
 pub mod AdditiveSteps

@@ -2,8 +2,10 @@
 use Rattle.std.specs.Prelude.{◌≡◌, ◌≢◌, ℕ, ◌<◌, ◌≤◌, ◌*◌, pos, ◌≤ℤ◌, nat_abs, List, [], length, AllPairs}
 use Rattle.std.specs.List.{Contains, AllByRecursion, sum_by}
 use Rattle.weights.specs.declared.TheConstants.{MAX}
+use Rattle.networks.specs.declared.additive.CentredSquares.{CentredSquares}
 use Rattle.networks.specs.declared.additive.SumValue.{SumValue}
 use Rattle.networks.specs.declared.additive.SumValue.TheVariants.{First, Squares}
+use Rattle.networks.specs.Distances.{around, squared}
 use Rattle.networks.specs.Judged.{JudgeFits}
 use Rattle.networks.specs.Addends.{Addends, zeros, low, high, totals, over_earlier, reach}
 
@@ -13,21 +15,27 @@ pub record AddsBetween (a : Addends) (g : ℕ) (c : List ℕ) : Type 0 where
   pub between : AllByRecursion (λ z. (a.least g ≤ℤ z) × (z ≤ℤ a.most g)) (a.adds g c)
 
 -- No choice lowers a sum, and those of one stage add the same in all: so the squares add up to at
--- most the square of all that is added.
-pub record IsSquared (a : Addends) (bound : ℕ) : Type 0 where
+-- most the square of all that is added, and what they have beside those of the distances from a
+-- centre is known.
+pub record IsSquared (a : Addends) (s : CentredSquares) : Type 0 where
   pub least_some : (g : ℕ) → g < a.count → pos 0 ≤ℤ a.least g
   pub most_some : (g : ℕ) → g < a.count → pos 0 ≤ℤ a.most g
   pub each : ℕ → ℕ
   pub alike : (g : ℕ) → g < a.count
       → AllByRecursion (λ c. sum_by nat_abs (a.adds g c) ≡ each g) (a.choices g)
-  pub bounded : over_earlier each a.count * over_earlier each a.count ≤ bound
+  pub bounded : over_earlier each a.count * over_earlier each a.count ≤ s.bound
+  pub within :
+      a.slots * squared s.centre ≤ 2 * (s.centre * over_earlier each a.count)
+  pub beside_is : s.beside ≡ around a.slots s.centre (over_earlier each a.count)
   -- no square that is computed passes MAX
-  pub bound_fits : bound ≤ MAX
-  pub squares_fit : a.slots * (reach a * reach a) ≤ MAX
+  pub bound_fits : s.bound ≤ MAX
+  pub reach_small : reach a ≤ 33554432
+  pub centre_small : s.centre ≤ 33554432
+  pub beside_small : s.beside ≤ 2251799813685248
 
 abbrev pub IsMeasured : Addends → SumValue → Type 0
 IsMeasured a First = a.slots ≡ 1
-IsMeasured a (Squares bound) = IsSquared a bound
+IsMeasured a (Squares s) = IsSquared a s
 
 pub record IsAdditive (a : Addends) : Type 0 where
   pub slots_some : 1 ≤ a.slots

@@ -1,18 +1,57 @@
 // Stages whose choices do not depend on the key: each adds to the sums of the key.
-ghost use Rattle.std.specs.Prelude.{◌≡◌, ◌<◌, ◌∷◌, length};
+ghost use Rattle.std.specs.Prelude.{◌≡◌, ◌≤◌, ◌<◌, ◌∷◌, length};
 ghost use Rattle.std.specs.List.{Contains};
-ghost use Rattle.networks.specs.Addends.{Addends, choices_left, stage_total};
+ghost use Rattle.networks.specs.Addends.{Addends, choices_left, from_mean, from_zero, stage_total};
 ghost use Rattle.networks.specs.SoundAddends.{IsAdditive};
 
+use crate::distances::around;
 use crate::verdicts::{Interval, Judge};
+
+/// Squares of sums, which are told by the distances of the sums from a centre: what the squares
+/// have beside those of the distances, and what they are at most.
+#[derive(Clone, Copy, Debug, PartialEq, Eq)]
+pub struct CentredSquares {
+    pub centre: u64,
+    pub beside: u64,
+    pub bound: u128,
+}
+
+impl CentredSquares {
+    /// From 0, where the distances are the sums.
+    pub fn from_zero(bound: u128) -> CentredSquares
+        ensures { result ≡ from_zero bound }
+    {
+        CentredSquares {
+            centre: 0,
+            beside: 0,
+            bound,
+        }
+    }
+
+    /// From the mean, rounded down, of so many sums that add up to a total.
+    pub fn from_mean(sums: u64, total: u64, bound: u128) -> CentredSquares
+        requires some { 1 ≤ sums }
+        requires total { total ≤ 33554432 }
+        ensures is { result ≡ from_mean sums total bound }
+        ensures centre_small { result.centre ≤ 33554432 }
+        ensures beside_small { result.beside ≤ 2251799813685248 }
+    {
+        let centre = total / sums;
+        CentredSquares {
+            centre,
+            beside: around(sums, centre, total),
+            bound,
+        }
+    }
+}
 
 /// What is measured of the sums after the last stage.
 #[derive(Clone, Copy, Debug, PartialEq, Eq)]
 pub enum SumValue {
     /// The first sum, which is the only one.
     First,
-    /// The sum of the squares of all sums, which is at most this bound.
-    Squares(u128),
+    /// The sum of the squares of all sums.
+    Squares(CentredSquares),
 }
 
 /// A test whose rearrangements are made part by part: each stage has the same choices for every

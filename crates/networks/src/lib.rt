@@ -4,6 +4,7 @@
 mod additive;
 mod additive_stages;
 mod answers;
+mod distances;
 mod keys;
 mod lasting;
 mod lines;
@@ -13,9 +14,10 @@ mod tail_sums;
 mod verdicts;
 mod whole;
 
-pub use additive::{Additive, SumValue};
+pub use additive::{Additive, CentredSquares, SumValue};
 pub use additive_stages::AdditiveStages;
 pub use answers::{Answer, Way};
+pub use distances::{SquareBounds, around, far_square, near_square};
 pub use keys::{behind, front, write_behind, write_front, write_key};
 pub use lines::Spread;
 pub use one_of::OneOf;

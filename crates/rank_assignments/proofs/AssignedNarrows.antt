@@ -13,13 +13,15 @@ use Rattle.label_network.proofs.Narrowing.{chosen}
 use Rattle.label_network.proofs.Rows.{length-abs, length-pos}
 use Rattle.networks.specs.declared.verdicts.Judge.{Judge}
 use Rattle.rank_assignments.specs.Reflections.{AreReflections, IsReflection}
-use Rattle.rank_assignments.specs.Assignments.{AreAssignments, ahead, ahead_at, before, gained, no_assignment, around, centre, far_square, given, least_squares, most_squares, near_square, over_ends, assigned_sums, assignment_at, unassigned}
-use Rattle.rank_assignments.specs.Upright.{reflection_at, reflected, squared, upright}
+use Rattle.rank_assignments.specs.Assignments.{AreAssignments, ahead, ahead_at, before, gained, no_assignment, centre, given, least_squares, most_squares, over_ends, assigned_sums, assignment_at, unassigned}
+use Rattle.rank_assignments.specs.Upright.{reflection_at, reflected, upright}
+use Rattle.networks.specs.Distances.{around, far_square, near_square, squared}
 use Rattle.rank_assignments.specs.declared.assignment.Assignment.{Assignment}
 use Rattle.rank_assignments.specs.declared.assignment.Ahead.{Ahead}
 use Rattle.rank_assignments.proofs.AssignmentRooms.{IsAssignedRoom, ahead-here, at-assignment, room-first, room-next, sizes-unassigned, taken-all}
 use Rattle.rank_assignments.proofs.UprightSums.{IsLeaning, IsMidway, either, length-reflected, reflected-ends, reflected-small, sum-reflected}
-use Rattle.rank_assignments.proofs.SumEnds.{Rises, Falls, ends-rise, ends-fall, ends-closed, ends-none, near-rises, far-falls, near-midway, far-midway, near-end, far-end, length-gained, sum-gained, sum-zeros, gained-small, zeros-small, sizes-zeros, pos-zeros, pos-rise}
+use Rattle.networks.proofs.SquaredDistances.{Falls, Rises, far-end, far-falls, mean-within, near-end, near-rises}
+use Rattle.rank_assignments.proofs.SumEnds.{ends-rise, ends-fall, ends-closed, ends-none, near-midway, far-midway, length-gained, sum-gained, sum-zeros, gained-small, zeros-small, sizes-zeros, pos-zeros, pos-rise}
 
 module _ (k : ℕ) (vs : List Assignment) (judge : Judge) (a : AreAssignments k vs judge) where
   -- what a reached room and partial have
@@ -160,10 +162,10 @@ module _ (k : ℕ) (vs : List Assignment) (judge : Judge) (a : AreAssignments k 
         ∙ reflected-ends f (centre k vs) mid (ahead_at k vs (g + 1)) c (i l.some).amid k s l.within
         ∙ sym (all-wait f s (i l.some).closes)
 
-    same-ends : (f : ℕ → ℕ → ℕ) → IsMidway f (centre k vs) → around k vs + there f (sizes_in (map pos (upright c s))) ≡ around k vs + there f s
+    same-ends : (f : ℕ → ℕ → ℕ) → IsMidway f (centre k vs) → around k (centre k vs) (given vs) + there f (sizes_in (map pos (upright c s))) ≡ around k (centre k vs) (given vs) + there f s
     same-ends f mid =
-        ap (λ y. around k vs + there f y) (sizes-back (upright c s))
-        ∙ ap (λ n. around k vs + n) (either (λ y. there f y ≡ there f s) c s (reflection-ends f mid) refl)
+        ap (λ y. around k (centre k vs) (given vs) + there f y) (sizes-back (upright c s))
+        ∙ ap (λ n. around k (centre k vs) (given vs) + n) (either (λ y. there f y ≡ there f s) c s (reflection-ends f mid) refl)
 
     same-low : least_squares k vs (ahead_at k vs (g + 1)) (sizes_in (left g room x)) (sizes_in (map pos (upright c s))) ≡ least_squares k vs (ahead_at k vs (g + 1)) (sizes_in (left g room x)) s
     same-low = same-ends (near_square (centre k vs)) (near-midway (centre k vs))
@@ -187,14 +189,14 @@ module _ (k : ℕ) (vs : List Assignment) (judge : Judge) (a : AreAssignments k 
       let level : length (sizes_in room) ≡ length (sizes_in partial) = as-long (length vs) room partial s in
       let near : over_ends (near_square (centre k vs)) (ahead k []) (sizes_in room) (sizes_in partial) ≡ sum_by (λ t. near_square (centre k vs) t t) (sizes_in partial) = ends-none (near_square (centre k vs)) k (sizes_in room) (sizes_in partial) level in
       ap (λ z. least_squares k vs z (sizes_in room) (sizes_in partial)) none-ahead
-      ∙ omega (arith, near, near-end k vs (sizes_in partial) (length-abs partial ∙ s.long) (all-given room partial s))
+      ∙ omega (arith, near, near-end k (centre k vs) (given vs) (sizes_in partial) (mean-within k (given vs)) (length-abs partial ∙ s.long) (all-given room partial s))
 
   high-end : (room partial : List ℤ) → IsAssigned (length vs) room partial → most_squares k vs (ahead_at k vs (length vs)) (sizes_in room) (sizes_in partial) ≡ sum_by squared (sizes_in partial)
   high-end room partial s =
       let level : length (sizes_in room) ≡ length (sizes_in partial) = as-long (length vs) room partial s in
       let far : over_ends (far_square (centre k vs)) (ahead k []) (sizes_in room) (sizes_in partial) ≡ sum_by (λ t. far_square (centre k vs) t t) (sizes_in partial) = ends-none (far_square (centre k vs)) k (sizes_in room) (sizes_in partial) level in
       ap (λ z. most_squares k vs z (sizes_in room) (sizes_in partial)) none-ahead
-      ∙ omega (arith, far, far-end k vs (sizes_in partial) (length-abs partial ∙ s.long) (all-given room partial s))
+      ∙ omega (arith, far, far-end k (centre k vs) (given vs) (sizes_in partial) (mean-within k (given vs)) (length-abs partial ∙ s.long) (all-given room partial s))
 
   module _ (reflections : List ℕ) (m : AreReflections k vs reflections) where
     after : (g : ℕ) (room partial : List ℤ) → AreReached (assigned_sums k vs reflections judge) g room partial → IsAssigned g room partial

@@ -21,7 +21,8 @@ use Rattle.label_network.specs.Meanings.{sizes_in}
 use Rattle.label_network.proofs.Rows.{abs-at, length-abs, pos-at, get-within}
 use Rattle.label_network.proofs.Sizes.{sizes-of_pos}
 use Rattle.rank_assignments.specs.BoundSteps.{IsSmall}
-use Rattle.rank_assignments.specs.Assignments.{AreAhead, AreMarks, AreAssignments, AreSums, IsSmallAhead, ahead, ahead_at, before, around, centre, gained, given, no_assignment, over_ends, raises, assignment_at, assignments}
+use Rattle.networks.specs.Distances.{around}
+use Rattle.rank_assignments.specs.Assignments.{AreAhead, AreMarks, AreAssignments, AreSums, IsSmallAhead, ahead, ahead_at, before, centre, gained, given, no_assignment, over_ends, raises, assignment_at, assignments}
 use Rattle.rank_assignments.specs.declared.assignment.Assignment.{Assignment}
 use Rattle.rank_assignments.specs.declared.assignment.Ahead.{Ahead}
 use Rattle.rank_assignments.proofs.AssignmentRooms.{AreOnes, IsAssignedRoom, ahead-here}
@@ -244,7 +245,7 @@ end-within here later room partial i end marks sums h e p q is =
     omega (arith, is, end-small (nat_abs (get_or partial i (pos 0))) (nat_abs (get_or room i (pos 0))) here later (sums.small i h) mark p q)
 
 -- a sum of a few squares is small
-pub squares-small : (n : ℕ) → n ≤ 9000000000000000 → IsSmall (pos n)
+pub squares-small : (n : ℕ) → n ≤ 72057594037927936 → IsSmall (pos n)
 squares-small n h = (omega (arith, ints), omega (arith, ints, h))
 
 -- ---- what is given
@@ -273,7 +274,7 @@ module _ (k : ℕ) (vs : List Assignment) (judge : Judge) (a : AreAssignments k 
   pub centre-less : centre k vs ≤ given vs
   centre-less = div-le_self (given vs) k
 
-  pub around-small : given vs ≤ 21760000 → around k vs ≤ 1000000000000000
+  pub around-small : given vs ≤ 21760000 → around k (centre k vs) (given vs) ≤ 2251799813685248
   around-small h =
       let less : centre k vs ≤ 21760000 = omega (arith, h, centre-less) in
       let times : centre k vs * given vs ≤ 21760000 * 21760000 = mul-le-mul less h in

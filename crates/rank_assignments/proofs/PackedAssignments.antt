@@ -1,5 +1,5 @@
 -- One number holds the treatments' sums of every reached key, and within a block choices only add to it.
-use Rattle.std.proofs.Common.{◌≡◌, ℕ, zero, suc, ◌+◌, ◌-◌, ◌*◌, ◌/◌, ◌^◌, ◌<◌, ◌≤◌, List, [], ◌∷◌, map, take, drop, get_or, length, replicate, Bool, true, false, cond, refl, sym, ◌∙◌, ap, subst, arith, nat_lt}
+use Rattle.std.proofs.Common.{◌≡◌, ℕ, zero, suc, ◌+◌, ◌-◌, ◌*◌, ◌/◌, ◌^◌, ◌<◌, ◌≤◌, List, [], ◌∷◌, map, take, drop, get_or, length, Bool, true, false, cond, refl, sym, ◌∙◌, ap, subst, arith, nat_lt}
 use Rattle.std.specs.Prelude.{ℤ, pos}
 use Rattle.std.specs.Ordering.{int_eq}
 use Rattle.std.specs.List.{AllByRecursion, list_any}
@@ -15,7 +15,7 @@ use Rattle.label_network.proofs.Narrowing.{chosen}
 use Rattle.label_network.proofs.Rows.{length-abs}
 use Rattle.symmetry_reduction.specs.GroupSums.{AreHeld, plus_each}
 use Rattle.symmetry_reduction.specs.OrderedGroups.{stay}
-use Rattle.symmetry_reduction.specs.declared.orders.Order.TheVariants.{Sums, Whole}
+use Rattle.symmetry_reduction.specs.declared.orders.Order.TheVariants.{Sums, SumsWhereAllRemain}
 use Rattle.packed_keys.specs.PackedGroups.{AddsSteps}
 use Rattle.packed_keys.specs.PackedKeys.{IsDigit, MayBePacked}
 use Rattle.packed_keys.proofs.Widths.{bits-few, bits-fit}
@@ -56,7 +56,7 @@ all-unassigned (suc k) = all-unassigned k
 stays-within : (k : ℕ) (closes : Bool) (room : List ℤ) → stay (order_for k) (alike k) (cond closes (unassigned k) room) ≡ true → closes ≡ false
 stays-within k closes room = by (nat_lt k 7) closes
   where
-    by : (b closes : Bool) → stay (cond b Whole Sums) (alike k) (cond closes (unassigned k) room) ≡ true → closes ≡ false
+    by : (b closes : Bool) → stay (cond b SumsWhereAllRemain Sums) (alike k) (cond closes (unassigned k) room) ≡ true → closes ≡ false
     by true true e = absurd (cc (sym e ∙ all-unassigned k))
     by true false e = refl
     by false closes e = absurd (cc e)

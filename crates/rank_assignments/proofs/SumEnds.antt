@@ -1,24 +1,21 @@
 -- Between which numbers treatments' sums end: how the ends draw together where a number is given, and the squares of their distances from a centre.
-use Rattle.std.proofs.Common.{◌≡◌, ℕ, zero, suc, ◌+◌, ◌-◌, ◌*◌, ◌≤◌, List, [], ◌∷◌, map, length, min, max, replicate, true, false, refl, sym, ◌∙◌, ap, subst, arith, nat_le, inl, inr, div-mul-le_self}
+use Rattle.std.proofs.Common.{◌≡◌, ℕ, zero, suc, ◌+◌, ◌-◌, ◌*◌, ◌≤◌, List, [], ◌∷◌, map, length, min, max, replicate, true, false, refl, sym, ◌∙◌, ap, subst, arith, nat_le}
 use Rattle.std.specs.Prelude.{pos, ◌≤ℤ◌}
 use Rattle.std.specs.List.{sum_by, sum, AllByRecursion}
 use Rattle.std.proofs.Math.Nat.{mul-le-mul}
-use Rattle.std.proofs.lemmas.Bool.{cases_lt, leb-true}
+use Rattle.std.proofs.lemmas.Bool.{leb-true}
 use Rattle.std.proofs.lemmas.Int.{ints}
 use Rattle.std.proofs.lemmas.List.Sums.{sum_by-cons}
 use Rattle.weights.specs.Grouped.{fits, minus}
 use Rattle.weights.proofs.Sized.{first_and}
-use Rattle.weights.proofs.Sums.{sum_by-same}
 use Rattle.label_network.specs.Meanings.{sizes_in}
-use Rattle.rank_assignments.specs.Upright.{squared}
-use Rattle.rank_assignments.specs.Assignments.{ahead, before, gained, around, centre, far_square, farthest, given, near_square, nearest, over_ends}
+use Rattle.networks.specs.Distances.{far_square, farthest, near_square, nearest, squared}
+use Rattle.networks.proofs.SquaredDistances.{Falls, Rises}
+use Rattle.rank_assignments.specs.Assignments.{ahead, before, gained, over_ends}
 use Rattle.rank_assignments.specs.declared.assignment.Assignment.{Assignment}
 use Rattle.rank_assignments.specs.declared.assignment.Ahead.{Ahead}
 use Rattle.rank_assignments.proofs.AssignmentRooms.{AreOnes}
 use Rattle.rank_assignments.proofs.UprightSums.{IsMidway}
-
-pub squares-rise : (a b : ℕ) → a ≤ b → squared a ≤ squared b
-squares-rise a b h = mul-le-mul h h
 
 -- ---- one number is given
 
@@ -41,13 +38,6 @@ part-high v here a d =
     let one : a * v ≤ a * max v here = mul-le-mul same_a more_v in
     let two : d * here ≤ d * max v here = mul-le-mul same_d more_here in
     omega (arith, one, two)
-
--- a number of which more is known tells more, or less
-abbrev pub Rises : (ℕ → ℕ → ℕ) → Type 0
-Rises f = (low high low' high' : ℕ) → low ≤ low' → high' ≤ high → f low high ≤ f low' high'
-
-abbrev pub Falls : (ℕ → ℕ → ℕ) → Type 0
-Falls f = (low high low' high' : ℕ) → low ≤ low' → high' ≤ high → f low' high' ≤ f low high
 
 -- the ends of one treatment's sum draw together
 pub record AreNarrower (low high low' high' : ℕ) : Type 0 where
@@ -109,75 +99,12 @@ ends-none f k (r ∷ rs) (s ∷ ss) e =
 
 -- ---- squares of distances
 
-pub near-rises : (q : ℕ) → Rises (near_square q)
-near-rises q low high low' high' r f = squares-rise (nearest q low high) (nearest q low' high') (omega (arith, r, f))
-
-pub far-falls : (q : ℕ) → Falls (far_square q)
-far-falls q low high low' high' r f = squares-rise (farthest q low' high') (farthest q low high) (omega (arith, r, f))
-
--- and say the same of what lies on the other sides of the centre
+-- they are the same on the other sides of the centre
 pub near-midway : (q : ℕ) → IsMidway (near_square q) q
 near-midway q low high low' high' a b = (let same : nearest q low' high' ≡ nearest q low high = omega (arith, a, b) in ap squared same)
 
 pub far-midway : (q : ℕ) → IsMidway (far_square q) q
 far-midway q low high low' high' a b = (let same : farthest q low' high' ≡ farthest q low high = omega (arith, a, b) in ap squared same)
-
--- the square of a distance
-pub distance-square : (q t : ℕ) → squared (nearest q t t) + 2 * (q * t) ≡ squared t + squared q
-distance-square q t = elim (cases_lt q t) [
-  | inl l ↦
-      (let d : ℕ = t - q in
-      let whole : t ≡ q + (t - q) = omega (arith, l) in
-      let away : nearest q t t ≡ t - q = omega (arith, l) in
-      ap (λ n. squared n + 2 * (q * t)) away ∙ ap (λ n. squared (t - q) + 2 * (q * n)) whole ∙ above q (t - q) ∙ ap (λ n. squared n + squared q) (sym whole))
-  | inr m ↦
-      (let whole : q ≡ t + (q - t) = omega (arith, m) in
-      let away : nearest q t t ≡ q - t = omega (arith, m) in
-      ap (λ n. squared n + 2 * (q * t)) away ∙ ap (λ n. squared (q - t) + 2 * (n * t)) whole ∙ below t (q - t) ∙ ap (λ n. squared t + squared n) (sym whole))
-]
-  where
-    above : (q d : ℕ) → squared d + 2 * (q * (q + d)) ≡ squared (q + d) + squared q
-    above q d = grind arith
-
-    below : (t d : ℕ) → squared d + 2 * ((t + d) * t) ≡ squared t + squared (t + d)
-    below t d = grind arith
-
-pub distances : (q : ℕ) (s : List ℕ) → sum_by (λ t. near_square q t t) s + 2 * (q * sum s) ≡ sum_by squared s + length s * squared q
-distances q [] = omega arith
-distances q (s ∷ ss) =
-    let all : sum (s ∷ ss) ≡ s + sum ss = sum_by-cons (λ v. v) s ss in
-    let parts : 2 * (q * sum (s ∷ ss)) ≡ 2 * (q * s) + 2 * (q * sum ss) = ap (λ n. 2 * (q * n)) all ∙ split q s (sum ss) in
-    let more : suc (length ss) * squared q ≡ squared q + length ss * squared q = omega arith in
-    omega (arith, sum_by-cons (λ t. near_square q t t) s ss, sum_by-cons squared s ss, parts, more, distance-square q s, distances q ss)
-  where
-    split : (q a b : ℕ) → 2 * (q * (a + b)) ≡ 2 * (q * a) + 2 * (q * b)
-    split q a b = grind arith
-
--- no more than all is given on average
-pub centre-within : (k : ℕ) (vs : List Assignment) → k * squared (centre k vs) ≤ 2 * (centre k vs * given vs)
-centre-within k vs =
-    let q : ℕ = centre k vs in
-    let less : q * k ≤ given vs = div-mul-le_self (given vs) k in
-    let same : q ≤ q = omega arith in
-    let times : q * (q * k) ≤ q * given vs = mul-le-mul same less in
-    let order : k * squared q ≡ q * (q * k) = turned k q in
-    omega (arith, times, order)
-  where
-    turned : (k q : ℕ) → k * (q * q) ≡ q * (q * k)
-    turned k q = grind arith
-
-pub near-end : (k : ℕ) (vs : List Assignment) (s : List ℕ) → length s ≡ k → sum s ≡ given vs → around k vs + sum_by (λ t. near_square (centre k vs) t t) s ≡ sum_by squared s
-near-end k vs s l e =
-    let q : ℕ = centre k vs in
-    let long : length s * squared q ≡ k * squared q = ap (λ n. n * squared q) l in
-    let all : 2 * (q * sum s) ≡ 2 * (q * given vs) = ap (λ n. 2 * (q * n)) e in
-    omega (arith, distances q s, long, all, centre-within k vs)
-
-pub far-end : (k : ℕ) (vs : List Assignment) (s : List ℕ) → length s ≡ k → sum s ≡ given vs → around k vs + sum_by (λ t. far_square (centre k vs) t t) s ≡ sum_by squared s
-far-end k vs s l e =
-    let q : ℕ = centre k vs in
-    ap (λ n. around k vs + n) (sum_by-same (λ t. far_square q t t) (λ t. near_square q t t) (λ t. (let same : farthest q t t ≡ nearest q t t = omega arith in ap squared same)) s)
-    ∙ near-end k vs s l e
 
 -- ---- the sums
 

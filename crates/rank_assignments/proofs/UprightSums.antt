@@ -1,13 +1,15 @@
 -- What sums keep where they are reflected.
-use Rattle.std.proofs.Common.{◌≡◌, ℕ, zero, suc, ◌+◌, ◌-◌, ◌*◌, ◌<◌, ◌≤◌, List, [], ◌∷◌, length, replicate, Bool, true, false, cond, ◌&&◌, refl, sym, ◌∙◌, ap, arith, nat_eq}
+use Rattle.std.proofs.Common.{◌≡◌, ℕ, zero, suc, ◌+◌, ◌-◌, ◌*◌, ◌<◌, ◌≤◌, List, [], ◌∷◌, length, replicate, Bool, true, false, cond, ◌&&◌, refl, ◌∙◌, ap, arith, nat_eq}
 use Rattle.std.specs.Prelude.{nat_lt}
 use Rattle.std.specs.List.{sum_by, sum, AllByRecursion}
 use Rattle.std.proofs.lemmas.Bool.{eqb-true, ltb-true}
 use Rattle.std.proofs.lemmas.List.Sums.{sum_by-cons}
 use Rattle.weights.proofs.Sized.{first_and}
+use Rattle.networks.specs.Distances.{near_square, nearest, squared}
+use Rattle.networks.proofs.SquaredDistances.{distances}
 use Rattle.networks.proofs.Swaps.{map-swap, swap_at}
 use Rattle.rank_assignments.specs.Assignments.{over_ends}
-use Rattle.rank_assignments.specs.Upright.{cubed, lean, reflected, squared, upright}
+use Rattle.rank_assignments.specs.Upright.{cubed, lean, reflected, upright}
 use Rattle.rank_assignments.specs.declared.assignment.Ahead.{Ahead}
 
 -- sums that are reflected: there is a number for it, and none passes it
@@ -49,30 +51,18 @@ sum-reflected c (n ∷ s) a =
 
 -- ---- squares
 
-lacking-square : (c n : ℕ) → n ≤ c → squared (c - n) + 2 * (c * n) ≡ squared n + squared c
-lacking-square c n h =
-    let whole : c ≡ n + (c - n) = omega (arith, h) in
-    ap (λ m. squared (c - n) + 2 * (m * n)) whole ∙ below n (c - n) ∙ ap (λ m. squared n + squared m) (sym whole)
-  where
-    below : (n d : ℕ) → squared d + 2 * ((n + d) * n) ≡ squared n + squared (n + d)
-    below n d = grind arith
-
-lacking-squares : (c : ℕ) (s : List ℕ) → AllByRecursion (λ n. n ≤ c) s → sum_by squared (reflected c s) + 2 * (c * sum s) ≡ sum_by squared s + length s * squared c
-lacking-squares c [] a = omega arith
+-- what a number lacks to a greater one is its distance from this
+lacking-squares : (c : ℕ) (s : List ℕ) → AllByRecursion (λ n. n ≤ c) s → sum_by squared (reflected c s) ≡ sum_by (λ n. near_square c n n) s
+lacking-squares c [] a = refl
 lacking-squares c (n ∷ s) a =
-    let all : sum (n ∷ s) ≡ n + sum s = sum_by-cons (λ v. v) n s in
-    let parts : 2 * (c * sum (n ∷ s)) ≡ 2 * (c * n) + 2 * (c * sum s) = ap (λ m. 2 * (c * m)) all ∙ split c n (sum s) in
-    let more : suc (length s) * squared c ≡ squared c + length s * squared c = omega arith in
-    omega (arith, sum_by-cons squared (c - n) (reflected c s), sum_by-cons squared n s, parts, more, lacking-square c n a.0, lacking-squares c s a.1)
-  where
-    split : (c a b : ℕ) → 2 * (c * (a + b)) ≡ 2 * (c * a) + 2 * (c * b)
-    split c a b = grind arith
+    let away : nearest c n n ≡ c - n = omega (arith, a.0) in
+    omega (arith, sum_by-cons squared (c - n) (reflected c s), sum_by-cons (λ m. near_square c m m) n s, ap squared away, lacking-squares c s a.1)
 
 -- where the number is twice the mean the squares stay
 pub squares-reflected : (c : ℕ) (s : List ℕ) → AllByRecursion (λ n. n ≤ c) s → length s * c ≡ 2 * sum s → sum_by squared (reflected c s) ≡ sum_by squared s
 squares-reflected c s a e =
     let all : length s * squared c ≡ 2 * (c * sum s) = grouped (length s) c ∙ ap (λ n. n * c) e ∙ ordered (sum s) c in
-    omega (arith, lacking-squares c s a, all)
+    omega (arith, lacking-squares c s a, distances c s, all)
   where
     grouped : (n c : ℕ) → n * (c * c) ≡ n * c * c
     grouped n c = grind arith

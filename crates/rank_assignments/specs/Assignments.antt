@@ -17,9 +17,10 @@ use Rattle.label_network.specs.ChoiceOrder.{later_choices}
 use Rattle.label_network.specs.Meanings.{sizes_in}
 use Rattle.symmetry_reduction.specs.ReducedNetworks.{reduced_network}
 use Rattle.symmetry_reduction.specs.declared.orders.Order.{Order}
-use Rattle.symmetry_reduction.specs.declared.orders.Order.TheVariants.{Sums, Whole}
+use Rattle.symmetry_reduction.specs.declared.orders.Order.TheVariants.{Sums, SumsWhereAllRemain}
 use Rattle.rank_assignments.specs.BoundSteps.{IsSmall}
-use Rattle.rank_assignments.specs.Upright.{reflection_at, squared, upright}
+use Rattle.rank_assignments.specs.Upright.{reflection_at, upright}
+use Rattle.networks.specs.Distances.{around, far_square, near_square, squared}
 use Rattle.rank_assignments.specs.declared.assignment.Assignment.{Assignment}
 use Rattle.rank_assignments.specs.declared.assignment.Ahead.{Ahead}
 
@@ -122,20 +123,6 @@ over_ends f a (r ∷ room) (s ∷ sums) =
     f (s + r * a.least + a.later_least) (s + r * a.most + a.later_most)
     + over_ends f a room sums
 
--- how far the numbers from one to another are from a centre at least, and at most
-abbrev pub nearest : ℕ → ℕ → ℕ → ℕ
-nearest q low high = (low - q) + (q - high)
-
-abbrev pub farthest : ℕ → ℕ → ℕ → ℕ
-farthest q low high = max (q - low) (high - q)
-
--- and their squares
-abbrev pub near_square : ℕ → ℕ → ℕ → ℕ
-near_square q low high = squared (nearest q low high)
-
-abbrev pub far_square : ℕ → ℕ → ℕ → ℕ
-far_square q low high = squared (farthest q low high)
-
 -- what treatments get in all
 abbrev pub given : List Assignment → ℕ
 given vs = sum_by (λ v. v.value * v.count) vs
@@ -144,19 +131,14 @@ given vs = sum_by (λ v. v.value * v.count) vs
 abbrev pub centre : ℕ → List Assignment → ℕ
 centre k vs = given vs / k
 
--- Sums of what is given have this and the squares of their distances from the centre as their
--- squares.
-abbrev pub around : ℕ → List Assignment → ℕ
-around k vs = 2 * (centre k vs * given vs) - k * squared (centre k vs)
-
 -- what the squares of the sums are at least, and at most
 abbrev pub least_squares : ℕ → List Assignment → Ahead → List ℕ → List ℕ → ℕ
 least_squares k vs a room sums =
-    around k vs + over_ends (near_square (centre k vs)) a room sums
+    around k (centre k vs) (given vs) + over_ends (near_square (centre k vs)) a room sums
 
 abbrev pub most_squares : ℕ → List Assignment → Ahead → List ℕ → List ℕ → ℕ
 most_squares k vs a room sums =
-    around k vs + over_ends (far_square (centre k vs)) a room sums
+    around k (centre k vs) (given vs) + over_ends (far_square (centre k vs)) a room sums
 
 -- after each assignment the sums are reflected where they lean
 abbrev pub assigned_sums : ℕ → List Assignment → List ℕ → Judge → Meaning
@@ -192,7 +174,7 @@ alike k = replicate k 1
 -- how they are put in order by their sums: wherever all are to be assigned, which is between
 -- blocks, and seven and more after each number too
 abbrev pub order_for : ℕ → Order
-order_for k = if nat_lt k 7 then Whole else Sums
+order_for k = if nat_lt k 7 then SumsWhereAllRemain else Sums
 
 -- with the treatments in that order
 abbrev pub assigned_network : ℕ → List Assignment → List ℕ → Judge → Network

@@ -1,14 +1,14 @@
 -- Words for the bodies: bounds and sums that pass no limit.
 use Rattle.std.specs.Prelude.{ℕ, ◌≡◌, ◌≤◌, ◌<◌, ◌≤ℤ◌, ◌^◌, ℤ, pos, nat_abs, List, get_or, length}
-use Rattle.rank_assignments.specs.declared.assignment.Bounds.{Bounds}
+use Rattle.networks.specs.declared.distances.SquareBounds.{SquareBounds}
 
 -- a statistic of at most 2 ^ 60
 abbrev pub IsSmall : ℤ → Type 0
 IsSmall v = (pos 0 ≤ℤ v) × (v ≤ℤ pos (2 ^ 60))
 
-pub record AreSmallBounds (b : Bounds) : Type 0 where
-  pub near : b.near ≤ 8000000000000000
-  pub far : b.far ≤ 8000000000000000
+pub record AreSmallBounds (b : SquareBounds) : Type 0 where
+  pub near : b.near ≤ 36028797018963968
+  pub far : b.far ≤ 36028797018963968
 
 -- sums after a number more
 pub record AreGained (sums : List ℤ) : Type 0 where

@@ -5,9 +5,6 @@ use Rattle.std.specs.List.{sum_by}
 abbrev pub reflected : ℕ → List ℕ → List ℕ
 reflected c sums = map (λ s. c - s) sums
 
-abbrev pub squared : ℕ → ℕ
-squared n = n * n
-
 abbrev pub cubed : ℕ → ℕ
 cubed n = n * (n * n)
 

@@ -21,14 +21,14 @@ use symmetry_reduction::{Order, SymmetryReduced};
 use weights::NoMemory;
 
 /// Blocks whose numbers are given to treatments one after another, each to those that have none of
-/// its block yet. Between blocks treatments are in order by their sums. A block of k numbers costs
-/// a key at most k 2^(k - 1) arcs, where it has k! arrangements, and keys that meet within a block
-/// are one. Where the blocks are the same from both ends, so are keys between blocks that are
-/// reflections of each other.
+/// its block yet. Between blocks treatments are in order by their sums, and from seven treatments
+/// on after each number too. A block of k numbers costs a key at most k 2^(k - 1) arcs, where it
+/// has k! arrangements, and keys that meet within a block are one. Where the blocks are the same
+/// from both ends, so are keys between blocks that are reflections of each other.
 pub type OrderedBlocks = SymmetryReduced<AssignmentRooms, AssignedSums>;
 
-/// The same with the treatments' sums in one number, which all choices but those that close a block
-/// only add to.
+/// The same with the treatments' sums in one number, which a choice only adds to where it leaves
+/// the order as it is.
 pub type AssignedBlocks = PackedGroups<AssignmentRooms, AssignedSums>;
 
 /// Whether one number has room for the sums of treatments after so many assignments.
@@ -48,7 +48,7 @@ fn order_for(treatments: usize) -> Order
     ensures { result ≡ order_for treatments }
 {
     if treatments < MANY {
-        Order::Whole
+        Order::SumsWhereAllRemain
     } else {
         Order::Sums
     }

@@ -3,19 +3,19 @@ ghost use Rattle.std.specs.Prelude.{◌≡◌, ◌+◌, ◌*◌, ◌<◌, ◌≤
 ghost use Rattle.std.specs.Prelude.{slice_index_or, All, if◌then◌else◌, true};
 ghost use Rattle.std.specs.List.{sum_by};
 ghost use Rattle.weights.specs.Grouped.{fits, minus};
+ghost use Rattle.networks.specs.Distances.{far_square, near_square, squared};
 ghost use Rattle.label_network.specs.LabelSteps.{AreSizes};
 ghost use Rattle.label_network.specs.Meanings.{sizes_in};
-ghost use Rattle.rank_assignments.specs.Assignments.{AreMarks, AreSums, IsSmallAhead, far_square, farthest};
-ghost use Rattle.rank_assignments.specs.Assignments.{gained, near_square, nearest, over_ends, raises};
-ghost use Rattle.rank_assignments.specs.Assignments.{unassigned};
+ghost use Rattle.rank_assignments.specs.Assignments.{AreMarks, AreSums, IsSmallAhead};
+ghost use Rattle.rank_assignments.specs.Assignments.{gained, over_ends, raises, unassigned};
 ghost use Rattle.rank_assignments.specs.BoundSteps.{AreSmallBounds, IsSmall};
-ghost use Rattle.rank_assignments.specs.Upright.{squared, upright};
+ghost use Rattle.rank_assignments.specs.Upright.{upright};
 
-use crate::assignment::{Ahead, Bounds};
+use crate::assignment::Ahead;
 use crate::assignments::Assignments;
 use crate::leaning::write_upright;
 use label_network::{first_counts, next_counts, take_away};
-use networks::{Interval, Verdict};
+use networks::{Interval, SquareBounds, Verdict, far_square, near_square};
 use room_network::{Measure, Rooms};
 use weights::Tail;
 
@@ -126,41 +126,9 @@ fn raised_sum(room: &[i128], partial: &[i128], place: usize, here: u64, later: u
     partial[place] as u64 + room[place] as u64 * here + later
 }
 
-// How far the numbers from one to another are from a centre at least.
-#[inline(always)]
-fn nearest(centre: u64, low: u64, high: u64) -> u64
-    requires low { low ≤ 5440016 }
-    requires centre { centre ≤ 21760000 }
-    ensures is { result ≡ nearest centre low high }
-    ensures small { result ≤ 30000000 }
-{
-    low.saturating_sub(centre) + centre.saturating_sub(high)
-}
-
-// And at most.
-#[inline(always)]
-fn farthest(centre: u64, low: u64, high: u64) -> u64
-    requires high { high ≤ 5440016 }
-    requires centre { centre ≤ 21760000 }
-    ensures is { result ≡ farthest centre low high }
-    ensures small { result ≤ 30000000 }
-{
-    centre.saturating_sub(low).max(high.saturating_sub(centre))
-}
-
-// The square of a number that is small.
-#[inline(always)]
-fn small_square(number: u64) -> u64
-    requires { number ≤ 30000000 }
-    ensures is { result ≡ squared number }
-    ensures small { result ≤ 30000000 * 30000000 }
-{
-    number * number
-}
-
 // The bounds of sums.
 #[inline(always)]
-fn bounds(room: &[i128], partial: &[i128], ahead: Ahead, centre: u64) -> Bounds
+fn bounds(room: &[i128], partial: &[i128], ahead: Ahead, centre: u64) -> SquareBounds
     requires as_many { length room.now ≡ length partial.now }
     requires few { length partial.now ≤ 8 }
     requires marks { AreMarks room.now }
@@ -179,10 +147,10 @@ fn bounds(room: &[i128], partial: &[i128], ahead: Ahead, centre: u64) -> Bounds
     for i in 0..partial.len() {
         let least = raised_sum(room, partial, i, ahead.least, ahead.later_least);
         let most = raised_sum(room, partial, i, ahead.most, ahead.later_most);
-        near += small_square(nearest(centre, least, most));
-        far += small_square(farthest(centre, least, most));
+        near += near_square(centre, least, most);
+        far += far_square(centre, least, most);
     }
-    Bounds { near, far }
+    SquareBounds { near, far }
 }
 
 // The squares of sums, added.
@@ -206,10 +174,10 @@ fn squares(partial: &[i128]) -> u64
 // What the squares of the sums are, beside those of their distances from the centre.
 #[inline(always)]
 fn squares_with(base: u64, distances: u64) -> u64
-    requires base { base ≤ 1000000000000000 }
-    requires distances { distances ≤ 8000000000000000 }
+    requires base { base ≤ 2251799813685248 }
+    requires distances { distances ≤ 36028797018963968 }
     ensures is { result ≡ base + distances }
-    ensures small { result ≤ 9000000000000000 }
+    ensures small { result ≤ 72057594037927936 }
 {
     base + distances
 }
@@ -217,8 +185,8 @@ fn squares_with(base: u64, distances: u64) -> u64
 // The interval between two ends.
 #[inline(always)]
 fn interval_of(low: u64, high: u64) -> Interval
-    requires low { low ≤ 9000000000000000 }
-    requires high { high ≤ 9000000000000000 }
+    requires low { low ≤ 72057594037927936 }
+    requires high { high ≤ 72057594037927936 }
     ensures low { result.low ≡ pos low }
     ensures high { result.high ≡ pos high }
     ensures low_small { IsSmall result.low }

@@ -21,11 +21,3 @@ pub struct Ahead {
     pub later_least: u64,
     pub later_most: u64,
 }
-
-/// Of the sums between their ends: the squares of the least and of the greatest distances from a
-/// centre, each added.
-#[derive(Clone, Copy)]
-pub struct Bounds {
-    pub near: u64,
-    pub far: u64,
-}

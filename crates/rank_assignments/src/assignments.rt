@@ -4,15 +4,16 @@ ghost use Rattle.std.specs.Prelude.{IfOk, OnOk};
 ghost use Rattle.std.specs.List.{sum};
 ghost use Rattle.weights.specs.Numbers.{binomial};
 ghost use Rattle.weights.specs.declared.TheConstants.{MAX};
+ghost use Rattle.networks.specs.Distances.{around};
 ghost use Rattle.rank_assignments.specs.Reflections.{AreReflections, reflections_of};
 ghost use Rattle.rank_assignments.specs.Assignments.{AreAhead, AreAssignments, IsSmallAhead, ahead_at};
-ghost use Rattle.rank_assignments.specs.Assignments.{around, before, centre, given};
+ghost use Rattle.rank_assignments.specs.Assignments.{before, centre, given};
 ghost use Rattle.rank_assignments.specs.Assignments.{assignment_at, assignment_of, assignments};
 ghost use Rattle.rank_assignments.specs.Upright.{reflection_at};
 
 use crate::assignment::{Ahead, Assignment};
 use crate::reflecting::reflections_of;
-use networks::Judge;
+use networks::{Judge, around};
 use std::alloc::Global;
 use weights::{NoMemory, binomial, total_of};
 
@@ -31,7 +32,7 @@ pub struct Assignments {
     ghost right: { AreAssignments treatments items.items judge },
     ghost table: { AreAhead treatments items.items (length items.items) ahead.items },
     ghost middle_is: { middle ≡ centre treatments items.items },
-    ghost base_is: { base ≡ around treatments items.items },
+    ghost base_is: { base ≡ around treatments (centre treatments items.items) (given items.items) },
     ghost reflections_are: { AreReflections treatments items.items reflections.items },
 }
 
@@ -148,16 +149,6 @@ fn given(treatments: usize, items: &[Assignment], _judge: Judge) -> u64
         all += items[i].value * items[i].count;
     }
     all
-}
-
-// What the squares of the sums have beside those of their distances from the centre.
-fn around(treatments: u64, centre: u64, given: u64) -> u64
-    requires given { given ≤ 21760000 }
-    requires centre { centre ≤ given }
-    requires within { treatments * (centre * centre) ≤ 2 * (centre * given) }
-    ensures { result ≡ 2 * (centre * given) - treatments * (centre * centre) }
-{
-    2 * (centre * given) - treatments * (centre * centre)
 }
 
 impl Assignments {

@@ -22,7 +22,7 @@ use weights::Tail;
 /// A network of rooms in which groups of equal size that stand side by side are in order. Where
 /// this is by what remains of them and then by their sums, k such groups have up to k! times fewer
 /// keys. Where it is by what remains of them alone, there are as few rooms, with more keys in each,
-/// but a choice that leaves the groups in order only adds to their sums. In `Whole` order this is
+/// but a choice that leaves the groups in order only adds to their sums. In the last order this is
 /// so of every choice but those after which something remains of each group again. It is seen as
 /// its rooms, its measure, the groups' sizes, and their order.
 #[derive(Drop)]

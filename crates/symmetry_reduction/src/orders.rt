@@ -12,7 +12,7 @@ pub enum Order {
     /// By what remains of them, and by their sums where as many remain.
     Sums,
     /// In the same way, but where nothing remains of some group all stay as they stand.
-    Whole,
+    SumsWhereAllRemain,
 }
 
 /// Whether it is by their sums too.
@@ -22,7 +22,7 @@ pub(crate) fn by_sums(order: Order) -> bool
 {
     match order {
         Order::Left => false,
-        Order::Sums | Order::Whole => true,
+        Order::Sums | Order::SumsWhereAllRemain => true,
     }
 }
 
@@ -35,6 +35,6 @@ pub fn stay(order: Order, sizes: &[u64], left: &[i128]) -> bool
     match order {
         Order::Left => are_in_order(sizes, left),
         Order::Sums => false,
-        Order::Whole => left.contains(&0),
+        Order::SumsWhereAllRemain => left.contains(&0),
     }
 }

@@ -39,8 +39,12 @@ blocks_additive = record {
     each = λ g. 6;
     alike = λ g b. (refl, (refl, tt));
     bounded = lit≤ tt;
+    within = lit≤ tt;
+    beside_is = refl;
     bound_fits = lit≤ tt;
-    squares_fit = lit≤ tt;
+    reach_small = lit≤ tt;
+    centre_small = lit≤ tt;
+    beside_small = lit≤ tt;
   };
   low_fits = record { fits = low };
   high_fits = record { fits = high };

@@ -3,7 +3,7 @@
 use Rattle.std.specs.Prelude.{ℕ, ◌+◌, ◌*◌, pos, List, [], ◌∷◌, true, nat_eq, slice_index, if◌then◌else◌}
 use Rattle.weights.specs.declared.rules.Rule.TheVariants.{AtMost, AtLeast, Far}
 use Rattle.networks.specs.declared.additive.SumValue.TheVariants.{Squares}
-use Rattle.networks.specs.Addends.{Addends}
+use Rattle.networks.specs.Addends.{Addends, from_zero}
 
 -- a choice gives each treatment its rank less 1
 abbrev pub block_choices : List (List ℕ)
@@ -22,6 +22,6 @@ worked_blocks = record {
   least = λ g. pos 2;
   most = λ g. pos 4;
   sorted = true;
-  value = Squares 144;
+  value = Squares (from_zero 144);
   judge = record { less = AtMost (pos 80); greater = AtLeast (pos 80); two = Far 1 (pos 76) 4 };
 }

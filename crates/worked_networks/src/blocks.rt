@@ -1,7 +1,7 @@
 // Two worked blocks, by a network whose sums are kept ascending.
 ghost use Rattle.std.specs.Prelude.{◌≡◌, ◌+◌, ◌*◌, ◌<◌, pos};
 
-use networks::{Additive, Interval, Judge, SumValue};
+use networks::{Additive, CentredSquares, Interval, Judge, SumValue};
 use weights::Rule;
 
 /// Each block is a stage, and its ranks the choice.
@@ -66,7 +66,7 @@ impl Additive for Blocks {
     }
 
     fn value(&self) -> SumValue {
-        SumValue::Squares(144)
+        SumValue::Squares(CentredSquares::from_zero(144))
     }
 
     fn judge(&self) -> Judge {

@@ -1,7 +1,7 @@
 use Rattle.std.proofs.Common.{◌≤◌, ◌*◌, get_or, arith}
 use Rattle.std.proofs.Math.Nat.{mul-le-mul}
 use Rattle.std.proofs.lemmas.List.Sums.{sum_by_more}
-use Rattle.rank_assignments.specs.Upright.{squared}
+use Rattle.networks.specs.Distances.{squared}
 use Rattle.block_tests.proofs.sums.square_sum.Goals as goal
 
 pub loop-sum-preserved : goal.loop-sum-preserved

@@ -1,27 +1,26 @@
-use Rattle.std.proofs.Common.{◌∙◌, ap, arith}
-use Rattle.rank_assignments.specs.Upright.{squared}
-use Rattle.rank_assignments.specs.Assignments.{far_square, near_square}
+use Rattle.std.proofs.Common.{◌∙◌, arith}
+use Rattle.networks.specs.Distances.{far_square, near_square}
 use Rattle.rank_assignments.proofs.AssignmentSteps.{all-taken, end-within, ends-at}
 use Rattle.rank_assignments.proofs.assigned_sums.bounds.Goals as goal
 
-pub nearest-requires-clause-low : goal.nearest-requires-clause-low
-nearest-requires-clause-low c = (end-within c.args.ahead.least c.args.ahead.later_least c.args.room.now c.args.partial.now c.loop-i.i c.raised_sum-least.result c.requires.marks c.requires.sums c.loop-i-test.true c.requires.as_many c.requires.ahead.least c.requires.ahead.later_least c.raised_sum-least.ensures)
+pub near_square-near-requires-clause-low : goal.near_square-near-requires-clause-low
+near_square-near-requires-clause-low c = omega (arith, end-within c.args.ahead.least c.args.ahead.later_least c.args.room.now c.args.partial.now c.loop-i.i c.raised_sum-least.result c.requires.marks c.requires.sums c.loop-i-test.true c.requires.as_many c.requires.ahead.least c.requires.ahead.later_least c.raised_sum-least.ensures)
 
-pub farthest-requires-clause-high : goal.farthest-requires-clause-high
-farthest-requires-clause-high c = (end-within c.args.ahead.most c.args.ahead.later_most c.args.room.now c.args.partial.now c.loop-i.i c.raised_sum-most.result c.requires.marks c.requires.sums c.loop-i-test.true c.requires.as_many c.requires.ahead.most c.requires.ahead.later_most c.raised_sum-most.ensures)
+pub far_square-far-requires-clause-high : goal.far_square-far-requires-clause-high
+far_square-far-requires-clause-high c = omega (arith, end-within c.args.ahead.most c.args.ahead.later_most c.args.room.now c.args.partial.now c.loop-i.i c.raised_sum-most.result c.requires.marks c.requires.sums c.loop-i-test.true c.requires.as_many c.requires.ahead.most c.requires.ahead.later_most c.raised_sum-most.ensures)
 
 pub overflow_add-near : goal.overflow_add-near
-overflow_add-near c = omega (arith, c.loop-i.invariant.near_small, c.small_square-near.ensures.small, c.loop-i-test.true, c.requires.few)
+overflow_add-near c = omega (arith, c.loop-i.invariant.near_small, c.near_square-near.ensures.small, c.loop-i-test.true, c.requires.few)
 
 pub overflow_add-far : goal.overflow_add-far
-overflow_add-far c = omega (arith, c.loop-i.invariant.far_small, c.small_square-far.ensures.small, c.loop-i-test.true, c.requires.few)
+overflow_add-far c = omega (arith, c.loop-i.invariant.far_small, c.far_square-far.ensures.small, c.loop-i-test.true, c.requires.few)
 
 pub loop-i-preserved : goal.loop-i-preserved
 loop-i-preserved c = record {
-  near = ends-at (near_square c.args.centre) c.args.ahead c.args.room.now c.args.partial.now c.loop-i.i c.raised_sum-least.result c.raised_sum-most.result c.small_square-near.result c.loop-i.near c.loop-i-test.true c.requires.as_many c.raised_sum-least.ensures c.raised_sum-most.ensures (c.small_square-near.ensures.is ∙ ap squared c.nearest.ensures.is) c.loop-i.invariant.near;
-  far = ends-at (far_square c.args.centre) c.args.ahead c.args.room.now c.args.partial.now c.loop-i.i c.raised_sum-least.result c.raised_sum-most.result c.small_square-far.result c.loop-i.far c.loop-i-test.true c.requires.as_many c.raised_sum-least.ensures c.raised_sum-most.ensures (c.small_square-far.ensures.is ∙ ap squared c.farthest.ensures.is) c.loop-i.invariant.far;
-  near_small = omega (arith, c.loop-i.invariant.near_small, c.small_square-near.ensures.small);
-  far_small = omega (arith, c.loop-i.invariant.far_small, c.small_square-far.ensures.small);
+  near = ends-at (near_square c.args.centre) c.args.ahead c.args.room.now c.args.partial.now c.loop-i.i c.raised_sum-least.result c.raised_sum-most.result c.near_square-near.result c.loop-i.near c.loop-i-test.true c.requires.as_many c.raised_sum-least.ensures c.raised_sum-most.ensures c.near_square-near.ensures.is c.loop-i.invariant.near;
+  far = ends-at (far_square c.args.centre) c.args.ahead c.args.room.now c.args.partial.now c.loop-i.i c.raised_sum-least.result c.raised_sum-most.result c.far_square-far.result c.loop-i.far c.loop-i-test.true c.requires.as_many c.raised_sum-least.ensures c.raised_sum-most.ensures c.far_square-far.ensures.is c.loop-i.invariant.far;
+  near_small = omega (arith, c.loop-i.invariant.near_small, c.near_square-near.ensures.small);
+  far_small = omega (arith, c.loop-i.invariant.far_small, c.far_square-far.ensures.small);
 }
 
 pub returns-clause-near : goal.returns-clause-near

@@ -1,12 +1,13 @@
 use Rattle.std.proofs.Common.{◌≡◌, ◌≤◌, ◌*◌, map, take}
 use Rattle.std.specs.Prelude.{nat_abs}
-use Rattle.rank_assignments.specs.Assignments.{far_square, near_square, over_ends}
+use Rattle.networks.specs.Distances.{far_square, near_square}
+use Rattle.rank_assignments.specs.Assignments.{over_ends}
 use Rattle.rank_assignments.proofs.assigned_sums.bounds.Given as goal
 
 abbrev pub invariant-loop-i : goal.invariant-loop-i
 invariant-loop-i l = record {
   near : l.near ≡ over_ends (near_square l.centre) l.ahead (take l.i (map nat_abs l.room)) (take l.i (map nat_abs l.partial));
   far : l.far ≡ over_ends (far_square l.centre) l.ahead (take l.i (map nat_abs l.room)) (take l.i (map nat_abs l.partial));
-  near_small : l.near ≤ l.i * 900000000000000;
-  far_small : l.far ≤ l.i * 900000000000000;
+  near_small : l.near ≤ l.i * 4503599627370496;
+  far_small : l.far ≤ l.i * 4503599627370496;
 }

@@ -19,7 +19,7 @@ pub returns : goal.returns
 returns c =
     let counts : List ℕ = block_at c.args.self.now.blocks.items c.args._stage in
     let members : List (List ℕ) = labellings counts in
-    let a : Addends = square_addends c.args.self.now.bound c.args.self.now.treatments c.args.self.now.blocks.items c.args.self.now.judge in
+    let a : Addends = square_addends c.args.self.now.squares c.args.self.now.treatments c.args.self.now.blocks.items c.args.self.now.judge in
     let step : StepsThrough members c.read_cells.new.cells c.next_labelling-moved.result c.next_labelling-moved.new.labels = c.next_labelling-moved.ensures counts (subst (λ x. Contains members x) (sym c.read_cells.ensures) c.requires.allowed) in
     ap (λ x. members_after x members) (sym c.read_cells.ensures)
     ∙ step.onward

@@ -1,5 +1,7 @@
 use Rattle.std.proofs.Common.{◌∙◌, sym, inl, inr}
+use Rattle.block_tests.specs.BlockTests.{block_counts, block_test}
 use Rattle.block_tests.proofs.Fitting.{are-stages, bound-fits, bounded}
+use Rattle.block_tests.proofs.SquareLaws.{squares-from-zero}
 use Rattle.block_tests.proofs.ways.BlockStatisticUnweightedTest.stages_of.Goals as goal
 
 pub page_stages-requires : goal.page_stages-requires
@@ -7,11 +9,11 @@ page_stages-requires c = rw c.requires (are-stages c.args.self.now c.blocks-fitt
 
 pub square_stages-requires : goal.square_stages-requires
 square_stages-requires c =
+    let fitting = c.blocks-fitting.ensures.fitting in
     record {
-      stages = rw c.requires (are-stages c.args.self.now c.blocks-fitting.ensures.fitting);
-      bounded = bounded c.args.self.now c.blocks-fitting.ensures.fitting.blocks (elim c.in-Friedman.is [
+      stages = rw c.requires (are-stages c.args.self.now fitting);
+      squares = rw (c.from_zero-squares.ensures, c.bound.ensures) (squares-from-zero c.args.self.now.blocks.treatments (block_test c.args.self.now).bound (block_counts c.args.self.now) (bounded c.args.self.now fitting.blocks (elim c.in-Friedman.is [
         | inl e ↦ inl (sym c.kind.ensures ∙ e)
         | inr e ↦ inr (sym c.kind.ensures ∙ e)
-      ]);
-      fits = bound-fits c.args.self.now c.blocks-fitting.ensures.fitting;
+      ])) (bound-fits c.args.self.now fitting));
     }

@@ -1,20 +1,18 @@
-use Rattle.std.proofs.Common.{◌≡◌, ◌≤◌, ◌-◌, ◌*◌, ◌/◌, ◌∙◌, ap, subst, sym}
+use Rattle.std.proofs.Common.{◌/◌, ◌∙◌, ap, subst, sym}
+use Rattle.networks.specs.Distances.{around}
+use Rattle.networks.proofs.SquaredDistances.{mean-within}
 use Rattle.rank_assignments.specs.Reflections.{AreReflections, reflections_of}
 use Rattle.rank_assignments.specs.Assignments.{given}
 use Rattle.rank_assignments.proofs.ReflectionSteps.{are-reflections}
-use Rattle.rank_assignments.proofs.SumEnds.{centre-within}
 use Rattle.rank_assignments.proofs.assignments.Assignments.new.Goals as goal
 
 pub around-base-requires-clause-within : goal.around-base-requires-clause-within
-around-base-requires-clause-within c =
-    let k = c.args.treatments in
-    let is : c.given-given.result ≡ given c.args.items.items = c.given-given.ensures.is ∙ ap given c.as_slice-2.ensures.value in
-    subst (λ n. k * (n / k * (n / k)) ≤ 2 * (n / k * n)) (sym is) (centre-within k c.args.items.items)
+around-base-requires-clause-within c = mean-within c.args.treatments c.given-given.result
 
 pub invariant_of-result-clause-base_is : goal.invariant_of-result-clause-base_is
 invariant_of-result-clause-base_is c =
     let k = c.args.treatments in
-    c.around-base.ensures ∙ ap (λ n. 2 * (n / k * n) - k * (n / k * (n / k))) (c.given-given.ensures.is ∙ ap given c.as_slice-2.ensures.value)
+    c.around-base.ensures.is ∙ ap (λ n. around k (n / k) n) (c.given-given.ensures.is ∙ ap given c.as_slice-2.ensures.value)
 
 pub invariant_of-result-clause-reflections_are : goal.invariant_of-result-clause-reflections_are
 invariant_of-result-clause-reflections_are c =
