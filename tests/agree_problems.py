@@ -13,7 +13,7 @@ from concurrent.futures import ThreadPoolExecutor
 ONE_SAMPLE = ("rawsigned", "signedrank", "sign")
 TWO_SAMPLES = ("savage", "raw", "ranksum", "ansari", "mood", "median")
 SAMPLES = ("kw", "jt", "umbrella")
-BLOCKS = ("friedman",)
+BLOCKS = ("friedman", "cochran")
 STRATA = ("stratranksum", "strata")
 TABLES = ("linear", "fisher")
 BIVARIATE = ("kendall",)
@@ -66,12 +66,20 @@ def samples(dice):
 
 
 def blocks(dice):
-    treatments = dice.randint(5, 8)
+    treatments = dice.randint(2, 8)
     # with many ties, with some and with hardly any
     most = dice.choice([1, 3, 9, 999])
-    # from four blocks on sums are mirrored where there are no ties
-    rows = dice.randint(1, {5: 7, 6: 4}.get(treatments, 2))
+    # from four blocks on sums are reflected where there are no ties
+    rows = dice.randint(1, {2: 40, 3: 20, 4: 12, 5: 7, 6: 4}.get(treatments, 2))
     return [[dice.randint(0, most) for _ in range(treatments)] for _ in range(rows)]
+
+
+def outcomes(dice):
+    treatments = dice.randint(2, 8)
+    # treatments that succeed as often, or less and less
+    slope = dice.choice([0, 0.05, 0.1])
+    rows = dice.randint(1, {2: 60, 3: 40, 4: 24, 5: 16, 6: 12, 7: 10, 8: 9}[treatments])
+    return [[int(dice.random() < 0.7 - slope * j) for j in range(treatments)] for _ in range(rows)]
 
 
 def strata_of_samples(dice):
@@ -103,7 +111,8 @@ LAYOUTS = {
     one_sample: ONE_SAMPLE,
     two_samples: TWO_SAMPLES,
     samples: SAMPLES,
-    blocks: BLOCKS,
+    blocks: BLOCKS[:1],
+    outcomes: BLOCKS[1:],
     strata_of_samples: STRATA[:1],
     strata_of_tables: STRATA[1:],
     table: TABLES,
