@@ -3,10 +3,10 @@ use Rattle.std.proofs.Common.{◌≡◌, ℕ, suc, ◌+◌, ◌*◌, ◌-◌, �
 use Rattle.std.specs.Prelude.{ℤ}
 use Rattle.std.specs.List.{All, AllByRecursion, concat}
 use Rattle.std.proofs.lemmas.List.Elements.{All-from_recursion}
+use Rattle.weights.proofs.Filters.{all_weaker}
 use Rattle.block_tests.specs.BlockTests.{added, cells_in, cell_counts, cut, page_sum, treatment_sums}
 use Rattle.block_tests.specs.declared.kinds.BlockKind.{BlockKind}
 use Rattle.block_tests.proofs.Rows.{left-after}
-use Rattle.block_tests.proofs.Staged.{all_weaker}
 use Rattle.block_tests.proofs.TreatmentSums.{added-assoc, added-zeros, left-within, page-added, page-zeros, sums-within}
 
 -- so many blocks are left

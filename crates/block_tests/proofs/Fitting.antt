@@ -18,7 +18,7 @@ use Rattle.weights.specs.Conditional.{by_distance, total}
 use Rattle.weights.specs.Labellings.{labellings, number_of_labellings, product}
 use Rattle.weights.specs.Rules.{RuleFits, measured}
 use Rattle.weights.proofs.Centred.{IsCentred, far-fits, measured-is, no_factor-fits, rule-fits}
-use Rattle.weights.proofs.Filters.{all_append, all_map}
+use Rattle.weights.proofs.Filters.{all_append, all_map, all_weaker}
 use Rattle.weights.proofs.FirstLabel.{number_of_labellings-positive}
 use Rattle.weights.proofs.Members.{IsLabelling}
 use Rattle.weights.proofs.Sums.{sum_by-flat_map, sum_by-map, sum_by-same}
@@ -44,7 +44,7 @@ use Rattle.block_tests.proofs.PageImages.{runs-for}
 use Rattle.block_tests.proofs.PageLaws.{page-measured, page-stages, page_additive, page_pieces}
 use Rattle.block_tests.proofs.Rows.{each-row, each-taken, length-cells, length-cut, midranks-sum, row-small, row-sum, row-whole}
 use Rattle.block_tests.proofs.SquareLaws.{square-stages, square_additive, square_pieces, squares-from-zero, squares-measured}
-use Rattle.block_tests.proofs.Staged.{IsArranged, all_weaker, each-weighs, parts-arranged}
+use Rattle.block_tests.proofs.Staged.{IsArranged, each-weighs, parts-arranged}
 use Rattle.block_tests.proofs.TreatmentSums.{length-sums, page-within, squares-within, sums-within}
 
 -- ---- how many rearrangements

@@ -1,18 +1,17 @@
 -- The network of Page's sum is lawful, and its completions end at Page's sums.
-use Rattle.std.proofs.Common.{◌≡◌, ◌≢◌, ℕ, zero, suc, ◌+◌, ◌*◌, ◌-◌, ◌<◌, ◌≤◌, List, [], ◌∷◌, ◌++◌, length, drop, map, get_or, set, reverse, Bool, true, false, cond, int_lt, refl, sym, ◌∙◌, ap, arith}
+use Rattle.std.proofs.Common.{◌≡◌, ◌≢◌, ℕ, zero, suc, ◌+◌, ◌*◌, ◌-◌, ◌<◌, ◌≤◌, List, [], ◌∷◌, ◌++◌, length, drop, map, get_or, set, reverse, refl, sym, ◌∙◌, ap, arith}
 use Rattle.std.specs.Prelude.{ℤ, pos, ◌+ℤ◌, ◌≤ℤ◌, nat_abs, slice_index, slice_index_or, Contains}
 use Rattle.std.specs.List.{All, AllByRecursion, concat, range_with_len, sum_by}
-use Rattle.std.specs.Ordering.{int_eq}
 use Rattle.std.proofs.Math.Nat.{mul-le-mul_right}
 use Rattle.std.proofs.lemmas.Int.{ints}
 use Rattle.std.proofs.lemmas.List.Elements.{All-contains, All-from_recursion, recursion_from_All}
 use Rattle.std.proofs.lemmas.List.Sums.{sum_by-cons}
-use Rattle.weights.specs.Conditional.{ascending_values, insert_value, value_weight}
+use Rattle.weights.specs.Conditional.{ascending_values, value_weight}
 use Rattle.weights.specs.Labellings.{labellings, number_of_labellings}
 use Rattle.weights.specs.declared.lines.Line.{Line}
 use Rattle.networks.specs.declared.verdicts.Judge.{Judge}
 use Rattle.weights.proofs.FirstLabel.{number_of_labellings-positive}
-use Rattle.weights.proofs.Filters.{all_map}
+use Rattle.weights.proofs.Filters.{all_map, all_weaker}
 use Rattle.weights.proofs.Members.{IsLabelling, range-below}
 use Rattle.weights.proofs.Sums.{sum_by-filter, sum_by-map, sum_by-one, sum_by-same}
 use Rattle.networks.specs.Addends.{reach, stage_total, stride}
@@ -20,7 +19,7 @@ use Rattle.networks.proofs.AdditiveKeys.{least_small, most_small, over_stages-so
 use Rattle.networks.specs.Follows.{statistic_sums}
 use Rattle.networks.specs.Lines.{IsSpreadOf}
 use Rattle.networks.specs.SoundAddends.{AddsBetween, IsAdditive}
-use Rattle.stage_network.proofs.DistributionLines.{distribution-is}
+use Rattle.stage_network.proofs.DistributionLines.{distribution-is, insert-each}
 use Rattle.networks.proofs.Flat.{AllAt}
 use Rattle.networks.proofs.Parts.{AreStages as AreParts, Pieces, summed}
 use Rattle.enumerate.proofs.JoinedMembers.{each-labelling}
@@ -33,7 +32,7 @@ use Rattle.weights.proofs.Ranges.{range-different}
 use Rattle.block_tests.proofs.Lines.{over-lines}
 use Rattle.block_tests.proofs.PageOrder.{page-least, page-most}
 use Rattle.block_tests.proofs.SquareLaws.{first-small}
-use Rattle.block_tests.proofs.Staged.{IsArranged, all_weaker, at-head, over-within, total-fits, whole-at}
+use Rattle.block_tests.proofs.Staged.{IsArranged, at-head, over-within, total-fits, whole-at}
 use Rattle.block_tests.proofs.TreatmentSums.{page-added, page-within, page-zeros, sums-front, sums-none}
 
 -- ---- the lines of one block
@@ -61,19 +60,9 @@ some-line counts = by (page_lines counts) (lines-total counts)
     by [] e = absurd (omega (arith, e, number_of_labellings-positive counts))
     by (l ∷ lines) e = omega arith
 
--- what holds of each value holds of those that are kept
-insert-all : (P : ℤ → Type 0) (v : ℤ) (vs : List ℤ) → P v → AllByRecursion P vs → AllByRecursion P (insert_value v vs)
-insert-all P v [] h a = (h, tt)
-insert-all P v (u ∷ vs) h a = by (int_lt v u) (int_eq v u) (insert-all P v vs h a.1)
-  where
-    by : (b c : Bool) → AllByRecursion P (insert_value v vs) → AllByRecursion P (cond b (v ∷ u ∷ vs) (cond c (u ∷ vs) (u ∷ insert_value v vs)))
-    by true c rest = (h, a)
-    by false true rest = a
-    by false false rest = (a.0, rest)
-
 pub ascending-all : (P : ℤ → Type 0) (vs : List ℤ) → AllByRecursion P vs → AllByRecursion P (ascending_values vs)
 ascending-all P [] a = tt
-ascending-all P (v ∷ vs) a = insert-all P v (ascending_values vs) a.0 (ascending-all P vs a.1)
+ascending-all P (v ∷ vs) a = insert-each P v (ascending_values vs) a.0 (ascending-all P vs a.1)
 
 abbrev HasEnds : List ℕ → ℤ → Type 0
 HasEnds counts v = (pos (page_sum 1 (reverse (first_arrangement counts))) ≤ℤ v) × (v ≤ℤ pos (page_sum 1 (first_arrangement counts)))

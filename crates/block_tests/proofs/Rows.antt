@@ -7,7 +7,7 @@ use Rattle.std.proofs.lemmas.Int.{ints}
 use Rattle.std.proofs.lemmas.List.{length-map}
 use Rattle.std.proofs.lemmas.List.Elements.{All-from_recursion, recursion_from_All}
 use Rattle.std.proofs.lemmas.List.Sums.{sum_by-cons}
-use Rattle.weights.proofs.Filters.{all_map}
+use Rattle.weights.proofs.Filters.{all_map, all_weaker}
 use Rattle.weights.proofs.Sized.{length-counts_of}
 use Rattle.weights.proofs.Sums.{sum_by-map, sum_by-plus, sum_by-same, sum_by-swap}
 use Rattle.midranks.specs.Midranks.{doubled_midrank, doubled_midranks, midranks_among, number_below, number_equal}
@@ -20,7 +20,6 @@ use Rattle.block_tests.specs.BlockTests.{TakesCells, cells_below, cells_in, cell
 use Rattle.block_tests.specs.declared.kinds.BlockKind.{BlockKind}
 use Rattle.block_tests.specs.declared.kinds.BlockKind.TheVariants.{Friedman, Page, Cochran}
 use Rattle.block_tests.proofs.Arranged.{own-labelling, sum-counts, sum_by-first}
-use Rattle.block_tests.proofs.Staged.{all_weaker}
 
 -- ---- lists that are cut
 

@@ -14,6 +14,7 @@ use Rattle.weights.specs.declared.TheConstants.{MAX}
 use Rattle.networks.specs.declared.verdicts.Judge.{Judge}
 use Rattle.weights.proofs.Members.{IsLabelling}
 use Rattle.weights.proofs.Sums.{sum_by-map, sum_by-one}
+use Rattle.weights.proofs.Filters.{all_weaker}
 use Rattle.networks.specs.declared.additive.CentredSquares.{CentredSquares}
 use Rattle.networks.specs.Addends.{Addends, from_mean, from_zero, least_sum_to_come, most_sum_to_come, over_earlier, reach, square, stride, summed_ends}
 use Rattle.networks.specs.PartialSums.{plus}
@@ -22,7 +23,7 @@ use Rattle.networks.proofs.Flat.{AllAt}
 use Rattle.networks.proofs.Parts.{AreStages as AreParts, Pieces, summed}
 use Rattle.enumerate.proofs.JoinedMembers.{each-labelling}
 use Rattle.rank_assignments.specs.BoundSteps.{IsSmall}
-use Rattle.networks.specs.Distances.{far_square, farthest, near_square, nearest, squared}
+use Rattle.networks.specs.Distances.{correction_limit, far_square, farthest, near_square, nearest, squared, sum_limit}
 use Rattle.networks.proofs.AdditiveKeys.{least_small, most_small}
 use Rattle.networks.proofs.SquaredDistances.{mean-within, squares-rise}
 use Rattle.block_tests.specs.BlockNetworks.{block_at, first_arrangement, greatest_block_cell, least_block_cell, square_addends}
@@ -30,7 +31,7 @@ use Rattle.block_tests.specs.BlockSteps.{AreSquares, AreStages, IsWhole, cells_s
 use Rattle.block_tests.specs.BlockTests.{added, cut, square_sum, treatment_sums}
 use Rattle.block_tests.proofs.Arranged.{between-ends, cells-swapped, first-labelling, sum_by-first}
 use Rattle.block_tests.proofs.Different.{arrangements-different}
-use Rattle.block_tests.proofs.Staged.{IsArranged, all_weaker, at-head, over-blocks, over-within, some-arrangement, total-fits, whole-at}
+use Rattle.block_tests.proofs.Staged.{IsArranged, at-head, over-blocks, over-within, some-arrangement, total-fits, whole-at}
 use Rattle.block_tests.proofs.TreatmentSums.{added-assoc, added-zeros, length-added, length-sums, sums-front, sums-none, zeros-added}
 
 -- ---- one stage
@@ -70,7 +71,7 @@ zeros-ends f l h n zero e = omega arith
 zeros-ends f l h n (suc k) e = omega (arith, sum_by-cons (λ z. f (nat_abs (z +ℤ l)) (nat_abs (z +ℤ h))) (pos 0) (replicate k (pos 0)), e, zeros-ends f l h n k e)
 
 -- so the first interval is small
-module _ (q beside k : ℕ) (l h : ℤ) (narrow : k ≤ 8) (centre : q ≤ 33554432) (few : beside ≤ 2251799813685248) (low : nat_abs l + 0 ≤ 160000) (high : nat_abs h + 0 ≤ 160000) where
+module _ (q beside k : ℕ) (l h : ℤ) (narrow : k ≤ 8) (centre : q ≤ sum_limit) (few : beside ≤ correction_limit) (low : nat_abs l + 0 ≤ 160000) (high : nat_abs h + 0 ≤ 160000) where
   low-here : nat_abs (pos 0 +ℤ l) ≤ 160000
   low-here = grind (arith, ints, low)
 
@@ -151,17 +152,15 @@ squares-from-zero k bound blocks h fits = record {
   beside_small = omega arith;
 }
 
-pub squares-from-mean : (k bound : ℕ) (blocks : List (List ℕ)) (total : ℕ) (x : CentredSquares) → total ≡ cells_sum blocks → x ≡ from_mean k total bound → squared (cells_sum blocks) ≤ bound → bound ≤ MAX
-    → x.centre ≤ 33554432 → x.beside ≤ 2251799813685248 → AreSquares k blocks x
-squares-from-mean k bound blocks total x is e h fits centre beside =
-    let same : x ≡ from_mean k (cells_sum blocks) bound = e ∙ ap (λ n. from_mean k n bound) is in
+pub squares-from-mean : (k bound : ℕ) (blocks : List (List ℕ)) (x : CentredSquares) → x ≡ from_mean k (cells_sum blocks) bound → squared (cells_sum blocks) ≤ bound → bound ≤ MAX → x.centre ≤ sum_limit → x.beside ≤ correction_limit → AreSquares k blocks x
+squares-from-mean k bound blocks x same h fits centre beside =
     subst (AreSquares k blocks) (sym same) (record {
       bounded = h;
       within = mean-within k (cells_sum blocks);
       beside_is = refl;
       bound_fits = fits;
-      centre_small = subst (λ (y : CentredSquares). y.centre ≤ 33554432) same centre;
-      beside_small = subst (λ (y : CentredSquares). y.beside ≤ 2251799813685248) same beside;
+      centre_small = subst (λ (y : CentredSquares). y.centre ≤ sum_limit) same centre;
+      beside_small = subst (λ (y : CentredSquares). y.beside ≤ correction_limit) same beside;
     })
 
 -- ---- rearrangements

@@ -1,22 +1,19 @@
 -- What the networks of both kinds need of their stages, the blocks.
 use Rattle.std.proofs.Common.{◌≡◌, ◌≢◌, ℕ, zero, suc, ◌+◌, ◌*◌, ◌<◌, ◌≤◌, List, [], ◌∷◌, ◌++◌, length, drop, take, get_or, map, refl, sym, ◌∙◌, ap, subst, arith, suc-add, add-one}
-use Rattle.std.specs.List.{All, AllByRecursion, sum_by}
+use Rattle.std.specs.List.{All, sum_by}
 use Rattle.std.proofs.lemmas.List.{take_more}
 use Rattle.std.proofs.lemmas.List.Sums.{sum_by-append, sum_by-cons}
 use Rattle.weights.specs.Labellings.{labellings, number_of_labellings}
 use Rattle.weights.specs.declared.TheConstants.{MAX}
 use Rattle.weights.proofs.FirstLabel.{number_of_labellings-positive}
 use Rattle.weights.proofs.Members.{IsLabelling}
+use Rattle.weights.proofs.Filters.{all_weaker}
 use Rattle.networks.specs.Addends.{Addends, over_earlier, stage_total, totals}
 use Rattle.networks.proofs.Flat.{AllParts}
 use Rattle.networks.proofs.Parts.{product_weight}
 use Rattle.enumerate.proofs.JoinedMembers.{each-labelling}
 use Rattle.block_tests.specs.BlockNetworks.{block_at}
 use Rattle.block_tests.specs.BlockSteps.{IsWhole, ways_of}
-
-pub all_weaker : {X : Type 0} (P Q : X → Type 0) → ((x : X) → P x → Q x) → (xs : List X) → AllByRecursion P xs → AllByRecursion Q xs
-all_weaker P Q w [] a = tt
-all_weaker P Q w (x ∷ xs) a = (w x a.0, all_weaker P Q w xs a.1)
 
 -- the block at the head of those that are left
 pub at-head : {X : Type 0} (bs : List X) (g : ℕ) (b : X) (rest : List X) (d : X) → drop g bs ≡ b ∷ rest → (get_or bs g d ≡ b) × (drop (g + 1) bs ≡ rest) × (g < length bs)

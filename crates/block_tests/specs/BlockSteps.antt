@@ -3,7 +3,7 @@ use Rattle.std.specs.Prelude.{◌≡◌, ℕ, ◌*◌, ◌≤◌, ℤ, List, [],
 use Rattle.std.specs.List.{All, sum, sum_by}
 use Rattle.weights.specs.Labellings.{number_of_labellings}
 use Rattle.weights.specs.declared.TheConstants.{MAX}
-use Rattle.networks.specs.Distances.{around, squared}
+use Rattle.networks.specs.Distances.{correction, correction_limit, squared, sum_limit}
 use Rattle.networks.specs.Judged.{JudgeFits}
 use Rattle.networks.specs.declared.additive.CentredSquares.{CentredSquares}
 use Rattle.networks.specs.declared.verdicts.Judge.{Judge}
@@ -46,7 +46,7 @@ pub record AreStages (k : ℕ) (blocks : List (List ℕ)) (judge : Judge) : Type
 pub record AreSquares (k : ℕ) (blocks : List (List ℕ)) (s : CentredSquares) : Type 0 where
   pub bounded : squared (cells_sum blocks) ≤ s.bound
   pub within : k * squared s.centre ≤ 2 * (s.centre * cells_sum blocks)
-  pub beside_is : s.beside ≡ around k s.centre (cells_sum blocks)
+  pub beside_is : s.beside ≡ correction k s.centre (cells_sum blocks)
   pub bound_fits : s.bound ≤ MAX
-  pub centre_small : s.centre ≤ 33554432
-  pub beside_small : s.beside ≤ 2251799813685248
+  pub centre_small : s.centre ≤ sum_limit
+  pub beside_small : s.beside ≤ correction_limit

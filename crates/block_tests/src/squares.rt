@@ -2,6 +2,7 @@
 ghost use Rattle.std.specs.Prelude.{◌≡◌, ◌<◌, ◌≤◌, length, map, pos, IfOk};
 ghost use Rattle.std.specs.List.{All};
 ghost use Rattle.weights.specs.declared.TheConstants.{MAX};
+ghost use Rattle.networks.specs.Addends.{from_mean};
 ghost use Rattle.networks.specs.Distances.{squared};
 ghost use Rattle.record_reader.specs.declared.TheConstants.{MOST_ROWS};
 ghost use Rattle.block_tests.specs.BlockSteps.{AreSquares, AreStages, cells_sum};
@@ -85,7 +86,8 @@ pub(crate) fn squares_from_mean(blocks: &[Block], treatments: usize, bound: u128
     requires some { 1 ≤ treatments }
     requires bounded { squared (cells_sum blocks.now) ≤ bound }
     requires fits { bound ≤ MAX }
-    ensures { AreSquares treatments blocks.now result }
+    ensures mean { result ≡ from_mean treatments (cells_sum blocks.now) bound }
+    ensures squares { AreSquares treatments blocks.now result }
 {
     CentredSquares::from_mean(treatments as u64, cells_sum(blocks), bound)
 }

@@ -56,7 +56,7 @@ module _ (lows highs : List ℤ) (factors : List ℕ) (cap i : ℕ) (h : length 
 size-order : (l h : ℤ) → least_size l h ≤ greatest_size l h
 size-order l h = grind (arith, ints)
 
-squares-order : (ls hs : List ℤ) (fs : List ℕ) → least_squares ls hs fs ≤ greatest_squares ls hs fs
+pub squares-order : (ls hs : List ℤ) (fs : List ℕ) → least_squares ls hs fs ≤ greatest_squares ls hs fs
 squares-order [] hs fs = omega arith
 squares-order (l ∷ ls) [] fs = omega arith
 squares-order (l ∷ ls) (h ∷ hs) [] = omega arith

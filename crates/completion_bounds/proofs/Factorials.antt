@@ -239,7 +239,7 @@ power_least q (suc n) = rw (pow-succ' (suc q) n) (more (suc q) (suc q ^ n) (omeg
     more : (a b : ℕ) → 1 ≤ a → 0 < b → 0 < a * b
     more a b h j = let one = mul-le-mul {n₁ = 1} {m₁ = 1} h j in omega (arith, one)
 
-cancel : (a b c : ℕ) → 0 < c → a * c ≤ b * c → a ≤ b
+pub cancel : (a b c : ℕ) → 0 < c → a * c ≤ b * c → a ≤ b
 cancel a b c h j = le_of_mul-le-mul_left {k = c} (turned a b c j) h
   where
     turned : (a b c : ℕ) → a * c ≤ b * c → c * a ≤ c * b

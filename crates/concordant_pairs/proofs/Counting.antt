@@ -13,6 +13,7 @@ use Rattle.weights.proofs.FirstLabel.{number_of_labellings-positive}
 use Rattle.weights.proofs.Ranges.{range-one}
 use Rattle.weights.proofs.Sums.{sum_by-one, sum_by-same, sum_by-same_where, sum_by-swap, sum_by-zero}
 use Rattle.label_network.proofs.Sizes.{fewer-labellings}
+use Rattle.label_network.proofs.Narrowing.{fits-self}
 use Rattle.concordant_pairs.specs.ConcordantPairs.{SumsAlike, pairs_across, concordant_pairs}
 use Rattle.concordant_pairs.specs.ConcordantSteps.{AreCounts, AreMixed, mixed_count, mixed_total}
 use Rattle.concordant_pairs.proofs.FirstConcordant.{concordant_sum-same}
@@ -129,15 +130,11 @@ mixed-within rest n m i = all (labellings rest)
         more : (k t : ℕ) → suc k * t ≡ t + k * t
         more k t = grind arith
 
-level : (sizes : List ℕ) → fits sizes sizes ≡ true
-level [] = refl
-level (n ∷ sizes) = grind (arith, nat_tests, level sizes)
-
 pub fewer-mixed : (rest : List ℕ) (a b m limit : ℕ) → a ≤ b → mixed_total rest b m ≤ limit → mixed_total rest a m ≤ limit
 fewer-mixed rest a b m limit h within = omega (arith, mul-le-mul_left (number_of_labellings rest) (fewer-labellings (a ∷ m ∷ []) (b ∷ m ∷ []) both), within)
   where
     both : fits (a ∷ m ∷ []) (b ∷ m ∷ []) ≡ true
-    both = grind (arith, nat_tests, h, level (m ∷ []))
+    both = grind (arith, nat_tests, h, fits-self (m ∷ []))
 
 -- the labellings of a group and others, and of two groups
 constant : {X : Type 0} (c : ℕ) (xs : List X) → sum_by (λ x. c) xs ≡ length xs * c

@@ -4,7 +4,7 @@ use Rattle.std.specs.List.{sum, sum_by, count_by, AllByRecursion, range_with_len
 use Rattle.std.proofs.lemmas.Bool.{cases_lt}
 use Rattle.std.proofs.lemmas.Bool.Decides.{nat_tests}
 use Rattle.std.proofs.lemmas.List.{drop-map}
-use Rattle.std.proofs.lemmas.List.Sums.{sum_by-cons, sum-map}
+use Rattle.std.proofs.lemmas.List.Sums.{sum-map}
 use Rattle.weights.specs.Labellings.{counts_of, labellings, labels}
 use Rattle.weights.proofs.Chosen.{one_if}
 use Rattle.weights.proofs.Filters.{all_map, all_weaker}
@@ -92,8 +92,3 @@ first-raised s (zero ∷ counts) =
 first-raised s (suc c ∷ counts) =
     let e : suc s + 1 ≡ suc (s + 1) = omega arith in
     ap (λ rest. (suc s, c ∷ counts) ∷ rest) (ap (λ t. map (keep (suc c)) (first_labels t counts)) e ∙ ap (map (keep (suc c))) (first-raised (s + 1) counts) ∙ keep-raised (suc c) (first_labels (s + 1) counts))
-
-pub first-none : (s : ℕ) (counts : List ℕ) → sum counts ≡ 0 → first_labels s counts ≡ []
-first-none s [] e = refl
-first-none s (zero ∷ counts) e = ap (map (keep 0)) (first-none (s + 1) counts (omega (arith, e, sum_by-cons (λ v. v) 0 counts)))
-first-none s (suc c ∷ counts) e = absurd (omega (arith, e, sum_by-cons (λ v. v) (suc c) counts))

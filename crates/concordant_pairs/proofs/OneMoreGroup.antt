@@ -5,8 +5,9 @@ use Rattle.std.proofs.lemmas.List.Sums.{sum_by-cons}
 use Rattle.weights.specs.Labellings.{labellings}
 use Rattle.weights.proofs.FirstLabel.{IsOneLess, first_labels, first_labels-one_less, keep, labellings-none}
 use Rattle.weights.proofs.Sums.{sum_by-map, sum_by-plus, sum_by-same_where}
+use Rattle.weights.proofs.Binomials.{first_labels-none}
 use Rattle.concordant_pairs.specs.ConcordantPairs.{pairs_across, concordant_pairs}
-use Rattle.concordant_pairs.proofs.FirstConcordant.{by_first, first-none, first-raised, from_first, raised, concordant_sum, concordant_sum-same}
+use Rattle.concordant_pairs.proofs.FirstConcordant.{by_first, first-raised, from_first, raised, concordant_sum, concordant_sum-same}
 use Rattle.concordant_pairs.proofs.TwoGroups.{beyond-two, by_first_of_two, factors, none-first, none-second, turned, two, two-same}
 
 concordant_sum-none : (sizes : List ℕ) (f : ℕ → ℕ) → sum sizes ≡ 0 → concordant_sum sizes f ≡ f 0
@@ -54,7 +55,7 @@ in-parts (suc m) n rest f e = by_first f m (n ∷ rest) (omega (arith, e, sum_by
         others-first 0 s rest f (λ first g less. known 0 first.1 g (omega (arith, less.0, h, t))) h
         ∙ concordant_sum-same rest (λ u. two 0 s (λ v. f (u + v))) (λ u. two 0 (sum rest) (λ v. f (u + v))) (λ u. none-first s (λ v. f (u + v)) ∙ sym (none-first (sum rest) (λ v. f (u + v))))
     by known (suc c) zero h t =
-        ap (λ firsts. sum_by (from_first f) ((0, c ∷ rest) ∷ map (keep (suc c)) firsts)) (first-none 1 rest h)
+        ap (λ firsts. sum_by (from_first f) ((0, c ∷ rest) ∷ map (keep (suc c)) firsts)) (first_labels-none 1 rest h)
         ∙ sum_by-cons (from_first f) (0, c ∷ rest) []
         ∙ alone
         ∙ known c rest (λ u. f (sum rest + u)) (omega (arith, t))

@@ -1,19 +1,26 @@
 -- Labellings that are put together: each begins with a labelling of the first counts, and the walk through them.
-use Rattle.std.proofs.Common.{◌≡◌, ℕ, ◌≤◌, List, [], ◌∷◌, ◌++◌, length, take, drop, map, refl, sym, ◌∙◌, ap, subst, arith, length-append, length-drop}
+use Rattle.std.proofs.Common.{◌≡◌, ℕ, ◌≤◌, List, [], ◌∷◌, ◌++◌, length, take, drop, map, refl, sym, ◌∙◌, ap, subst, arith, length-append}
 use Rattle.std.specs.Prelude.{Contains}
-use Rattle.std.specs.List.{AllByRecursion, sum}
+use Rattle.std.specs.List.{AllByRecursion, sum, sum_by}
 use Rattle.std.proofs.Math.Seq.{drop-append_seam, take-append_seam}
 use Rattle.std.proofs.lemmas.List.Elements.{All-contains, All-contains_itself, All-from_recursion, recursion_from_All}
-use Rattle.std.proofs.lemmas.List.Sums.{sum_by-cons}
 use Rattle.weights.specs.Labellings.{labellings}
 use Rattle.weights.proofs.Filters.{all_append, all_map, all_weaker}
 use Rattle.weights.proofs.Members.{IsLabelling, labelling_from}
+use Rattle.weights.proofs.Sums.{sum_by-flat_map, sum_by-map, sum_by-same}
 use Rattle.enumerate.specs.Joined.{joined_labellings}
 use Rattle.enumerate.proofs.Products.{joined, map-concat-product}
 
 -- with counts in front
 pub joined-front : (counts : List ℕ) (parts : List (List ℕ)) → joined_labellings (counts ∷ parts) ≡ joined (labellings counts) (joined_labellings parts)
 joined-front counts parts = map-concat-product (labellings counts) (map labellings parts)
+
+-- a sum over all, by the labellings of the first counts
+pub over_joined : (counts : List ℕ) (parts : List (List ℕ)) (f : List ℕ → ℕ) → sum_by f (joined_labellings (counts ∷ parts)) ≡ sum_by (λ x. sum_by (λ ys. f (x ++ ys)) (joined_labellings parts)) (labellings counts)
+over_joined counts parts f =
+    ap (sum_by f) (joined-front counts parts)
+    ∙ sum_by-flat_map f (λ x. map (λ ys. x ++ ys) (joined_labellings parts)) (labellings counts)
+    ∙ sum_by-same (λ x. sum_by f (map (λ ys. x ++ ys) (joined_labellings parts))) (λ x. sum_by (λ ys. f (x ++ ys)) (joined_labellings parts)) (λ x. sum_by-map f (λ ys. x ++ ys) (joined_labellings parts)) (labellings counts)
 
 -- each member of a list is one
 pub own : (members : List (List ℕ)) → AllByRecursion (Contains members) members

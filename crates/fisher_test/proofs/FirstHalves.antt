@@ -1,6 +1,6 @@
 -- Networks that are swept up to a stage: what was closed on the way there, and what the nodes there come to by the values of
 -- their completions.
-use Rattle.std.proofs.Common.{◌≡◌, ℕ, zero, suc, ◌+◌, ◌-◌, ◌*◌, ◌<◌, ◌≤◌, List, [], ◌∷◌, length, take, drop, get_or, map, Bool, true, false, cond, sym, ◌∙◌, ap, arith}
+use Rattle.std.proofs.Common.{◌≡◌, ℕ, suc, ◌+◌, ◌-◌, ◌*◌, ◌<◌, ◌≤◌, List, [], ◌∷◌, length, take, drop, get_or, map, Bool, true, false, cond, sym, ◌∙◌, ap, arith}
 use Rattle.std.specs.Prelude.{ℤ}
 use Rattle.std.specs.List.{sum_by}
 use Rattle.std.proofs.Math.Nat.{mul_assoc}
@@ -13,7 +13,7 @@ use Rattle.weights.specs.declared.tails.Tail.TheVariants.{Less}
 use Rattle.weights.specs.declared.tails.Tails.{Tails}
 use Rattle.weights.specs.declared.TheConstants.{MAX}
 use Rattle.weights.specs.Rules.{passes}
-use Rattle.weights.proofs.Sums.{sum_by-same_where}
+use Rattle.weights.proofs.Sums.{sum_by-same_where, sum_by-le-sum_by}
 use Rattle.node_pool.specs.Nodes.{Node, node, weighted}
 use Rattle.networks.specs.declared.tail_sums.Kept.TheVariants.{Open}
 use Rattle.networks.specs.declared.tail_sums.TailSums.{TailSums}
@@ -96,10 +96,6 @@ module _ (n : Network) (judge : Judge) (h : HasIntervals n judge) (t : Tail) whe
 times-le : (w a b : ℕ) → a ≤ b → w * a ≤ w * b
 times-le w a b h = grind arith
 
-sum-le : {X : Type 0} (f h : X → ℕ) → ((x : X) → f x ≤ h x) → (xs : List X) → sum_by f xs ≤ sum_by h xs
-sum-le f h le [] = omega arith
-sum-le f h le (x ∷ xs) = omega (arith, sum_by-cons f x xs, sum_by-cons h x xs, le x, sum-le f h le xs)
-
 -- a node more
 pub segment-more : (f : List ℤ → ℕ) (s i : ℕ) (nodes : List Node) (d : Node) → s ≤ i → i < length nodes → weighted f (segment s (i + 1) nodes) ≡ weighted f (segment s i nodes) + (get_or nodes i d).weight * f (get_or nodes i d).key
 segment-more f s i nodes d h k =
@@ -118,7 +114,7 @@ run-more f s e nodes h =
     ∙ sum_by-append (λ (b : Node). b.weight * f b.key) (take s nodes) (segment s e nodes)
 
 pub weighted-le : (f h : List ℤ → ℕ) → ((k : List ℤ) → f k ≤ h k) → (nodes : List Node) → weighted f nodes ≤ weighted h nodes
-weighted-le f h le nodes = sum-le (λ (a : Node). a.weight * f a.key) (λ (a : Node). a.weight * h a.key) (λ a. times-le a.weight (f a.key) (h a.key) (le a.key)) nodes
+weighted-le f h le nodes = sum_by-le-sum_by (λ (a : Node). a.weight * f a.key) (λ (a : Node). a.weight * h a.key) (λ a. times-le a.weight (f a.key) (h a.key) (le a.key)) nodes
 
 -- some nodes of a stage weigh no more than all
 pub take-le : (f : List ℤ → ℕ) (e : ℕ) (nodes : List Node) → weighted f (take e nodes) ≤ weighted f nodes

@@ -11,12 +11,11 @@ use Rattle.weights.proofs.ChoiceLists.{IsChoice}
 use Rattle.weights.proofs.FirstLabel.{number_of_labellings-none}
 use Rattle.weights.proofs.Sized.{length-minus}
 use Rattle.completion_bounds.specs.Fillings.{greatest_weight, least_weight, product_by}
-use Rattle.completion_bounds.proofs.Factorials.{total, total-is}
+use Rattle.completion_bounds.proofs.Factorials.{total, total-is, factorial_least}
 use Rattle.completion_bounds.proofs.Narrowing.{greatest-step, least-step}
 use Rattle.completion_bounds.proofs.TableWeights.{least-all as columns-all}
 use Rattle.row_products.specs.RowProducts.{factorial, greatest_by_rows, least_by_rows}
 use Rattle.row_products.proofs.ByRows.{greatest-ends, greatest-onward, least-all as rows-all, least-ends, least-onward}
-use Rattle.row_products.proofs.Cutting.{factorial_some}
 
 -- what each column says by itself, and with what the rows say
 abbrev pub columns_low : List ℕ → List ℕ → ℕ
@@ -77,7 +76,7 @@ lesser-of s a b u v h j =
 -- the columns c and cs, of which c is chosen
 module _ (c : ℕ) (cs r x : List ℕ) (o : IsChoice c r x) (level : total r ≡ c + total cs) where
   fewer : product_by factorial cs ≤ product_by factorial (c ∷ cs)
-  fewer = let more : 1 * product_by factorial cs ≤ factorial c * product_by factorial cs = mul-le-mul_right (product_by factorial cs) (factorial_some c) in omega (arith, more)
+  fewer = let more : 1 * product_by factorial cs ≤ factorial c * product_by factorial cs = mul-le-mul_right (product_by factorial cs) (factorial_least c) in omega (arith, more)
 
   columns-rise : columns_low (c ∷ cs) r ≤ number_of_labellings x * columns_low cs (minus r x)
   columns-rise = least-step c cs r x o (omega (arith, level, total-is r, total-is cs))

@@ -17,6 +17,7 @@ use Rattle.weights.proofs.Filters.{all_map, all_weaker}
 use Rattle.weights.proofs.Sums.{sum_by-filter-≤, sum_by-map, sum_by-same_where, sum_by-times}
 use Rattle.weights.proofs.Centred.{all-weigh}
 use Rattle.completion_bounds.proofs.TableWeights.{table-all}
+use Rattle.completion_bounds.proofs.Factorials.{cancel as cancel-≤}
 use Rattle.networks.specs.Follows.{statistic_sums}
 use Rattle.networks.specs.Lines.{IsAscending, TailsFit, WeightsFit, line_sum}
 use Rattle.stage_network.proofs.DistributionLines.{distribution-is, spread-is, values-each}
@@ -24,7 +25,7 @@ use Rattle.stage_network.proofs.FittingLines.{tails-fit, test-weighs}
 use Rattle.table_reader.specs.TableLayout.{TableData}
 use Rattle.transposed_tables.specs.Transposed.{transposed}
 use Rattle.transposed_tables.proofs.Reduced.{no-rest, quotient}
-use Rattle.transposed_tables.proofs.Weighed.{cancel, cancel-≤, weights-transposed}
+use Rattle.transposed_tables.proofs.Weighed.{cancel, weights-transposed}
 use Rattle.table_sums.specs.Tables.{column_sums, is_two_by_two, row_sums}
 use Rattle.table_sums.proofs.MarginSums.{level}
 use Rattle.fisher_test.specs.FisherExact.{first_cell, fisher_test, rarity}

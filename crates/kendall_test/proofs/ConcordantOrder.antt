@@ -1,6 +1,6 @@
 -- Where no two first values are equal, K is twice the number of concordant pairs less that of all pairs with different second values.
-use Rattle.std.proofs.Common.{◌≡◌, ℕ, ◌+◌, ◌*◌, ◌<◌, ◌≤◌, List, [], ◌∷◌, map, length, true, refl, sym, ◌∙◌, ap, subst, arith, nat_lt}
-use Rattle.std.specs.Prelude.{ℤ, pos, ◌+ℤ◌, ◌-ℤ◌}
+use Rattle.std.proofs.Common.{◌≡◌, ℕ, ◌+◌, ◌<◌, ◌≤◌, List, [], ◌∷◌, length, true, refl, sym, ◌∙◌, ap, arith, nat_lt}
+use Rattle.std.specs.Prelude.{ℤ, pos, ◌-ℤ◌}
 use Rattle.std.specs.List.{AllByRecursion, count_by, sum, sum_by}
 use Rattle.std.proofs.lemmas.Bool.{le-ltb}
 use Rattle.std.proofs.lemmas.Int.{ints}
@@ -26,7 +26,7 @@ use Rattle.concordant_pairs.proofs.OneEach.{first-one}
 use Rattle.kendall_test.specs.Kendall.{kendall_says, kendall_statistic, kendall_subjects, kendall_test, one_where_greater, one_where_less}
 use Rattle.kendall_test.proofs.CodeLaws.{sum-first}
 use Rattle.kendall_test.proofs.CountedPairs.{concordant-are, crossed}
-use Rattle.kendall_test.proofs.KendallFitting.{firsts-few, rows-sum, same-firsts, within}
+use Rattle.kendall_test.proofs.KendallFitting.{rows-sum, same-firsts, within}
 use Rattle.kendall_test.proofs.KendallNarrows.{concordant-among}
 use Rattle.kendall_test.proofs.KendallValues.{by_stages, counts_in, pairs-are, values_of_ties}
 use Rattle.pooled_columns.proofs.TieColumns.{columns-sum}

@@ -12,11 +12,11 @@ use Rattle.weights.specs.Labellings.{counts_of, labels, number_of_labellings}
 use Rattle.weights.specs.Rules.{RuleFits}
 use Rattle.weights.proofs.Centred.{far-fits, measured-is}
 use Rattle.weights.proofs.Counted.{count_of}
-use Rattle.weights.proofs.Filters.{map-same}
+use Rattle.weights.proofs.Filters.{map-same, all_weaker}
 use Rattle.weights.proofs.Members.{Contains-labellings, IsLabelling, labelling_from}
 use Rattle.midranks.specs.Ties.{tie_groups}
 use Rattle.midranks.specs.declared.ties.Tie.{Tie}
-use Rattle.midranks.proofs.TieLemmas.{all-weaker, groups-ascend}
+use Rattle.midranks.proofs.TieLemmas.{groups-ascend}
 use Rattle.sample_reader.specs.Twins.{TwinData}
 use Rattle.sample_reader.specs.Groups.{GroupData}
 use Rattle.sample_reader.specs.PooledSample.{labels_of, values_of}
@@ -81,7 +81,7 @@ module _ (sample : TwinData) where
     labels-below = pooled-labels (λ l. l < length (tie_groups sample.second)) as_groups as-many (places-below sample.second)
 
     pub labels-small : All (λ l. l < 256) (labels_of (kendall_subjects sample))
-    labels-small = All-from_recursion (λ l. l < 256) (labels_of (kendall_subjects sample)) (all-weaker (λ l. l < length (tie_groups sample.second)) (λ l. l < 256) (λ l h. omega (arith, h, groups-few sample.second, long, few)) (labels_of (kendall_subjects sample)) labels-below)
+    labels-small = All-from_recursion (λ l. l < 256) (labels_of (kendall_subjects sample)) (all_weaker (λ l. l < length (tie_groups sample.second)) (λ l. l < 256) (λ l h. omega (arith, h, groups-few sample.second, long, few)) (labels_of (kendall_subjects sample)) labels-below)
 
     labels-long : length (labels_of (kendall_subjects sample)) ≡ length (values_of (kendall_subjects sample))
     labels-long = length-map (kendall_subjects sample) (λ (s : Subject). s.label) ∙ sym (length-map (kendall_subjects sample) (λ (s : Subject). s.value))

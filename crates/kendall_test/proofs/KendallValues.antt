@@ -1,5 +1,5 @@
 -- Kendall's K of a labelling is what its stages add one after another.
-use Rattle.std.proofs.Common.{◌≡◌, ℕ, zero, suc, ◌+◌, ◌-◌, ◌<◌, ◌≤◌, List, [], ◌∷◌, ◌++◌, map, length, take, drop, Bool, true, false, cond, refl, sym, ◌∙◌, ap, arith, le-leb, length-append, drop-drop}
+use Rattle.std.proofs.Common.{◌≡◌, ℕ, ◌+◌, ◌-◌, ◌<◌, ◌≤◌, List, [], ◌∷◌, ◌++◌, map, length, take, drop, Bool, true, false, cond, refl, sym, ◌∙◌, ap, arith, length-append, drop-drop}
 use Rattle.std.specs.Prelude.{ℤ, pos, ◌+ℤ◌, ◌-ℤ◌, ◌<ℤ◌, replicate, int_lt}
 use Rattle.std.specs.List.{sum, sum_by, AllByRecursion}
 use Rattle.std.proofs.lemmas.Int.{ints}
@@ -7,14 +7,16 @@ use Rattle.std.proofs.lemmas.List.{length-drop, length-replicate, length-take, t
 use Rattle.std.proofs.lemmas.List.Sums.{sum_by-cons, sum_by-append}
 use Rattle.weights.specs.Grouped.{columns_of, fits, minus}
 use Rattle.weights.specs.Labellings.{counts_of}
-use Rattle.weights.proofs.Filters.{all_append}
-use Rattle.weights.proofs.Sized.{counts_of-append, length-counts_of, length-minus, plus, sum-counts_of}
+use Rattle.weights.proofs.Filters.{all_append, all_replicate}
+use Rattle.weights.proofs.Sized.{counts_of-append, length-counts_of, length-minus, sum-counts_of, plus-left}
 use Rattle.weights.proofs.Sums.{sum_by-plus, sum_by-same, sum_by-same_where, sum_by-zero}
+use Rattle.weights.proofs.Tables.{all_take, all_drop}
 use Rattle.midranks.specs.Ties.{IsAscending}
 use Rattle.midranks.specs.declared.ties.Tie.{Tie}
 use Rattle.midranks.proofs.TieLemmas.{test-less, test-not_less}
 use Rattle.sample_reader.specs.PooledSample.{paired_subjects}
 use Rattle.sample_reader.specs.declared.subjects.Subject.{Subject}
+use Rattle.sample_reader.proofs.PooledLemmas.{paired-block, paired-all}
 use Rattle.networks.specs.declared.verdicts.Judge.{Judge}
 use Rattle.room_network.specs.Meanings.{partial_after, way_value}
 use Rattle.later_scores.specs.LaterSums.{subjects}
@@ -61,18 +63,6 @@ over-alike b P Q each f ps bs one other =
     out true = refl
     out false = sum_by-zero ps
 
-paired-block : (c : ℕ) (v : ℤ) (rest : List ℤ) (xs : List ℕ) → c ≤ length xs → paired_subjects (replicate c v ++ rest) xs ≡ paired_subjects (replicate c v) (take c xs) ++ paired_subjects rest (drop c xs)
-unfolding paired_subjects
-paired-block zero v rest xs h = refl
-paired-block (suc c) v rest [] h = absurd (omega (arith, h))
-paired-block (suc c) v rest (x ∷ xs) h = ap (λ ts. record { value = v; label = x } ∷ ts) (paired-block c v rest xs (omega (arith, h)))
-
-paired-all : (P : ℤ → Type 0) (firsts : List ℤ) (xs : List ℕ) → AllByRecursion P firsts → AllByRecursion (λ t. P t.value) (paired_subjects firsts xs)
-unfolding paired_subjects
-paired-all P [] xs a = tt
-paired-all P (v ∷ firsts) [] a = tt
-paired-all P (v ∷ firsts) (x ∷ xs) a = (a.0, paired-all P firsts xs a.1)
-
 -- sums over the second values
 seconds : (h : ℕ → ℕ) (firsts : List ℤ) (xs : List ℕ) → length xs ≡ length firsts → sum_by (λ (t : Subject). h t.label) (paired_subjects firsts xs) ≡ sum_by h xs
 unfolding paired_subjects
@@ -92,10 +82,6 @@ all-crossed f firsts lasts xs ys e g =
 
 -- ---- from one stage to the next
 
-all-replicate : (P : ℤ → Type 0) (c : ℕ) (v : ℤ) → P v → AllByRecursion P (replicate c v)
-all-replicate P zero v p = tt
-all-replicate P (suc c) v p = (p, all-replicate P c v p)
-
 -- the values of ascending groups, each as often as it occurs
 abbrev pub counts_in : List Tie → List ℕ
 counts_in ts = map (λ t. t.count) ts
@@ -105,7 +91,7 @@ values_of_ties ts = subjects (map (λ t. t.value) ts) (counts_in ts)
 
 all-later : (P : ℤ → Type 0) (ts : List Tie) → AllByRecursion (λ t. P t.value) ts → AllByRecursion P (values_of_ties ts)
 all-later P [] a = tt
-all-later P (t ∷ ts) a = all_append P (replicate t.count t.value) (values_of_ties ts) (all-replicate P t.count t.value a.0) (all-later P ts a.1)
+all-later P (t ∷ ts) a = all_append P (replicate t.count t.value) (values_of_ties ts) (all_replicate P t.count t.value a.0) (all-later P ts a.1)
 
 pub length-values : (ts : List Tie) → length (values_of_ties ts) ≡ sum (counts_in ts)
 length-values [] = refl
@@ -124,7 +110,7 @@ pairs-are f (t ∷ ts) xs up long =
     let enough : c + sum (counts_in ts) ≡ length xs = omega (arith, long, sum-first c (counts_in ts)) in
     let here : List Subject = paired_subjects (replicate c t.value) (take c xs) in
     let there : List Subject = paired_subjects (values_of_ties ts) (drop c xs) in
-    let alike = paired-all (λ v. v ≡ t.value) (replicate c t.value) (take c xs) (all-replicate (λ v. v ≡ t.value) c t.value refl) in
+    let alike = paired-all (λ v. v ≡ t.value) (replicate c t.value) (take c xs) (all_replicate (λ v. v ≡ t.value) c t.value refl) in
     let later = paired-all (λ w. t.value <ℤ w) (values_of_ties ts) (drop c xs) (all-later (λ w. t.value <ℤ w) ts up.0) in
     let tied = over-alike false (λ v. v ≡ t.value) (λ v. v ≡ t.value) (λ v w p q. test-not_less v w (omega (arith, ints, p, q))) f here here alike alike in
     let risen = over-alike true (λ v. v ≡ t.value) (λ w. t.value <ℤ w) (λ v w p q. test-less v w (rw p q)) f here there alike later in
@@ -135,27 +121,6 @@ pairs-are f (t ∷ ts) xs up long =
     ap (λ tw. over_pairs f tw tw) (paired-block c t.value (values_of_ties ts) xs (omega (arith, enough)))
     ∙ over-parts f here there
     ∙ omega (arith, tied, risen ∙ all-crossed f (replicate c t.value) (values_of_ties ts) (take c xs) (drop c xs) here_long there_long, fallen, pairs-are f ts (drop c xs) up.1 rest_long)
-
--- ---- counts that are placed and that remain
-
-plus-left : (x z r : List ℕ) → plus x z ≡ r → length x ≡ length z → (fits x r ≡ true) × (minus r x ≡ z)
-plus-left [] [] r e l = rw (← e) (refl, refl)
-plus-left [] (b ∷ z) r e l = absurd (omega (arith, l))
-plus-left (a ∷ x) [] r e l = absurd (omega (arith, l))
-plus-left (a ∷ x) (b ∷ z) r e l =
-    let rest = plus-left x z (plus x z) refl (omega (arith, l)) in
-    let back : a + b - a ≡ b = omega arith in
-    rw (← e, le-leb a (a + b) (omega arith), rest.0, back, rest.1) (refl, refl)
-
-pub all-take : (P : ℕ → Type 0) (c : ℕ) (xs : List ℕ) → AllByRecursion P xs → AllByRecursion P (take c xs)
-all-take P zero xs a = tt
-all-take P (suc c) [] a = tt
-all-take P (suc c) (x ∷ xs) a = (a.0, all-take P c xs a.1)
-
-pub all-drop : (P : ℕ → Type 0) (c : ℕ) (xs : List ℕ) → AllByRecursion P xs → AllByRecursion P (drop c xs)
-all-drop P zero xs a = a
-all-drop P (suc c) [] a = tt
-all-drop P (suc c) (x ∷ xs) a = all-drop P c xs a.1
 
 -- ---- the network
 
@@ -189,11 +154,11 @@ module _ (columns rows : List ℕ) (judge : Judge) where
       let for : AreFor columns rows g r = record { long = length-counts_of k xs; whole = ap sum d ∙ sym long ∙ sym whole; few = omega (arith, whole, few) } in
       let next = next-is columns rows g r x for x_long both.0 ∙ ap room_of_counts both.1 in
       let add : concordance_added columns k g (room_of_counts r) (arranged r x) ≡ pos (crossed one_where_less (take c xs) (drop c xs)) -ℤ pos (crossed one_where_greater (take c xs) (drop c xs)) =
-      ap (λ s. concordance (arranged r x) (minus s (arranged r x))) (counts-are columns rows g r for) ∙ left-concordance r x x_long both.0 ∙ ap (concordance x) both.1 ∙ concordance-is (take c xs) (drop c xs) (all-take (λ x. x < k) c xs a) (all-drop (λ x. x < k) c xs a) in
+      ap (λ s. concordance (arranged r x) (minus s (arranged r x))) (counts-are columns rows g r for) ∙ left-concordance r x x_long both.0 ∙ ap (concordance x) both.1 ∙ concordance-is (take c xs) (drop c xs) (all_take (λ x. x < k) c xs a) (all_drop (λ x. x < k) c xs a) in
       let t : ℤ = concordance_added columns k g (room_of_counts r) (arranged r x) in
       ap (λ room. so_far (partial_after (kendall_meaning columns rows judge) (g + 1) room ((so_far q +ℤ t) ∷ []) (moved (minus r x) (columns_of k cs (drop c xs))))) next
       ∙ ap (λ s. so_far (partial_after (kendall_meaning columns rows judge) (g + 1) (room_of_counts z) ((so_far q +ℤ t) ∷ []) (moved s (columns_of k cs (drop c xs))))) both.1
-      ∙ value-from cs (g + 1) ((so_far q +ℤ t) ∷ []) (drop c xs) (sym (drop-drop 1 g columns) ∙ ap (drop 1) d) (omega (arith, enough, length-drop c xs)) (omega (arith, few, length-drop c xs)) (all-drop (λ x. x < k) c xs a)
+      ∙ value-from cs (g + 1) ((so_far q +ℤ t) ∷ []) (drop c xs) (sym (drop-drop 1 g columns) ∙ ap (drop 1) d) (omega (arith, enough, length-drop c xs)) (omega (arith, few, length-drop c xs)) (all_drop (λ x. x < k) c xs a)
       ∙ omega (arith, ints, add)
 
   pub value-is : (ts : List Tie) (xs : List ℕ) → columns ≡ counts_in ts → IsAscending ts → length xs ≡ sum (counts_in ts) → length xs ≤ 120 → AllByRecursion (λ x. x < k) xs → counts_of k xs ≡ rows

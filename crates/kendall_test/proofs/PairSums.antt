@@ -8,6 +8,7 @@ use Rattle.std.proofs.lemmas.List.{take_all}
 use Rattle.std.proofs.lemmas.List.Sums.{sum_by-cons, sum_by_more}
 use Rattle.sample_reader.specs.PooledSample.{paired_subjects}
 use Rattle.sample_reader.specs.declared.subjects.Subject.{Subject}
+use Rattle.sample_reader.proofs.PooledLemmas.{paired-few}
 use Rattle.kendall_test.specs.Kendall.{kendall_statistic, one_where_greater, one_where_less, over_pairs}
 use Rattle.kendall_test.specs.KendallSteps.{ordered, pairs_with}
 use Rattle.pooled_columns.proofs.PooledValues.{length-paired}
@@ -68,12 +69,6 @@ over-few f each ps bs n h l =
     by : (b : Bool) (x y : ℕ) → cond b (f x y) 0 ≤ 1
     by true x y = each x y
     by false x y = omega arith
-
-paired-few : (firsts : List ℤ) (xs : List ℕ) → length (paired_subjects firsts xs) ≤ length firsts
-unfolding paired_subjects
-paired-few [] xs = omega arith
-paired-few (v ∷ firsts) [] = omega arith
-paired-few (v ∷ firsts) (x ∷ xs) = omega (arith, paired-few firsts xs)
 
 pub statistic-few : (firsts : List ℤ) (xs : List ℕ) → length firsts ≤ 120 → unsigned_abs (kendall_statistic firsts xs) ≤ 14400
 statistic-few firsts xs few =

@@ -8,12 +8,12 @@ use Rattle.std.proofs.lemmas.List.Elements.{recursion_from_All}
 use Rattle.std.proofs.lemmas.List.Sums.{sum_by-cons}
 use Rattle.weights.specs.Labellings.{counts_of, labels}
 use Rattle.weights.proofs.Counted.{count_of}
-use Rattle.weights.proofs.Filters.{all_map, map-same}
+use Rattle.weights.proofs.Filters.{all_map, map-same, all_weaker}
 use Rattle.weights.proofs.Sums.{sum_by-map}
 use Rattle.midranks.specs.Ties.{IsAscending, tie_groups}
 use Rattle.midranks.specs.declared.ties.Tie.{Tie}
 use Rattle.midranks.proofs.Places.{group-exists}
-use Rattle.midranks.proofs.TieLemmas.{all-weaker, groups-ascend, groups-counts, sum_by-groups, summed, test-less, test-not_less}
+use Rattle.midranks.proofs.TieLemmas.{groups-ascend, groups-counts, sum_by-groups, summed, test-less, test-not_less}
 use Rattle.pooled_columns.specs.PooledColumns.{column_sizes}
 use Rattle.pooled_columns.proofs.TieColumns.{columns-sum}
 use Rattle.kendall_test.specs.Kendall.{place_among, places_of}
@@ -81,7 +81,7 @@ numbered [] up = tt
 numbered (t ∷ ts) up = (below t.value t ts ∙ rw (test-not_less t.value t.value (omega (arith, ints)), none-below t.value ts up.0) refl, shifted (place_among ts) (place_among (t ∷ ts)) 0 ts later (numbered ts up.1))
   where
     later : AllByRecursion (λ (u : Tie). place_among (t ∷ ts) u.value ≡ 1 + place_among ts u.value) ts
-    later = all-weaker (λ (u : Tie). t.value <ℤ u.value) (λ (u : Tie). place_among (t ∷ ts) u.value ≡ 1 + place_among ts u.value) (λ u h. below u.value t ts ∙ rw (test-less t.value u.value h) refl) ts up.0
+    later = all_weaker (λ (u : Tie). t.value <ℤ u.value) (λ (u : Tie). place_among (t ∷ ts) u.value ≡ 1 + place_among ts u.value) (λ u h. below u.value t ts ∙ rw (test-less t.value u.value h) refl) ts up.0
 
 -- how many values have a place
 often : (ℤ → ℕ) → ℕ → List Tie → ℕ

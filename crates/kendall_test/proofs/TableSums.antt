@@ -12,6 +12,7 @@ use Rattle.weights.specs.Grouped.{columns_of}
 use Rattle.weights.specs.Labellings.{counts_of}
 use Rattle.weights.proofs.Counted.{count_of}
 use Rattle.weights.proofs.Sized.{counts_of-append, plus}
+use Rattle.weights.proofs.Tables.{all_take, all_drop}
 use Rattle.transposed_tables.specs.Transposed.{fronted, transposed}
 use Rattle.transposed_tables.proofs.Shapes.{length-across}
 use Rattle.transposed_tables.proofs.TransposedLines.{AreLong, across, across-fronted, level-transposed, long-transposed, totals-transposed}
@@ -19,7 +20,7 @@ use Rattle.kendall_test.specs.Kendall.{kendall_statistic, one_where_greater, one
 use Rattle.kendall_test.specs.KendallNetwork.{concordant_pairs}
 use Rattle.kendall_test.proofs.CodeLaws.{sum-first}
 use Rattle.kendall_test.proofs.CountedPairs.{crossed, discordant-are, concordant-are}
-use Rattle.kendall_test.proofs.KendallValues.{all-drop, all-take, by_stages, counts_in, pairs-are, values_of_ties}
+use Rattle.kendall_test.proofs.KendallValues.{by_stages, counts_in, pairs-are, values_of_ties}
 
 -- what each column and the later ones add, of a table of so many rows
 abbrev over_later : (List ℕ → List ℕ → ℕ) → ℕ → List (List ℕ) → ℕ
@@ -54,8 +55,8 @@ over-columns : (f : List ℕ → List ℕ → ℕ) (h : ℕ → ℕ → ℕ) (k 
 over-columns f h k each [] xs e a = refl
 over-columns f h k each (c ∷ cs) xs e a =
     let long = rest-long c cs xs e in
-    let later = all-drop (λ x. x < k) c xs a in
-    ap (λ n. n + by_stages h cs (drop c xs)) (sym (ap (f (counts_of k (take c xs))) (across-columns k cs (drop c xs) long) ∙ each (take c xs) (drop c xs) (all-take (λ x. x < k) c xs a) later))
+    let later = all_drop (λ x. x < k) c xs a in
+    ap (λ n. n + by_stages h cs (drop c xs)) (sym (ap (f (counts_of k (take c xs))) (across-columns k cs (drop c xs) long) ∙ each (take c xs) (drop c xs) (all_take (λ x. x < k) c xs a) later))
     ∙ ap (λ n. f (counts_of k (take c xs)) (across k (columns_of k cs (drop c xs))) + n) (over-columns f h k each cs (drop c xs) long later)
 
 -- of subjects in ascending groups of first values

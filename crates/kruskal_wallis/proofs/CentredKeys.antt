@@ -6,11 +6,11 @@ use Rattle.std.proofs.lemmas.Bool.{cases_lt}
 use Rattle.std.proofs.lemmas.Int.{clamps, ints}
 use Rattle.std.proofs.lemmas.List.Elements.{recursion_from_All}
 use Rattle.std.proofs.lemmas.List.Sums.{sum_by-cons}
-use Rattle.std.proofs.Math.Nat.{mul-le-mul, mul-le-mul_left}
+use Rattle.std.proofs.Math.Nat.{mul-le-mul_left}
 use Rattle.std.proofs.Math.Seq.{drop-append_seam, take-append_seam}
 use Rattle.weights.specs.Numbers.{absolute_sum}
 use Rattle.weights.proofs.Filters.{all_replicate}
-use Rattle.completion_bounds.specs.Boxes.{greatest_size, greatest_squares, least_size, least_squares}
+use Rattle.completion_bounds.specs.Boxes.{greatest_size, greatest_squares, least_size}
 use Rattle.room_network.specs.Meanings.{AreReached, IsEnd, IsMove, IsRoom, IsStep}
 use Rattle.later_scores.specs.declared.ends.End.{End}
 use Rattle.later_scores.specs.declared.ends.End.TheVariants.{Least, Greatest}
@@ -36,13 +36,6 @@ use Rattle.kruskal_wallis.proofs.RankNarrows.{length-parts}
 
 size-most : (l h : ℤ) → least_size l h ≤ greatest_size l h
 size-most l h = grind (arith, ints)
-
--- the least is no more than the greatest
-pub least-most : (ls hs : List ℤ) (fs : List ℕ) → least_squares ls hs fs ≤ greatest_squares ls hs fs
-least-most [] hs fs = omega arith
-least-most (l ∷ ls) [] fs = omega arith
-least-most (l ∷ ls) (h ∷ hs) [] = omega arith
-least-most (l ∷ ls) (h ∷ hs) (f ∷ fs) = omega (arith, mul-le-mul_left f (mul-le-mul (size-most l h) (size-most l h)), least-most ls hs fs)
 
 -- a bound that is kept twice
 pub capped-twice : (b x n : ℕ) → min (b + min x n) n ≡ min (b + x) n

@@ -1,5 +1,5 @@
 -- The value of a labelling in the network is the factored sum of its groups' squared sums.
-use Rattle.std.proofs.Common.{◌≡◌, ℕ, zero, suc, ◌+◌, Bool, true, false, cond, List, [], ◌∷◌, ◌++◌, length, map, take, drop, refl, ◌∙◌, ap, arith, suc-add, nat_eq}
+use Rattle.std.proofs.Common.{◌≡◌, ℕ, zero, suc, ◌+◌, Bool, true, false, cond, List, [], ◌∷◌, ◌++◌, length, map, take, drop, refl, ◌∙◌, ap, arith, nat_eq}
 use Rattle.std.specs.Prelude.{ℤ, pos, ◌+ℤ◌, ◌*ℤ◌, replicate}
 use Rattle.std.proofs.Math.IntN.{zero-*ℤ, +ℤ_idl, +ℤ_idr}
 use Rattle.std.proofs.lemmas.Int.{ints}
@@ -16,6 +16,7 @@ use Rattle.later_scores.specs.LaterSums.{subjects}
 use Rattle.later_scores.proofs.LaterArcs.{more-times}
 use Rattle.label_network.proofs.Endings.{partial_after, labelling_value}
 use Rattle.label_network.specs.Linear.{score_of}
+use Rattle.label_network.proofs.LinearValues.{drop-head}
 use Rattle.scores.specs.Scores.{labelled_sum}
 use Rattle.scores.proofs.LabelledSums.{labelled-none}
 use Rattle.kruskal_wallis.specs.KruskalWallis.{group_sums}
@@ -76,12 +77,6 @@ length-labels k = length-range_with_len 0 k
 
 pub length-sums : (k : ℕ) (scores : List ℤ) (xs : List ℕ) → length (group_sums k scores xs) ≡ k
 length-sums k scores xs = length-map (labels k) (λ i. labelled_sum i scores xs) ∙ length-labels k
-
-pub drop-head : (g : ℕ) (scores : List ℤ) (s : ℤ) (ss : List ℤ) → drop g scores ≡ s ∷ ss → (score_of scores g ≡ s) × (drop (g + 1) scores ≡ ss)
-drop-head zero [] s ss d = absurd (cc d)
-drop-head (suc g) [] s ss d = absurd (cc d)
-drop-head zero (v ∷ vs) s ss d = (cc, cc)
-drop-head (suc g) (v ∷ vs) s ss d = let rest = drop-head g vs s ss d in (rest.0, rw (suc-add g 1) rest.1)
 
 module _ (factors : List ℕ) (bound : ℕ) (scores : List ℤ) (columns rows : List ℕ) (judge : Judge) where
   sums-from : (k : ℕ) (cs : List ℕ) (ss : List ℤ) (g : ℕ) (r : List ℕ) (p : List ℤ) (xs : List ℕ) → drop g scores ≡ ss → length ss ≡ length cs → length p ≡ k

@@ -1,12 +1,12 @@
 -- A table of the numbers of ways to choose, filled row by row.
 use Rattle.std.proofs.Common.{◌≡◌, ℕ, zero, suc, ◌+◌, ◌-◌, ◌*◌, ◌<◌, ◌≤◌, List, [], ◌∷◌, ◌++◌, length, get_or, min, refl, sym, ◌∙◌, ap, subst, arith, length-append, ◌⊎◌, inl, inr}
 use Rattle.std.proofs.lemmas.Bool.{cases_lt}
+use Rattle.networks.proofs.Totals.{any_default}
 use Rattle.weights.specs.Numbers.{binomial}
 use Rattle.weights.specs.declared.TheConstants.{MAX}
 use Rattle.weights.proofs.Appended.{get-front, get-last}
 use Rattle.weights.proofs.Binomials.{binomial-zero, binomial-pascal, binomial-over, binomial-left_out, binomial-all}
 use Rattle.label_network.specs.LabelSteps.{AreBinomials, capped}
-use Rattle.label_network.proofs.Rows.{any_default}
 
 pub capped-small : (n : ℕ) → n ≤ MAX → capped n ≡ n
 capped-small n h = omega arith

@@ -96,7 +96,7 @@ sizes-drop (suc i) (z ∷ zs) s = sizes-drop i zs (record { each = λ j h. s.eac
 pub rest-sizes : (i : ℕ) (zs : List ℤ) → sizes_in (take (length zs - i) (drop i zs)) ≡ drop i (sizes_in zs)
 rest-sizes i zs = ap sizes_in (take_rest i zs) ∙ drop-sizes i zs
 
-put_end : (a : ℕ) (xs ys : List ℕ) → a ≤ length xs → put_mid a (length xs - a) xs ys ≡ take a xs ++ ys
+pub put_end : (a : ℕ) (xs ys : List ℕ) → a ≤ length xs → put_mid a (length xs - a) xs ys ≡ take a xs ++ ys
 put_end a xs ys h =
     let none : drop (length xs - a) (drop a xs) ≡ [] = drop_of_length-le (drop a xs) {i = length xs - a} (omega (arith, length-drop {A = ℕ})) in
     ap (λ zs. take a xs ++ (ys ++ zs)) none ∙ ap (λ zs. take a xs ++ zs) (append-nil ys)

@@ -126,7 +126,7 @@ subjects-total (v ∷ vs) (c ∷ cs) = ap (λ t. (pos c *ℤ v) +ℤ t) (subject
 
 -- ---- what the network ends at
 
-drop-head : (g : ℕ) (scores : List ℤ) (s : ℤ) (ss : List ℤ) → drop g scores ≡ s ∷ ss → (score_of scores g ≡ s) × (drop (g + 1) scores ≡ ss)
+pub drop-head : (g : ℕ) (scores : List ℤ) (s : ℤ) (ss : List ℤ) → drop g scores ≡ s ∷ ss → (score_of scores g ≡ s) × (drop (g + 1) scores ≡ ss)
 drop-head zero [] s ss d = absurd (cc d)
 drop-head (suc g) [] s ss d = absurd (cc d)
 drop-head zero (v ∷ vs) s ss d = (cc, cc)

@@ -15,7 +15,7 @@ use Rattle.label_network.proofs.Ascending.{ascending, each-once}
 use Rattle.label_network.proofs.Climbing.{Climbs, RowsClimb}
 use Rattle.label_network.proofs.LeastPairing.{least_pairing_is, greatest_pairing_is}
 use Rattle.label_network.proofs.Rearranging.{picked-length, picked-sum, picked_scores-length, weighed, weighed-same}
-use Rattle.label_network.proofs.Sorting.{sort_up}
+use Rattle.label_network.proofs.Sorting.{sort_up, tail-climbs}
 
 -- where scores climb, so do their units
 all-units : (u s : ℤ) (c : ℕ) (xs : List ℤ) → u ≤ℤ s → AllByRecursion (λ x. u ≤ℤ x) xs → AllByRecursion (λ x. u ≤ℤ x) (replicate c s ++ xs)
@@ -31,14 +31,10 @@ units-before : (c : ℕ) (s : ℤ) (xs : List ℤ) → AllByRecursion (λ x. s �
 units-before zero s xs a h = h
 units-before (suc c) s xs a h = (all-units s s c xs (omega (arith, ints)) a, units-before c s xs a h)
 
-rows-after : (u : ℤ) (us : List ℤ) → Climbs u us → RowsClimb us
-rows-after u [] c = tt
-rows-after u (w ∷ us) c = c.1
-
 units-ascend : (us : List ℤ) (ms : List ℕ) → RowsClimb us → Ascends (subjects us ms)
 units-ascend [] ms c = tt
 units-ascend (u ∷ us) [] c = tt
-units-ascend (u ∷ us) (m ∷ ms) c = units-before m u (subjects us ms) (units-from u us ms c) (units-ascend us ms (rows-after u us c))
+units-ascend (u ∷ us) (m ∷ ms) c = units-before m u (subjects us ms) (units-from u us ms c) (units-ascend us ms (tail-climbs u us c))
 
 ascends-in_order : (xs : List ℤ) → Ascends xs → IsInOrder int_le xs
 ascends-in_order [] a = tt

@@ -4,6 +4,7 @@ use Rattle.std.specs.Prelude.{ℤ, pos, nat_abs, slice_index}
 use Rattle.std.specs.List.{sum}
 use Rattle.std.proofs.lemmas.List.Sums.{sum_by-drop_more, sum_by-take-drop}
 use Rattle.std.proofs.lemmas.Bool.{cases_lt, leb-true}
+use Rattle.networks.proofs.Totals.{any_default}
 use Rattle.weights.specs.Grouped.{fits, minus}
 use Rattle.weights.proofs.Sized.{first_and}
 
@@ -136,11 +137,6 @@ sum-more xs i h = omega (arith, sum_by-take-drop (λ v. v) xs i, sum_by-take-dro
 
 pub sum-front : (xs : List ℕ) (i : ℕ) → sum (take i xs) ≤ sum xs
 sum-front xs i = omega (arith, sum_by-take-drop (λ v. v) xs i)
-
-pub any_default : (xs : List ℕ) (i d e : ℕ) → i < length xs → get_or xs i d ≡ get_or xs i e
-any_default [] i d e h = absurd (omega (arith, h))
-any_default (x ∷ xs) zero d e h = refl
-any_default (x ∷ xs) (suc i) d e h = any_default xs i d e (omega (arith, h))
 
 -- a column that is read
 pub column-read : (columns : List ℕ) (i x : ℕ) → i < length columns → x ≡ get_or columns i x → x ≡ slice_index columns i

@@ -7,9 +7,10 @@ use Rattle.std.specs.Ordering.{int_eq}
 use Rattle.std.proofs.lemmas.Int.{ints}
 use Rattle.std.proofs.lemmas.List.Sorted.{sum_by-IsPermutation}
 use Rattle.std.proofs.lemmas.List.Sums.{sum_by-cons}
+use Rattle.weights.proofs.Filters.{all_weaker}
 use Rattle.midranks.specs.Ties.{IsAscending, tie_groups}
 use Rattle.midranks.specs.declared.ties.Tie.{Tie}
-use Rattle.midranks.proofs.TieLemmas.{all-weaker, before-trans, groups-ascend, groups-counts, less-from_test, past, same-from_test, sum_by-groups, summed, test-other, test-same}
+use Rattle.midranks.proofs.TieLemmas.{before-trans, groups-ascend, groups-counts, less-from_test, past, same-from_test, sum_by-groups, summed, test-other, test-same}
 
 -- one at a value, else zero
 here : ℤ → ℤ → ℕ
@@ -61,7 +62,7 @@ once (x ∷ xs) (y ∷ ys) up up' some some' same = by (λ rest. once xs ys up.1
   where
     lesser : (a b : Tie) (us vs : List Tie) → IsAscending (a ∷ us) → IsAscending (b ∷ vs) → 0 < a.count → sum_by (summed (here a.value)) (a ∷ us) ≡ sum_by (summed (here a.value)) (b ∷ vs) → a.value <ℤ b.value → ⊥
     lesser a b us vs up up' some e h =
-        let none = none-before a.value (b ∷ vs) (h, all-weaker (λ t. b.value <ℤ t.value) (λ t. a.value <ℤ t.value) (λ t k. before-trans a.value b.value t.value h k) vs up'.0) in
+        let none = none-before a.value (b ∷ vs) (h, all_weaker (λ t. b.value <ℤ t.value) (λ t. a.value <ℤ t.value) (λ t k. before-trans a.value b.value t.value h k) vs up'.0) in
         omega (arith, none, e, at-first a us up, some)
 
     heads : (v w : ℤ) (m n : ℕ) → v ≡ w → m ≡ n → (us vs : List Tie) → us ≡ vs → record { value = v; count = m } ∷ us ≡ record { value = w; count = n } ∷ vs

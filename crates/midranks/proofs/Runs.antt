@@ -7,18 +7,15 @@ use Rattle.std.specs.Ordering.{int_cmp, is_lt}
 use Rattle.std.proofs.lemmas.Int.{ints}
 use Rattle.std.proofs.lemmas.List.{take_all}
 use Rattle.std.proofs.lemmas.List.Sums.{sum_by_push, sum_by_more}
+use Rattle.weights.proofs.Filters.{all_weaker, all_push}
 use Rattle.midranks.specs.Ties.{IsAscending, tie_groups}
 use Rattle.midranks.specs.declared.ties.Tie.{Tie}
 use Rattle.midranks.proofs.OneGrouping.{groups-are}
-use Rattle.midranks.proofs.TieLemmas.{all-weaker, before-trans, not_less-from_test, summed}
-
-all-push : {X : Type 0} (P : X → Type 0) (xs : List X) (x : X) → AllByRecursion P xs → P x → AllByRecursion P (xs ++ x ∷ [])
-all-push P [] x all one = (one, tt)
-all-push P (y ∷ ys) x all one = (all.0, all-push P ys x all.1 one)
+use Rattle.midranks.proofs.TieLemmas.{before-trans, not_less-from_test, summed}
 
 push-ascends : (ts : List Tie) (t : Tie) → IsAscending ts → AllByRecursion (λ u. u.value <ℤ t.value) ts → IsAscending (ts ++ t ∷ [])
 push-ascends [] t up below = (tt, tt)
-push-ascends (u ∷ us) t up below = (all-push (λ w. u.value <ℤ w.value) us t up.0 below.0, push-ascends us t up.1 below.1)
+push-ascends (u ∷ us) t up below = (all_push (λ w. u.value <ℤ w.value) us t up.0 below.0, push-ascends us t up.1 below.1)
 
 -- a value that is not the next one is less than it
 next-greater : (xs : List ℤ) (i : ℕ) (d : ℤ) → IsSorted int_cmp xs → i + 1 < length xs → get_or xs i d ≢ get_or xs (i + 1) d → get_or xs i d <ℤ get_or xs (i + 1) d
@@ -80,10 +77,10 @@ grouped-closed sorted i ties count v order h e apart before =
       counted = omega arith;
       ended = λ end. refl;
       ascending = push-ascends ties (record { value = v; count = count + 1 }) before.ascending (rw e lower);
-      some = all-push (λ t. 0 < t.count) ties (record { value = v; count = count + 1 }) before.some (omega arith);
+      some = all_push (λ t. 0 < t.count) ties (record { value = v; count = count + 1 }) before.some (omega arith);
       lesser = λ next. let step = next-greater sorted i (pos 0) order next (apart next) in
-          all-push (λ t. t.value <ℤ get_or sorted (i + 1) (pos 0)) ties (record { value = v; count = count + 1 })
-          (all-weaker (λ t. t.value <ℤ get_or sorted i (pos 0)) (λ t. t.value <ℤ get_or sorted (i + 1) (pos 0)) (λ t k. before-trans t.value _ _ k step) ties lower)
+          all_push (λ t. t.value <ℤ get_or sorted (i + 1) (pos 0)) ties (record { value = v; count = count + 1 })
+          (all_weaker (λ t. t.value <ℤ get_or sorted i (pos 0)) (λ t. t.value <ℤ get_or sorted (i + 1) (pos 0)) (λ t k. before-trans t.value _ _ k step) ties lower)
           (rw e step);
       sums = λ f. nothing _ _ _ (run-ends f ties sorted i count v h e (before.sums f));
     }

@@ -6,6 +6,7 @@ use Rattle.std.specs.Ordering.{int_eq}
 use Rattle.std.proofs.lemmas.Bool.Decides.{Decides-int_eq}
 use Rattle.std.proofs.lemmas.Int.{ints}
 use Rattle.std.proofs.lemmas.List.Sums.{sum_by-cons}
+use Rattle.weights.proofs.Filters.{all_weaker}
 use Rattle.midranks.specs.Ties.{IsAscending, tie_groups, with_one_more}
 use Rattle.midranks.specs.declared.ties.Tie.{Tie}
 
@@ -53,10 +54,6 @@ before-trans a b c h k = omega (arith, ints)
 
 -- ---- order
 
-pub all-weaker : {X : Type 0} (P Q : X → Type 0) → ((x : X) → P x → Q x) → (xs : List X) → AllByRecursion P xs → AllByRecursion Q xs
-all-weaker P Q h [] all = tt
-all-weaker P Q h (x ∷ xs) all = (h x all.0, all-weaker P Q h xs all.1)
-
 one_more-all : (P : ℤ → Type 0) (v : ℤ) (ts : List Tie) → P v → AllByRecursion (λ t. P t.value) ts → AllByRecursion (λ t. P t.value) (with_one_more v ts)
 one_more-all P v [] one all = (one, tt)
 one_more-all P v (t ∷ ts) one all = by (int_lt v t.value) (int_eq v t.value) (one_more-all P v ts one all.1)
@@ -73,7 +70,7 @@ one_more-ascends v (t ∷ ts) up = by (int_lt v t.value) refl (int_eq v t.value)
     by : (b : Bool) → int_lt v t.value ≡ b → (c : Bool) → int_eq v t.value ≡ c → IsAscending (with_one_more v ts) → IsAscending (cond b (record { value = v; count = 1 } ∷ t ∷ ts) (cond c (record { value = v; count = t.count + 1 } ∷ ts) (t ∷ with_one_more v ts)))
     by true e c f rest =
         let first = less-from_test v t.value e in
-        ((first, all-weaker (λ u. t.value <ℤ u.value) (λ u. v <ℤ u.value) (λ u h. before-trans v t.value u.value first h) ts up.0), up)
+        ((first, all_weaker (λ u. t.value <ℤ u.value) (λ u. v <ℤ u.value) (λ u h. before-trans v t.value u.value first h) ts up.0), up)
     by false e true f rest = (rw (same-from_test v t.value f) up.0, up.1)
     by false e false f rest = (one_more-all (λ w. t.value <ℤ w) v ts (past v t.value e f) up.0, rest)
 

@@ -1,6 +1,6 @@
 -- Verdicts by intervals are sound, and settled at the end; and where a rule fits the first key's interval, it fits every reached one's.
-use Rattle.std.proofs.Common.{◌≡◌, ◌≢◌, ℕ, zero, suc, ◌+◌, ◌-◌, ◌≤◌, ◌<◌, List, [], ◌∷◌, Bool, true, false, ◌⊎◌, inl, inr, refl, sym, ◌∙◌, ap, subst, arith, add-one}
-use Rattle.std.specs.Prelude.{ℤ, pos, negsuc, ◌*ℤ◌, ◌≤ℤ◌, nat_abs, nat_le, filter}
+use Rattle.std.proofs.Common.{◌≡◌, ◌≢◌, ℕ, zero, suc, ◌+◌, ◌-◌, ◌≤◌, ◌<◌, List, [], ◌∷◌, true, false, ◌⊎◌, inl, inr, refl, sym, ◌∙◌, ap, subst, arith, add-one}
+use Rattle.std.specs.Prelude.{ℤ, pos, negsuc, ◌*ℤ◌, ◌≤ℤ◌, nat_abs, nat_le}
 use Rattle.std.specs.List.{AllByRecursion, Contains, sum_by}
 use Rattle.std.proofs.lemmas.Int.{ints}
 use Rattle.std.proofs.Math.IntN.{zero-*ℤ, suc_ℤ-*ℤ}
@@ -10,7 +10,7 @@ use Rattle.weights.specs.declared.rules.Rule.{Rule}
 use Rattle.weights.specs.declared.rules.Rule.TheVariants.{AtMost, AtLeast, Far}
 use Rattle.weights.specs.declared.TheConstants.{MAX}
 use Rattle.weights.specs.Rules.{passes, factor_of, centre_of, RuleFits}
-use Rattle.weights.proofs.Filters.{all_weaker}
+use Rattle.weights.proofs.Filters.{all_weaker, filter-same_where}
 use Rattle.weights.proofs.Members.{Contains-here}
 use Rattle.networks.specs.declared.stages.Verdict.TheVariants.{Inside, Outside, Undecided}
 use Rattle.networks.specs.declared.verdicts.Judge.{Judge}
@@ -83,10 +83,6 @@ same_tail Two Greater = inr (λ e. cc)
 same_tail Two Two = inl refl
 
 -- lists
-
-filter-where : {X : Type 0} (P : X → Type 0) (p q : X → Bool) → ((x : X) → P x → p x ≡ q x) → (xs : List X) → AllByRecursion P xs → filter p xs ≡ filter q xs
-filter-where P p q e [] a = refl
-filter-where P p q e (x ∷ xs) a = rw (e x a.0, filter-where P p q e xs a.1) refl
 
 some_member : {X : Type 0} (xs : List X) → xs ≢ [] → (x : X) × Contains xs x
 some_member [] ne = absurd (ne refl)
@@ -168,7 +164,7 @@ module _ (n : Network) (judge : Judge) (h : HasIntervals n judge) where
   unfolding extreme_weight ending_weight
   extreme-passes t =
       ap (sum_by (path_weight n 0 n.first))
-      (filter-where (λ cs. EndsBetween (h.low 0 n.first) (h.high 0 n.first) (path_end n 0 n.first cs)) (ends_inside n t 0 n.first) (λ cs. passes (rule_in judge t) (n.value (path_end n 0 n.first cs)))
+      (filter-same_where (λ cs. EndsBetween (h.low 0 n.first) (h.high 0 n.first) (path_end n 0 n.first cs)) (ends_inside n t 0 n.first) (λ cs. passes (rule_in judge t) (n.value (path_end n 0 n.first cs)))
       (λ cs w. end_extreme t (path_end n 0 n.first cs) w.reached) (completions n 0 n.first) (values_between 0 n.first refl (omega arith)))
 
   -- a reached key's interval lies in that of the first key

@@ -72,7 +72,7 @@ add-other v w (l ∷ ls) d ne = by (int_lt l.value v) ne (add-other v w ls d)
 pub line_sum-cons : (p : ℤ → Bool) (l : Line) (ls : List Line) → line_sum p (l ∷ ls) ≡ cond (p l.value) l.weight 0 + line_sum p ls
 line_sum-cons p l ls = sum_by-cons (λ (m : Line). cond (p m.value) m.weight 0) l ls
 
-cond-plus : (b : Bool) (x y : ℕ) → cond b (x + y) 0 ≡ cond b x 0 + cond b y 0
+pub cond-plus : (b : Bool) (x y : ℕ) → cond b (x + y) 0 ≡ cond b x 0 + cond b y 0
 cond-plus true x y = refl
 cond-plus false x y = refl
 

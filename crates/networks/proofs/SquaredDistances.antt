@@ -1,11 +1,11 @@
 -- Squares of distances from a centre: more is known of them where more is known of the numbers, and at last they tell the squares of these.
-use Rattle.std.proofs.Common.{◌≡◌, ℕ, suc, ◌+◌, ◌-◌, ◌*◌, ◌/◌, ◌≤◌, List, [], ◌∷◌, length, refl, sym, ◌∙◌, ap, arith, inl, inr, div-mul-le_self}
+use Rattle.std.proofs.Common.{◌≡◌, ℕ, suc, ◌+◌, ◌-◌, ◌*◌, ◌/◌, ◌≤◌, List, [], ◌∷◌, length, sym, ◌∙◌, ap, arith, inl, inr, div-mul-le_self}
 use Rattle.std.specs.List.{sum, sum_by}
 use Rattle.std.proofs.Math.Nat.{mul-le-mul}
 use Rattle.std.proofs.lemmas.Bool.{cases_lt}
 use Rattle.std.proofs.lemmas.List.Sums.{sum_by-cons}
 use Rattle.weights.proofs.Sums.{sum_by-same}
-use Rattle.networks.specs.Distances.{around, far_square, farthest, near_square, nearest, squared}
+use Rattle.networks.specs.Distances.{correction, far_square, farthest, near_square, nearest, squared}
 
 pub squares-rise : (a b : ℕ) → a ≤ b → squared a ≤ squared b
 squares-rise a b h = mul-le-mul h h
@@ -62,14 +62,14 @@ distances q (s ∷ ss) =
     split q a b = grind arith
 
 -- numbers that add up to a total
-pub near-end : (k q total : ℕ) (s : List ℕ) → k * squared q ≤ 2 * (q * total) → length s ≡ k → sum s ≡ total → around k q total + sum_by (λ t. near_square q t t) s ≡ sum_by squared s
+pub near-end : (k q total : ℕ) (s : List ℕ) → k * squared q ≤ 2 * (q * total) → length s ≡ k → sum s ≡ total → correction k q total + sum_by (λ t. near_square q t t) s ≡ sum_by squared s
 near-end k q total s h l e =
     let long : length s * squared q ≡ k * squared q = ap (λ n. n * squared q) l in
     let all : 2 * (q * sum s) ≡ 2 * (q * total) = ap (λ n. 2 * (q * n)) e in
     omega (arith, distances q s, long, all, h)
 
-pub far-end : (k q total : ℕ) (s : List ℕ) → k * squared q ≤ 2 * (q * total) → length s ≡ k → sum s ≡ total → around k q total + sum_by (λ t. far_square q t t) s ≡ sum_by squared s
-far-end k q total s h l e = ap (λ n. around k q total + n) (sum_by-same (λ t. far_square q t t) (λ t. near_square q t t) (one-distance q) s) ∙ near-end k q total s h l e
+pub far-end : (k q total : ℕ) (s : List ℕ) → k * squared q ≤ 2 * (q * total) → length s ≡ k → sum s ≡ total → correction k q total + sum_by (λ t. far_square q t t) s ≡ sum_by squared s
+far-end k q total s h l e = ap (λ n. correction k q total + n) (sum_by-same (λ t. far_square q t t) (λ t. near_square q t t) (one-distance q) s) ∙ near-end k q total s h l e
 
 -- no more than the total is at the mean
 pub mean-within : (k total : ℕ) → k * squared (total / k) ≤ 2 * (total / k * total)

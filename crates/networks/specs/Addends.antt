@@ -9,7 +9,7 @@ use Rattle.networks.specs.declared.additive.SumValue.TheVariants.{First, Squares
 use Rattle.networks.specs.declared.verdicts.Judge.{Judge}
 use Rattle.networks.specs.Network.{Network}
 use Rattle.networks.specs.Judged.{rule_in, verdict_of}
-use Rattle.networks.specs.Distances.{around, far_square, near_square}
+use Rattle.networks.specs.Distances.{correction, far_square, near_square}
 use Rattle.networks.specs.PartialSums.{plus, kept}
 
 pub record Addends : Type 0 where
@@ -56,7 +56,7 @@ from_zero bound = record { centre = 0; beside = 0; bound = bound }
 
 abbrev pub from_mean : ℕ → ℕ → ℕ → CentredSquares
 from_mean sums total bound =
-    record { centre = total / sums; beside = around sums (total / sums) total; bound = bound }
+    record { centre = total / sums; beside = correction sums (total / sums) total; bound = bound }
 
 -- what is said of the two numbers between which each sum ends, added: it is still raised by l at
 -- least, and by h at most

@@ -1,5 +1,5 @@
 -- How far numbers are from a centre, and the squares of these distances.
-use Rattle.std.specs.Prelude.{ℕ, ◌+◌, ◌-◌, ◌*◌, max}
+use Rattle.std.specs.Prelude.{ℕ, ◌+◌, ◌-◌, ◌*◌, ◌^◌, max}
 
 abbrev pub squared : ℕ → ℕ
 squared n = n * n
@@ -18,6 +18,20 @@ near_square q low high = squared (nearest q low high)
 abbrev pub far_square : ℕ → ℕ → ℕ → ℕ
 far_square q low high = squared (farthest q low high)
 
--- what the squares of k numbers that add up to a total have beside those of their distances
-abbrev pub around : ℕ → ℕ → ℕ → ℕ
-around k q total = 2 * (q * total) - k * squared q
+-- the correction for the mean: what the squares of k numbers that add up to a total have beside
+-- those of their distances from q
+abbrev pub correction : ℕ → ℕ → ℕ → ℕ
+correction k q total = 2 * (q * total) - k * squared q
+
+-- the greatest sum whose squares are added in 64 bits, and what is computed of such sums at most
+abbrev pub sum_limit : ℕ
+sum_limit = 2 ^ 25
+
+abbrev pub distance_limit : ℕ
+distance_limit = 2 ^ 26
+
+abbrev pub square_limit : ℕ
+square_limit = squared distance_limit
+
+abbrev pub correction_limit : ℕ
+correction_limit = 2 * squared sum_limit

@@ -5,7 +5,7 @@ use Rattle.weights.specs.declared.TheConstants.{MAX}
 use Rattle.networks.specs.declared.additive.CentredSquares.{CentredSquares}
 use Rattle.networks.specs.declared.additive.SumValue.{SumValue}
 use Rattle.networks.specs.declared.additive.SumValue.TheVariants.{First, Squares}
-use Rattle.networks.specs.Distances.{around, squared}
+use Rattle.networks.specs.Distances.{correction, correction_limit, squared, sum_limit}
 use Rattle.networks.specs.Judged.{JudgeFits}
 use Rattle.networks.specs.Addends.{Addends, zeros, low, high, totals, over_earlier, reach}
 
@@ -26,12 +26,12 @@ pub record IsSquared (a : Addends) (s : CentredSquares) : Type 0 where
   pub bounded : over_earlier each a.count * over_earlier each a.count ≤ s.bound
   pub within :
       a.slots * squared s.centre ≤ 2 * (s.centre * over_earlier each a.count)
-  pub beside_is : s.beside ≡ around a.slots s.centre (over_earlier each a.count)
+  pub beside_is : s.beside ≡ correction a.slots s.centre (over_earlier each a.count)
   -- no square that is computed passes MAX
   pub bound_fits : s.bound ≤ MAX
-  pub reach_small : reach a ≤ 33554432
-  pub centre_small : s.centre ≤ 33554432
-  pub beside_small : s.beside ≤ 2251799813685248
+  pub reach_small : reach a ≤ sum_limit
+  pub centre_small : s.centre ≤ sum_limit
+  pub beside_small : s.beside ≤ correction_limit
 
 abbrev pub IsMeasured : Addends → SumValue → Type 0
 IsMeasured a First = a.slots ≡ 1

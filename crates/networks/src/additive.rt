@@ -2,9 +2,10 @@
 ghost use Rattle.std.specs.Prelude.{◌≡◌, ◌≤◌, ◌<◌, ◌∷◌, length};
 ghost use Rattle.std.specs.List.{Contains};
 ghost use Rattle.networks.specs.Addends.{Addends, choices_left, from_mean, from_zero, stage_total};
+ghost use Rattle.networks.specs.Distances.{correction_limit, sum_limit};
 ghost use Rattle.networks.specs.SoundAddends.{IsAdditive};
 
-use crate::distances::around;
+use crate::distances::correction;
 use crate::verdicts::{Interval, Judge};
 
 /// Squares of sums, which are told by the distances of the sums from a centre: what the squares
@@ -31,15 +32,15 @@ impl CentredSquares {
     /// From the mean, rounded down, of so many sums that add up to a total.
     pub fn from_mean(sums: u64, total: u64, bound: u128) -> CentredSquares
         requires some { 1 ≤ sums }
-        requires total { total ≤ 33554432 }
+        requires total { total ≤ sum_limit }
         ensures is { result ≡ from_mean sums total bound }
-        ensures centre_small { result.centre ≤ 33554432 }
-        ensures beside_small { result.beside ≤ 2251799813685248 }
+        ensures centre_small { result.centre ≤ sum_limit }
+        ensures beside_small { result.beside ≤ correction_limit }
     {
         let centre = total / sums;
         CentredSquares {
             centre,
-            beside: around(sums, centre, total),
+            beside: correction(sums, centre, total),
             bound,
         }
     }

@@ -17,7 +17,7 @@ mod whole;
 pub use additive::{Additive, CentredSquares, SumValue};
 pub use additive_stages::AdditiveStages;
 pub use answers::{Answer, Way};
-pub use distances::{SquareBounds, around, far_square, near_square};
+pub use distances::{SquareBounds, correction, far_square, near_square};
 pub use keys::{behind, front, write_behind, write_front, write_key};
 pub use lines::Spread;
 pub use one_of::OneOf;

@@ -12,7 +12,7 @@ use Rattle.node_pool.proofs.Puts.{alike, unlike, same_key}
 abbrev AllHeavy : List Node → Type 0
 AllHeavy nodes = AllByRecursion (λ (a : Node). 1 ≤ a.weight) nodes
 
-member-holds : (P : List ℤ → Type 0) (nodes : List Node) (q : List ℤ) → AllByRecursion (λ a. P a.key) nodes → is_member key_eq (keys nodes) q ≡ true → P q
+pub member-holds : (P : List ℤ → Type 0) (nodes : List Node) (q : List ℤ) → AllByRecursion (λ a. P a.key) nodes → is_member key_eq (keys nodes) q ≡ true → P q
 member-holds P [] q a m = cc
 member-holds P (b ∷ nodes) q a m =
     elim (key_eq q b.key) as (λ t. key_eq q b.key ≡ t → (t || is_member key_eq (keys nodes) q) ≡ true → P q) [

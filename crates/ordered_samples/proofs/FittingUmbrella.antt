@@ -20,6 +20,7 @@ use Rattle.midranks.proofs.TieLemmas.{groups-ascend}
 use Rattle.sample_reader.specs.Groups.{group_sizes}
 use Rattle.sample_reader.specs.PooledSample.{paired_subjects}
 use Rattle.sample_reader.specs.declared.subjects.Subject.{Subject}
+use Rattle.sample_reader.proofs.PooledLemmas.{paired-few}
 use Rattle.networks.specs.declared.verdicts.Judge.{Judge}
 use Rattle.networks.specs.Judged.{judge_of}
 use Rattle.label_network.specs.LabelNetwork.{label_network}
@@ -99,12 +100,6 @@ group-few i (s ∷ ss) = by (nat_eq s.label i) (group-few i ss)
     by : (b : Bool) → length (group_of i ss) ≤ length ss → length (cond b (s ∷ group_of i ss) (group_of i ss)) ≤ suc (length ss)
     by true h = omega (arith, h)
     by false h = omega (arith, h)
-
-paired-few : (values : List ℤ) (xs : List ℕ) → length (paired_subjects values xs) ≤ length values
-unfolding paired_subjects
-paired-few [] xs = omega arith
-paired-few (v ∷ values) [] = omega arith
-paired-few (v ∷ values) (x ∷ xs) = omega (arith, paired-few values xs)
 
 pair-few : (ss : List Subject) (n : ℕ) → length ss ≤ n → (q : UsedPair) → pair_points ss q ≤ (2 * n) * n
 pair-few ss n h q =

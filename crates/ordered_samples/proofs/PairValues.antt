@@ -1,5 +1,5 @@
 -- The points of a labelling, column by column, are those of its pairs of subjects.
-use Rattle.std.proofs.Common.{◌≡◌, ℕ, zero, suc, ◌+◌, ◌-◌, ◌*◌, ◌<◌, ◌≤◌, Bool, true, false, cond, List, [], ◌∷◌, ◌++◌, map, length, get_or, take, drop, refl, sym, ◌∙◌, ap, arith, nat_eq, le-leb, ◌≢◌, length-append}
+use Rattle.std.proofs.Common.{◌≡◌, ℕ, zero, suc, ◌+◌, ◌-◌, ◌*◌, ◌<◌, ◌≤◌, Bool, true, false, cond, List, [], ◌∷◌, ◌++◌, map, length, get_or, take, drop, refl, sym, ◌∙◌, ap, arith, nat_eq, ◌≢◌, length-append}
 use Rattle.std.proofs.Math.Nat.{zero-add}
 use Rattle.std.specs.Prelude.{ℤ, pos, ◌+ℤ◌, ◌<ℤ◌, ◌≤ℤ◌, replicate, slice_index, int_lt}
 use Rattle.std.specs.List.{sum, sum_by, AllByRecursion}
@@ -12,20 +12,20 @@ use Rattle.std.proofs.lemmas.List.Sums.{sum_by-cons, sum_by-append}
 use Rattle.networks.specs.declared.verdicts.Judge.{Judge}
 use Rattle.weights.specs.Grouped.{columns_of, fits, minus}
 use Rattle.weights.specs.Labellings.{counts_of, labels}
-use Rattle.weights.proofs.Filters.{all_append}
+use Rattle.weights.proofs.Filters.{all_append, all_replicate, all_weaker}
 use Rattle.weights.proofs.Counted.{count_of}
-use Rattle.weights.proofs.Sized.{counts_of-append, length-counts_of, plus}
+use Rattle.weights.proofs.Sized.{counts_of-append, length-counts_of, plus-left}
 use Rattle.weights.proofs.Sums.{sum_by-plus, sum_by-same, sum_by-same_where}
 use Rattle.midranks.specs.Ties.{IsAscending}
 use Rattle.midranks.specs.declared.ties.Tie.{Tie}
 use Rattle.midranks.proofs.TieLemmas.{test-less, test-not_less, test-other, test-same}
 use Rattle.sample_reader.specs.PooledSample.{paired_subjects}
 use Rattle.sample_reader.specs.declared.subjects.Subject.{Subject}
+use Rattle.sample_reader.proofs.PooledLemmas.{paired-block, paired-all}
 use Rattle.later_scores.specs.LaterSums.{subjects}
 use Rattle.label_network.proofs.Endings.{labelling_value, partial_after}
 use Rattle.room_network.specs.Numbers.{so_far}
 use Rattle.label_network.proofs.Narrowing.{minus-within}
-use Rattle.midranks.proofs.TieLemmas.{all-weaker}
 use Rattle.ordered_samples.specs.declared.used_pairs.UsedPair.{UsedPair}
 use Rattle.ordered_samples.specs.PairCounts.{column_points, pairs_meaning, placed}
 use Rattle.ordered_samples.specs.Umbrella.{group_of, pair_points, points}
@@ -58,12 +58,12 @@ across-alike : (n : ℕ) (P Q : ℤ → Type 0) → ((v w : ℤ) → P v → Q w
     → across l h xs ys ≡ n * length (group_of h ys) * length (group_of l xs)
 across-alike n P Q each l h xs ys one other =
     sum-alike (λ (a : Subject). sum_by (λ (b : Subject). points a.value b.value) (group_of h ys)) (n * length (group_of h ys)) (group_of l xs)
-    (all-weaker (λ (a : Subject). P a.value) (λ (a : Subject). sum_by (λ (b : Subject). points a.value b.value) (group_of h ys) ≡ n * length (group_of h ys)) inner (group_of l xs) (all-kept (λ s. P s.value) l xs one))
+    (all_weaker (λ (a : Subject). P a.value) (λ (a : Subject). sum_by (λ (b : Subject). points a.value b.value) (group_of h ys) ≡ n * length (group_of h ys)) inner (group_of l xs) (all-kept (λ s. P s.value) l xs one))
   where
     inner : (a : Subject) → P a.value → sum_by (λ (b : Subject). points a.value b.value) (group_of h ys) ≡ n * length (group_of h ys)
     inner a p =
         sum-alike (λ (b : Subject). points a.value b.value) n (group_of h ys)
-        (all-weaker (λ (b : Subject). Q b.value) (λ (b : Subject). points a.value b.value ≡ n) (λ b q. each a.value b.value p q) (group_of h ys) (all-kept (λ s. Q s.value) h ys other))
+        (all_weaker (λ (b : Subject). Q b.value) (λ (b : Subject). points a.value b.value ≡ n) (λ b q. each a.value b.value p q) (group_of h ys) (all-kept (λ s. Q s.value) h ys other))
 
 -- ---- subjects in two parts
 
@@ -82,18 +82,6 @@ across-parts l h xs ys =
         (λ a. ap (sum_by (λ (b : Subject). points a.value b.value)) (filter-append (λ (s : Subject). nat_eq s.label h) xs ys) ∙ sum_by-append (λ (b : Subject). points a.value b.value) (group_of h xs) (group_of h ys)) zs
         ∙ sum_by-plus (λ (a : Subject). sum_by (λ (b : Subject). points a.value b.value) (group_of h xs)) (λ (a : Subject). sum_by (λ (b : Subject). points a.value b.value) (group_of h ys)) zs
 
-paired-block : (c : ℕ) (v : ℤ) (rest : List ℤ) (xs : List ℕ) → c ≤ length xs → paired_subjects (replicate c v ++ rest) xs ≡ paired_subjects (replicate c v) (take c xs) ++ paired_subjects rest (drop c xs)
-unfolding paired_subjects
-paired-block zero v rest xs h = refl
-paired-block (suc c) v rest [] h = absurd (omega (arith, h))
-paired-block (suc c) v rest (x ∷ xs) h = ap (λ ss. record { value = v; label = x } ∷ ss) (paired-block c v rest xs (omega (arith, h)))
-
-paired-all : (P : ℤ → Type 0) (values : List ℤ) (xs : List ℕ) → AllByRecursion P values → AllByRecursion (λ s. P s.value) (paired_subjects values xs)
-unfolding paired_subjects
-paired-all P [] xs a = tt
-paired-all P (v ∷ values) [] a = tt
-paired-all P (v ∷ values) (x ∷ xs) a = (a.0, paired-all P values xs a.1)
-
 group-length : (i : ℕ) (values : List ℤ) (xs : List ℕ) → length xs ≡ length values → length (group_of i (paired_subjects values xs)) ≡ count_of i xs
 unfolding paired_subjects
 group-length i [] [] e = refl
@@ -105,17 +93,13 @@ group-length i (v ∷ values) (x ∷ xs) e = by (nat_eq x i) (group-length i val
     by true rest sum = omega (arith, rest, sum)
     by false rest sum = omega (arith, rest, sum)
 
-all-replicate : (P : ℤ → Type 0) (c : ℕ) (v : ℤ) → P v → AllByRecursion P (replicate c v)
-all-replicate P zero v p = tt
-all-replicate P (suc c) v p = (p, all-replicate P c v p)
-
 -- the values of ascending groups, each as often as it occurs
 abbrev pub values_of_ties : List Tie → List ℤ
 values_of_ties ts = subjects (map (λ t. t.value) ts) (map (λ t. t.count) ts)
 
 all-later : (P : ℤ → Type 0) (ts : List Tie) → AllByRecursion (λ t. P t.value) ts → AllByRecursion P (subjects (map (λ t. t.value) ts) (map (λ t. t.count) ts))
 all-later P [] a = tt
-all-later P (t ∷ ts) a = all_append P (replicate t.count t.value) (subjects (map (λ t. t.value) ts) (map (λ t. t.count) ts)) (all-replicate P t.count t.value a.0) (all-later P ts a.1)
+all-later P (t ∷ ts) a = all_append P (replicate t.count t.value) (subjects (map (λ t. t.value) ts) (map (λ t. t.count) ts)) (all_replicate P t.count t.value a.0) (all-later P ts a.1)
 
 -- ---- the points of two values
 
@@ -164,9 +148,9 @@ module _ (t : Tie) (ts : List Tie) (up : IsAscending (t ∷ ts)) (xs : List ℕ)
   column-pairs l h =
       let here = paired_subjects (replicate t.count t.value) (take t.count xs) in
       let there = paired_subjects rest (drop t.count xs) in
-      let tied = across-alike 1 (λ v. v ≡ t.value) (λ v. v ≡ t.value) (λ v w p q. tied-points v w (p ∙ sym q)) l h here here (paired-all (λ v. v ≡ t.value) (replicate t.count t.value) (take t.count xs) (all-replicate (λ v. v ≡ t.value) t.count t.value refl)) (paired-all (λ v. v ≡ t.value) (replicate t.count t.value) (take t.count xs) (all-replicate (λ v. v ≡ t.value) t.count t.value refl)) in
-      let risen = across-alike 2 (λ v. v ≡ t.value) (λ w. t.value <ℤ w) (λ v w p q. risen-points v w (rw p q)) l h here there (paired-all (λ v. v ≡ t.value) (replicate t.count t.value) (take t.count xs) (all-replicate (λ v. v ≡ t.value) t.count t.value refl)) (paired-all (λ w. t.value <ℤ w) rest (drop t.count xs) (all-later (λ w. t.value <ℤ w) ts up.0)) in
-      let fallen = across-alike 0 (λ w. t.value <ℤ w) (λ v. v ≡ t.value) (λ v w p q. fallen-points v w (rw q p)) l h there here (paired-all (λ w. t.value <ℤ w) rest (drop t.count xs) (all-later (λ w. t.value <ℤ w) ts up.0)) (paired-all (λ v. v ≡ t.value) (replicate t.count t.value) (take t.count xs) (all-replicate (λ v. v ≡ t.value) t.count t.value refl)) in
+      let tied = across-alike 1 (λ v. v ≡ t.value) (λ v. v ≡ t.value) (λ v w p q. tied-points v w (p ∙ sym q)) l h here here (paired-all (λ v. v ≡ t.value) (replicate t.count t.value) (take t.count xs) (all_replicate (λ v. v ≡ t.value) t.count t.value refl)) (paired-all (λ v. v ≡ t.value) (replicate t.count t.value) (take t.count xs) (all_replicate (λ v. v ≡ t.value) t.count t.value refl)) in
+      let risen = across-alike 2 (λ v. v ≡ t.value) (λ w. t.value <ℤ w) (λ v w p q. risen-points v w (rw p q)) l h here there (paired-all (λ v. v ≡ t.value) (replicate t.count t.value) (take t.count xs) (all_replicate (λ v. v ≡ t.value) t.count t.value refl)) (paired-all (λ w. t.value <ℤ w) rest (drop t.count xs) (all-later (λ w. t.value <ℤ w) ts up.0)) in
+      let fallen = across-alike 0 (λ w. t.value <ℤ w) (λ v. v ≡ t.value) (λ v w p q. fallen-points v w (rw q p)) l h there here (paired-all (λ w. t.value <ℤ w) rest (drop t.count xs) (all-later (λ w. t.value <ℤ w) ts up.0)) (paired-all (λ v. v ≡ t.value) (replicate t.count t.value) (take t.count xs) (all_replicate (λ v. v ≡ t.value) t.count t.value refl)) in
       let long_there : length (drop t.count xs) ≡ length rest = rest-long ∙ sym (length-values ts) in
       ap (λ ss. across l h ss ss) (paired-block t.count t.value rest xs (omega (arith, enough)))
       ∙ across-parts l h here there
@@ -176,15 +160,6 @@ module _ (t : Tie) (ts : List Tie) (up : IsAscending (t ∷ ts)) (xs : List ℕ)
       gathered a b c d xl xh bh gl gh kh kl e f g p q r = rw (p, q, r, e, f, g) (omega arith)
 
 -- ---- counts that are placed and that remain
-
-plus-left : (x z r : List ℕ) → plus x z ≡ r → length x ≡ length z → (fits x r ≡ true) × (minus r x ≡ z)
-plus-left [] [] r e l = rw (← e) (refl, refl)
-plus-left [] (b ∷ z) r e l = absurd (omega (arith, l))
-plus-left (a ∷ x) [] r e l = absurd (omega (arith, l))
-plus-left (a ∷ x) (b ∷ z) r e l =
-    let rest = plus-left x z (plus x z) refl (omega (arith, l)) in
-    let back : a + b - a ≡ b = omega arith in
-    rw (← e, le-leb a (a + b) (omega arith), rest.0, back, rest.1) (refl, refl)
 
 pub counts-left : (k c : ℕ) (xs r : List ℕ) → counts_of k xs ≡ r → (fits (counts_of k (take c xs)) r ≡ true) × (minus r (counts_of k (take c xs)) ≡ counts_of k (drop c xs))
 counts-left k c xs r e =

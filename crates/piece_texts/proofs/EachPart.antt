@@ -15,7 +15,7 @@ abbrev pub occurrences : ℕ → List ℕ → ℕ
 occurrences i [] = 0
 occurrences i (x ∷ xs) = cond (nat_eq x i) 1 0 + occurrences i xs
 
-over-plus : (f h : ℕ → ℕ) (parts : ℕ) → over_parts (λ p. f p + h p) parts ≡ over_parts f parts + over_parts h parts
+pub over-plus : (f h : ℕ → ℕ) (parts : ℕ) → over_parts (λ p. f p + h p) parts ≡ over_parts f parts + over_parts h parts
 over-plus f h zero = refl
 over-plus f h (suc parts) = omega (arith, over-plus f h parts)
 

@@ -2,6 +2,7 @@
 use Rattle.std.proofs.Common.{◌≡◌, ◌≢◌, ℕ, ◌+◌, ◌<◌, List, [], ◌∷◌, ◌++◌, length, true, false, refl, sym, ◌∙◌, ap, subst, arith, inl, inr, append_assoc, append-nil}
 use Rattle.std.specs.List.{AllByRecursion, flat_map}
 use Rattle.std.proofs.lemmas.List.{length_push, append_cancel_left}
+use Rattle.weights.proofs.Filters.{all_push}
 use Rattle.piece_texts.specs.declared.piece.Piece.{Piece}
 use Rattle.piece_texts.specs.declared.reader.Step.{Step}
 use Rattle.piece_texts.specs.declared.reader.Step.TheVariants.{Outside, AtName, AtParts, AtPart, AtCount, InHead, AtTail}
@@ -11,7 +12,7 @@ use Rattle.piece_texts.specs.ReadPieces.{AreLines, AreTexts, Starts, NoTexts, Is
 use Rattle.piece_texts.proofs.LineRuns.{IsRead, Runs, after_pieces}
 use Rattle.piece_texts.proofs.LinesLead.{leads-on, runs-on, runs-split, runs-once}
 use Rattle.piece_texts.proofs.PieceRuns.{run-pieces, run-text, all-append, never-empty, lines-first, nothing-left}
-use Rattle.piece_texts.proofs.TextsGrow.{fresh-shown, shown-runs, flat-push, all-push, partial}
+use Rattle.piece_texts.proofs.TextsGrow.{fresh-shown, shown-runs, flat-push, partial}
 
 pub no-length : (xs : List ℕ) → length xs ≡ 0 → xs ≡ []
 no-length [] e = refl
@@ -19,7 +20,7 @@ no-length (x ∷ xs) e = absurd (omega (arith, e))
 
 lines-more : (bytes : List ℕ) (lines : List (List ℕ)) (line rest rest' : List ℕ) → AreLines bytes lines rest → HasNoFeed line → rest ≡ line ++ 10 ∷ rest' → AreLines bytes (lines ++ line ∷ []) rest'
 lines-more bytes lines line rest rest' cut free e = record {
-  free = all-push HasNoFeed lines line cut.free free;
+  free = all_push HasNoFeed lines line cut.free free;
   cut = cut.cut
       ∙ ap (λ t. flat_map ended lines ++ t) (e ∙ sym (append_assoc line (10 ∷ []) rest'))
       ∙ sym (append_assoc (flat_map ended lines) (ended line) rest')
@@ -91,7 +92,7 @@ read-fault bytes rest line rest' number s r free is cannot = record {
   where
     none : Starts (flat_map ended (r.lines ++ line ∷ [])) → ⊥
     none b =
-        let runs = runs-from-starts (r.lines ++ line ∷ []) (all-push HasNoFeed r.lines line r.cut.free free) b in
+        let runs = runs-from-starts (r.lines ++ line ∷ []) (all_push HasNoFeed r.lines line r.cut.free free) b in
         let parts = runs-split fresh runs.0 r.lines (line ∷ []) runs.1 in
         let same : parts.0 ≡ s = runs-once fresh parts.0 s r.lines parts.1 r.runs in
         cannot parts.2.0 (subst (λ m. Leads m.at m line parts.2.0) same parts.2.1)

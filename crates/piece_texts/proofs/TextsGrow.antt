@@ -3,6 +3,7 @@ use Rattle.std.proofs.Common.{◌≡◌, ◌≢◌, ℕ, zero, suc, ◌+◌, ◌
 use Rattle.std.specs.List.{AllByRecursion, flat_map}
 use Rattle.std.proofs.lemmas.List.{take_more}
 use Rattle.weights.specs.declared.TheConstants.{MAX}
+use Rattle.weights.proofs.Filters.{all_push}
 use Rattle.piece_texts.specs.declared.piece.Piece.{Piece}
 use Rattle.piece_texts.specs.declared.piece.PieceSum.{PieceSum}
 use Rattle.piece_texts.specs.declared.reader.Step.{Step}
@@ -137,10 +138,6 @@ pub flat-push : {A : Type 0} (f : A → List ℕ) (xs : List A) (x : A) → flat
 flat-push f [] x = append-nil (f x)
 flat-push f (y ∷ xs) x = ap (λ t. f y ++ t) (flat-push f xs x) ∙ sym (append_assoc (f y) (flat_map f xs) (f x))
 
-pub all-push : {A : Type 0} (P : A → Type 0) (xs : List A) (x : A) → AllByRecursion P xs → P x → AllByRecursion P (xs ++ x ∷ [])
-all-push P [] x a p = (p, tt)
-all-push P (y ∷ xs) x a p = (a.0, all-push P xs x a.1 p)
-
 -- a line more of a piece
 abbrev Advances : Step → Piece → List ℕ → Step → Piece → Type 0
 Advances step d line step' d' = Fits step' d' × (partial step' d' ≡ partial step d ++ ended line)
@@ -162,7 +159,7 @@ head-line k d line free f = record {
   few = omega (arith, count-more d.head line free, f.few);
   named = record { name = f.named.name; some_parts = f.named.some_parts; few_parts = f.named.few_parts; part = f.named.part };
   lines = f.lines ++ line ∷ [];
-  free = all-push HasNoFeed f.lines line f.free free;
+  free = all_push HasNoFeed f.lines line f.free free;
   text = ap (λ h. h ++ ended line) f.text ∙ sym (flat-push ended f.lines line);
   tails = record { less = f.tails.less; greater = f.tails.greater; two = f.tails.two };
 }
@@ -335,7 +332,7 @@ shown-step (AtTail from) done d line text next free s (inl l) =
     (goes-on done (AtTail from) (AtTail (suc l.tail)) d (with_tail l.tail l.sums d) line text s (advance-tail from l.tail d l.sums line l.is s.fits))
 shown-step (AtTail from) done d line text next free s (inr l) =
     subst (λ n. Shown n (text ++ ended line)) (sym l.leads) (record {
-      formed = all-push IsPiece done d s.formed (end-formed from d l.some s.fits);
+      formed = all_push IsPiece done d s.formed (end-formed from d l.some s.fits);
       fits = refl;
       is = ap (λ t. t ++ ended line) s.is
           ∙ append_assoc (flat_map piece_text done) (to_tails d ++ tail_lines d) (ended line)

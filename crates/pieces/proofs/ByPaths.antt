@@ -5,6 +5,9 @@ use Rattle.std.specs.List.{sum_by, filter, Contains}
 use Rattle.std.proofs.lemmas.List.Sums.{sum_by-cons}
 use Rattle.std.proofs.Math.Nat.{mul_assoc}
 use Rattle.weights.specs.declared.tails.Tail.{Tail}
+use Rattle.weights.proofs.Filters.{filter-same}
+use Rattle.weights.proofs.Sums.{sum_by-zero}
+use Rattle.weights.proofs.GroupingLaw.{cond-both}
 use Rattle.networks.specs.declared.stages.Verdict.{Verdict}
 use Rattle.networks.specs.declared.stages.Verdict.TheVariants.{Inside, Outside, Undecided}
 use Rattle.networks.specs.Network.{Network, IsReached}
@@ -15,11 +18,6 @@ use Rattle.networks.proofs.Steps.{sum_by-same, sum_by-scaled, sum_by-map, sum_by
 use Rattle.pieces.specs.Cuts.{stays_open, meets_inside, met, closed_sum, open_sum, met_sum}
 use Rattle.pieces.proofs.Conserving.{openly, closing, over-choices, conserved}
 use Rattle.stage_network.proofs.Conserved.{inside-sum, outside-sum}
-
--- filters
-filter-same : {X : Type 0} (p q : X → Bool) → ((x : X) → p x ≡ q x) → (xs : List X) → filter p xs ≡ filter q xs
-filter-same p q same [] = refl
-filter-same p q same (x ∷ xs) = rw (same x, filter-same p q same xs) refl
 
 and_true : (a : Bool) → (a && true) ≡ a
 and_true true = refl
@@ -69,18 +67,10 @@ module _ (n : Network) (m g : ℕ) (k : List ℤ) (f : List (List ℕ) → ℕ) 
 no-times : (a : ℕ) → a * 0 ≡ 0
 no-times a = grind arith
 
-sum-none : {X : Type 0} (xs : List X) → sum_by (λ x. 0) xs ≡ 0
-sum-none [] = refl
-sum-none (x ∷ xs) = omega (arith, sum_by-cons (λ y. 0) x xs, sum-none xs)
-
 -- a condition at the key itself, in the sum over its choices
 cond-out : {X : Type 0} (b : Bool) (w a : X → ℕ) (xs : List X) → sum_by (λ x. w x * cond b (a x) 0) xs ≡ cond b (sum_by (λ x. w x * a x) xs) 0
 cond-out true w a xs = refl
-cond-out false w a xs = sum_by-same (λ x. w x * 0) (λ x. 0) (λ x. no-times (w x)) xs ∙ sum-none xs
-
-cond-and : (a b : Bool) (x : ℕ) → cond (a && b) x 0 ≡ cond a (cond b x 0) 0
-cond-and true b x = refl
-cond-and false b x = refl
+cond-out false w a xs = sum_by-same (λ x. w x * 0) (λ x. 0) (λ x. no-times (w x)) xs ∙ sum_by-zero xs
 
 module _ (n : Network) (t : Tail) where
   -- the ways that meet open keys alone
@@ -118,7 +108,7 @@ module _ (n : Network) (t : Tail) where
       let same : h ≡ g = omega (arith, at) in
       with-last (path_weight n g k) (ends_inside n t g k) (paths n e g k) (is_open n t g k && p k)
       ∙ ap (λ j. cond (is_open n t g k && p k) j 0) (extreme-is e g k is)
-      ∙ cond-and (is_open n t g k) (p k) (extreme_weight n t g k)
+      ∙ cond-both (is_open n t g k) (p k) (extreme_weight n t g k)
       ∙ rw same refl
   open_parts p (suc m) zero g h k le is at = absurd (omega (arith, le))
   open_parts p (suc m) (suc e) g h k le is at =

@@ -13,6 +13,7 @@ use Rattle.networks.specs.Network.{Network}
 use Rattle.networks.proofs.Steps.{extreme-le-total, sum_by-same}
 use Rattle.piece_texts.specs.Merges.{over_parts}
 use Rattle.piece_texts.specs.PieceTexts.{SumFits}
+use Rattle.piece_texts.proofs.EachPart.{over-plus}
 use Rattle.pieces.specs.declared.cuts.CountedCut.{CountedCut}
 use Rattle.pieces.specs.Cuts.{IsCutAt, IsCountedCut, PartsAddUp, PiecesAddUp, piece_sum, belongs, counted_nodes, cut_stage, is_owned, met, met_sum, keys_open_at, open_sum, owned_nodes, owned_sum, place_of, stays_open}
 use Rattle.pieces.specs.Parting.{dealt}
@@ -53,15 +54,11 @@ over-zero : (parts : ℕ) → over_parts (λ p. 0) parts ≡ 0
 over-zero zero = refl
 over-zero (suc parts) = omega (arith, over-zero parts)
 
-over-added : (f h : ℕ → ℕ) (parts : ℕ) → over_parts (λ p. f p + h p) parts ≡ over_parts f parts + over_parts h parts
-over-added f h zero = refl
-over-added f h (suc parts) = omega (arith, over-added f h parts)
-
 over-sums : {X : Type 0} (f : ℕ → X → ℕ) (parts : ℕ) (xs : List X) → over_parts (λ p. sum_by (f p) xs) parts ≡ sum_by (λ x. over_parts (λ p. f p x) parts) xs
 over-sums f parts [] = over-zero parts
 over-sums f parts (x ∷ xs) =
     over-same _ (λ p. f p x + sum_by (f p) xs) parts (λ p. sum_by-cons (f p) x xs)
-    ∙ over-added (λ p. f p x) (λ p. sum_by (f p) xs) parts
+    ∙ over-plus (λ p. f p x) (λ p. sum_by (f p) xs) parts
     ∙ ap (λ m. over_parts (λ p. f p x) parts + m) (over-sums f parts xs)
     ∙ sym (sum_by-cons (λ y. over_parts (λ p. f p y) parts) x xs)
 

@@ -15,6 +15,7 @@ use Rattle.stage_network.specs.FromKeys.{AreStarts}
 use Rattle.networks.specs.Network.{Network, IsReached}
 use Rattle.stage_network.specs.NodeSteps.{AllHeavy, AllReached}
 use Rattle.piece_texts.specs.Merges.{over_parts}
+use Rattle.piece_texts.proofs.EachPart.{over-plus}
 use Rattle.pieces.specs.Cuts.{is_owned, owned_nodes}
 
 no-times : (a : ℕ) → a * 0 ≡ 0
@@ -66,11 +67,6 @@ owned-weighted f (a ∷ nodes) (o ∷ owners) part d =
     by : (b : Bool) → a.weight * cond b (f a.key) 0 + weighted f (owned_nodes nodes owners part) ≡ weighted f (cond b (a ∷ owned_nodes nodes owners part) (owned_nodes nodes owners part))
     by true = sym (sum_by-cons (λ (e : Node). e.weight * f e.key) a (owned_nodes nodes owners part))
     by false = omega (arith, no-times a.weight)
-
--- sums over parts
-over-plus : (f h : ℕ → ℕ) (parts : ℕ) → over_parts (λ p. f p + h p) parts ≡ over_parts f parts + over_parts h parts
-over-plus f h zero = refl
-over-plus f h (suc parts) = omega (arith, over-plus f h parts)
 
 pub over-same : (f h : ℕ → ℕ) (parts : ℕ) → ((p : ℕ) → f p ≡ h p) → over_parts f parts ≡ over_parts h parts
 over-same f h zero same = refl

@@ -6,10 +6,9 @@ use Rattle.std.proofs.lemmas.List.Elements.{All-from_recursion, recursion_from_A
 use Rattle.std.proofs.lemmas.List.Sums.{sum_by-cons}
 use Rattle.weights.specs.Labellings.{counts_of, labellings, labels}
 use Rattle.weights.proofs.Counted.{count_of}
-use Rattle.weights.proofs.Filters.{map-same}
+use Rattle.weights.proofs.Filters.{map-same, all_weaker}
 use Rattle.weights.proofs.Members.{Contains-labellings}
 use Rattle.weights.proofs.Sized.{length-counts_of, sum-counts_of}
-use Rattle.midranks.proofs.TieLemmas.{all-weaker}
 use Rattle.sample_reader.specs.Data.{data_of}
 use Rattle.sample_reader.specs.Groups.{group_sizes}
 use Rattle.sample_reader.specs.PooledSample.{labels_of, pooled}
@@ -68,7 +67,7 @@ module _ (groups : Groups) where
 
   pub labels-small : All (λ label. label < 2 ^ 8) (labels_of (pooled (data_of groups)))
   labels-small = All-from_recursion (λ label. label < 2 ^ 8) (labels_of (pooled (data_of groups)))
-      (all-weaker (λ label. label < length groups.labels) (λ label. label < 2 ^ 8) (λ label h. omega (arith, h, groups.at_most_eight)) (labels_of (pooled (data_of groups)))
+      (all_weaker (λ label. label < length groups.labels) (λ label. label < 2 ^ 8) (λ label h. omega (arith, h, groups.at_most_eight)) (labels_of (pooled (data_of groups)))
       (pooled-labels (λ label. label < length groups.labels) (data_of groups) groups.one_group_each members-below))
 
   -- which are a labelling of the sizes

@@ -10,7 +10,7 @@ use Rattle.std.proofs.lemmas.Int.{ints}
 use Rattle.std.proofs.lemmas.List.{length-map}
 use Rattle.weights.specs.InOrder.{in_order, put_in}
 use Rattle.weights.proofs.OneOrder.{length-in_order}
-use Rattle.midranks.proofs.TieLemmas.{all-weaker}
+use Rattle.weights.proofs.Filters.{all_weaker}
 use Rattle.sample_reader.specs.Groups.{GroupData}
 use Rattle.sample_reader.specs.PooledSample.{may_precede, paired_subjects, pooled, subject_cmp, values_of}
 use Rattle.sample_reader.specs.declared.subjects.Subject.{Subject}
@@ -63,7 +63,7 @@ insert-rises x [] up = (tt, tt)
 insert-rises x (y ∷ ys) up = by (is_le (subject_cmp x y)) refl (insert-rises x ys up.1)
   where
     by : (b : Bool) → is_le (subject_cmp x y) ≡ b → Rises (values_of (put_in may_precede x ys)) → Rises (values_of (cond b (x ∷ y ∷ ys) (y ∷ put_in may_precede x ys)))
-    by true e rest = ((not-after x y e, all-weaker (λ w. y.value ≤ℤ w) (λ w. x.value ≤ℤ w) (λ w h. chain x.value y.value w (not-after x y e) h) (values_of ys) up.0), up)
+    by true e rest = ((not-after x y e, all_weaker (λ w. y.value ≤ℤ w) (λ w. x.value ≤ℤ w) (λ w h. chain x.value y.value w (not-after x y e) h) (values_of ys) up.0), up)
     by false e rest = (insert-all (λ w. y.value ≤ℤ w) x ys (not-before x y e) up.0, rest)
 
 ascending-rises : (xs : List Subject) → Rises (values_of (in_order may_precede xs))

@@ -26,7 +26,7 @@ use Rattle.symmetry_reduction.proofs.PlaceOrder.{back-key, front-key}
 use Rattle.rank_assignments.specs.Reflections.{AreReflections}
 use Rattle.rank_assignments.specs.Assignments.{AreAssignments, ahead_at, alike, centre, gained, given, one_each, over_ends, assigned_sums, assignment_at, assignment_network, assignment_plan, unassigned}
 use Rattle.rank_assignments.specs.Upright.{reflection_at, upright}
-use Rattle.networks.specs.Distances.{around, far_square, near_square, squared}
+use Rattle.networks.specs.Distances.{correction, far_square, near_square, squared}
 use Rattle.rank_assignments.specs.declared.assignment.Assignment.{Assignment}
 use Rattle.rank_assignments.specs.declared.assignment.Ahead.{Ahead}
 use Rattle.rank_assignments.proofs.AssignmentRooms.{assignment_width}
@@ -243,12 +243,12 @@ module _ (k : ℕ) (vs : List Assignment) (judge : Judge) (a : AreAssignments k 
   low-exchanged : (g : ℕ) (key j : List ℤ) → IsReached n g key → IsExchange (alike k) key j → intervals.low g j ≡ intervals.low g key
   low-exchanged g key j r (i, s, e) =
       ap (intervals.low g) (exchange-is i key j e)
-      ∙ ap (λ x. pos (around k (centre k vs) (given vs) + x)) (ends-exchange (near_square (centre k vs)) i g key r)
+      ∙ ap (λ x. pos (correction k (centre k vs) (given vs) + x)) (ends-exchange (near_square (centre k vs)) i g key r)
 
   high-exchanged : (g : ℕ) (key j : List ℤ) → IsReached n g key → IsExchange (alike k) key j → intervals.high g j ≡ intervals.high g key
   high-exchanged g key j r (i, s, e) =
       ap (intervals.high g) (exchange-is i key j e)
-      ∙ ap (λ x. pos (around k (centre k vs) (given vs) + x)) (ends-exchange (far_square (centre k vs)) i g key r)
+      ∙ ap (λ x. pos (correction k (centre k vs) (given vs) + x)) (ends-exchange (far_square (centre k vs)) i g key r)
 
   -- so treatments may be put in order
   pub treatments-reduced : MayBeReduced (alike k) n judge

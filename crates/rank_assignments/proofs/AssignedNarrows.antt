@@ -15,7 +15,7 @@ use Rattle.networks.specs.declared.verdicts.Judge.{Judge}
 use Rattle.rank_assignments.specs.Reflections.{AreReflections, IsReflection}
 use Rattle.rank_assignments.specs.Assignments.{AreAssignments, ahead, ahead_at, before, gained, no_assignment, centre, given, least_squares, most_squares, over_ends, assigned_sums, assignment_at, unassigned}
 use Rattle.rank_assignments.specs.Upright.{reflection_at, reflected, upright}
-use Rattle.networks.specs.Distances.{around, far_square, near_square, squared}
+use Rattle.networks.specs.Distances.{correction, far_square, near_square, squared}
 use Rattle.rank_assignments.specs.declared.assignment.Assignment.{Assignment}
 use Rattle.rank_assignments.specs.declared.assignment.Ahead.{Ahead}
 use Rattle.rank_assignments.proofs.AssignmentRooms.{IsAssignedRoom, ahead-here, at-assignment, room-first, room-next, sizes-unassigned, taken-all}
@@ -162,10 +162,10 @@ module _ (k : ℕ) (vs : List Assignment) (judge : Judge) (a : AreAssignments k 
         ∙ reflected-ends f (centre k vs) mid (ahead_at k vs (g + 1)) c (i l.some).amid k s l.within
         ∙ sym (all-wait f s (i l.some).closes)
 
-    same-ends : (f : ℕ → ℕ → ℕ) → IsMidway f (centre k vs) → around k (centre k vs) (given vs) + there f (sizes_in (map pos (upright c s))) ≡ around k (centre k vs) (given vs) + there f s
+    same-ends : (f : ℕ → ℕ → ℕ) → IsMidway f (centre k vs) → correction k (centre k vs) (given vs) + there f (sizes_in (map pos (upright c s))) ≡ correction k (centre k vs) (given vs) + there f s
     same-ends f mid =
-        ap (λ y. around k (centre k vs) (given vs) + there f y) (sizes-back (upright c s))
-        ∙ ap (λ n. around k (centre k vs) (given vs) + n) (either (λ y. there f y ≡ there f s) c s (reflection-ends f mid) refl)
+        ap (λ y. correction k (centre k vs) (given vs) + there f y) (sizes-back (upright c s))
+        ∙ ap (λ n. correction k (centre k vs) (given vs) + n) (either (λ y. there f y ≡ there f s) c s (reflection-ends f mid) refl)
 
     same-low : least_squares k vs (ahead_at k vs (g + 1)) (sizes_in (left g room x)) (sizes_in (map pos (upright c s))) ≡ least_squares k vs (ahead_at k vs (g + 1)) (sizes_in (left g room x)) s
     same-low = same-ends (near_square (centre k vs)) (near-midway (centre k vs))

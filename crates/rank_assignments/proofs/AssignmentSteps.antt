@@ -21,7 +21,7 @@ use Rattle.label_network.specs.Meanings.{sizes_in}
 use Rattle.label_network.proofs.Rows.{abs-at, length-abs, pos-at, get-within}
 use Rattle.label_network.proofs.Sizes.{sizes-of_pos}
 use Rattle.rank_assignments.specs.BoundSteps.{IsSmall}
-use Rattle.networks.specs.Distances.{around}
+use Rattle.networks.specs.Distances.{correction, correction_limit, square_limit}
 use Rattle.rank_assignments.specs.Assignments.{AreAhead, AreMarks, AreAssignments, AreSums, IsSmallAhead, ahead, ahead_at, before, centre, gained, given, no_assignment, over_ends, raises, assignment_at, assignments}
 use Rattle.rank_assignments.specs.declared.assignment.Assignment.{Assignment}
 use Rattle.rank_assignments.specs.declared.assignment.Ahead.{Ahead}
@@ -245,7 +245,7 @@ end-within here later room partial i end marks sums h e p q is =
     omega (arith, is, end-small (nat_abs (get_or partial i (pos 0))) (nat_abs (get_or room i (pos 0))) here later (sums.small i h) mark p q)
 
 -- a sum of a few squares is small
-pub squares-small : (n : ℕ) → n ≤ 72057594037927936 → IsSmall (pos n)
+pub squares-small : (n : ℕ) → n ≤ 16 * square_limit → IsSmall (pos n)
 squares-small n h = (omega (arith, ints), omega (arith, ints, h))
 
 -- ---- what is given
@@ -274,8 +274,8 @@ module _ (k : ℕ) (vs : List Assignment) (judge : Judge) (a : AreAssignments k 
   pub centre-less : centre k vs ≤ given vs
   centre-less = div-le_self (given vs) k
 
-  pub around-small : given vs ≤ 21760000 → around k (centre k vs) (given vs) ≤ 2251799813685248
-  around-small h =
+  pub correction-small : given vs ≤ 21760000 → correction k (centre k vs) (given vs) ≤ correction_limit
+  correction-small h =
       let less : centre k vs ≤ 21760000 = omega (arith, h, centre-less) in
       let times : centre k vs * given vs ≤ 21760000 * 21760000 = mul-le-mul less h in
       omega (arith, times)

@@ -20,7 +20,7 @@ use Rattle.symmetry_reduction.specs.declared.orders.Order.{Order}
 use Rattle.symmetry_reduction.specs.declared.orders.Order.TheVariants.{Sums, SumsWhereAllRemain}
 use Rattle.rank_assignments.specs.BoundSteps.{IsSmall}
 use Rattle.rank_assignments.specs.Upright.{reflection_at, upright}
-use Rattle.networks.specs.Distances.{around, far_square, near_square, squared}
+use Rattle.networks.specs.Distances.{correction, far_square, near_square, squared}
 use Rattle.rank_assignments.specs.declared.assignment.Assignment.{Assignment}
 use Rattle.rank_assignments.specs.declared.assignment.Ahead.{Ahead}
 
@@ -134,11 +134,11 @@ centre k vs = given vs / k
 -- what the squares of the sums are at least, and at most
 abbrev pub least_squares : ℕ → List Assignment → Ahead → List ℕ → List ℕ → ℕ
 least_squares k vs a room sums =
-    around k (centre k vs) (given vs) + over_ends (near_square (centre k vs)) a room sums
+    correction k (centre k vs) (given vs) + over_ends (near_square (centre k vs)) a room sums
 
 abbrev pub most_squares : ℕ → List Assignment → Ahead → List ℕ → List ℕ → ℕ
 most_squares k vs a room sums =
-    around k (centre k vs) (given vs) + over_ends (far_square (centre k vs)) a room sums
+    correction k (centre k vs) (given vs) + over_ends (far_square (centre k vs)) a room sums
 
 -- after each assignment the sums are reflected where they lean
 abbrev pub assigned_sums : ℕ → List Assignment → List ℕ → Judge → Meaning

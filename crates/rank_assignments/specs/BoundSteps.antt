@@ -1,5 +1,6 @@
 -- Words for the bodies: bounds and sums that pass no limit.
-use Rattle.std.specs.Prelude.{ℕ, ◌≡◌, ◌≤◌, ◌<◌, ◌≤ℤ◌, ◌^◌, ℤ, pos, nat_abs, List, get_or, length}
+use Rattle.std.specs.Prelude.{ℕ, ◌*◌, ◌≡◌, ◌≤◌, ◌<◌, ◌≤ℤ◌, ◌^◌, ℤ, pos, nat_abs, List, get_or, length}
+use Rattle.networks.specs.Distances.{square_limit}
 use Rattle.networks.specs.declared.distances.SquareBounds.{SquareBounds}
 
 -- a statistic of at most 2 ^ 60
@@ -7,8 +8,8 @@ abbrev pub IsSmall : ℤ → Type 0
 IsSmall v = (pos 0 ≤ℤ v) × (v ≤ℤ pos (2 ^ 60))
 
 pub record AreSmallBounds (b : SquareBounds) : Type 0 where
-  pub near : b.near ≤ 36028797018963968
-  pub far : b.far ≤ 36028797018963968
+  pub near : b.near ≤ 8 * square_limit
+  pub far : b.far ≤ 8 * square_limit
 
 -- sums after a number more
 pub record AreGained (sums : List ℤ) : Type 0 where

@@ -3,7 +3,8 @@ ghost use Rattle.std.specs.Prelude.{◌≡◌, ◌+◌, ◌*◌, ◌<◌, ◌≤
 ghost use Rattle.std.specs.Prelude.{slice_index_or, All, if◌then◌else◌, true};
 ghost use Rattle.std.specs.List.{sum_by};
 ghost use Rattle.weights.specs.Grouped.{fits, minus};
-ghost use Rattle.networks.specs.Distances.{far_square, near_square, squared};
+ghost use Rattle.networks.specs.Distances.{correction_limit, far_square, near_square, square_limit};
+ghost use Rattle.networks.specs.Distances.{squared};
 ghost use Rattle.label_network.specs.LabelSteps.{AreSizes};
 ghost use Rattle.label_network.specs.Meanings.{sizes_in};
 ghost use Rattle.rank_assignments.specs.Assignments.{AreMarks, AreSums, IsSmallAhead};
@@ -174,10 +175,10 @@ fn squares(partial: &[i128]) -> u64
 // What the squares of the sums are, beside those of their distances from the centre.
 #[inline(always)]
 fn squares_with(base: u64, distances: u64) -> u64
-    requires base { base ≤ 2251799813685248 }
-    requires distances { distances ≤ 36028797018963968 }
+    requires base { base ≤ correction_limit }
+    requires distances { distances ≤ 8 * square_limit }
     ensures is { result ≡ base + distances }
-    ensures small { result ≤ 72057594037927936 }
+    ensures small { result ≤ 16 * square_limit }
 {
     base + distances
 }
@@ -185,8 +186,8 @@ fn squares_with(base: u64, distances: u64) -> u64
 // The interval between two ends.
 #[inline(always)]
 fn interval_of(low: u64, high: u64) -> Interval
-    requires low { low ≤ 72057594037927936 }
-    requires high { high ≤ 72057594037927936 }
+    requires low { low ≤ 16 * square_limit }
+    requires high { high ≤ 16 * square_limit }
     ensures low { result.low ≡ pos low }
     ensures high { result.high ≡ pos high }
     ensures low_small { IsSmall result.low }

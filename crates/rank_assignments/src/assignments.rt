@@ -4,7 +4,7 @@ ghost use Rattle.std.specs.Prelude.{IfOk, OnOk};
 ghost use Rattle.std.specs.List.{sum};
 ghost use Rattle.weights.specs.Numbers.{binomial};
 ghost use Rattle.weights.specs.declared.TheConstants.{MAX};
-ghost use Rattle.networks.specs.Distances.{around};
+ghost use Rattle.networks.specs.Distances.{correction};
 ghost use Rattle.rank_assignments.specs.Reflections.{AreReflections, reflections_of};
 ghost use Rattle.rank_assignments.specs.Assignments.{AreAhead, AreAssignments, IsSmallAhead, ahead_at};
 ghost use Rattle.rank_assignments.specs.Assignments.{before, centre, given};
@@ -13,7 +13,7 @@ ghost use Rattle.rank_assignments.specs.Upright.{reflection_at};
 
 use crate::assignment::{Ahead, Assignment};
 use crate::reflecting::reflections_of;
-use networks::{Judge, around};
+use networks::{Judge, correction};
 use std::alloc::Global;
 use weights::{NoMemory, binomial, total_of};
 
@@ -32,7 +32,8 @@ pub struct Assignments {
     ghost right: { AreAssignments treatments items.items judge },
     ghost table: { AreAhead treatments items.items (length items.items) ahead.items },
     ghost middle_is: { middle ≡ centre treatments items.items },
-    ghost base_is: { base ≡ around treatments (centre treatments items.items) (given items.items) },
+    ghost base_is: { base ≡ correction treatments (centre treatments items.items)
+        (given items.items) },
     ghost reflections_are: { AreReflections treatments items.items reflections.items },
 }
 
@@ -170,7 +171,7 @@ impl Assignments {
         let ahead = ahead_of(alloc, treatments, items.as_slice(), judge)?;
         let given = given(treatments, items.as_slice(), judge);
         let middle = given / treatments as u64;
-        let base = around(treatments as u64, middle, given);
+        let base = correction(treatments as u64, middle, given);
         let reflections = reflections_of(
             alloc,
             treatments,

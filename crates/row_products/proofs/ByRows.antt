@@ -12,20 +12,20 @@ use Rattle.weights.proofs.Filters.{all_weaker}
 use Rattle.weights.proofs.FirstLabel.{number_of_labellings-positive}
 use Rattle.weights.proofs.Tables.{IsTable, tables-each}
 use Rattle.completion_bounds.specs.Fillings.{evenly_divided, filled_in_turn, falling, HoldsWeights, LiesBetween, product_by}
-use Rattle.completion_bounds.proofs.Factorials.{factorial as plain, factorials, IsWithin, total, total-filled_in_turn, total-is, weight-factorials}
+use Rattle.completion_bounds.proofs.Factorials.{factorial as plain, factorials, IsWithin, total, total-filled_in_turn, total-is, weight-factorials, factorial_least}
 use Rattle.completion_bounds.proofs.TableWeights.{filled, filled_in_turn-within, labellings-parts, left-total, within, within-fits, within-length}
 use Rattle.weights.specs.declared.TheConstants.{MAX}
 use Rattle.row_products.specs.declared.bounds.RowBounds.{RowBounds}
 use Rattle.row_products.specs.Factorials.{cut}
 use Rattle.row_products.specs.RowProducts.{bounds_by_rows, factorial, greatest_by_rows, greatest_product, least_by_rows, least_product}
-use Rattle.row_products.proofs.Cutting.{down-cut, factorial_some, products_some, up-cut}
+use Rattle.row_products.proofs.Cutting.{down-cut, products_some, up-cut}
 use Rattle.row_products.proofs.Products.{greatest-rows, least-rows, same-factorial}
 
 pub greatest_some : (columns : List ℕ) (row : ℕ) → 1 ≤ greatest_product columns row
-greatest_some columns row = products_some factorial factorial_some (filled_in_turn row (falling columns))
+greatest_some columns row = products_some factorial factorial_least (filled_in_turn row (falling columns))
 
 pub least_some : (columns row : ℕ) → 1 ≤ least_product columns row
-least_some columns row = products_some factorial factorial_some (evenly_divided row columns)
+least_some columns row = products_some factorial factorial_least (evenly_divided row columns)
 
 -- quotients that are rounded
 

@@ -7,6 +7,7 @@ use Rattle.std.proofs.lemmas.Bool.{leb-true}
 use Rattle.weights.specs.declared.TheConstants.{MAX}
 use Rattle.completion_bounds.specs.Fillings.{filled_in_turn, product_by}
 use Rattle.completion_bounds.proofs.Capped.{IsMultiplied, cap-later, multiplied-next}
+use Rattle.completion_bounds.proofs.Factorials.{factorial_least}
 use Rattle.row_products.specs.Factorials.{cut}
 use Rattle.row_products.specs.RowProducts.{factorial}
 use Rattle.weights.proofs.Products.{product-some}
@@ -20,10 +21,6 @@ cut-inner p w h = ap cut (turned p (cut w)) ∙ cap-later w p (MAX + 1) h ∙ ap
 
 pub cut-some : (n : ℕ) → 1 ≤ n → 1 ≤ cut n
 cut-some n h = omega (arith, h)
-
-pub factorial_some : (n : ℕ) → 1 ≤ factorial n
-factorial_some zero = omega arith
-factorial_some (suc n) = product-some (suc n) (factorial n) (omega arith) (factorial_some n)
 
 pub products_some : (f : ℕ → ℕ) → ((c : ℕ) → 1 ≤ f c) → (cs : List ℕ) → 1 ≤ product_by f cs
 products_some f each [] = omega arith
@@ -79,10 +76,10 @@ filling-next all w left columns i cell within e f =
         record {
           value =
               ap (λ n. cut (n * rest)) (cut-inner w (factorial (min c left)) g.some)
-              ∙ cap-later (w * factorial (min c left)) rest (MAX + 1) (products_some factorial factorial_some (filled_in_turn (left - min c left) cs))
+              ∙ cap-later (w * factorial (min c left)) rest (MAX + 1) (products_some factorial factorial_least (filled_in_turn (left - min c left) cs))
               ∙ ap cut (grouped w (factorial (min c left)) rest)
               ∙ g.value;
-          some = cut-some _ (product-some w (cut (factorial (min c left))) g.some (cut-some _ (factorial_some (min c left))));
+          some = cut-some _ (product-some w (cut (factorial (min c left))) g.some (cut-some _ (factorial_least (min c left))));
           most = omega arith;
         }
 

@@ -1,14 +1,15 @@
 -- Columns that rise, from the last one on, are the columns with the greatest first.
-use Rattle.std.proofs.Common.{◌≡◌, ℕ, ◌≤◌, List, [], ◌∷◌, ◌++◌, true, sym, subst, arith, zero, suc, drop}
+use Rattle.std.proofs.Common.{◌≡◌, ℕ, ◌≤◌, List, [], ◌∷◌, true, sym, subst, arith, zero, suc, drop}
 use Rattle.std.specs.Prelude.{nat_le, reverse}
 use Rattle.std.specs.List.{AllByRecursion}
 use Rattle.std.proofs.lemmas.List.{reverse-append}
 use Rattle.std.proofs.lemmas.List.Sorted.{IsPermutation-refl, IsPermutation-reverse}
 use Rattle.weights.specs.InOrder.{in_order}
 use Rattle.weights.proofs.OneOrder.{IsInOrder, IsOrder, order-is, ordered-in_order}
+use Rattle.weights.proofs.Filters.{all_push}
 use Rattle.completion_bounds.specs.Fillings.{falling}
 use Rattle.completion_bounds.proofs.Factorials.{Falls}
-use Rattle.completion_bounds.proofs.FallingSizes.{sorted_is}
+use Rattle.completion_bounds.proofs.FallingSizes.{sorted_is, Falls-push}
 use Rattle.row_products.specs.RowProducts.{IsRising}
 
 rising-order : IsOrder nat_le
@@ -38,10 +39,6 @@ rising-drop g columns e = is-rising (drop g columns) (in_order-drop g columns (r
 pub rising-twice : (columns : List ℕ) → IsRising (in_order nat_le columns)
 rising-twice columns = is-rising (in_order nat_le columns) (ordered-in_order nat_le rising-order columns)
 
-all_push : (P : ℕ → Type 0) (xs : List ℕ) (y : ℕ) → AllByRecursion P xs → P y → AllByRecursion P (xs ++ y ∷ [])
-all_push P [] y a h = (h, tt)
-all_push P (w ∷ ws) y a h = (a.0, all_push P ws y a.1 h)
-
 all_reverse : (x : ℕ) (xs : List ℕ) → AllByRecursion (λ y. nat_le x y ≡ true) xs → AllByRecursion (λ y. x ≤ y) (reverse xs)
 all_reverse x [] a = tt
 all_reverse x (y ∷ xs) a = subst (AllByRecursion (λ z. x ≤ z)) (sym (reverse-append (y ∷ []) xs)) (all_push (λ z. x ≤ z) (reverse xs) y (all_reverse x xs a.1) (at_most x y a.0))
@@ -49,13 +46,9 @@ all_reverse x (y ∷ xs) a = subst (AllByRecursion (λ z. x ≤ z)) (sym (revers
     at_most : (x y : ℕ) → nat_le x y ≡ true → x ≤ y
     at_most x y e = grind (arith, e)
 
-falls-push : (xs : List ℕ) (y : ℕ) → Falls xs → AllByRecursion (λ w. y ≤ w) xs → Falls (xs ++ y ∷ [])
-falls-push [] y f a = (tt, tt)
-falls-push (x ∷ xs) y f a = (all_push (λ w. w ≤ x) xs y f.0 a.0, falls-push xs y f.1 a.1)
-
 falls-reverse : (xs : List ℕ) → IsInOrder nat_le xs → Falls (reverse xs)
 falls-reverse [] o = tt
-falls-reverse (x ∷ xs) o = subst Falls (sym (reverse-append (x ∷ []) xs)) (falls-push (reverse xs) x (falls-reverse xs o.1) (all_reverse x xs o.0))
+falls-reverse (x ∷ xs) o = subst Falls (sym (reverse-append (x ∷ []) xs)) (Falls-push (reverse xs) x (falls-reverse xs o.1) (all_reverse x xs o.0))
 
 pub reversed : (columns : List ℕ) → IsRising columns → reverse columns ≡ falling columns
 reversed columns e = sorted_is columns (reverse columns) (IsPermutation-reverse columns) (falls-reverse columns (rises columns e))

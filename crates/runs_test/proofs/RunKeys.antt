@@ -5,6 +5,7 @@ use Rattle.std.specs.List.{sum}
 use Rattle.std.proofs.lemmas.Int.{ints, clamps}
 use Rattle.std.proofs.lemmas.List.{length-replicate}
 use Rattle.std.proofs.lemmas.List.Sums.{sum_by-take-drop}
+use Rattle.weights.proofs.CellSums.{sum-two}
 use Rattle.networks.specs.declared.verdicts.Judge.{Judge}
 use Rattle.room_network.specs.Meanings.{AreReached, IsMove}
 use Rattle.label_network.specs.LabelNetwork.{over_rooms}
@@ -16,7 +17,7 @@ use Rattle.label_network.proofs.Rows.{length-abs}
 use Rattle.label_network.proofs.Sizes.{sizes-of_pos}
 use Rattle.runs_test.specs.RunNetwork.{firsts_in, last_in, least_to_come, most_to_come, runs_meaning, runs_outlook, runs_so_far, seconds_in}
 use Rattle.runs_test.specs.RunSteps.{RunSeat, least_left, most_left, AreRunNumbers, AreTwoSizes, IsRunning}
-use Rattle.runs_test.proofs.RunNarrows.{IsPartial, reached_left, reached_partial, sum-ones, sum-two, two-of}
+use Rattle.runs_test.proofs.RunNarrows.{IsPartial, reached_left, reached_partial, sum-ones, two-of}
 
 -- the least and the greatest are few
 least-few : (last a b : ℕ) → least_to_come last a b ≤ 2

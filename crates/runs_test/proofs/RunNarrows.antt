@@ -6,17 +6,14 @@ use Rattle.std.proofs.Math.Seq.{drop-length}
 use Rattle.std.proofs.lemmas.Int.{ints, clamps}
 use Rattle.std.proofs.lemmas.List.{get_or-replicate, length-replicate}
 use Rattle.std.proofs.lemmas.List.Folds.{sum_by-replicate}
-use Rattle.std.proofs.lemmas.List.Sums.{sum_by-cons}
 use Rattle.networks.specs.declared.verdicts.Judge.{Judge}
 use Rattle.weights.specs.Grouped.{fits, minus}
 use Rattle.weights.proofs.ChoiceLists.{IsChoice}
 use Rattle.weights.proofs.Sized.{first_and, length-minus}
+use Rattle.weights.proofs.CellSums.{sum-two}
 use Rattle.label_network.specs.Meanings.{AreReached, IsMeasure, Meaning}
 use Rattle.label_network.proofs.Narrowing.{IsLeft, IsNarrowing, measured, reached-kept, reached-left}
 use Rattle.runs_test.specs.RunNetwork.{begins_run, firsts_in, chosen_label, last_in, least_to_come, most_to_come, runs_meaning, runs_so_far, seconds_in}
-
-pub sum-two : (a b : ℕ) → sum (a ∷ b ∷ []) ≡ a + b
-sum-two a b = omega (arith, sum_by-cons (λ v. v) a (b ∷ []), sum_by-cons (λ v. v) b [])
 
 pub sum-ones : (n : ℕ) → sum (replicate n 1) ≡ n
 sum-ones n = omega (arith, sum_by-replicate (λ v. v) n 1)

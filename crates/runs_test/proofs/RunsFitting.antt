@@ -11,6 +11,7 @@ use Rattle.weights.specs.Rules.{RuleFits}
 use Rattle.weights.proofs.Centred.{far_natural-fits}
 use Rattle.weights.proofs.Members.{Contains-labellings, IsLabelling, labelling_from}
 use Rattle.weights.proofs.Sized.{sum-counts_of}
+use Rattle.weights.proofs.CellSums.{sum-two}
 use Rattle.sample_reader.specs.Data.{sequence_data_of}
 use Rattle.sample_reader.specs.Sequences.{SequenceData}
 use Rattle.sample_reader.specs.declared.samples.Sequence.{Sequence}
@@ -22,7 +23,7 @@ use Rattle.labelled.proofs.LabelLaws.{label-follows, label-judge}
 use Rattle.runs_test.specs.RunNetwork.{sequence_meaning, written_network}
 use Rattle.runs_test.specs.Runs.{row_counts, rows_with, runs, runs_says, runs_test}
 use Rattle.runs_test.specs.RunSteps.{AreRuns, IsRunning}
-use Rattle.runs_test.proofs.RunNarrows.{runs_measure, sum-two}
+use Rattle.runs_test.proofs.RunNarrows.{runs_measure}
 use Rattle.runs_test.proofs.RunValues.{runs-few, value-is}
 use Rattle.runs_test.proofs.RunWriting.{written}
 

@@ -3,7 +3,7 @@ mod BinaryBlocks
 mod LabelSets
 mod LayoutVectors
 mod OrderLemmas
-mod PooledLemmas
+pub mod PooledLemmas
 pub mod Rearranged
 mod Sizes
 mod SubjectLemmas

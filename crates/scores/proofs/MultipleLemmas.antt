@@ -1,23 +1,16 @@
 -- Least common multiples of many numbers: each number divides it, and it grows with every number more.
-use Rattle.std.proofs.Common.{◌≡◌, ◌<◌, ◌≤◌, ◌+◌, ◌*◌, ◌/◌, ◌%◌, ℕ, zero, suc, List, [], ◌∷◌, length, get_or, take, drop, refl, sym, ◌∙◌, ap, arith}
+use Rattle.std.proofs.Common.{◌≡◌, ◌<◌, ◌≤◌, ◌+◌, ◌*◌, ◌/◌, ℕ, zero, suc, List, [], ◌∷◌, length, get_or, take, drop, sym, ◌∙◌, ap, arith}
 use Prim.Native.Nat.{◌∣◌}
 use Rattle.std.specs.List.{AllByRecursion, fold, range_with_len}
 use Rattle.std.specs.Int.{IsGcd}
 use Rattle.std.proofs.Math.Nat.{dvd-mul_left, dvd-mul_right, mul-div_cancel'}
-use Rattle.std.proofs.lemmas.Nat.Gcd.{IsGcd-from_mod, IsGcd-from_zero, dvd_refl, dvd_trans, le_of_dvd}
+use Rattle.std.proofs.lemmas.Nat.Gcd.{dvd_refl, dvd_trans, le_of_dvd}
 use Rattle.std.proofs.lemmas.List.{take-append-drop, take_all}
 use Rattle.std.proofs.lemmas.List.FromFn.{get_or-range_with_len, length-range_with_len}
 use Rattle.std.proofs.lemmas.List.Sums.{fold-append, fold_more}
 use Rattle.weights.specs.Numbers.{lcm}
-use Rattle.weights.proofs.Divisors.{lcm-by_gcd, quotient-positive}
+use Rattle.weights.proofs.Divisors.{lcm-by_gcd, quotient-positive, gcd-exists}
 use Rattle.scores.specs.PlaceScores.{common_multiple}
-
-gcd-exists : (n a b : ℕ) → b ≤ n → (g : ℕ) × IsGcd a b g
-gcd-exists n a zero h = (a, IsGcd-from_zero a 0 refl)
-gcd-exists zero a (suc b) h = absurd (omega arith)
-gcd-exists (suc n) a (suc b) h =
-    let rest = gcd-exists n (suc b) (a % suc b) (omega arith) in
-    (rest.0, IsGcd-from_mod a (suc b) rest.0 rest.1)
 
 -- a common multiple above zero
 pub record IsMultipleOfBoth (a b m : ℕ) : Type 0 where

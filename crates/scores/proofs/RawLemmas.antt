@@ -4,9 +4,10 @@ use Rattle.std.specs.Prelude.{FitsSigned, int_div}
 use Rattle.std.specs.Int.{w128, cast_signed, cast_unsigned}
 use Rattle.std.proofs.lemmas.Int.{ints, quot_fits, to_z-of_z, to_z_pos}
 use Rattle.std.specs.List.{list_all, range_with_len}
-use Rattle.std.proofs.Math.Nat.{mod-add-div, mul-div-mul_right, mul-div_cancel_left, one-le-pow, pow-le-pow_right, pow-suc}
+use Rattle.std.proofs.Math.Nat.{mul-div-mul_right, mul-div_cancel_left, one-le-pow, pow-le-pow_right, pow-suc}
 use Rattle.std.proofs.lemmas.Bool.{cases_eq}
 use Rattle.std.proofs.lemmas.Nat.{pow-add}
+use Rattle.weights.proofs.Divisors.{mod-scaled}
 use Rattle.scores.specs.RawScores.{decimals, is_whole, raw_score}
 use Rattle.scores.specs.ScoreSteps.{is_multiple_of}
 
@@ -16,12 +17,6 @@ power-some k = let least = one-le-pow k 10 (omega arith) in omega (arith, least)
 -- the unit after d decimals, and what it makes of one
 pub powers : (d : ℕ) → d ≤ 18 → 10 ^ 18 ≡ 10 ^ (18 - d) * 10 ^ d
 powers d h = let whole : 18 - d + d ≡ 18 = omega arith in rw (← pow-add 10 (18 - d) d, whole) refl
-
-mod-scaled : (a b z : ℕ) → 0 < z → (a * z) % (b * z) ≡ (a % b) * z
-mod-scaled a b z positive =
-    let whole : (a % b + b * (a / b)) * z ≡ a * z = ap (λ n. n * z) (mod-add-div a b) in
-    let scaled : (a * z) % (b * z) + (b * z) * (a / b) ≡ a * z = rw (mul-div-mul_right a b positive) at (mod-add-div (a * z) (b * z)) in
-    omega arith
 
 zero-scaled : (r z : ℕ) → 0 < z → nat_eq (r * z) 0 ≡ nat_eq r 0
 zero-scaled zero z h = let e : zero * z ≡ 0 = omega arith in rw e refl

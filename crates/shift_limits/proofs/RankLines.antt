@@ -17,7 +17,7 @@ use Rattle.weights.specs.declared.wide.PrepareFault.TheVariants.{TooWide}
 use Rattle.weights.specs.declared.wide.WideOf.TheVariants.{Total, Statistic}
 use Rattle.weights.specs.declared.lines.Line.{Line}
 use Rattle.weights.specs.declared.TheConstants.{MAX}
-use Rattle.weights.proofs.Filters.{all_weaker}
+use Rattle.weights.proofs.Filters.{all_weaker, filter-same_where}
 use Rattle.weights.proofs.Members.{IsLabelling, labelling_from}
 use Rattle.weights.proofs.Sums.{sum_by-one}
 use Rattle.scores.specs.Scores.{labelled_sum, score_list}
@@ -67,10 +67,6 @@ module _ (first second : ℕ) where
 
   labellings-each : AllByRecursion (IsLabelling sizes) (labellings sizes)
   labellings-each = all_weaker (λ xs. Contains (labellings sizes) xs) (IsLabelling sizes) (λ xs c. labelling_from sizes xs c) (labellings sizes) (recursion_from_All (λ xs. Contains (labellings sizes) xs) (labellings sizes) (All-contains_itself (labellings sizes)))
-
-filter-same_where : {X : Type 0} (P : X → Type 0) (p q : X → Bool) → ((x : X) → P x → p x ≡ q x) → (xs : List X) → AllByRecursion P xs → filter p xs ≡ filter q xs
-filter-same_where P p q e [] all = refl
-filter-same_where P p q e (x ∷ xs) all = rw (e x all.0, filter-same_where P p q e xs all.1) refl
 
 pub low-labellings : (first second k : ℕ) → length (filter (λ xs. int_le (labelled_sum 1 (doubled_ranks 0 (first + second)) xs) (rank_sum second k)) (labellings (first ∷ second ∷ []))) ≡ labellings_below (first ∷ second ∷ []) (k + 1)
 unfolding sizes number

@@ -17,10 +17,10 @@ use Rattle.weights.proofs.GroupingLaw.{by_columns, by_columns-step, grouping}
 use Rattle.weights.proofs.Members.{Contains-filter, same_refl}
 use Rattle.weights.proofs.Sized.{first_and, sum-minus}
 use Rattle.weights.proofs.Sums.{sum_by-map, sum_by-one, sum_by-same, sum_by-same_where, sum_by-scaled}
+use Rattle.weights.proofs.Filters.{all_filter}
 use Rattle.completion_bounds.specs.Fillings.{falling, is_at_least}
 use Rattle.completion_bounds.proofs.TableWeights.{sum-falling}
 use Rattle.networks.proofs.Elements.{term-le-sum_by}
-use Rattle.networks.proofs.Elements.{all_filter}
 use Rattle.label_network.specs.Meanings.{sizes_in}
 use Rattle.label_network.proofs.ChoiceSwaps.{labellings-swap}
 use Rattle.label_network.proofs.Narrowing.{chosen, fits-self}

@@ -17,11 +17,10 @@ use Rattle.weights.specs.Labellings.{number_of_labellings}
 use Rattle.weights.specs.Numbers.{binomial}
 use Rattle.weights.proofs.Binomials.{binomial-all, binomial-positive, number_of_labellings-cons}
 use Rattle.weights.proofs.ChoiceLists.{IsChoice, choices-each}
-use Rattle.weights.proofs.Filters.{all_weaker, map-same_where}
+use Rattle.weights.proofs.Filters.{all_weaker, map-same_where, all_filter}
 use Rattle.weights.proofs.FirstLabel.{number_of_labellings-positive}
 use Rattle.weights.proofs.Members.{range-below}
 use Rattle.weights.proofs.Sized.{sum-minus}
-use Rattle.networks.proofs.Elements.{all_filter}
 use Rattle.label_network.specs.LabelSteps.{IsHeld}
 use Rattle.label_network.proofs.Narrowing.{chosen}
 use Rattle.sorted_tables.specs.GatheredChoices.{gets_less}

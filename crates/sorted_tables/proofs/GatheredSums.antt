@@ -10,7 +10,7 @@ use Rattle.weights.proofs.Chosen.{chosen_once, one_if}
 use Rattle.weights.proofs.OneOrder.{IsOrder, order-once, ordered-in_order, sum_by-in_order}
 use Rattle.weights.proofs.Members.{Contains-here, Contains-later, same_refl}
 use Rattle.weights.proofs.Sums.{sum_by-cond, sum_by-filter, sum_by-same, sum_by-same_where, sum_by-scaled, sum_by-swap, sum_by-times}
-use Rattle.networks.proofs.Elements.{all_filter}
+use Rattle.weights.proofs.Filters.{all_filter}
 use Rattle.completion_bounds.specs.Fillings.{falling, is_at_least}
 use Rattle.sorted_tables.specs.GatheredChoices.{gathered, gathered_weight, is_gathered, is_gathered_into}
 use Rattle.sorted_tables.proofs.GatheredForms.{even-counts, even-gathered, gathered-twice, length-gathered}

@@ -1,21 +1,21 @@
 -- Steps of the loops that move on to the next choice that stands for others.
-use Rattle.std.proofs.Common.{◌≡◌, ℕ, zero, suc, ◌+◌, ◌-◌, ◌*◌, ◌<◌, ◌≤◌, List, [], ◌∷◌, ◌++◌, length, filter, get_or, take, drop, set, min, max, Some, None, Bool, true, false, cond, refl, sym, ◌∙◌, ap, subst, arith, add-one, drop-cons, append_assoc, drop_of_length-le, take-suc-set, nat_eq, nat_lt, lt-ltb, le-ltb, ◌⊎◌, inl, inr}
+use Rattle.std.proofs.Common.{◌≡◌, ℕ, zero, suc, ◌+◌, ◌-◌, ◌*◌, ◌<◌, ◌≤◌, List, [], ◌∷◌, ◌++◌, length, filter, get_or, take, drop, set, min, max, Some, None, Bool, true, false, cond, refl, sym, ◌∙◌, ap, subst, arith, add-one, drop-cons, append_assoc, take-suc-set, nat_eq, nat_lt, lt-ltb, le-ltb, ◌⊎◌, inl, inr}
 use Rattle.std.specs.List.{sum}
 use Rattle.std.proofs.Math.Seq.{drop-length}
 use Rattle.std.proofs.lemmas.Bool.{and_right, cases_lt, le-leb, lt-leb}
-use Rattle.std.proofs.lemmas.List.{append-nil, length-drop, length-set}
+use Rattle.std.proofs.lemmas.List.{length-drop, length-set}
 use borrow.Rule.Slice.PartMut.{put_mid}
 use Rattle.std.proofs.lemmas.List.Sums.{sum_by-cons, sum_by-drop_more}
 use Rattle.weights.proofs.ChoiceLists.{IsChoice}
-use Rattle.weights.proofs.Filters.{all_weaker}
+use Rattle.weights.proofs.Filters.{all_weaker, filter-same_where}
 use Rattle.label_network.specs.ChoiceOrder.{later_choices}
 use Rattle.sorted_tables.specs.GatheredChoices.{is_gathered}
 use Rattle.sorted_tables.specs.SortedSteps.{fits_behind, raised, run, run_from, stands_again}
-use Rattle.label_network.proofs.ChoiceMoves.{fits-drop, put_back}
+use Rattle.label_network.proofs.ChoiceMoves.{fits-drop, put_back, put_end}
 use Rattle.sorted_tables.proofs.GatheredChoices.{later-each}
 use Rattle.sorted_tables.proofs.GatheredForms.{Rise, less-not, risen-gathered}
 use Rattle.sorted_tables.proofs.GatheredLoops.{run-at, run-long}
-use Rattle.sorted_tables.proofs.RisingChoices.{AnyIs, IsLeast, after-choice, kept-after, kept_from, least-is, none-behind, raised_after, raised_or, filter-same_where}
+use Rattle.sorted_tables.proofs.RisingChoices.{AnyIs, IsLeast, after-choice, kept-after, kept_from, least-is, none-behind, raised_after, raised_or}
 
 -- ---- the rows after the one that takes one more
 
@@ -119,11 +119,6 @@ changed-gathered c r x y o h e =
 
 -- ---- a row further to the front
 
-pub put-end : (a : ℕ) (xs ys : List ℕ) → a ≤ length xs → put_mid a (length xs - a) xs ys ≡ take a xs ++ ys
-put-end a xs ys h =
-    let none : drop (length xs - a) (drop a xs) ≡ [] = drop_of_length-le (drop a xs) {i = length xs - a} (omega (arith, length-drop {A = ℕ})) in
-    ap (λ zs. take a xs ++ (ys ++ zs)) none ∙ ap (λ zs. take a xs ++ zs) (append-nil ys)
-
 pub searched-first : {c : ℕ} {r x : List ℕ} → IsChoice c r x → is_gathered r x ≡ true → length r ≤ 8 → IsSearched c r x x (length x) 0 0
 searched-first {r = r} {x = x} o g short =
     let rows : drop (length x) r ≡ [] = ap (λ n. drop n r) o.long ∙ drop-length r in
@@ -201,7 +196,7 @@ module _ {c : ℕ} {r before x : List ℕ} {i later equal : ℕ} (k : IsSearched
       found less new new_is y y_is =
           let whole : y ≡ take (i - 1) x ++ (get_or x (i - 1) 0 + 1) ∷ new =
           y_is
-          ∙ put-end (i - 1 + 1) (set x (i - 1) (get_or x (i - 1) 0 + 1)) new (omega (arith, inside, length-set x (i - 1) (get_or x (i - 1) 0 + 1)))
+          ∙ put_end (i - 1 + 1) (set x (i - 1) (get_or x (i - 1) 0 + 1)) new (omega (arith, inside, length-set x (i - 1) (get_or x (i - 1) 0 + 1)))
           ∙ put_back x new (i - 1) (get_or x (i - 1) 0 + 1) inside in
           let next : raised_after (sum (drop (i - 1) x)) (drop (i - 1) r) (drop (i - 1) x) ≡ Some ((get_or x (i - 1) 0 + 1) ∷ new) =
           place

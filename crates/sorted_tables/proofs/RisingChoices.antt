@@ -9,7 +9,7 @@ use Rattle.std.proofs.lemmas.List.Sums.{sum_by-cons}
 use Rattle.std.proofs.Math.Nat.{mul-le-mul_right}
 use Rattle.weights.specs.Grouped.{choices, fits}
 use Rattle.weights.proofs.ChoiceLists.{IsChoice, choices-each}
-use Rattle.weights.proofs.Filters.{all_weaker, filter-flat_map, filter-map, flat_map-same, range-from}
+use Rattle.weights.proofs.Filters.{all_weaker, filter-flat_map, filter-map, flat_map-same, range-from, filter-same_where}
 use Rattle.weights.proofs.Members.{range-below}
 use Rattle.weights.proofs.Sized.{first_and, sum-minus}
 use Rattle.label_network.specs.ChoiceOrder.{later_choices}
@@ -19,10 +19,6 @@ use Rattle.sorted_tables.specs.SortedSteps.{fits_behind, kept, raised, run}
 use Rattle.sorted_tables.proofs.GatheredChoices.{later-each}
 use Rattle.sorted_tables.proofs.GatheredForms.{Rise, gathered-risen, less-here, less-not, less-parts, risen-gathered}
 use Rattle.weights.proofs.Ranges.{range-split}
-
-pub filter-same_where : {X : Type 0} (P : X → Type 0) (p q : X → Bool) → ((x : X) → P x → p x ≡ q x) → (xs : List X) → AllByRecursion P xs → filter p xs ≡ filter q xs
-filter-same_where P p q e [] a = refl
-filter-same_where P p q e (x ∷ xs) a = rw (e x a.0, filter-same_where P p q e xs a.1) refl
 
 filter-cut : {X : Type 0} (t : Bool) (p : X → Bool) (xs : List X) → filter (λ x. not t && p x) xs ≡ cond t [] (filter p xs)
 filter-cut true p [] = refl

@@ -7,7 +7,7 @@ use Rattle.weights.specs.declared.TheConstants.{MAX}
 use Rattle.weights.specs.Grouped.{choices, minus}
 use Rattle.weights.specs.Labellings.{number_of_labellings}
 use Rattle.weights.proofs.ChoiceLists.{IsChoice, choices-each}
-use Rattle.weights.proofs.Filters.{map-same_where}
+use Rattle.weights.proofs.Filters.{map-same_where, filter-same_where}
 use Rattle.completion_bounds.proofs.TableWeights.{labellings-parts, within}
 use Rattle.label_network.specs.LabelSteps.{IsHeld}
 use Rattle.label_network.proofs.Narrowing.{chosen}
@@ -19,7 +19,7 @@ use Rattle.sorted_tables.specs.declared.fronts.Front.{Front}
 use Rattle.sorted_tables.proofs.ChoiceSums.{StandsFor, line-fits, stand-for}
 use Rattle.sorted_tables.proofs.GatheredForms.{risen-gathered}
 use Rattle.sorted_tables.proofs.GatheredSums.{weight-gathered}
-use Rattle.sorted_tables.proofs.RisingChoices.{filter-same_where, none-behind}
+use Rattle.sorted_tables.proofs.RisingChoices.{none-behind}
 use Rattle.sorted_tables.proofs.RowOrders.{counted-by-orders}
 
 -- no row is given yet

@@ -8,6 +8,7 @@ use Rattle.weights.specs.declared.tails.Tail.{Tail}
 use Rattle.weights.specs.declared.tails.Tail.TheVariants.{Less}
 use Rattle.weights.specs.declared.tails.Tails.{Tails}
 use Rattle.weights.specs.declared.TheConstants.{MAX}
+use Rattle.weights.proofs.Filters.{all_filter}
 use Rattle.node_pool.specs.Nodes.{Node, node, key_eq, keys, weighted}
 use Rattle.networks.specs.declared.tail_sums.TailSums.{TailSums}
 use Rattle.networks.specs.declared.tail_sums.Kept.{Kept}
@@ -25,7 +26,6 @@ use Rattle.stage_network.proofs.Asked.{asked-lawful}
 use Rattle.networks.proofs.Steps.{filter_none, total_weight-step, extreme_weight-step}
 use Rattle.stage_network.proofs.Bounds.{weights-le-weighted}
 use Rattle.stage_network.proofs.NodeSums.{open-for}
-use Rattle.networks.proofs.Elements.{all_filter}
 use Rattle.stage_network.proofs.OpenKeys.{counted-once, keys-opened_to}
 use Rattle.stage_network.proofs.Conserved.{all_weaker, not_undecided, split-extreme, sum_by-filter}
 use Rattle.stage_network.proofs.Carried.{carried, successors-heavy, shut}

@@ -12,13 +12,9 @@ use Rattle.weights.proofs.Filters.{all_weaker, all_map}
 use Rattle.weights.proofs.Sums.{sum_by-same, sum_by-zero, sum_by-plus, sum_by-map}
 use Rattle.networks.specs.Lines.{IsAscending, IsSpreadOf}
 use Rattle.networks.specs.Follows.{statistic_sums}
-use Rattle.networks.proofs.LineSums.{lines-same, equal, same-eq, unequal, less-known, not_less-known, compared}
+use Rattle.networks.proofs.LineSums.{lines-same, equal, same-eq, unequal, less-known, not_less-known, compared, cond-plus}
 
 -- the distribution of a test is such a list
-
-cond-plus : (b : Bool) (x y : ℕ) → cond b (x + y) 0 ≡ cond b x 0 + cond b y 0
-cond-plus true x y = refl
-cond-plus false x y = refl
 
 IsAscendingValues : List ℤ → Type 0
 IsAscendingValues [] = Unit {0}
@@ -104,7 +100,7 @@ values-have x [] h = h
 values-have x (v ∷ vs) (inl e) = insert-has x v (ascending_values vs) (inl e)
 values-have x (v ∷ vs) (inr h) = insert-has x v (ascending_values vs) (inr (values-have x vs h))
 
-insert-each : (P : ℤ → Type 0) (v : ℤ) (vs : List ℤ) → P v → AllByRecursion P vs → AllByRecursion P (insert_value v vs)
+pub insert-each : (P : ℤ → Type 0) (v : ℤ) (vs : List ℤ) → P v → AllByRecursion P vs → AllByRecursion P (insert_value v vs)
 insert-each P v [] h a = (h, tt)
 insert-each P v (u ∷ vs) h a = by (int_lt v u) (int_eq v u) (insert-each P v vs h a.1)
   where

@@ -13,8 +13,7 @@ use Rattle.networks.proofs.Steps.{sum_by-flat_map, sum_by-same, reached-next}
 use Rattle.stage_network.specs.ArcSteps.{Arc, segment, arc_nodes, spread_out, bucket, firsts, IsFine, AllFine}
 use Rattle.node_pool.proofs.Puts.{unlike, alike}
 use Rattle.weights.proofs.Sums.{sum_by-filter, sum_by-plus}
-use Rattle.weights.proofs.Filters.{all_append, all_map}
-use Rattle.networks.proofs.Elements.{all_filter}
+use Rattle.weights.proofs.Filters.{all_append, all_map, all_filter}
 use Rattle.stage_network.proofs.OpenKeys.{map-append, distinct_filter, keys-filter, same-holds}
 use Rattle.stage_network.proofs.Bounds.{weights-le-weighted}
 use Rattle.stage_network.proofs.Stepping.{reached_at}

@@ -5,6 +5,7 @@ use Rattle.std.proofs.lemmas.List.Sums.{sum_by-cons, sum_by_more, sum_by-take-le
 use Rattle.std.specs.Prelude.{ℤ}
 use Rattle.weights.specs.declared.tails.Tail.{Tail}
 use Rattle.weights.specs.declared.tails.Tail.TheVariants.{Less, Greater, Two}
+use Rattle.weights.proofs.Sums.{sum_by-le-sum_by}
 use Rattle.node_pool.specs.Nodes.{Node, weighted}
 use Rattle.networks.specs.Completions.{total_weight}
 use Rattle.networks.specs.Network.{Network}
@@ -14,10 +15,6 @@ use Rattle.networks.specs.Opened.{is_open, is_open_for_some}
 pub or_true : (b : Bool) → (b || true) ≡ true
 or_true true = refl
 or_true false = refl
-
-sum_by-le-sum_by : {X : Type 0} (f h : X → ℕ) → ((x : X) → f x ≤ h x) → (xs : List X) → sum_by f xs ≤ sum_by h xs
-sum_by-le-sum_by f h le [] = omega arith
-sum_by-le-sum_by f h le (x ∷ xs) = rw (sum_by-cons f x xs, sum_by-cons h x xs) (omega (arith, le x, sum_by-le-sum_by f h le xs))
 
 pub length-filter-le : {X : Type 0} (p : X → Bool) (xs : List X) → length (filter p xs) ≤ length xs
 length-filter-le p [] = omega arith

@@ -1,15 +1,16 @@
 -- Nodes whose keys are those reached through open keys, each once: how many are open, and where they lead.
-use Rattle.std.proofs.Common.{◌≡◌, ℕ, List, [], ◌∷◌, ◌++◌, map, Bool, true, false, cond, ◌&&◌, ◌||◌, refl, sym, ◌∙◌, ap, subst, length}
+use Rattle.std.proofs.Common.{◌≡◌, ℕ, List, [], ◌∷◌, ◌++◌, map, Bool, true, false, cond, ◌&&◌, ◌||◌, refl, sym, ◌∙◌, ap, length}
 use Rattle.std.specs.Prelude.{ℤ}
 use Rattle.std.specs.List.{flat_map, filter, IsDistinct, AllByRecursion}
 use Rattle.std.specs.Set.{is_member, distinct_count}
 use Rattle.std.proofs.lemmas.List.{length-map}
 use Rattle.std.proofs.lemmas.Map.Made.{is_member-filter, length-from_keys}
 use Rattle.std.proofs.lemmas.Map.Keys.{IsDistinct-head, IsDistinct-tail, IsDistinct-cons}
+use Rattle.node_runs.proofs.Merges.{member-holds}
+use Rattle.weights.proofs.Filters.{all_filter}
 use Rattle.node_pool.specs.Nodes.{Node, key_eq, keys}
 use Rattle.networks.specs.Network.{Network}
 use Rattle.stage_network.specs.NodeSteps.{successor, successors}
-use Rattle.networks.proofs.Elements.{all_filter}
 use Rattle.stage_network.proofs.NodeSums.{opened_to, or_true}
 use Rattle.node_pool.proofs.Puts.{same_key, key_equiv}
 pub use Rattle.std.proofs.lemmas.List.{map-append}
@@ -36,15 +37,6 @@ keys-opened_to n p g (a ∷ nodes) =
           ∙ ap (λ ks. map (n.next g a.key) (n.choices g a.key) ++ ks) (keys-opened_to n p g nodes)
       | false ↦ keys-opened_to n p g nodes
     ]
-
--- what holds of the nodes' keys holds of keys that are among them
-pub member-holds : (P : List ℤ → Type 0) (nodes : List Node) (q : List ℤ) → AllByRecursion (λ a. P a.key) nodes → is_member key_eq (keys nodes) q ≡ true → P q
-member-holds P [] q a m = cc
-member-holds P (b ∷ nodes) q a m =
-    elim (key_eq q b.key) as (λ t. key_eq q b.key ≡ t → (t || is_member key_eq (keys nodes) q) ≡ true → P q) [
-      | true ↦ λ e m'. subst P (sym (same_key q b.key e)) a.0
-      | false ↦ λ e m'. member-holds P nodes q a.1 m'
-    ] refl m
 
 pub all_of_members : (P : List ℤ → Type 0) (merged : List Node) → ((q : List ℤ) → is_member key_eq (keys merged) q ≡ true → P q) → AllByRecursion (λ a. P a.key) merged
 all_of_members P [] h = tt

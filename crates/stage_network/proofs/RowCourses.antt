@@ -5,6 +5,7 @@ use Rattle.std.specs.List.{IsDistinct}
 use Rattle.weights.specs.declared.tails.Tail.{Tail}
 use Rattle.weights.specs.declared.tails.Tail.TheVariants.{Less}
 use Rattle.weights.specs.declared.TheConstants.{MAX}
+use Rattle.weights.proofs.Filters.{all_filter}
 use Rattle.node_pool.specs.Nodes.{Node, node, key_eq, keys, weighted}
 use Rattle.networks.specs.declared.tail_sums.TailSums.{TailSums}
 use Rattle.networks.specs.declared.tail_sums.Kept.{Kept}
@@ -19,7 +20,6 @@ use Rattle.networks.specs.Shifts.{IsShifting}
 use Rattle.stage_network.specs.RowSteps.{all_nodes}
 use Rattle.stage_network.specs.RowSweeps.{AreRowsHere, IsRowSweeping}
 use Rattle.stage_network.proofs.Bounds.{weights-le-weighted}
-use Rattle.networks.proofs.Elements.{all_filter}
 use Rattle.stage_network.proofs.OpenKeys.{one_distinct}
 use Rattle.stage_network.proofs.Carried.{open-distinct}
 use Rattle.stage_network.proofs.Sweeps.{one, counted-staying}

@@ -10,7 +10,7 @@ use Rattle.weights.specs.declared.tails.Tail.TheVariants.{Less, Greater, Two}
 use Rattle.weights.specs.declared.tails.Tails.{Tails}
 use Rattle.weights.specs.declared.rules.Rule.{Rule}
 use Rattle.weights.specs.declared.rules.Rule.TheVariants.{AtMost, AtLeast, Far}
-use Rattle.weights.proofs.Filters.{all_append, all_map, all_weaker}
+use Rattle.weights.proofs.Filters.{all_map, all_weaker, all_filter}
 use Rattle.node_pool.specs.Nodes.{key_eq}
 use Rattle.networks.specs.declared.stages.Verdict.{Verdict}
 use Rattle.networks.specs.declared.stages.Verdict.TheVariants.{Outside}
@@ -20,16 +20,11 @@ use Rattle.networks.specs.Opened.{is_undecided, is_open, reached_openly, opened_
 use Rattle.networks.specs.Judged.{offset, far_verdict, rule_in, verdict_of, HasIntervals, IsJudged}
 use Rattle.networks.specs.Asked.{asked, asks}
 use Rattle.stage_network.proofs.Asked.{asked-below, asked-else, asked-own}
-use Rattle.networks.proofs.Steps.{filter_none, filter-map, filter-flat_map, reached-next}
-use Rattle.networks.proofs.Elements.{all_filter}
+use Rattle.networks.proofs.Steps.{filter_none, filter-map, filter-flat_map, reached-next, all_flat_map}
 use Rattle.networks.proofs.Judging.{offset-≤, same_tail}
 use Rattle.stage_network.proofs.NodeSums.{open-for}
 
 -- lists
-
-all_flat_map : {X Y : Type 0} (P : Y → Type 0) (h : X → List Y) (xs : List X) → AllByRecursion (λ x. AllByRecursion P (h x)) xs → AllByRecursion P (flat_map h xs)
-all_flat_map P h [] a = tt
-all_flat_map P h (x ∷ xs) a = all_append P (h x) (flat_map h xs) a.0 (all_flat_map P h xs a.1)
 
 -- a stricter filter, where what it leaves out leads nowhere
 flat_map-stricter : {X Y : Type 0} (P : X → Type 0) (h : X → List Y) (p q : X → Bool) → ((x : X) → q x ≡ true → p x ≡ true) → ((x : X) → P x → p x ≡ true → q x ≡ false → h x ≡ []) → (xs : List X) → AllByRecursion P xs → flat_map h (filter p xs) ≡ flat_map h (filter q xs)

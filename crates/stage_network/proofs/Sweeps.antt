@@ -9,6 +9,7 @@ use Rattle.std.proofs.lemmas.List.Sums.{sum_by-cons, sum_by-append}
 use Rattle.std.proofs.lemmas.Map.Made.{is_member-filter}
 use Rattle.weights.specs.declared.tails.Tail.{Tail}
 use Rattle.weights.specs.declared.tails.Tails.{Tails}
+use Rattle.weights.proofs.Filters.{all_filter}
 use Rattle.node_pool.specs.Nodes.{Node, node, key_eq, keys, is_held, weighted}
 use Rattle.node_pool.proofs.Puts.{same_key, key_equiv}
 use Rattle.networks.specs.Network.{Network}
@@ -24,7 +25,6 @@ use Rattle.stage_network.specs.SweepSteps.{stays, staying, closed_at, counted}
 use Rattle.stage_network.proofs.NodeSums.{open-for, length-filter-le, filter-both}
 use Rattle.networks.proofs.Steps.{sum_by-same, total_weight-step}
 use Rattle.stage_network.proofs.Conserved.{sum_by-filter}
-use Rattle.networks.proofs.Elements.{all_filter}
 use Rattle.stage_network.proofs.OpenKeys.{keys-filter, same-holds}
 use Rattle.stage_network.proofs.Gathered.{same-members}
 use Rattle.stage_network.proofs.Carried.{carried}

@@ -9,7 +9,7 @@ use Rattle.std.proofs.lemmas.List.Sums.{count_by-le-length, sum_by-append, sum_b
 use Rattle.weights.specs.Labellings.{labellings}
 use Rattle.weights.specs.Numbers.{binomial}
 use Rattle.weights.proofs.Binomials.{binomial-positive}
-use Rattle.weights.proofs.CellSums.{allowed_cells, by_cells, divided, zeros_in}
+use Rattle.weights.proofs.CellSums.{by_cells, divided, zeros_in}
 use Rattle.weights.proofs.Filters.{all_weaker}
 use Rattle.weights.proofs.Members.{labelling_from}
 use Rattle.weights.proofs.Sums.{sum_by-one, sum_by-same}
@@ -34,9 +34,8 @@ cells-same s f =
     let k : ℕ = size s - first_column s in
     let n : ℕ = first_row s in
     let all : c + k ≡ n + second_row s = omega arith in
-    let within : n ≤ c + k = omega arith in
     let low : n - k ≡ least_cell s = omega arith in
-    by_cells c k n (second_row s) f all ∙ allowed_cells c k n f within
+    by_cells c k n (second_row s) f all
     ∙ ap (λ l. sum_by (λ x. cell_weight s x * f x) (range_with_len l (greatest_cell s + 1 - l))) low
 
 -- so many labellings in all

@@ -2,4 +2,3 @@ pub mod StrataSums
 pub mod StrataReads
 pub mod FirstCells
 pub mod CellLaws
-pub mod RangeSums

@@ -9,9 +9,9 @@ use Rattle.std.proofs.lemmas.List.Sums.{sum_by-cons}
 use Rattle.weights.specs.Labellings.{labellings, number_of_labellings}
 use Rattle.weights.proofs.CellSums.{same-within}
 use Rattle.weights.proofs.FirstLabel.{two-none}
-use Rattle.weights.proofs.Sums.{sum_by-flat_map, sum_by-map, sum_by-one, sum_by-same, sum_by-same_where, sum_by-times}
+use Rattle.weights.proofs.Sums.{sum_by-map, sum_by-one, sum_by-same, sum_by-same_where, sum_by-times}
 use Rattle.enumerate.specs.Joined.{joined_labellings}
-use Rattle.enumerate.proofs.JoinedMembers.{each-long, joined-front}
+use Rattle.enumerate.proofs.JoinedMembers.{each-long, over_joined}
 use Rattle.room_network.specs.Plans.{Plan, alone}
 use Rattle.count_rooms.proofs.WaySums.{gather, gather-none, gather-step}
 use Rattle.stratified_ranks.specs.RankRooms.{column_at, left, rank_plan, remaining_after, second_of, ways_of}
@@ -21,12 +21,6 @@ use Rattle.stratified_ranks.proofs.RankSums.{remaining-within}
 use Rattle.stratified_ranks.proofs.TwoParts.{halves, ones, two-parts}
 
 -- ---- labellings of one stratum after another
-
-over_joined : (s : List ℕ) (ss : List (List ℕ)) (f : List ℕ → ℕ) → sum_by f (joined_labellings (s ∷ ss)) ≡ sum_by (λ xs. sum_by (λ us. f (xs ++ us)) (joined_labellings ss)) (labellings s)
-over_joined s ss f =
-    ap (sum_by f) (joined-front s ss)
-    ∙ sum_by-flat_map f (λ x. map (λ ys. x ++ ys) (joined_labellings ss)) (labellings s)
-    ∙ sum_by-same (λ x. sum_by f (map (λ ys. x ++ ys) (joined_labellings ss))) (λ x. sum_by (λ ys. f (x ++ ys)) (joined_labellings ss)) (λ x. sum_by-map f (λ ys. x ++ ys) (joined_labellings ss)) (labellings s)
 
 -- a stratum of no subject adds nothing
 pub none-behind : (ss : List (List ℕ)) (f : List ℕ → ℕ) → sum_by f (joined_labellings (ss ++ (0 ∷ 0 ∷ []) ∷ [])) ≡ sum_by f (joined_labellings ss)

@@ -12,6 +12,7 @@ use Rattle.weights.specs.Rules.{RuleFits}
 use Rattle.weights.specs.declared.TheConstants.{MAX}
 use Rattle.weights.specs.declared.rules.Rule.TheVariants.{Far}
 use Rattle.weights.specs.declared.tails.Tail.{Tail}
+use Rattle.weights.proofs.CellSums.{sum-two}
 use Rattle.weights.proofs.Centred.{IsCentred, far-fits, measured-is, rule-fits}
 use Rattle.weights.proofs.Sums.{sum_by-map}
 use Rattle.scores.specs.Scores.{labelled_sum}
@@ -70,9 +71,6 @@ parts-sound strata all = record { each = All-from_recursion (λ (p : Part). p.se
 
 pub centre-is : (strata : List (List Subject)) → sum_by part_centre (map part_of strata) ≡ sum_by (λ s. second_size s * (length s + 1)) strata
 centre-is strata = sum_by-map part_centre part_of strata
-
-sum-two : (a b : ℕ) → sum (a ∷ b ∷ []) ≡ a + b
-sum-two a b = omega (arith, sum_by-cons (λ v. v) a (b ∷ []), sum_by-cons (λ v. v) b [])
 
 sizes-two : (strata : List (List Subject)) → AllByRecursion IsStratum strata → map sum (map two_sizes strata) ≡ map (λ (p : Part). p.subjects) (map part_of strata)
 sizes-two [] a = refl

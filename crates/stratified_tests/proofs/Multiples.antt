@@ -1,25 +1,17 @@
 -- Common multiples of the sizes of strata: they do not fall with one stratum more.
-use Rattle.std.proofs.Common.{◌≡◌, ◌<◌, ◌≤◌, ◌+◌, ◌*◌, ◌/◌, ◌%◌, ℕ, zero, suc, Bool, true, false, cond, List, [], ◌∷◌, drop, nat_eq, inl, inr, refl, arith}
+use Rattle.std.proofs.Common.{◌≡◌, ◌<◌, ◌≤◌, ◌+◌, ◌*◌, ◌/◌, ℕ, zero, suc, Bool, true, false, cond, List, [], ◌∷◌, drop, nat_eq, inl, inr, refl, arith}
 use Rattle.std.specs.Int.{IsGcd}
 use Rattle.std.specs.List.{sum_by}
 use Rattle.std.proofs.Math.Nat.{mul-le-mul_left, mul-le-mul_right}
 use Rattle.std.proofs.lemmas.Bool.{cases_lt}
 use Rattle.std.proofs.lemmas.Bool.Decides.{nat_tests}
 use Rattle.std.proofs.lemmas.List.Sums.{sum_by-cons}
-use Rattle.std.proofs.lemmas.Nat.Gcd.{IsGcd-from_mod, IsGcd-from_zero}
 use Rattle.weights.specs.Numbers.{lcm}
 use Rattle.weights.specs.declared.TheConstants.{MAX}
-use Rattle.weights.proofs.Divisors.{lcm-by_gcd, quotient-positive}
+use Rattle.weights.proofs.Divisors.{lcm-by_gcd, quotient-positive, gcd-exists}
 use Rattle.strata_cells.specs.declared.stratum.Stratum.{Stratum}
 use Rattle.strata_cells.specs.Strata.{size}
 use Rattle.stratified_tests.specs.StrataTests.{multiple_of}
-
-gcd-exists : (n a b : ℕ) → b ≤ n → (g : ℕ) × IsGcd a b g
-gcd-exists n a zero h = (a, IsGcd-from_zero a 0 refl)
-gcd-exists zero a (suc b) h = absurd (omega arith)
-gcd-exists (suc n) a (suc b) h =
-    let rest = gcd-exists n (suc b) (a % suc b) (omega arith) in
-    (rest.0, IsGcd-from_mod a (suc b) rest.0 rest.1)
 
 lcm-grows : (a b : ℕ) → 0 < a → 0 < b → b ≤ lcm a b
 lcm-grows a b some positive = let found = gcd-exists b a b (omega arith) in by found.0 found.1

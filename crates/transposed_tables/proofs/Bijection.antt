@@ -1,26 +1,14 @@
 -- The tables and the transposed tables are as many, each transposed once.
-use Rattle.std.proofs.Common.{◌≡◌, ℕ, List, [], ◌∷◌, length, Bool, true, false, cond, refl, sym, ◌∙◌, ap, subst, nat_eq}
+use Rattle.std.proofs.Common.{◌≡◌, ℕ, List, [], ◌∷◌, length, Bool, true, false, cond, refl, sym, ◌∙◌, ap, subst}
 use Rattle.std.specs.List.{sum_by, sum}
-use Rattle.std.specs.Cmp.Lexicographic.{pointwise, same_text}
 use Rattle.weights.specs.Grouped.{same_table, tables}
 use Rattle.weights.proofs.Members.{same_refl}
-use Rattle.weights.proofs.Sized.{first_and}
 use Rattle.weights.proofs.Sums.{sum_by-same_where, sum_by-swap}
-use Rattle.weights.proofs.Tables.{IsTable, listed, listed_once, tables-each}
+use Rattle.weights.proofs.Tables.{IsTable, listed, listed_once, tables-each, same_table-true}
 use Rattle.transposed_tables.specs.Transposed.{transposed}
 use Rattle.transposed_tables.specs.TransposedLaws.{IsTransposing}
 use Rattle.transposed_tables.proofs.Shapes.{HasSums, level-totals, sums-of-table, table-of-sums, transposed-sums, wide-table}
 use Rattle.transposed_tables.proofs.TransposedLines.{transposed-twice}
-
-told-same : (w u : List (List ℕ)) → same_table w u ≡ true → w ≡ u
-told-same [] [] e = refl
-told-same [] (y ∷ u) e = absurd (cc e)
-told-same (x ∷ w) [] e = absurd (cc e)
-told-same (x ∷ w) (y ∷ u) e =
-    let both = first_and (pointwise nat_eq x y) (same_table w u) e in
-    let head : x ≡ y = same_text x y (sym both.0) in
-    let tail : w ≡ u = told-same w u both.1 in
-    cc
 
 same-itself : (w : List (List ℕ)) → same_table w w ≡ true
 same-itself [] = refl
@@ -45,8 +33,8 @@ module _ (columns rows : List ℕ) (level : sum columns ≡ sum rows) where
 same-transposed : (columns rows : List ℕ) → sum columns ≡ sum rows → (w u : List (List ℕ)) → IsTable columns rows w → IsTable rows columns u → same_table (transposed (length rows) w) u ≡ same_table (transposed (length columns) u) w
 same-transposed columns rows level w u t v =
     alike (same_table (transposed (length rows) w) u) (same_table (transposed (length columns) u) w)
-    (λ e. to_true (transposed (length columns) u) w (ap (transposed (length columns)) (sym (told-same (transposed (length rows) w) u e)) ∙ transposed-back columns rows level w t))
-    (λ e. to_true (transposed (length rows) w) u (ap (transposed (length rows)) (sym (told-same (transposed (length columns) u) w e)) ∙ transposed-back rows columns (sym level) u v))
+    (λ e. to_true (transposed (length columns) u) w (ap (transposed (length columns)) (sym (same_table-true (transposed (length rows) w) u e)) ∙ transposed-back columns rows level w t))
+    (λ e. to_true (transposed (length rows) w) u (ap (transposed (length rows)) (sym (same_table-true (transposed (length columns) u) w e)) ∙ transposed-back rows columns (sym level) u v))
   where
     to_true : (a b : List (List ℕ)) → a ≡ b → same_table a b ≡ true
     to_true a b e = subst (λ y. same_table a y ≡ true) e (same-itself a)
@@ -54,8 +42,8 @@ same-transposed columns rows level w u t v =
 pub transposing : (columns rows : List ℕ) → sum columns ≡ sum rows → IsTransposing columns rows
 transposing columns rows level f =
     sum_by-same_where (IsTable columns rows) (λ w. f (transposed (length rows) w)) (λ w. sum_by (λ u. cond (same_table (transposed (length rows) w) u) (f u) 0) (tables rows columns)) (λ w t.
-    sym (listed same_table told-same (transposed (length rows) w) f (tables rows columns) (listed_once rows columns (transposed (length rows) w) (transposed-table columns rows level w t)))) (tables columns rows) (tables-each columns rows)
+    sym (listed same_table same_table-true (transposed (length rows) w) f (tables rows columns) (listed_once rows columns (transposed (length rows) w) (transposed-table columns rows level w t)))) (tables columns rows) (tables-each columns rows)
     ∙ sum_by-swap (λ w u. cond (same_table (transposed (length rows) w) u) (f u) 0) (tables columns rows) (tables rows columns)
     ∙ sum_by-same_where (IsTable rows columns) (λ u. sum_by (λ w. cond (same_table (transposed (length rows) w) u) (f u) 0) (tables columns rows)) f (λ u v.
     sum_by-same_where (IsTable columns rows) (λ w. cond (same_table (transposed (length rows) w) u) (f u) 0) (λ w. cond (same_table (transposed (length columns) u) w) (f u) 0) (λ w t. ap (λ b. cond b (f u) 0) (same-transposed columns rows level w u t v)) (tables columns rows) (tables-each columns rows)
-    ∙ listed same_table told-same (transposed (length columns) u) (λ w. f u) (tables columns rows) (listed_once columns rows (transposed (length columns) u) (transposed-table rows columns (sym level) u v))) (tables rows columns) (tables-each rows columns)
+    ∙ listed same_table same_table-true (transposed (length columns) u) (λ w. f u) (tables columns rows) (listed_once columns rows (transposed (length columns) u) (transposed-table rows columns (sym level) u v))) (tables rows columns) (tables-each rows columns)

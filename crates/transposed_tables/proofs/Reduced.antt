@@ -3,8 +3,8 @@ use Rattle.std.proofs.Common.{◌≡◌, ℕ, zero, suc, ◌+◌, ◌*◌, ◌/�
 use Rattle.std.specs.Int.{IsGcd}
 use Rattle.std.proofs.Math.Nat.{dvd-mul_left, mod-add-div, mul-div_cancel, mul-le-mul_right, zero-div}
 use Rattle.std.proofs.lemmas.Nat.Gcd.{mod-eq-zero_of_dvd}
+use Rattle.completion_bounds.proofs.Factorials.{cancel}
 use Rattle.weights.proofs.Divisors.{quotient-reduced}
-use Rattle.transposed_tables.proofs.Weighed.{cancel-≤}
 
 pub ratio-reduced : (total part of g : ℕ) → 0 < of → IsGcd total of g → (total * part) % of ≡ 0 → (total / g) * (part / (of / g)) * of ≡ part * total
 ratio-reduced total zero of g some h whole =
@@ -28,7 +28,7 @@ pub ratio-within : (result part total of : ℕ) → 0 < of → part ≤ of → r
 ratio-within result part total of some h e =
     let most : part * total ≤ of * total = mul-le-mul_right total h in
     let same : of * total ≡ total * of = grind arith in
-    cancel-≤ result total of some (omega (arith, e, most, same))
+    cancel result total of some (omega (arith, e, most, same))
 
 -- a multiple divided
 pub quotient : (a of m : ℕ) → 0 < of → a * of ≡ m → m / of ≡ a

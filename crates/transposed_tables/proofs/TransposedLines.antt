@@ -11,7 +11,7 @@ use Rattle.transposed_tables.specs.Transposed.{fronted, transposed}
 abbrev pub AreLong : ℕ → List (List ℕ) → Type 0
 AreLong n lines = AllByRecursion (λ line. length line ≡ n) lines
 
-length-fronted : (x : List ℕ) (lines : List (List ℕ)) → length x ≡ length lines → length (fronted x lines) ≡ length lines
+pub length-fronted : (x : List ℕ) (lines : List (List ℕ)) → length x ≡ length lines → length (fronted x lines) ≡ length lines
 length-fronted [] [] e = refl
 length-fronted [] (line ∷ lines) e = absurd (omega (arith, e))
 length-fronted (a ∷ x) [] e = absurd (omega (arith, e))

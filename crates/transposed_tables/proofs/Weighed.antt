@@ -3,7 +3,7 @@
 use Rattle.std.proofs.Common.{◌≡◌, ℕ, ◌*◌, ◌<◌, ◌≤◌, List, [], ◌∷◌, length, map, inl, inr, refl, sym, ◌∙◌, ap, arith}
 use Rattle.std.specs.Prelude.{nat_le}
 use Rattle.std.specs.List.{sum}
-use Rattle.std.proofs.Math.Nat.{le_of_mul-le-mul_left, mul-le-mul, mul-le-mul_right}
+use Rattle.std.proofs.Math.Nat.{mul-le-mul, mul-le-mul_right}
 use Rattle.std.proofs.lemmas.Bool.Decides.{leb_tells}
 use Rattle.weights.specs.Grouped.{table_weight, tables}
 use Rattle.weights.specs.Labellings.{number_of_labellings}
@@ -11,7 +11,7 @@ use Rattle.weights.proofs.FirstLabel.{number_of_labellings-positive}
 use Rattle.weights.proofs.GroupingLaw.{by_columns}
 use Rattle.weights.proofs.Sums.{sum_by-same_where, sum_by-times}
 use Rattle.weights.proofs.Tables.{IsTable, tables-each}
-use Rattle.completion_bounds.proofs.Factorials.{factorial, factorial_least, factorials, total, weight-factorials}
+use Rattle.completion_bounds.proofs.Factorials.{factorial, factorial_least, factorials, total, weight-factorials, cancel as cancel-≤}
 use Rattle.transposed_tables.specs.Transposed.{transposed}
 use Rattle.transposed_tables.specs.TransposedLaws.{AreWeights, ComparesTransposed}
 use Rattle.transposed_tables.proofs.Bijection.{sums, transposing}
@@ -19,12 +19,6 @@ use Rattle.transposed_tables.proofs.Shapes.{level-totals, transposed-sums}
 use Rattle.transposed_tables.proofs.TransposedLines.{cell_factorials, cells-transposed}
 
 -- products above zero, compared and cancelled
-
-pub cancel-≤ : (a b k : ℕ) → 0 < k → a * k ≤ b * k → a ≤ b
-cancel-≤ a b k some h = le_of_mul-le-mul_left {k = k} (swapped a b k h) some
-  where
-    swapped : (a b k : ℕ) → a * k ≤ b * k → k * a ≤ k * b
-    swapped a b k h = grind (arith, h)
 
 pub cancel : (a b k : ℕ) → 0 < k → a * k ≡ b * k → a ≡ b
 cancel a b k some e = omega (arith, cancel-≤ a b k some (omega (arith, e)), cancel-≤ b a k some (omega (arith, e)))

@@ -1,7 +1,7 @@
 -- The labellings of a table of two rows and two columns with odds: its rooms give them, and what remains of a room.
-use Rattle.std.proofs.Common.{◌≡◌, ℕ, zero, suc, ◌+◌, ◌-◌, ◌*◌, ◌^◌, ◌<◌, ◌≤◌, cond, List, [], ◌∷◌, map, take, drop, length, min, nat_eq, nat_le, true, refl, sym, ◌∙◌, ap, subst, arith, ne_eqb, length-drop, mul-one, mul_assoc, one-mul}
+use Rattle.std.proofs.Common.{◌≡◌, ℕ, zero, suc, ◌+◌, ◌-◌, ◌*◌, ◌^◌, ◌<◌, ◌≤◌, cond, List, [], ◌∷◌, map, take, drop, length, nat_eq, nat_le, true, refl, sym, ◌∙◌, ap, subst, arith, ne_eqb, length-drop, mul-one, mul_assoc, one-mul}
 use Rattle.std.specs.Prelude.{ℤ, pos, slice_index}
-use Rattle.std.specs.List.{AllByRecursion, Contains, range_with_len, sum, sum_by}
+use Rattle.std.specs.List.{AllByRecursion, Contains, sum, sum_by}
 use Rattle.std.proofs.Math.Nat.{mul_comm, one-le-pow}
 use Rattle.std.proofs.lemmas.Bool.{leb-true}
 use Rattle.std.proofs.lemmas.List.{take_all}
@@ -32,8 +32,8 @@ use Rattle.label_network.proofs.Narrowing.{chosen}
 use Rattle.two_by_two.specs.FisherOdds.{labels_weight}
 use Rattle.weights.specs.Odds.{IsOdds, odds_weight}
 use Rattle.two_by_two.specs.OddsNetworks.{odds_at, odds_plan}
-use Rattle.two_by_two.specs.OddsSteps.{AreWeighted, cell_weight, cells_weight, odds_total}
-use Rattle.weights.proofs.CellSums.{allowed_cells, by_cells, divided, zeros_in}
+use Rattle.two_by_two.specs.OddsSteps.{AreWeighted, cells_weight, odds_total}
+use Rattle.weights.proofs.CellSums.{by_cells, zeros_in, sum-two}
 use Rattle.weights.proofs.Products.{product-some}
 
 -- ---- products
@@ -58,11 +58,8 @@ is-pair (x ∷ []) e = absurd (omega (arith, e))
 is-pair (x ∷ y ∷ []) e = refl
 is-pair (x ∷ y ∷ z ∷ xs) e = absurd (omega (arith, e))
 
-two-sum : (n m : ℕ) → sum (n ∷ m ∷ []) ≡ n + m
-two-sum n m = omega (arith, sum_by-cons (λ v. v) n (m ∷ []), sum_by-cons (λ v. v) m [])
-
 pub pair-sum : (xs : List ℕ) → length xs ≡ 2 → sum xs ≡ slice_index xs 0 + slice_index xs 1
-pair-sum xs e = ap sum (is-pair xs e) ∙ two-sum (slice_index xs 0) (slice_index xs 1)
+pair-sum xs e = ap sum (is-pair xs e) ∙ sum-two (slice_index xs 0) (slice_index xs 1)
 
 -- counts that fit sizes and have as many subjects are these sizes
 full : (x r : List ℕ) → fits x r ≡ true → sum x ≡ sum r → slice_index x 0 ≡ slice_index r 0
@@ -96,7 +93,7 @@ way_odds odds g (c ∷ w) = odds_at odds g ^ slice_index c 0 * way_odds odds (g 
 other-cell : (c d n m : ℕ) → c + d ≡ n + m → (xs : List ℕ) → Contains (labellings (n ∷ m ∷ [])) xs → zeros_in (take d (drop c xs)) ≡ n - zeros_in (take c xs)
 other-cell c d n m level xs o =
     let l : IsLabelling (n ∷ m ∷ []) xs = labelling_from (n ∷ m ∷ []) xs o in
-    let long : length xs ≡ n + m = l.over.long ∙ two-sum n m in
+    let long : length xs ≡ n + m = l.over.long ∙ sum-two n m in
     let rest : take d (drop c xs) ≡ drop c xs = take_all d (drop c xs) (omega (arith, length-drop c xs, long, level)) in
     let zeros : zeros_in xs ≡ n = ap (λ ys. slice_index ys 0) l.counted in
     let split : zeros_in (take c xs) + zeros_in (drop c xs) ≡ zeros_in xs = sum_by-take-drop (λ l. cond (nat_eq l 0) 1 0) xs c in
@@ -183,7 +180,6 @@ module _ (odds : Odds) (columns rows : List ℕ) where
         sym (
         ap (λ rs. sum_by (labels_weight odds columns rows) (labellings rs)) (is-pair rows two_rows)
         ∙ by_cells c d n m (odds_weight odds n) even
-        ∙ allowed_cells c d n (odds_weight odds n) (omega (arith, even))
         )
 
 -- ---- of rooms that weigh so much in all
@@ -347,25 +343,3 @@ pub cell-factors : (odds : Odds) → IsOdds odds → (left right upper cell : �
 cell-factors odds i left right upper cell l u r =
     are-within (binomial left cell) (binomial right (upper - cell)) (odds.above ^ cell) (odds.below ^ (upper - cell))
     (binomial-positive left cell l) (binomial-positive right (upper - cell) (omega (arith, r))) (one-le-pow cell odds.above i.above_some) (one-le-pow (upper - cell) odds.below i.below_some)
-
--- one cell more
-pub one-more : (f : ℕ → ℕ) (least cell : ℕ) → least ≤ cell → sum_by f (range_with_len least (cell + 1 - least)) ≡ sum_by f (range_with_len least (cell - least)) + f cell
-one-more f least cell h =
-    let long : cell + 1 - least ≡ cell - least + 1 = omega (arith, h) in
-    let here : least + (cell - least) ≡ cell = omega (arith, h) in
-    ap (λ n. sum_by f (range_with_len least n)) long ∙ divided f least (cell - least) 1
-    ∙ ap (λ n. sum_by f (range_with_len least (cell - least)) + sum_by f (range_with_len n 1)) here
-    ∙ omega (arith, sum_by-cons f cell [])
-
-cell-within : (f : ℕ → ℕ) (least cell end : ℕ) → least ≤ cell → cell < end → sum_by f (range_with_len least (cell - least)) + f cell ≤ sum_by f (range_with_len least (end - least))
-cell-within f least cell end h l =
-    let long : end - least ≡ (cell + 1 - least) + (end - (cell + 1)) = omega (arith, h, l) in
-    let all : sum_by f (range_with_len least (end - least)) ≡ sum_by f (range_with_len least (cell + 1 - least)) + sum_by f (range_with_len (least + (cell + 1 - least)) (end - (cell + 1))) =
-    ap (λ n. sum_by f (range_with_len least n)) long ∙ divided f least (cell + 1 - least) (end - (cell + 1)) in
-    omega (arith, all, one-more f least cell h)
-
-pub cells-within : (odds : Odds) (left right upper least most cell : ℕ) → least ≡ upper - right → most ≡ min upper left → least ≤ cell → cell < most + 1
-    → sum_by (cell_weight odds left right upper) (range_with_len least (cell - least)) + cell_weight odds left right upper cell ≤ cells_weight odds left right upper
-cells-within odds left right upper least most cell e f h l =
-    let all : sum_by (cell_weight odds left right upper) (range_with_len least (most + 1 - least)) ≡ cells_weight odds left right upper = rw (e, f) refl in
-    subst (λ n. sum_by (cell_weight odds left right upper) (range_with_len least (cell - least)) + cell_weight odds left right upper cell ≤ n) all (cell-within (cell_weight odds left right upper) least cell (most + 1) h l)

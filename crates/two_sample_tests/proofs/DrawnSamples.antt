@@ -14,7 +14,6 @@ use Rattle.sample_reader.specs.Groups.{group_sizes}
 use Rattle.networks.specs.Judged.{judge_of, rule_in}
 use Rattle.networks.proofs.Following.{numerator-counted}
 use Rattle.score_convolution.specs.DrawnSums.{passing_draws}
-use Rattle.two_sample_tests.specs.Columns.{scored_samples}
 use Rattle.two_sample_tests.specs.SampleSteps.{AreFitting}
 use Rattle.two_sample_tests.specs.TwoSamples.{TwoSamples, pooled_scores, two_sample_test}
 use Rattle.two_sample_tests.proofs.FittingTests.{whole}

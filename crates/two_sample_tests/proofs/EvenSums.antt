@@ -16,6 +16,7 @@ use Rattle.scores.specs.Scores.{labelled_sum}
 use Rattle.sample_reader.specs.Groups.{group_sizes}
 use Rattle.networks.specs.declared.verdicts.Judge.{Judge}
 use Rattle.networks.specs.Judged.{judge_of, rule_in}
+use Rattle.networks.proofs.LastingVerdicts.{times-grown}
 use Rattle.labelled.proofs.LabelLaws.{fit-by, numerator-by}
 use Rattle.concordant_pairs.specs.ConcordantPairs.{concordant_pairs}
 use Rattle.concordant_pairs.specs.ConcordantTails.{FitLabellings, even_value, passing_labellings}
@@ -48,24 +49,15 @@ suc-times n w = ap (λ y. y *ℤ w) (suc-out n) ∙ suc_ℤ-*ℤ (pos n) w
     suc-out : (a : ℕ) → pos (suc a) ≡ suc_ℤ (pos a)
     suc-out a = omega (arith, ints)
 
-raised : (n step : ℕ) (v : ℤ) → pos n *ℤ (v +ℤ pos step) ≡ (pos n *ℤ v) +ℤ pos (n * step)
-raised zero step v = zero-*ℤ (v +ℤ pos step) ∙ sym (ap (λ z. z +ℤ pos (0 * step)) (zero-*ℤ v) ∙ nothing step)
-  where
-    nothing : (n : ℕ) → pos 0 +ℤ pos (0 * n) ≡ pos 0
-    nothing n = omega (arith, ints)
-raised (suc n) step v =
-    let more : suc n * step ≡ n * step + step = grind arith in
-    omega (arith, ints, suc-times n (v +ℤ pos step), suc-times n v, raised n step v, more)
-
 first-adds : (n step r p : ℕ) (v : ℤ) → pos 0 +ℤ ((pos n *ℤ (v +ℤ pos step)) +ℤ pos (step * (r + p))) ≡ (pos n *ℤ v) +ℤ pos (step * ((n + r) + p))
 first-adds n step r p v =
     let all : step * ((n + r) + p) ≡ n * step + step * (r + p) = grind arith in
-    omega (arith, ints, raised n step v, all)
+    omega (arith, ints, times-grown n step v, all)
 
 second-adds : (n step r p : ℕ) (v : ℤ) → v +ℤ ((pos n *ℤ (v +ℤ pos step)) +ℤ pos (step * (r + p))) ≡ (pos (suc n) *ℤ v) +ℤ pos (step * ((0 + r) + (p + n)))
 second-adds n step r p v =
     let all : step * ((0 + r) + (p + n)) ≡ n * step + step * (r + p) = grind arith in
-    omega (arith, ints, raised n step v, suc-times n v, all)
+    omega (arith, ints, times-grown n step v, suc-times n v, all)
 
 even-sum : (step : ℕ) (scores : List ℤ) (xs : List ℕ) (first : ℤ) → RiseBy first step scores → length xs ≡ length scores → AllByRecursion (λ y. y < 2) xs
     → labelled_sum 1 scores xs ≡ (pos (count_of 1 xs) *ℤ first) +ℤ pos (step * (concordant_pairs xs + pairs_of (count_of 1 xs)))

@@ -3,11 +3,11 @@ use Rattle.std.proofs.Common.{◌≡◌, ℕ, ◌+◌, List, [], ◌∷◌, leng
 use Rattle.std.specs.Prelude.{slice_index, Some, Err}
 use Rattle.std.specs.List.{sum}
 use Rattle.std.proofs.lemmas.List.{length-map}
-use Rattle.std.proofs.lemmas.List.Sums.{sum_by-cons}
 use Rattle.weights.specs.declared.wide.PrepareFault.{PrepareFault}
 use Rattle.weights.specs.declared.wide.PrepareFault.TheVariants.{TooWide, NoMemory}
 use Rattle.weights.specs.Wide.{Prepares, too_wide}
 use Rattle.weights.specs.Labellings.{counts_of}
+use Rattle.weights.proofs.CellSums.{sum-two}
 use Rattle.scores.specs.Scores.{score_of}
 use Rattle.scores.specs.declared.kinds.ScoreKind.{ScoreKind}
 use Rattle.sample_reader.specs.Groups.{group_sizes}
@@ -26,9 +26,6 @@ use Rattle.two_sample_tests.specs.Columns.{row_scores, scored_samples, two_sampl
 use Rattle.two_sample_tests.specs.SampleSteps.{AreFitting}
 use Rattle.two_sample_tests.specs.TwoSamples.{TwoSamples, pooled_scores, two_sample_says, two_sample_test}
 use Rattle.two_sample_tests.proofs.SameTests.{same-says}
-
-sum-two : (a b : ℕ) → sum (a ∷ b ∷ []) ≡ a + b
-sum-two a b = omega (arith, sum_by-cons (λ v. v) a (b ∷ []), sum_by-cons (λ v. v) b [])
 
 -- the network that ends at the sums, by the rules of a test
 abbrev network_by : TwoSamples → LabelTest → Network

@@ -5,7 +5,7 @@ use Rattle.std.specs.Cmp.Lexicographic.{pointwise}
 use Rattle.std.proofs.lemmas.List.Sums.{sum_by-cons, sum_by-append, sum-map}
 use Rattle.std.proofs.lemmas.List.FromFn.{length-map-range_with_len}
 use Rattle.std.proofs.lemmas.Bool.Decides.{eqb_tells, leb_tells}
-use Rattle.std.proofs.lemmas.Bool.{leb-true}
+use Rattle.std.proofs.lemmas.Bool.{le-leb, leb-true}
 use Rattle.weights.specs.Labellings.{labels, counts_of, has_counts}
 use Rattle.weights.specs.Grouped.{fits, minus}
 use Rattle.weights.proofs.Members.{IsOver}
@@ -86,3 +86,12 @@ has_counts-append r ys zs =
     ap (λ x. pointwise nat_eq x r) (counts_of-append (length r) ys zs)
     ∙ same-plus r (counts_of (length r) ys) (counts_of (length r) zs) (length-counts_of (length r) ys) (length-counts_of (length r) zs)
     ∙ rw (length-minus r (counts_of (length r) ys)) refl
+
+pub plus-left : (x z r : List ℕ) → plus x z ≡ r → length x ≡ length z → (fits x r ≡ true) × (minus r x ≡ z)
+plus-left [] [] r e l = rw (← e) (refl, refl)
+plus-left [] (b ∷ z) r e l = absurd (omega (arith, l))
+plus-left (a ∷ x) [] r e l = absurd (omega (arith, l))
+plus-left (a ∷ x) (b ∷ z) r e l =
+    let rest = plus-left x z (plus x z) refl (omega (arith, l)) in
+    let back : a + b - a ≡ b = omega arith in
+    rw (← e, le-leb a (a + b) (omega arith), rest.0, back, rest.1) (refl, refl)

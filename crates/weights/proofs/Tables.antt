@@ -20,12 +20,12 @@ IsTable [] r (x ∷ w) = ⊥
 IsTable (c ∷ cs) r [] = ⊥
 IsTable (c ∷ cs) r (x ∷ w) = IsChoice c r x × IsTable cs (minus r x) w
 
-all_take : (P : ℕ → Type 0) (n : ℕ) (xs : List ℕ) → AllByRecursion P xs → AllByRecursion P (take n xs)
+pub all_take : (P : ℕ → Type 0) (n : ℕ) (xs : List ℕ) → AllByRecursion P xs → AllByRecursion P (take n xs)
 all_take P zero xs a = tt
 all_take P (suc n) [] a = tt
 all_take P (suc n) (x ∷ xs) a = (a.0, all_take P n xs a.1)
 
-all_drop : (P : ℕ → Type 0) (n : ℕ) (xs : List ℕ) → AllByRecursion P xs → AllByRecursion P (drop n xs)
+pub all_drop : (P : ℕ → Type 0) (n : ℕ) (xs : List ℕ) → AllByRecursion P xs → AllByRecursion P (drop n xs)
 all_drop P zero xs a = a
 all_drop P (suc n) [] a = tt
 all_drop P (suc n) (x ∷ xs) a = all_drop P n xs a.1
@@ -48,7 +48,7 @@ columns-table k (c ∷ cs) r xs l e o h =
           (record { long = omega (arith, length-drop {A = ℕ}, o.long); below = all_drop (λ i. i < k) c xs o.below }) both.1,
     )
 
-same_table-true : (w u : List (List ℕ)) → same_table w u ≡ true → w ≡ u
+pub same_table-true : (w u : List (List ℕ)) → same_table w u ≡ true → w ≡ u
 same_table-true [] [] e = refl
 same_table-true [] (y ∷ u) e = absurd (cc e)
 same_table-true (x ∷ w) [] e = absurd (cc e)

@@ -1,5 +1,5 @@
 -- The worked blocks keep the laws.
-use Rattle.std.proofs.Common.{◌≡◌, ℕ, ◌<◌, List, [], ◌∷◌, length, set, refl, ap, arith, lit≤}
+use Rattle.std.proofs.Common.{◌≡◌, ℕ, ◌<◌, List, [], ◌∷◌, refl, ap, arith, lit≤}
 use Rattle.std.specs.Prelude.{pos, slice_index}
 use Rattle.std.specs.List.{Contains}
 use Rattle.std.proofs.lemmas.Int.{ints}
@@ -57,9 +57,3 @@ pub record IsPair (c : List ℕ) : Type 0 where
 
 pub pair_of : (c : List ℕ) → Contains block_choices c → IsPair c
 pair_of c m = All-contains IsPair block_choices c (All-from_recursion IsPair block_choices (record { first = omega arith; second = omega arith }, (record { first = omega arith; second = omega arith }, tt))) m
-
-pub two_numbers : {X : Type 0} (xs : List X) (x y : X) → length xs ≡ 2 → set (set xs 0 x) 1 y ≡ x ∷ y ∷ []
-two_numbers [] x y e = absurd (omega arith)
-two_numbers (a ∷ []) x y e = absurd (omega arith)
-two_numbers (a ∷ b ∷ []) x y e = refl
-two_numbers (a ∷ b ∷ c ∷ cs) x y e = absurd (omega arith)

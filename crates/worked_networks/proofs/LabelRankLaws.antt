@@ -5,7 +5,6 @@ use Rattle.std.specs.List.{sum}
 use Rattle.std.proofs.lemmas.Bool.{leb-true}
 use Rattle.std.proofs.lemmas.Int.{ints}
 use Rattle.std.proofs.lemmas.List.{get_or-replicate}
-use Rattle.std.proofs.lemmas.List.Sums.{sum_by-cons}
 use Rattle.weights.specs.declared.TheConstants.{MAX}
 use Rattle.weights.specs.declared.tails.Tail.{Tail}
 use Rattle.weights.specs.declared.tails.Tail.TheVariants.{Less, Greater, Two}
@@ -13,6 +12,7 @@ use Rattle.weights.specs.Grouped.{fits, minus}
 use Rattle.weights.specs.Rules.{RuleFits, rule_of}
 use Rattle.weights.proofs.ChoiceLists.{IsChoice}
 use Rattle.weights.proofs.Sized.{first_and}
+use Rattle.weights.proofs.CellSums.{sum-two}
 use Rattle.networks.specs.declared.verdicts.Judge.{Judge}
 use Rattle.networks.specs.Judged.{JudgeFits, judge_of}
 use Rattle.networks.proofs.Following.{judge-fits}
@@ -29,9 +29,6 @@ use Rattle.label_network.proofs.OverRooms.{over_number, over_place, over_reached
 use Rattle.label_network.proofs.Rows.{length-abs}
 use Rattle.label_network.proofs.Sizes.{sizes-of_pos}
 use Rattle.worked_networks.specs.LabelRanks.{first_ranks, last_ranks, rank_numbers, rank_test, samples, six}
-
-sum-two : (a b : ℕ) → sum (a ∷ b ∷ []) ≡ a + b
-sum-two a b = omega (arith, sum_by-cons (λ v. v) a (b ∷ []), sum_by-cons (λ v. v) b [])
 
 -- a choice gives one subject to the first sample or to the second
 record IsPut (x y : ℕ) (c : List ℕ) : Type 0 where

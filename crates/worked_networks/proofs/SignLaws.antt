@@ -1,6 +1,6 @@
 -- The worked example keeps the laws, and its network follows the test.
 use Rattle.std.proofs.Common.{◌≡◌, ℕ, ◌+◌, ◌*◌, ◌<◌, ◌≤◌, List, [], ◌∷◌, length, refl, ◌∙◌, ap, arith, lit≤}
-use Rattle.std.specs.Prelude.{ℤ, pos, slice_index, Contains}
+use Rattle.std.specs.Prelude.{pos, slice_index, Contains}
 use Rattle.std.specs.List.{AllByRecursion, concat}
 use Rattle.std.proofs.lemmas.Int.{ints}
 use Rattle.std.proofs.lemmas.List.Elements.{All-contains, All-from_recursion}

@@ -1,30 +1,20 @@
 -- The labellings of strata whose first cells have a given sum: sums over them, stratum by stratum.
-use Rattle.std.proofs.Common.{◌≡◌, ℕ, ◌+◌, ◌-◌, ◌*◌, ◌<◌, ◌≤◌, cond, List, [], ◌∷◌, nat_eq, eq-eqb, ne_eqb, inl, inr, refl, sym, ◌∙◌, ap, arith, mul_assoc}
+use Rattle.std.proofs.Common.{◌≡◌, ℕ, ◌+◌, ◌-◌, ◌*◌, ◌<◌, ◌≤◌, cond, List, [], ◌∷◌, nat_eq, eq-eqb, ne_eqb, inl, inr, refl, sym, ◌∙◌, ap, arith}
 use Rattle.std.specs.Prelude.{max, min}
 use Rattle.std.specs.List.{range_with_len, sum, sum_by}
 use Rattle.std.proofs.lemmas.Bool.{cases_eq}
 use Rattle.std.proofs.lemmas.List.Sums.{sum_by-cons}
-use Rattle.weights.proofs.CellSums.{divided, same-within}
-use Rattle.weights.proofs.Sums.{sum_by-fronts, sum_by-same, sum_by-scaled, sum_by-zero}
+use Rattle.weights.proofs.CellSums.{divided, none-within, same-within}
+use Rattle.weights.proofs.Sums.{sum_by-same}
 use Rattle.strata_cells.specs.declared.stratum.Stratum.{Stratum}
 use Rattle.strata_cells.specs.Strata.{cell_weight, cells_in, cells_of, cells_weight, greatest_cell, least_cell, strata_labellings}
-use Rattle.strata_cells.proofs.CellLaws.{by-cells, cell_lists}
+use Rattle.strata_cells.proofs.CellLaws.{by-cells, cell_lists, over-step, over_cells}
 use Rattle.strata_cells.proofs.FirstCells.{cells-meet, cells-sum, term-within}
 use Rattle.zelen_test.specs.Zelen.{has_sum}
 use Rattle.zelen_test.specs.ZelenSteps.{CanHave}
 use Rattle.zelen_test.specs.ZelenNetwork.{greatest_choice, greatest_first_cells, least_choice, least_first_cells, number_with}
 
 -- ---- over lists of first cells
-
-abbrev pub over_cells : List Stratum → (List ℕ → ℕ) → ℕ
-over_cells strata f = sum_by (λ cells. cells_weight strata cells * f cells) (cell_lists strata)
-
-pub over-step : (s : Stratum) (strata : List Stratum) (f : List ℕ → ℕ) → over_cells (s ∷ strata) f ≡ sum_by (λ x. cell_weight s x * over_cells strata (λ cells. f (x ∷ cells))) (cells_in s)
-over-step s strata f =
-    sum_by-fronts (λ cells. cells_weight (s ∷ strata) cells * f cells) (λ x. x) (λ x. cell_lists strata) (cells_in s)
-    ∙ sum_by-same _ (λ x. cell_weight s x * over_cells strata (λ cells. f (x ∷ cells))) (λ x.
-    sum_by-same (λ cells. cell_weight s x * cells_weight strata cells * f (x ∷ cells)) (λ cells. cell_weight s x * (cells_weight strata cells * f (x ∷ cells))) (λ cells. mul_assoc (cell_weight s x) (cells_weight strata cells) (f (x ∷ cells))) (cell_lists strata)
-    ∙ sum_by-scaled (cell_weight s x) (λ cells. cells_weight strata cells * f (x ∷ cells)) (cell_lists strata)) (cells_in s)
 
 pub over-none : (f : List ℕ → ℕ) → over_cells [] f ≡ f []
 over-none f = sum_by-cons (λ cells. cells_weight [] cells * f cells) [] [] ∙ omega arith
@@ -48,28 +38,25 @@ with-step s strata done all f =
 times-none : (a b : ℕ) → b ≡ 0 → a * b ≡ 0
 times-none a b e = rw e (omega arith)
 
-none-in : (f : ℕ → ℕ) (low n : ℕ) → ((x : ℕ) → low ≤ x → x < low + n → f x ≡ 0) → sum_by f (range_with_len low n) ≡ 0
-none-in f low n e = same-within f (λ x. 0) low n e ∙ sum_by-zero (range_with_len low n)
-
 -- no cells add up to less than their least sum, or to more than their greatest
 with-few : (strata : List Stratum) (done all : ℕ) (f : List ℕ → ℕ) → all < done + least_first_cells strata → with_sum strata done all f ≡ 0
 with-few [] done all f h = over-none (λ cells. cond (nat_eq (done + sum cells) all) (f cells) 0) ∙ ap (λ b. cond b (f []) 0) (ne_eqb (done + 0) all (λ e. omega (arith, e, h)))
 with-few (s ∷ strata) done all f h =
     with-step s strata done all f
-    ∙ none-in (with_cell s strata done all f) (least_cell s) (greatest_cell s + 1 - least_cell s) (λ x l m.
+    ∙ none-within (with_cell s strata done all f) (least_cell s) (greatest_cell s + 1 - least_cell s) (λ x l m.
     times-none (cell_weight s x) (with_sum strata (done + x) all (λ cells. f (x ∷ cells))) (with-few strata (done + x) all (λ cells. f (x ∷ cells)) (omega (arith, h, l, sum_by-cons least_cell s strata))))
 
 with-many : (strata : List Stratum) (done all : ℕ) (f : List ℕ → ℕ) → done + greatest_first_cells strata < all → with_sum strata done all f ≡ 0
 with-many [] done all f h = over-none (λ cells. cond (nat_eq (done + sum cells) all) (f cells) 0) ∙ ap (λ b. cond b (f []) 0) (ne_eqb (done + 0) all (λ e. omega (arith, e, h)))
 with-many (s ∷ strata) done all f h =
     with-step s strata done all f
-    ∙ none-in (with_cell s strata done all f) (least_cell s) (greatest_cell s + 1 - least_cell s) (λ x l m.
+    ∙ none-within (with_cell s strata done all f) (least_cell s) (greatest_cell s + 1 - least_cell s) (λ x l m.
     times-none (cell_weight s x) (with_sum strata (done + x) all (λ cells. f (x ∷ cells))) (with-many strata (done + x) all (λ cells. f (x ∷ cells)) (omega (arith, h, m, cells-meet s, sum_by-cons greatest_cell s strata))))
 
 -- ---- so only some of the first cells tell
 
 middle : (f : ℕ → ℕ) (l p q r : ℕ) → ((x : ℕ) → l ≤ x → x < l + p → f x ≡ 0) → ((x : ℕ) → l + p + q ≤ x → x < l + p + q + r → f x ≡ 0) → sum_by f (range_with_len l (p + (q + r))) ≡ sum_by f (range_with_len (l + p) q)
-middle f l p q r a b = omega (arith, divided f l p (q + r), none-in f l p a, divided f (l + p) q r, none-in f (l + p + q) r b)
+middle f l p q r a b = omega (arith, divided f l p (q + r), none-within f l p a, divided f (l + p) q r, none-within f (l + p + q) r b)
 
 pub sums-meet : (strata : List Stratum) → least_first_cells strata ≤ greatest_first_cells strata
 sums-meet [] = omega arith

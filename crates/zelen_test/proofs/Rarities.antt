@@ -11,14 +11,14 @@ use Rattle.weights.proofs.Sums.{sum_by-filter, sum_by-same, sum_by-zero}
 use Rattle.enumerate.proofs.JoinedMembers.{parts-of}
 use Rattle.strata_cells.specs.declared.stratum.Stratum.{Stratum}
 use Rattle.strata_cells.specs.Strata.{cell_weight, cells_in, cells_of, cells_weight, stratum_cell, first_cells, first_column, greatest_cell, least_cell, row_counts, size, strata_labellings, stratum_at}
-use Rattle.strata_cells.proofs.CellLaws.{by-cells, cell_lists}
+use Rattle.strata_cells.proofs.CellLaws.{by-cells, cell_lists, over-step, over_cells}
 use Rattle.strata_cells.proofs.FirstCells.{cells-meet, cells-same, cells-sum, rows-sum, row_labellings, left-within, right-within, weight-some}
 use Rattle.networks.proofs.Elements.{term-le-sum_by}
 use Rattle.strata_cells.proofs.StrataSums.{next-drop}
 use Rattle.zelen_test.specs.Zelen.{has_sum, observed_strata_labels, rarity}
 use Rattle.std.proofs.Math.Nat.{mul-le-mul}
 use Rattle.std.proofs.lemmas.List.{drop_min}
-use Rattle.zelen_test.proofs.LabellingsWithSum.{over-none, over-step, over_cells}
+use Rattle.zelen_test.proofs.LabellingsWithSum.{over-none}
 use Rattle.zelen_test.specs.ZelenMade.{own_cells}
 
 -- first cells that labellings of the strata give

@@ -24,12 +24,12 @@ square_stages-requires c =
     let f = c.blocks-blocks.ensures.fitting in
     record {
       stages = rw c.requires.judge (are-stages tests f);
-      squares = rw (c.blocks-blocks.ensures.blocks, c.treatments.ensures) at c.squares_from_mean-squares.ensures;
+      squares = rw (c.blocks-blocks.ensures.blocks, c.treatments.ensures) at c.squares_from_mean-squares.ensures.squares;
     }
 
 pub returns : goal.returns
 returns c =
     let tests = c.args.test.now in
     let f = c.blocks-blocks.ensures.fitting in
-    let squares : AreSquares tests.blocks.treatments (block_counts tests) c.squares_from_mean-squares.result = rw (c.blocks-blocks.ensures.blocks, c.treatments.ensures) at c.squares_from_mean-squares.ensures in
+    let squares : AreSquares tests.blocks.treatments (block_counts tests) c.squares_from_mean-squares.result = rw (c.blocks-blocks.ensures.blocks, c.treatments.ensures) at c.squares_from_mean-squares.ensures.squares in
     IfOk-weaker c.square_stages.result _ _ (λ s e t. subst (λ (a : Addends). Follows (block_test tests) t (additive_network a)) (sym e) (rw (← c.requires.judge) at (squares-follow tests f c.squares_from_mean-squares.result squares t c.requires.kind))) c.square_stages.ensures

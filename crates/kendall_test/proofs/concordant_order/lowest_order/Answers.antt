@@ -1,5 +1,4 @@
-use Rattle.std.proofs.Common.{◌≡◌, arith, drop}
-use Rattle.std.specs.Prelude.{pos}
+use Rattle.std.proofs.Common.{arith}
 use Rattle.std.proofs.lemmas.Int.{ints}
 use Rattle.kendall_test.proofs.KendallNarrows.{all-pairs}
 use Rattle.kendall_test.proofs.concordant_order.lowest_order.Goals as goal

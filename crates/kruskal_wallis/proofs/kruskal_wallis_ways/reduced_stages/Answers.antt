@@ -1,4 +1,4 @@
-use Rattle.std.proofs.Common.{◌≡◌, ◌∙◌, ℕ, List, ap, arith, length, refl, subst, sym, true}
+use Rattle.std.proofs.Common.{◌≡◌, ◌∙◌, ℕ, List, ap, arith, length, refl, subst, sym}
 use Rattle.sample_reader.specs.Groups.{group_sizes}
 use Rattle.networks.specs.Follows.{Follows}
 use Rattle.label_network.specs.LabelNetwork.{IsMargin, label_network, over_rooms}

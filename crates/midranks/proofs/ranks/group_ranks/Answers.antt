@@ -1,4 +1,4 @@
-use Rattle.std.proofs.Common.{◌≡◌, ℕ, ℤ, List, ◌∙◌, map, ap, sym}
+use Rattle.std.proofs.Common.{◌≡◌, ℤ, List, ◌∙◌, map, ap, sym}
 use Rattle.std.proofs.lemmas.Result.{IfOk-weaker}
 use Rattle.midranks.specs.Midranks.{doubled_midrank}
 use Rattle.midranks.specs.MidrankSteps.{ranks_after}

@@ -1,7 +1,6 @@
-use Rattle.std.proofs.Common.{◌≡◌, ◌*◌, ◌≤◌, ◌∙◌, ℕ, arith, get_or, rules, sym, FitsSigned}
+use Rattle.std.proofs.Common.{◌*◌, ◌≤◌, ◌∙◌, ℕ, arith, get_or, rules, sym}
 use Rattle.std.specs.Prelude.{pos}
 use mir.Syntax.{w128}
-use mir.Val.{to_z, of_z}
 use Rattle.std.proofs.lemmas.Int.{to_z_pos}
 use Rattle.std.proofs.Math.Nat.{mul-le-mul}
 use Rattle.label_network.proofs.Rows.{grown, written}

@@ -3,7 +3,7 @@ use Rattle.std.specs.Prelude.{Some}
 use Rattle.strata_cells.specs.Strata.{greatest_cell, least_cell}
 use Rattle.stratified_tests.specs.StrataNetwork.{weighed_cell}
 use Rattle.stratified_tests.specs.StrataSteps.{weighed}
-use Rattle.strata_cells.proofs.RangeSums.{added-first, added-next, added-whole, added-within}
+use Rattle.weights.proofs.RangeSums.{added-first, added-next, added-whole, added-within}
 use Rattle.strata_cells.proofs.FirstCells.{cells-meet}
 use Rattle.stratified_tests.proofs.totals.weighed.Goals as goal
 

@@ -1,7 +1,7 @@
 use Rattle.std.specs.Prelude.{Some}
 use Rattle.strata_cells.specs.Strata.{greatest_cell, least_cell}
 use Rattle.stratified_tests.specs.StrataNetwork.{weighed_cell}
-use Rattle.strata_cells.proofs.RangeSums.{IsAdded}
+use Rattle.weights.proofs.RangeSums.{IsAdded}
 use Rattle.stratified_tests.proofs.totals.weighed.Given as goal
 
 abbrev pub invariant-loop-cell : goal.invariant-loop-cell

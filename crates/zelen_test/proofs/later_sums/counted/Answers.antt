@@ -1,5 +1,5 @@
 use Rattle.std.proofs.Common.{arith}
-use Rattle.strata_cells.proofs.RangeSums.{added-next, added-within}
+use Rattle.weights.proofs.RangeSums.{added-next, added-within}
 use Rattle.zelen_test.specs.ZelenSteps.{choice_from, choice_to, counted_cell}
 use Rattle.zelen_test.proofs.later_sums.counted.Goals as goal
 

@@ -1,4 +1,4 @@
-use Rattle.strata_cells.proofs.RangeSums.{IsAdded}
+use Rattle.weights.proofs.RangeSums.{IsAdded}
 use Rattle.zelen_test.specs.ZelenSteps.{choice_from, choice_to, counted_cell}
 use Rattle.zelen_test.proofs.later_sums.counted.Given as goal
 

@@ -1,6 +1,7 @@
 use Rattle.std.proofs.Common.{◌∙◌, ap, arith, length, refl, sym}
+use Rattle.completion_bounds.proofs.Bounding.{squares-order}
 use Rattle.later_scores.specs.declared.ends.End.TheVariants.{Least, Greatest}
-use Rattle.kruskal_wallis.proofs.CentredKeys.{back-is, box-fits, end-addable, end-narrow, ends-long, front-is, kept, least-most, outlook-long, partial-few, side-is, side-long}
+use Rattle.kruskal_wallis.proofs.CentredKeys.{back-is, box-fits, end-addable, end-narrow, ends-long, front-is, kept, outlook-long, partial-few, side-is, side-long}
 use Rattle.kruskal_wallis.proofs.centred_sums.CentredSumsMeasure.verdict_by.Goals as goal
 
 pub split_at-requires : goal.split_at-requires
@@ -69,7 +70,7 @@ narrow_squares-low-requires-clause-fits c =
 pub judged-requires-clause-least : goal.judged-requires-clause-least
 judged-requires-clause-least c =
     rw (c.narrow_squares-low.ensures.least, c.ends-lows.ensures, c.ends-highs.ensures, c.split_at.ensures.front, c.split_at.ensures.back, front-is c.args.self.now c.args._stage c.args._remaining.now c.args.partial.now c.requires.reached c.args.outlook.now c.requires.outlook, back-is c.args.self.now c.args._stage c.args._remaining.now c.args.partial.now c.requires.reached c.args.outlook.now c.requires.outlook, c.factors.ensures)
-    (omega (arith, least-most, box-fits c.args.self.now c.args._stage c.args._remaining.now c.args.partial.now c.requires.reached (c.args.self.now.boxes c.if-not-self.false).room))
+    (omega (arith, squares-order, box-fits c.args.self.now c.args._stage c.args._remaining.now c.args.partial.now c.requires.reached (c.args.self.now.boxes c.if-not-self.false).room))
 
 pub judged-requires-clause-greatest : goal.judged-requires-clause-greatest
 judged-requires-clause-greatest c =

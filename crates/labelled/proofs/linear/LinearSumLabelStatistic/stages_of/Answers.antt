@@ -1,4 +1,3 @@
-use Rattle.std.proofs.Common.{◌∙◌}
 use Rattle.labelled.proofs.LinearLaws.{is-linear}
 use Rattle.labelled.proofs.linear.LinearSumLabelStatistic.stages_of.Goals as goal
 

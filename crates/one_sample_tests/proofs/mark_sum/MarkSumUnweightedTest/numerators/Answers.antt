@@ -1,7 +1,7 @@
-use Rattle.std.proofs.Common.{◌≡◌, List, true, refl, ap, sym, ◌∙◌, arith}
+use Rattle.std.proofs.Common.{◌≡◌, List, true, refl, sym, ◌∙◌, arith}
 use Rattle.std.specs.Prelude.{ℤ}
 use Rattle.std.proofs.lemmas.Result.{IfOk-weaker}
-use Rattle.weights.specs.Conditional.{ConditionalTest, numerator}
+use Rattle.weights.specs.Conditional.{numerator}
 use Rattle.weights.specs.declared.tails.Tail.{Tail}
 use Rattle.weights.specs.declared.tails.Tail.TheVariants.{Less}
 use Rattle.networks.specs.Asked.{asks}

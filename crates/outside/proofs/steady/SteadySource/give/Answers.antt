@@ -1,4 +1,4 @@
-use Rattle.std.proofs.Common.{rules, ◌≡◌, ◌≤◌, ℕ, List, length, take, ◌+◌, ◌-◌, drop, arith, ap, sym, ◌∙◌}
+use Rattle.std.proofs.Common.{rules, ◌≡◌, ◌≤◌, length, take, ◌+◌, ◌-◌, drop, arith, ap, sym, ◌∙◌}
 use Rattle.std.proofs.lemmas.List.{length-drop}
 use Rattle.outside.specs.Steady.{Steady}
 use Rattle.outside.proofs.Joined.{joined}

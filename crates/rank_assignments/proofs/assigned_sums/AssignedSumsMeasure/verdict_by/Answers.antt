@@ -1,6 +1,6 @@
 use Rattle.std.proofs.Common.{◌∙◌, arith, sym}
 use Rattle.rank_assignments.proofs.AssignedNarrows.{assigned}
-use Rattle.rank_assignments.proofs.AssignmentSteps.{around-small, centre-less, given-small, marks-of, sums-of}
+use Rattle.rank_assignments.proofs.AssignmentSteps.{correction-small, centre-less, given-small, marks-of, sums-of}
 use Rattle.rank_assignments.proofs.assigned_sums.AssignedSumsMeasure.verdict_by.Goals as goal
 
 pub bounds-bounds-requires-clause-as_many : goal.bounds-bounds-requires-clause-as_many
@@ -25,10 +25,10 @@ pub ahead-ahead-requires : goal.ahead-ahead-requires
 ahead-ahead-requires c = (let s = c.args.self.now.assignments in (assigned s.treatments s.items.items s.judge s.right s.reflections.items s.reflections_are c.args.stage c.args.room.now c.args.partial.now c.requires.reached).placed.within)
 
 pub squares_with-low-requires-clause-base : goal.squares_with-low-requires-clause-base
-squares_with-low-requires-clause-base c = (let s = c.args.self.now.assignments in omega (arith, s.base_is, around-small s.treatments s.items.items s.judge s.right (given-small s.treatments s.items.items s.judge s.right)))
+squares_with-low-requires-clause-base c = (let s = c.args.self.now.assignments in omega (arith, s.base_is, correction-small s.treatments s.items.items s.judge s.right (given-small s.treatments s.items.items s.judge s.right)))
 
 pub squares_with-high-requires-clause-base : goal.squares_with-high-requires-clause-base
-squares_with-high-requires-clause-base c = (let s = c.args.self.now.assignments in omega (arith, s.base_is, around-small s.treatments s.items.items s.judge s.right (given-small s.treatments s.items.items s.judge s.right)))
+squares_with-high-requires-clause-base c = (let s = c.args.self.now.assignments in omega (arith, s.base_is, correction-small s.treatments s.items.items s.judge s.right (given-small s.treatments s.items.items s.judge s.right)))
 
 pub verdict-requires-clause-low : goal.verdict-requires-clause-low
 verdict-requires-clause-low c = (c.args.self.now.assignments.right.judge_fits c.interval_of.result.low c.interval_of.ensures.low_small).fits c.args.tail

@@ -1,18 +1,18 @@
 use Rattle.std.proofs.Common.{◌/◌, ◌∙◌, ap, subst, sym}
-use Rattle.networks.specs.Distances.{around}
+use Rattle.networks.specs.Distances.{correction}
 use Rattle.networks.proofs.SquaredDistances.{mean-within}
 use Rattle.rank_assignments.specs.Reflections.{AreReflections, reflections_of}
 use Rattle.rank_assignments.specs.Assignments.{given}
 use Rattle.rank_assignments.proofs.ReflectionSteps.{are-reflections}
 use Rattle.rank_assignments.proofs.assignments.Assignments.new.Goals as goal
 
-pub around-base-requires-clause-within : goal.around-base-requires-clause-within
-around-base-requires-clause-within c = mean-within c.args.treatments c.given-given.result
+pub correction-base-requires-clause-within : goal.correction-base-requires-clause-within
+correction-base-requires-clause-within c = mean-within c.args.treatments c.given-given.result
 
 pub invariant_of-result-clause-base_is : goal.invariant_of-result-clause-base_is
 invariant_of-result-clause-base_is c =
     let k = c.args.treatments in
-    c.around-base.ensures.is ∙ ap (λ n. around k (n / k) n) (c.given-given.ensures.is ∙ ap given c.as_slice-2.ensures.value)
+    c.correction-base.ensures.is ∙ ap (λ n. correction k (n / k) n) (c.given-given.ensures.is ∙ ap given c.as_slice-2.ensures.value)
 
 pub invariant_of-result-clause-reflections_are : goal.invariant_of-result-clause-reflections_are
 invariant_of-result-clause-reflections_are c =

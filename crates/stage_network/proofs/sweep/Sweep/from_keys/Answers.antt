@@ -3,11 +3,11 @@ use Rattle.node_pool.specs.Nodes.{Node}
 use Rattle.node_pool.specs.PoolSteps.{nodes_of}
 use Rattle.node_pool.proofs.NodeLists.{length-nodes}
 use Rattle.weights.specs.declared.tails.Tail.{Tail}
+use Rattle.weights.proofs.Filters.{all_filter}
 use Rattle.stage_network.specs.FromKeys.{course_from}
 use Rattle.stage_network.specs.NodeSteps.{AllHeavy}
 use Rattle.networks.specs.EachTail.{sum_for}
 use Rattle.stage_network.specs.SweepSteps.{counted, stays, staying}
-use Rattle.networks.proofs.Elements.{all_filter}
 use Rattle.stage_network.proofs.Carried.{open-distinct}
 use Rattle.stage_network.proofs.Sweeps.{counted-le, counted-staying}
 use Rattle.stage_network.proofs.Courses.{swept-first}

@@ -1,7 +1,8 @@
 use Rattle.std.proofs.Common.{FitsSigned, rules}
 use Rattle.std.specs.Int.{w128}
 use Rattle.std.proofs.lemmas.Int.{to_z-of_z}
-use Rattle.worked_networks.proofs.BlockLaws.{pair_of, two_numbers}
+use Rattle.weights.proofs.Items.{two_items}
+use Rattle.worked_networks.proofs.BlockLaws.{pair_of}
 use Rattle.worked_networks.proofs.blocks.BlocksAdditive.adds.Goals as goal
 
 pub doubled-requires : goal.doubled-requires
@@ -14,4 +15,4 @@ pub returns-clause-added : goal.returns-clause-added
 returns-clause-added c =
     let one : FitsSigned w128 c.doubled.result = search rules in
     let two : FitsSigned w128 c.doubled-2.result = search rules in
-    rw (to_z-of_z w128 c.doubled.result one, to_z-of_z w128 c.doubled-2.result two, c.doubled.ensures, c.doubled-2.ensures) (two_numbers c.args.added.now _ _ c.requires.room)
+    rw (to_z-of_z w128 c.doubled.result one, to_z-of_z w128 c.doubled-2.result two, c.doubled.ensures, c.doubled-2.ensures) (two_items c.args.added.now _ _ c.requires.room)

@@ -1,6 +1,6 @@
 use Rattle.std.proofs.Common.{refl}
-use Rattle.worked_networks.proofs.BlockLaws.{two_numbers}
+use Rattle.weights.proofs.Items.{two_items}
 use Rattle.worked_networks.proofs.blocks.BlocksAdditive.first_choice.Goals as goal
 
 pub returns : goal.returns
-returns c = rw (two_numbers c.args.choice.now 0 1 c.requires.room) refl
+returns c = rw (two_items c.args.choice.now 0 1 c.requires.room) refl
