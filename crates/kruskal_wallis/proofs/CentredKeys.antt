@@ -10,7 +10,7 @@ use Rattle.std.proofs.Math.Nat.{mul-le-mul_left}
 use Rattle.std.proofs.Math.Seq.{drop-append_seam, take-append_seam}
 use Rattle.weights.specs.Numbers.{absolute_sum}
 use Rattle.weights.proofs.Filters.{all_replicate}
-use Rattle.completion_bounds.specs.Boxes.{greatest_size, greatest_squares, least_size}
+use Rattle.completion_bounds.specs.Boxes.{greatest_squares}
 use Rattle.room_network.specs.Meanings.{AreReached, IsEnd, IsMove, IsRoom, IsStep}
 use Rattle.later_scores.specs.declared.ends.End.{End}
 use Rattle.later_scores.specs.declared.ends.End.TheVariants.{Least, Greatest}
@@ -33,9 +33,6 @@ use Rattle.symmetry_reduction.proofs.GroupSums.{length-plus, plus-at}
 use Rattle.kruskal_wallis.proofs.RankNarrows.{length-parts}
 
 -- ---- sums of squares
-
-size-most : (l h : ℤ) → least_size l h ≤ greatest_size l h
-size-most l h = grind (arith, ints)
 
 -- a bound that is kept twice
 pub capped-twice : (b x n : ℕ) → min (b + min x n) n ≡ min (b + x) n
