@@ -29,6 +29,8 @@ use Rattle.networks.specs.declared.additive.CentredSquares.{CentredSquares}
 use Rattle.networks.specs.Addends.{Addends, additive_network, from_zero}
 use Rattle.networks.specs.Network.{Network}
 use Rattle.networks.specs.Follows.{Follows}
+use Rattle.networks.specs.GoesOn.{GoesOnAlike}
+use Rattle.networks.proofs.GoingOn.{judged-alike}
 use Rattle.networks.proofs.AdditiveFollows.{additive_follows}
 use Rattle.labelled.specs.UnweightedTests.{CanBeAnswered}
 use Rattle.labelled.proofs.UnweightedLaws.{can-be-answered}
@@ -356,6 +358,15 @@ module _ (tests : BlockTests) (f : AreFitting tests) where
   from-zero-follow : (tail : Tail) → (tests.kind ≡ Friedman) ⊎ (tests.kind ≡ Cochran) → Follows (block_test tests) tail (additive_network (square_addends (from_zero (block_test tests).bound) tests.blocks.treatments (block_counts tests) (judge_of (block_test tests))))
   from-zero-follow tail e = squares-follow (from_zero (block_test tests).bound) (squares-from-zero tests.blocks.treatments (block_test tests).bound (block_counts tests) (bounded tests f.blocks e) bound-fits) tail e
 
+  -- by distances from another centre, it goes on from their keys as they are
+  squares-alike : (x : CentredSquares) → AreSquares tests.blocks.treatments (block_counts tests) x → (tests.kind ≡ Friedman) ⊎ (tests.kind ≡ Cochran)
+      → GoesOnAlike (additive_network (square_addends (from_zero (block_test tests).bound) tests.blocks.treatments (block_counts tests) (judge_of (block_test tests)))) (additive_network (square_addends x tests.blocks.treatments (block_counts tests) (judge_of (block_test tests))))
+  squares-alike x r e =
+      let judge : Judge = judge_of (block_test tests) in
+      let written : Addends = square_addends (from_zero (block_test tests).bound) tests.blocks.treatments (block_counts tests) judge in
+      let other : Addends = square_addends x tests.blocks.treatments (block_counts tests) judge in
+      judged-alike (additive_network written) (additive_network other).verdict judge (from-zero-follow Greater e).intervals (squares-follow x r Greater e).intervals
+
   of_kind : BlockKind → Network
   of_kind kind = additive_network (running_addends kind (block_test tests).bound tests.blocks.treatments (block_counts tests) (judge_of (block_test tests)))
 
@@ -367,6 +378,12 @@ module _ (tests : BlockTests) (f : AreFitting tests) where
       by Friedman e = subst (λ kind. Follows (block_test tests) tail (of_kind kind)) (sym e) (from-zero-follow tail (inl e))
       by Page e = subst (λ kind. Follows (block_test tests) tail (of_kind kind)) (sym e) (page-follows tail e)
       by Cochran e = subst (λ kind. Follows (block_test tests) tail (of_kind kind)) (sym e) (from-zero-follow tail (inr e))
+
+  pub squares-go_on : (x : CentredSquares) → AreSquares tests.blocks.treatments (block_counts tests) x → (tests.kind ≡ Friedman) ⊎ (tests.kind ≡ Cochran)
+      → GoesOnAlike (network_by running_addends tests) (additive_network (square_addends x tests.blocks.treatments (block_counts tests) (judge_of (block_test tests))))
+  unfolding of_kind
+  squares-go_on x r (inl e) = subst (λ kind. GoesOnAlike (of_kind kind) (additive_network (square_addends x tests.blocks.treatments (block_counts tests) (judge_of (block_test tests))))) (sym e) (squares-alike x r (inl e))
+  squares-go_on x r (inr e) = subst (λ kind. GoesOnAlike (of_kind kind) (additive_network (square_addends x tests.blocks.treatments (block_counts tests) (judge_of (block_test tests))))) (sym e) (squares-alike x r (inr e))
 
   pub can-be : CanBeAnswered (block_test tests) (network_by running_addends tests) (network_by addends_of tests)
   can-be = can-be-answered (block_test tests) (centred tests f.blocks) (λ r. refl) (has-first tests.kind) (total-some tests) f.total_fits follows (runs-for tests)

@@ -3,11 +3,13 @@ ghost use Rattle.std.specs.Prelude.{◌≡◌, ◌/◌, ◌≤◌, ◌⊎◌, is
 ghost use Rattle.weights.specs.declared.tails.Tail.{Tail};
 ghost use Rattle.networks.specs.Addends.{additive_network};
 ghost use Rattle.networks.specs.Follows.{Follows};
+ghost use Rattle.networks.specs.GoesOn.{GoesOnAlike};
 ghost use Rattle.networks.specs.Judged.{judge_of};
 ghost use Rattle.symmetry_reduction.specs.ReducedNetworks.{reduced_network};
 ghost use Rattle.rank_assignments.specs.Assignments.{all_assignments, assigned_sums};
 ghost use Rattle.rank_assignments.specs.Assignments.{assignment_network, has_room_for};
-ghost use Rattle.block_tests.specs.BlockNetworks.{line_addends, square_addends};
+ghost use Rattle.block_tests.specs.BlockNetworks.{line_addends, network_by, running_addends};
+ghost use Rattle.block_tests.specs.BlockNetworks.{square_addends};
 ghost use Rattle.block_tests.specs.BlockSteps.{AreSquares, AreStages};
 ghost use Rattle.block_tests.specs.BlockTests.{block_counts, block_test};
 ghost use Rattle.packed_keys.specs.PackedGroups.{AddsSteps};
@@ -25,6 +27,7 @@ use labelled::UnweightedTest;
 use networks::{AdditiveStages, CentredSquares, Judge, Stages};
 use packed_keys::{PackedGroups, bits_for};
 use rank_assignments::{AssignedBlocks, OrderedBlocks, has_room_for, ordered_blocks};
+use stage_network::sum_from_keys;
 use std::alloc::Global;
 use weights::{Bytes, NoMemory, Tail};
 
@@ -60,7 +63,10 @@ fn centred_stages(
 ) -> Result<SquareStages, NoMemory>
     requires judge { judge ≡ judge_of (block_test test.now) }
     requires kind { (test.now.kind ≡ Friedman) ⊎ (test.now.kind ≡ Cochran) }
-    ensures { IfOk result (λ s. (t : Tail) → Follows (block_test test.now) t
+    ensures follows { IfOk result (λ s. (t : Tail) → Follows (block_test test.now) t
+        (additive_network (square_addends s.squares s.treatments s.blocks.items s.judge))) }
+    ensures goes_on { let n = network_by running_addends test.now in
+        IfOk result (λ s. GoesOnAlike n
         (additive_network (square_addends s.squares s.treatments s.blocks.items s.judge))) }
 {
     let blocks = test.blocks();
@@ -87,7 +93,7 @@ fn reduced_stages(
         → MayBePacked s.1.assignments.treatments (127 / k) (reduced_network s.3 s.2
         (assignment_network s.1.assignments.treatments s.1.assignments.items.items
         s.1.assignments.reflections.items s.1.assignments.judge))) }
-    ensures adds { IfOk result (λ s. AddsSteps s.3 s.2 (assigned_sums s.1.assignments.treatments
+    ensures adds { IfOk result (λ s. AddsSteps s.3 (assigned_sums s.1.assignments.treatments
         s.1.assignments.items.items s.1.assignments.reflections.items s.1.assignments.judge)) }
     ensures items { let vs = all_assignments (block_counts test.now) in
         IfOk result (λ s. s.1.assignments.items.items ≡ vs) }
@@ -135,6 +141,25 @@ fn page_stages(alloc: Global, test: &BlockStatistic, judge: Judge) -> Result<Pag
     let blocks = page_blocks(alloc, test.blocks())?;
     let inside = PageBlocks::new(blocks, test.treatments(), judge);
     AdditiveStages::new(alloc, inside)
+}
+
+// The network that goes on from keys of the one that runs, as they are.
+fn onward_stages(
+    alloc: Global,
+    test: &BlockStatistic,
+    judge: Judge,
+) -> Result<BlockStages, NoMemory>
+    requires { judge ≡ judge_of (block_test test.now) }
+    ensures { IfOk result (λ s. GoesOnAlike (network_by running_addends test.now)
+        (⟦<BlockStages as Stages>⟧.network s)) }
+{
+    match test.kind() {
+        BlockKind::Page => test.stages_of(alloc, judge),
+        BlockKind::Friedman | BlockKind::Cochran => {
+            let stages = centred_stages(alloc, test, judge)?;
+            Ok(BlockStages::Squares(stages))
+        }
+    }
 }
 
 impl UnweightedTest for BlockStatistic {
@@ -203,5 +228,20 @@ impl UnweightedTest for BlockStatistic {
                 Ok(BlockStages::Squares(stages))
             }
         }
+    }
+
+    // Where sums are squared, by their distances from the mean.
+    fn sum_onward(
+        &self,
+        alloc: Global,
+        judge: Judge,
+        tail: Tail,
+        stage: usize,
+        keys: &[i128],
+        weights: &[u128],
+    ) -> Result<u128, NoMemory> {
+        let stages = onward_stages(alloc, self, judge)?;
+        let sum = sum_from_keys(alloc, &stages, tail, stage, keys, weights)?;
+        Ok(sum)
     }
 }

@@ -1,5 +1,5 @@
 -- The sums of a test's groups, seen from their middle: what makes them so, and that their network follows the test.
-use Rattle.std.proofs.Common.{◌≡◌, ℕ, ◌*◌, ◌/◌, ◌^◌, ◌<◌, ◌≤◌, List, [], ◌∷◌, get_or, length, map, max, true, sym, ◌∙◌, ap, subst, arith}
+use Rattle.std.proofs.Common.{◌≡◌, ℕ, ◌*◌, ◌/◌, ◌^◌, ◌<◌, ◌≤◌, List, [], ◌∷◌, get_or, length, map, max, true, refl, sym, ◌∙◌, ap, subst, arith}
 use Rattle.std.specs.Prelude.{ℤ}
 use Rattle.std.specs.List.{AllByRecursion, sum}
 use Prim.Native.Nat.{◌∣◌}
@@ -14,7 +14,7 @@ use Rattle.scores.proofs.MultipleLemmas.{common_multiple-all}
 use Rattle.sample_reader.specs.Groups.{group_sizes}
 use Rattle.networks.specs.Follows.{Follows}
 use Rattle.networks.specs.Judged.{judge_of}
-use Rattle.networks.specs.Network.{IsReached}
+use Rattle.networks.specs.Network.{Network, IsReached}
 use Rattle.networks.proofs.Swaps.{swap_at}
 use Rattle.later_scores.specs.LaterSums.{subjects}
 use Rattle.label_network.specs.LabelNetwork.{label_network, over_rooms}
@@ -23,17 +23,20 @@ use Rattle.label_network.proofs.Endings.{labelling_value}
 use Rattle.labelled.proofs.LabelLaws.{label-follows}
 use Rattle.symmetry_reduction.specs.OrderedGroups.{same_at}
 use Rattle.symmetry_reduction.specs.ReducedNetworks.{MayBeReduced, reduced_network}
-use Rattle.symmetry_reduction.specs.declared.orders.Order.TheVariants.{Left}
+use Rattle.symmetry_reduction.specs.declared.orders.Order.{Order}
 use Rattle.packed_keys.specs.PackedGroups.{AddsSteps}
 use Rattle.packed_keys.specs.PackedKeys.{MayBePacked}
+use Rattle.networks.specs.GoesOn.{GoesOn}
+use Rattle.networks.proofs.GoingOn.{judged-goes_on}
 use Rattle.pooled_columns.specs.PooledColumns.{column_sizes, pooled_values}
 use Rattle.kruskal_wallis.specs.CentredSums.{AreParts}
 use Rattle.kruskal_wallis.specs.KruskalWallis.{ScoredGroups, kruskal_wallis_says, kruskal_wallis_test, pooled_scores, size_factors}
+use Rattle.kruskal_wallis.specs.RankSums.{unpacked_meaning}
 use Rattle.kruskal_wallis.specs.RankSumSteps.{AreFitting}
-use Rattle.kruskal_wallis.specs.SumMeanings.{AreSums, seen_meaning}
+use Rattle.kruskal_wallis.specs.SumMeanings.{AreSums, seen_meaning, sums_meaning}
 use Rattle.kruskal_wallis.specs.declared.centred_sums.CentredSums.{CentredSums}
 use Rattle.kruskal_wallis.proofs.CentredNarrows.{centred_measure}
-use Rattle.kruskal_wallis.proofs.EqualKeys.{centred-reduced, even-factors}
+use Rattle.kruskal_wallis.proofs.EqualKeys.{centred-reduced, even-factors, groups-reduced}
 use Rattle.kruskal_wallis.proofs.FittingKruskalWallis.{column-total, multiple-some as some-multiple, scores-long, unpacked-value}
 use Rattle.kruskal_wallis.proofs.PackedCentred.{adds-steps, packed-sums, same-value}
 
@@ -100,15 +103,24 @@ module _ (samples : ScoredGroups) (f : AreFitting samples) where
       seen-ordered = subst (λ ns. MayBeReduced ns (label_network (seen_meaning s)) s.sums.judge) to-rows reduced
 
       -- one number has a digit for the sum of each group
-      pub seen-packed : (bits : ℕ) → bits ≡ 127 / length sizes → absolute_sum (pooled_scores samples) < 2 ^ (127 / length (group_sizes samples.groups)) → (tail : Tail) → Follows (kruskal_wallis_test samples) tail (reduced_network Left sizes (label_network (seen_meaning s)))
-          → ((g : ℕ) (key : List ℤ) → IsReached (reduced_network Left sizes (label_network (seen_meaning s))) g key → IsReached (label_network (seen_meaning s)) g key) → MayBePacked (length s.sums.rows.items) bits (reduced_network Left sizes (label_network (seen_meaning s)))
-      seen-packed bits b small tail follows reached =
+      pub seen-packed : (order : Order) (bits : ℕ) → bits ≡ 127 / length sizes → absolute_sum (pooled_scores samples) < 2 ^ (127 / length (group_sizes samples.groups)) → (tail : Tail) → Follows (kruskal_wallis_test samples) tail (reduced_network order sizes (label_network (seen_meaning s)))
+          → ((g : ℕ) (key : List ℤ) → IsReached (reduced_network order sizes (label_network (seen_meaning s))) g key → IsReached (label_network (seen_meaning s)) g key) → MayBePacked (length s.sums.rows.items) bits (reduced_network order sizes (label_network (seen_meaning s)))
+      seen-packed order bits b small tail follows reached =
           let r = s.sums in
           let all : absolute_sum (subjects r.later.scores.items r.later.columns.items) ≡ absolute_sum (pooled_scores samples) = ap (λ (m : Meaning). absolute_sum (subjects r.later.scores.items m.columns)) a.meaning ∙ ap (λ zs. absolute_sum (subjects zs (column_sizes (pooled_values samples.groups)))) a.scores ∙ column-total samples f in
           let own : absolute_sum (subjects r.later.scores.items r.later.columns.items) < 2 ^ (127 / length r.rows.items) = subst (λ ns. absolute_sum (subjects r.later.scores.items r.later.columns.items) < 2 ^ (127 / length ns)) (sym rows-are) (subst (λ n. n < 2 ^ (127 / length (group_sizes samples.groups))) (sym all) small) in
-          subst (λ k. MayBePacked (length r.rows.items) k (reduced_network Left sizes (label_network (seen_meaning s)))) (ap (λ ns. 127 / length ns) to-rows ∙ sym b)
-          (packed-sums r.factors.items r.bound s.base s.middle r.later.scores.items r.later.columns.items r.rows.items r.judge r.right.squaring s.right sizes (subst (λ ns. 2 ≤ length ns) (sym rows-are) f.some) own
+          subst (λ k. MayBePacked (length r.rows.items) k (reduced_network order sizes (label_network (seen_meaning s)))) (ap (λ ns. 127 / length ns) to-rows ∙ sym b)
+          (packed-sums r.factors.items r.bound s.base s.middle r.later.scores.items r.later.columns.items r.rows.items r.judge r.right.squaring s.right order sizes (subst (λ ns. 2 ≤ length ns) (sym rows-are) f.some) own
           (record { judge = judge_of (kruskal_wallis_test samples); intervals = follows.intervals }) reached)
 
-    pub seen-adds : (sizes : List ℕ) → AddsSteps Left sizes (over_rooms (seen_meaning s))
+    pub seen-adds : (order : Order) → AddsSteps order (over_rooms (seen_meaning s))
     seen-adds = adds-steps s.sums.factors.items s.sums.bound s.base s.middle s.sums.later.scores.items s.sums.later.columns.items s.sums.rows.items s.sums.judge s.sums.right.squaring s.right
+
+    -- seen from their middle, the sums go on for the sums as they are
+    pub seen-goes_on : (g : ℕ) → g ≤ (label_network (unpacked_meaning samples)).count → GoesOn (label_network (unpacked_meaning samples)) (label_network (seen_meaning s)) g g (λ k. k)
+    seen-goes_on =
+        let n : Network = label_network (sums_meaning s.sums) in
+        let factors : s.sums.factors.items ≡ size_factors s.sums.rows.items = a.factors ∙ ap size_factors (sym rows-are) in
+        let plain = groups-reduced s.sums s.sums.rows.items refl factors in
+        subst (λ (m : Meaning). (g : ℕ) → g ≤ (label_network m).count → GoesOn (label_network m) (label_network (seen_meaning s)) g g (λ k. k)) a.meaning
+        (judged-goes_on n (label_network (seen_meaning s)).verdict s.sums.judge plain.intervals reduced.intervals)

@@ -24,7 +24,7 @@ use Rattle.label_network.proofs.Narrowing.{chosen, reached-left}
 use Rattle.label_network.proofs.OverRooms.{over_place}
 use Rattle.symmetry_reduction.specs.ReducedNetworks.{reduced_network}
 use Rattle.symmetry_reduction.specs.GroupSums.{AreHeld, plus_each}
-use Rattle.symmetry_reduction.specs.declared.orders.Order.TheVariants.{Left}
+use Rattle.symmetry_reduction.specs.declared.orders.Order.{Order}
 use Rattle.packed_keys.specs.PackedGroups.{AddsSteps}
 use Rattle.packed_keys.specs.PackedKeys.{IsDigit, MayBePacked}
 use Rattle.packed_keys.proofs.Widths.{bits-few, bits-fit}
@@ -68,8 +68,8 @@ module _ (factors : List ℕ) (bound base middle : ℕ) (scores : List ℤ) (col
       reached_held factors bound base middle scores columns rows judge h c g (sizes_in (take (length rows) k)) (drop (length rows) k)
       (over_place m g (take (length rows) k) (drop (length rows) k) (is_key (over_rooms m) label_weight (label_width columns rows) g k r).reached).reached
 
-  pub adds-steps : (sizes : List ℕ) → AddsSteps Left sizes (over_rooms m)
-  adds-steps sizes = record {
+  pub adds-steps : (order : Order) → AddsSteps order (over_rooms m)
+  adds-steps order = record {
     steps = refl;
     wide = λ g room x p v. length-parts (score_of scores g) x ∙ choice-long g room x p v;
     held = λ g room x p v. parts-held (score_of scores g) x (held-at scores g (recursion_from_All _ scores c.held));
@@ -80,9 +80,9 @@ module _ (factors : List ℕ) (bound base middle : ℕ) (scores : List ℤ) (col
       choice-long g room x p v = (chosen (slice_index columns g) (sizes_in room) x v.allowed).long ∙ fits-long (sizes_in room) rows (reached-left m h.level g (sizes_in room) p (over_place m g room p v.reached).reached).within
 
   -- in whatever order its groups are, a reached key is one of plain sums, which are digits
-  pub packed-sums : (sizes : List ℕ) → 2 ≤ length rows → absolute_sum (subjects scores columns) < 2 ^ (127 / length rows) → IsJudged (reduced_network Left sizes n)
-      → ((g : ℕ) (key : List ℤ) → IsReached (reduced_network Left sizes n) g key → IsReached n g key) → MayBePacked (length rows) (127 / length rows) (reduced_network Left sizes n)
-  packed-sums sizes some small judged reached = record {
+  pub packed-sums : (order : Order) (sizes : List ℕ) → 2 ≤ length rows → absolute_sum (subjects scores columns) < 2 ^ (127 / length rows) → IsJudged (reduced_network order sizes n)
+      → ((g : ℕ) (key : List ℤ) → IsReached (reduced_network order sizes n) g key → IsReached n g key) → MayBePacked (length rows) (127 / length rows) (reduced_network order sizes n)
+  packed-sums order sizes some small judged reached = record {
     room = omega (arith, h.few_rows);
     within = omega arith;
     few = omega (arith, h.few_rows);

@@ -1,10 +1,15 @@
 // The statistic of a test of Kruskal and Wallis, and its networks.
-ghost use Rattle.std.specs.Prelude.{◌≡◌, ◌/◌, ◌^◌, ◌<◌, false, true, length, IfOk};
+ghost use Rattle.std.specs.Prelude.{◌≡◌, ◌/◌, ◌^◌, ◌<◌, ◌≤◌, true, length, IfOk};
 ghost use Rattle.weights.specs.Numbers.{absolute_sum};
 ghost use Rattle.weights.specs.declared.tails.Tail.{Tail};
 ghost use Rattle.sample_reader.specs.Groups.{group_sizes};
+ghost use Rattle.node_pool.specs.Nodes.{weighted};
+ghost use Rattle.node_pool.specs.PoolSteps.{nodes_of};
+ghost use Rattle.networks.specs.Completions.{extreme_weight};
 ghost use Rattle.networks.specs.Follows.{Follows};
+ghost use Rattle.networks.specs.GoesOn.{GoesOnFor};
 ghost use Rattle.networks.specs.Judged.{judge_of};
+ghost use Rattle.stage_network.specs.FromKeys.{AreStarts};
 ghost use Rattle.label_network.specs.LabelNetwork.{label_network};
 ghost use Rattle.symmetry_reduction.specs.ReducedNetworks.{reduced_network};
 ghost use Rattle.symmetry_reduction.specs.GroupSums.{AreHeld};
@@ -21,8 +26,9 @@ use crate::rank_sums::RankSums;
 use crate::squared_stages::{EqualGroups, OrderedSums, SquaredStages, WrittenSums};
 use label_network::{LabelRooms, label_stages};
 use labelled::LabelStatistic;
-use networks::Judge;
+use networks::{Judge, Onward, Stages};
 use packed_keys::{PackedGroups, bits_for};
+use stage_network::sum_by_images;
 use std::alloc::Global;
 use symmetry_reduction::{Order, SymmetryReduced};
 use weights::{NoMemory, Tail};
@@ -84,7 +90,8 @@ fn fits_one(problem: &SquaredSums) -> bool
     made.sum < 1 << bits && are_held(made.columns.scores.as_slice())
 }
 
-// The network with groups of equal size in order and the sums of all groups in one number.
+// The network with groups of equal size in order and the sums of all groups in one number. It goes
+// on for the written one from any key.
 fn packed_stages(
     alloc: Global,
     problem: &SquaredSums,
@@ -95,9 +102,13 @@ fn packed_stages(
         < 2 ^ (127 / length (group_sizes problem.now.groups)) }
     requires held { AreHeld
         (column_scores problem.now.kind (pooled_values problem.now.groups)) }
-    ensures { IfOk result (λ s. (t : Tail) → Follows (kruskal_wallis_test problem.now) t
+    ensures follows { IfOk result (λ s. (t : Tail) → Follows (kruskal_wallis_test problem.now) t
         (packed_network (length s.0.1.sums.rows.items) s.1
         (reduced_network s.0.3 s.0.2 (label_network (seen_meaning s.0.1))))) }
+    ensures goes_on { IfOk result (λ s. GoesOnFor (label_network (unpacked_meaning problem.now))
+        (packed_network (length s.0.1.sums.rows.items) s.1
+        (reduced_network s.0.3 s.0.2 (label_network (seen_meaning s.0.1))))
+        (⟦<EqualGroups as Onward>⟧.takes s) (⟦<EqualGroups as Onward>⟧.image_of s)) }
 {
     let made = problem.made();
     let columns = made.columns.sizes.as_slice();
@@ -107,9 +118,11 @@ fn packed_stages(
     let count = made.scores.as_slice().len() as u64;
     let seen = CentredSums::new(sums, multiple, made.sum, count);
     let stages = label_stages(alloc, columns, groups, seen)?;
+    let _count = stages.stages();
     let rooms = LabelRooms::new(alloc, columns, groups)?;
     let sizes = Vec::from_slice(alloc, groups)?;
-    let ordered = SymmetryReduced::new(stages, rooms, sizes, Order::Left);
+    let ordered = SymmetryReduced::new(stages, rooms, sizes, Order::Sums);
+    let _lawful = ordered.stages();
     let packed = PackedGroups::new(ordered, bits_for(groups.len()));
     Ok(packed)
 }
@@ -125,24 +138,80 @@ fn equal_neighbours(sizes: &[u64]) -> usize {
     equal
 }
 
-// The network with groups of equal size in order and a number for each.
+// The network with groups of equal size in order and a number for each. It goes on for the written
+// one from any key.
 fn reduced_stages(
     alloc: Global,
     problem: &SquaredSums,
     judge: Judge,
 ) -> Result<OrderedSums, NoMemory>
     requires { judge ≡ judge_of (kruskal_wallis_test problem.now) }
-    ensures { IfOk result (λ s. (t : Tail) → Follows (kruskal_wallis_test problem.now) t
+    ensures follows { IfOk result (λ s. (t : Tail) → Follows (kruskal_wallis_test problem.now) t
         (reduced_network s.3 s.2 (label_network (sums_meaning s.1)))) }
+    ensures goes_on { IfOk result (λ s. GoesOnFor (label_network (unpacked_meaning problem.now))
+        (reduced_network s.3 s.2 (label_network (sums_meaning s.1)))
+        (⟦<OrderedSums as Onward>⟧.takes s) (⟦<OrderedSums as Onward>⟧.image_of s)) }
 {
     let made = problem.made();
     let stages = written_stages(alloc, problem, judge)?;
+    let _count = stages.stages();
     let columns = made.columns.sizes.as_slice();
     let groups = made.sizes.as_slice();
     let rooms = LabelRooms::new(alloc, columns, groups)?;
     let sizes = Vec::from_slice(alloc, groups)?;
     let ordered = SymmetryReduced::new(stages, rooms, sizes, Order::Sums);
     Ok(ordered)
+}
+
+// The network whose keys are fewest: with groups of equal size in order, in one number where it
+// holds their sums, or else where there are enough of these groups that the keys become fewer than
+// the orders cost. It goes on for the written one from any key.
+fn quick_stages(
+    alloc: Global,
+    problem: &SquaredSums,
+    judge: Judge,
+) -> Result<SquaredStages, NoMemory>
+    requires { judge ≡ judge_of (kruskal_wallis_test problem.now) }
+    ensures follows { IfOk result (λ s. (t : Tail) → Follows (kruskal_wallis_test problem.now) t
+        (⟦<SquaredStages as Stages>⟧.network s)) }
+    ensures goes_on { IfOk result (λ s. GoesOnFor (label_network (unpacked_meaning problem.now))
+        (⟦<SquaredStages as Stages>⟧.network s)
+        (⟦<SquaredStages as Onward>⟧.takes s) (⟦<SquaredStages as Onward>⟧.image_of s)) }
+{
+    if fits_one(problem) {
+        let stages = packed_stages(alloc, problem, judge)?;
+        Ok(SquaredStages::Packed(stages))
+    } else if equal_neighbours(problem.made().sizes.as_slice()) >= 2 {
+        let stages = reduced_stages(alloc, problem, judge)?;
+        Ok(SquaredStages::Ordered(stages))
+    } else {
+        let stages = written_stages(alloc, problem, judge)?;
+        let _lawful = stages.stages();
+        Ok(SquaredStages::Written(stages))
+    }
+}
+
+// The sum over keys of the written network by another that goes on for it.
+fn sum_by(
+    alloc: Global,
+    written: &SquaredStages,
+    quick: &SquaredStages,
+    tail: Tail,
+    stage: usize,
+    keys: &[i128],
+    weights: &[u128],
+) -> Result<u128, NoMemory>
+    requires starts { AreStarts (⟦<SquaredStages as Stages>⟧.network written.now) stage
+        keys.now weights.now }
+    requires goes_on { GoesOnFor (⟦<SquaredStages as Stages>⟧.network written.now)
+        (⟦<SquaredStages as Stages>⟧.network quick.now)
+        (⟦<SquaredStages as Onward>⟧.takes quick.now)
+        (⟦<SquaredStages as Onward>⟧.image_of quick.now) }
+    ensures { let n = ⟦<SquaredStages as Stages>⟧.network written.now in
+        IfOk result (λ sum. sum
+        ≡ weighted (extreme_weight n tail stage) (nodes_of n.width keys.now weights.now)) }
+{
+    sum_by_images(alloc, written, quick, tail, stage, stage, keys, weights)
 }
 
 impl LabelStatistic for SquaredSums {
@@ -184,18 +253,22 @@ impl LabelStatistic for SquaredSums {
         Ok(SquaredStages::Written(stages))
     }
 
-    // With groups of equal size in order: in one number where it holds their sums, or else where
-    // there are enough of these groups that the keys become fewer than the orders cost.
     fn quick_stages_of(&self, alloc: Global, judge: Judge) -> Result<Self::Built, NoMemory> {
-        if fits_one(self) {
-            let stages = packed_stages(alloc, self, judge)?;
-            Ok(SquaredStages::Packed(stages))
-        } else if equal_neighbours(self.made().sizes.as_slice()) >= 2 {
-            let stages = reduced_stages(alloc, self, judge)?;
-            Ok(SquaredStages::Ordered(stages))
-        } else {
-            let stages = written_stages(alloc, self, judge)?;
-            Ok(SquaredStages::Written(stages))
-        }
+        quick_stages(alloc, self, judge)
+    }
+
+    // By the quick network.
+    fn sum_onward(
+        &self,
+        alloc: Global,
+        judge: Judge,
+        tail: Tail,
+        stage: usize,
+        keys: &[i128],
+        weights: &[u128],
+    ) -> Result<u128, NoMemory> {
+        let written = self.stages_of(alloc, judge)?;
+        let quick = quick_stages(alloc, self, judge)?;
+        sum_by(alloc, &written, &quick, tail, stage, keys, weights)
     }
 }

@@ -4,7 +4,7 @@
 use crate::centred_sums::CentredSums;
 use crate::rank_sums::RankSums;
 use label_network::{LabelNetwork, LabelRooms};
-use networks::{Roomed, Stages, Verdict};
+use networks::{Onward, Roomed, Stages, Verdict};
 use packed_keys::PackedGroups;
 use symmetry_reduction::SymmetryReduced;
 use weights::Tail;
@@ -241,6 +241,27 @@ impl Roomed for SquaredStages {
             SquaredStages::Packed(n) => n.same_for(stage, room, outlook, partial, tail),
             SquaredStages::Ordered(n) => n.same_for(stage, room, outlook, partial, tail),
             SquaredStages::Written(n) => n.same_for(stage, room, outlook, partial, tail),
+        }
+    }
+}
+
+impl Onward for SquaredStages {
+    ghost use Rattle.std.specs.Prelude.{◌≡◌, length};
+    ghost use Rattle.kruskal_wallis.specs.SquaredStages.{of_kind};
+
+    ghost takes = { of_kind ⟦<EqualGroups as Onward>⟧.takes
+        ⟦<OrderedSums as Onward>⟧.takes
+        (λ n g key. length key ≡ (⟦<WrittenSums as Stages>⟧.network n).width) };
+
+    ghost image_of = { of_kind ⟦<EqualGroups as Onward>⟧.image_of
+        ⟦<OrderedSums as Onward>⟧.image_of
+        (λ n g key. key) };
+
+    fn write_image(&self, stage: usize, key: &[i128], image: &mut [i128]) {
+        match self {
+            SquaredStages::Packed(n) => n.write_image(stage, key, image),
+            SquaredStages::Ordered(n) => n.write_image(stage, key, image),
+            SquaredStages::Written(_) => image.copy_from_slice(key),
         }
     }
 }

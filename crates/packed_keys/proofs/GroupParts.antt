@@ -33,11 +33,11 @@ shift-long : (base : ℕ) (stays : Bool) (added rest : List ℤ) → 2 ≤ lengt
 shift-long base true added rest = omega arith
 shift-long base false added rest = omega arith
 
-pub step-long : (order : Order) (sizes : List ℕ) (bits : ℕ) (left added step : List ℤ) → step ≡ shifting_step order sizes bits left added → 2 ≤ length step
-step-long order sizes bits left added step e = subst (λ z. 2 ≤ length z) (sym e) (shift-long (2 ^ bits) (stay order sizes left) added (left ++ added))
+pub step-long : (order : Order) (bits : ℕ) (left added step : List ℤ) → step ≡ shifting_step order bits left added → 2 ≤ length step
+step-long order bits left added step e = subst (λ z. 2 ≤ length z) (sym e) (shift-long (2 ^ bits) (stay order left) added (left ++ added))
 
-pub step-behind : (order : Order) (sizes : List ℕ) (bits : ℕ) (left added step : List ℤ) → step ≡ shifting_step order sizes bits left added → drop 2 step ≡ left ++ added
-step-behind order sizes bits left added step e = ap (drop 2) e ∙ shift-back (2 ^ bits) (stay order sizes left) added (left ++ added)
+pub step-behind : (order : Order) (bits : ℕ) (left added step : List ℤ) → step ≡ shifting_step order bits left added → drop 2 step ≡ left ++ added
+step-behind order bits left added step e = ap (drop 2) e ∙ shift-back (2 ^ bits) (stay order left) added (left ++ added)
 
 shift-stays : (base : ℕ) (stays : Bool) (added rest : List ℤ) → get_or (shift base stays added ++ rest) 0 (pos 0) ≡ pos 1
     → (stays ≡ true) × (get_or (shift base stays added ++ rest) 1 (pos 0) ≡ pos (numeral base (map nat_abs added)))
@@ -80,7 +80,7 @@ module _ {plan : Plan} {m : Meaning} {sizes : List ℕ} {order : Order} {bits : 
       }
 
   -- what a choice that leaves the groups in order adds
-  module _ (g : ℕ) (room partial : List ℤ) (c : List ℕ) (l : length room ≡ m.floor.width) (r : IsReached (reduced_network order sizes (room_network m plan.weight)) g (room ++ partial)) (before : g < m.floor.count) (h : Contains ((reduced_network order sizes (room_network m plan.weight)).choices g (room ++ partial)) c) (stays : stay order sizes (m.floor.next g room c) ≡ true) where
+  module _ (g : ℕ) (room partial : List ℤ) (c : List ℕ) (l : length room ≡ m.floor.width) (r : IsReached (reduced_network order sizes (room_network m plan.weight)) g (room ++ partial)) (before : g < m.floor.count) (h : Contains ((reduced_network order sizes (room_network m plan.weight)).choices g (room ++ partial)) c) (stays : stay order (m.floor.next g room c) ≡ true) where
     abbrev key : List ℤ
     key = room ++ partial
 
@@ -129,14 +129,14 @@ module _ {plan : Plan} {m : Meaning} {sizes : List ℕ} {order : Order} {bits : 
   abbrev packed_groups : Network
   packed_groups = packed_network m.floor.width bits (reduced_network order sizes (room_network m plan.weight))
 
-  pub in-digits : (g : ℕ) (room : List ℤ) (c : List ℕ) → IsArc packed_groups w g room c → g < m.floor.count → stay order sizes (m.floor.next g room c) ≡ true → AreDigits bits (m.step g room c)
+  pub in-digits : (g : ℕ) (room : List ℤ) (c : List ℕ) → IsArc packed_groups w g room c → g < m.floor.count → stay order (m.floor.next g room c) ≡ true → AreDigits bits (m.step g room c)
   in-digits g room c v before stays =
       let there : IsArc o w g room c = in-arc packed-of g room c v in
       step-digits g room there.partial c there.wide there.reached before there.allowed stays
 
   -- a step whose first number is 1 has a second one, which leads a partial on
   pub added-next : (g : ℕ) (room partial : List ℤ) (c : List ℕ) (step : List ℤ) → length room ≡ w → IsReached packed_groups g (room ++ partial) → g < m.floor.count → Contains (packed_groups.choices g (room ++ partial)) c
-      → step ≡ shifting_step order sizes bits (m.floor.next g room c) (m.step g room c) → get_or step 0 (pos 0) ≡ pos 1
+      → step ≡ shifting_step order bits (m.floor.next g room c) (m.step g room c) → get_or step 0 (pos 0) ≡ pos 1
       → (unsigned_abs (get_or partial 0 (pos 0)) + unsigned_abs (get_or step 1 (pos 0)) ≤ MAX) × ((get_or partial 0 (pos 0) +ℤ get_or step 1 (pos 0)) ∷ [] ≡ drop w (packed_groups.next g (room ++ partial) c))
   added-next g room partial c step l r before h e one =
       let numbers : List ℤ = unpacked (2 ^ bits) k partial in
@@ -144,7 +144,7 @@ module _ {plan : Plan} {m : Meaning} {sizes : List ℕ} {order : Order} {bits : 
       let added : List ℤ = m.step g room c in
       let here : IsReached o g (room ++ numbers) = parts-reached packed-of g room partial l r in
       let allowed : Contains (o.choices g (room ++ numbers)) c = subst (λ key. Contains (o.choices g key) c) (read-parts packed-of room partial l) h in
-      let both = shift-stays (2 ^ bits) (stay order sizes left) added (left ++ added) (ap (λ s. get_or s 0 (pos 0)) (sym e) ∙ one) in
+      let both = shift-stays (2 ^ bits) (stay order left) added (left ++ added) (ap (λ s. get_or s 0 (pos 0)) (sym e) ∙ one) in
       let first : get_or partial 0 (pos 0) ≡ pos (numeral (2 ^ bits) (map nat_abs numbers)) = ap (λ p. get_or p 0 (pos 0)) (sym (is-packed packed-of g room partial l r)) in
       let second : get_or step 1 (pos 0) ≡ pos (numeral (2 ^ bits) (map nat_abs added)) = ap (λ s. get_or s 1 (pos 0)) e ∙ both.1 in (
         rw (first, second) (numbers-fit g room numbers c l here before allowed both.0),

@@ -15,6 +15,8 @@ use Rattle.networks.specs.Rooms.{IsArc, IsPlace, IsRoomed}
 use Rattle.networks.proofs.Mapping.{IsReadInOrbit, itself, mapped-follows, mapped-lawful, mapped-reached, mapped-roomed, mapped-total, mapped-values, reads-back, written-of}
 use Rattle.networks.proofs.Steps.{reached-next}
 use Rattle.room_network.proofs.RoomKeys.{back_is, front_is}
+use Rattle.networks.specs.GoesOn.{GoesOn}
+use Rattle.networks.proofs.GoingOn.{written-goes_on}
 use Rattle.packed_keys.specs.PackedKeys.{packed, packed_key, packed_network, unpacked, unpacked_key}
 use Rattle.packed_keys.specs.PackedSteps.{AreDigits, IsPacked}
 use Rattle.packed_keys.proofs.DigitLists.{unpacked-packed}
@@ -145,3 +147,15 @@ module _ {w bits slots : ℕ} {n : Network} (i : IsPacked w bits slots n) where
     fits = subst (λ j. (2 ^ bits) ^ j ≤ MAX + 1) (sym (partial-long 0 n.first refl)) i.may.fits;
     narrow = i.may.narrow;
   }
+
+  -- a reached key has digits
+  pub key-digits : (g : ℕ) (key : List ℤ) → IsReached n g key → AreDigits bits (drop w key)
+  key-digits g key r = record {
+    each = i.may.each g key r;
+    fits = subst (λ j. (2 ^ bits) ^ j ≤ MAX + 1) (sym (partial-long g key r)) i.may.fits;
+    narrow = i.may.narrow;
+  }
+
+  -- the packed network goes on for the one whose keys it packs
+  pub packed-goes_on : IsLawful n → (g : ℕ) → g ≤ n.count → GoesOn n (packed_network w bits n) g g write
+  packed-goes_on l = written-goes_on unmoved (w + 1) l (λ g key j r e. ap write e) (λ t key j r e. ap (n.verdict t n.count) e)

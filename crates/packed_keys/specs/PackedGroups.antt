@@ -1,22 +1,24 @@
 -- Groups in order, with their sums in one number: a choice after which they stay as they stand only
 -- adds to that number.
-use Rattle.std.specs.Prelude.{◌≡◌, ℕ, ◌^◌, ℤ, pos, Bool, true, if◌then◌else◌, List, [], ◌∷◌, ◌++◌, length}
+use Rattle.std.specs.Prelude.{◌≡◌, ℕ, ◌+◌, ◌^◌, ℤ, pos, Bool, true, if◌then◌else◌, List, [], ◌∷◌, ◌++◌, length}
+use Rattle.networks.specs.Network.{Network, IsReached}
 use Rattle.room_network.specs.Meanings.{IsMove, Meaning}
 use Rattle.symmetry_reduction.specs.GroupSums.{AreHeld, plus_each}
-use Rattle.symmetry_reduction.specs.OrderedGroups.{stay}
+use Rattle.symmetry_reduction.specs.OrderedGroups.{groups_in_order, stay}
+use Rattle.symmetry_reduction.specs.ReducedNetworks.{reduced_network}
 use Rattle.symmetry_reduction.specs.declared.orders.Order.{Order}
 use Rattle.packed_keys.specs.PackedKeys.{packed}
 
 -- A step has as many numbers as a partial, none of them negative, and a choice after which groups
 -- stay as they stand adds them to the partial's, place by place.
-pub record AddsSteps (order : Order) (sizes : List ℕ) (m : Meaning) : Type 0 where
+pub record AddsSteps (order : Order) (m : Meaning) : Type 0 where
   pub steps : m.step_width ≡ m.slots
   pub wide : (g : ℕ) (room : List ℤ) (c : List ℕ) (p : List ℤ) → IsMove m g room c p
       → length (m.step g room c) ≡ m.step_width
   pub held : (g : ℕ) (room : List ℤ) (c : List ℕ) (p : List ℤ) → IsMove m g room c p
       → AreHeld (m.step g room c)
   pub moves : (g : ℕ) (room : List ℤ) (c : List ℕ) (p : List ℤ) → IsMove m g room c p
-      → stay order sizes (m.floor.next g room c) ≡ true
+      → stay order (m.floor.next g room c) ≡ true
       → m.advance g room c p ≡ plus_each p (m.step g room c)
 
 -- whether groups stay as they stand after a choice, 1 or 0, and, if so, what it adds to the one
@@ -25,6 +27,13 @@ abbrev pub shift : ℕ → Bool → List ℤ → List ℤ
 shift base stays added = if stays then pos 1 ∷ packed base added else pos 0 ∷ pos 0 ∷ []
 
 -- a step: this of the groups that a choice leaves, and then these and what is added to their sums
-abbrev pub shifting_step : Order → List ℕ → ℕ → List ℤ → List ℤ → List ℤ
-shifting_step order sizes bits left added =
-    shift (2 ^ bits) (stay order sizes left) added ++ (left ++ added)
+abbrev pub shifting_step : Order → ℕ → List ℤ → List ℤ → List ℤ
+shifting_step order bits left added =
+    shift (2 ^ bits) (stay order left) added ++ (left ++ added)
+
+-- a key of a stage with groups of these sizes, which stand as in a reached key once they are in
+-- order
+pub record AreOrderable (order : Order) (sizes : List ℕ) (n : Network) (g : ℕ) (key : List ℤ)
+    : Type 0 where
+  pub long : length key ≡ length sizes + length sizes
+  pub reached : IsReached (reduced_network order sizes n) g (groups_in_order order sizes key)

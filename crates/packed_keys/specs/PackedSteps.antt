@@ -31,4 +31,4 @@ pub record IsPackedGroups (plan : Plan) (m : Meaning) (sizes : List ℕ) (order 
   pub ordered : IsReduced rooms plan m sizes order
   pub may : MayBePacked m.floor.width bits
       (reduced_network order sizes (room_network m plan.weight))
-  pub adds : AddsSteps order sizes m
+  pub adds : AddsSteps order m

@@ -1,21 +1,22 @@
 // Networks of groups in order whose sums stand in one number, which most choices only add to.
 ghost use Rattle.std.specs.Prelude.{◌≡◌, ◌+◌, ◌^◌, ◌≤◌, ◌+ℤ◌, true, get_or, length, pos};
-ghost use Rattle.std.specs.Prelude.{ℤ, Bool, unsigned_abs};
+ghost use Rattle.std.specs.Prelude.{ℕ, ℤ, Bool, unsigned_abs};
 ghost use Rattle.weights.specs.Conditional.{ConditionalTest};
 ghost use Rattle.weights.specs.declared.TheConstants.{MAX};
 ghost use Rattle.weights.specs.declared.tails.Tail.{Tail};
 ghost use Rattle.networks.specs.Completions.{value_weights};
 ghost use Rattle.networks.specs.Follows.{Follows};
+ghost use Rattle.networks.specs.GoesOn.{GoesOn};
 ghost use Rattle.room_network.specs.RoomNetworks.{room_network};
 ghost use Rattle.symmetry_reduction.specs.OrderedGroups.{stay};
 ghost use Rattle.symmetry_reduction.specs.ReducedNetworks.{reduced_network};
 ghost use Rattle.packed_keys.specs.PackedGroups.{AddsSteps, shift};
-ghost use Rattle.packed_keys.specs.PackedKeys.{MayBePacked, packed_network};
+ghost use Rattle.packed_keys.specs.PackedKeys.{MayBePacked, packed_key, packed_network};
 ghost use Rattle.packed_keys.specs.PackedSteps.{AreDigits};
 
 use crate::digits::packed_number;
 use crate::network::Packed;
-use networks::{Roomed, Stages, Verdict, behind, front};
+use networks::{Onward, Roomed, Stages, Verdict, behind, front};
 use room_network::{Measure, Rooms};
 use std::marker::Model;
 use symmetry_reduction::{Order, SymmetryReduced, stay};
@@ -45,20 +46,12 @@ impl<R: Rooms, M: Measure> Model for PackedGroups<R, M> {
 
 // Writes whether groups stay as they stand after a choice, and what it then adds to the one number.
 #[inline(always)]
-fn write_shift(
-    order: Order,
-    bits: u32,
-    sizes: &[u64],
-    left: &[i128],
-    added: &[i128],
-    numbers: &mut [i128],
-)
-    requires left { length left.now ≡ length sizes.now }
-    requires digits { stay order sizes.now left.now ≡ true → AreDigits bits added.now }
+fn write_shift(order: Order, bits: u32, left: &[i128], added: &[i128], numbers: &mut [i128])
+    requires digits { stay order left.now ≡ true → AreDigits bits added.now }
     requires room { length numbers.old ≡ 2 }
-    ensures { numbers.new ≡ shift (2 ^ bits) (stay order sizes.now left.now) added.now }
+    ensures { numbers.new ≡ shift (2 ^ bits) (stay order left.now) added.now }
 {
-    if stay(order, sizes, left) {
+    if stay(order, left) {
         numbers[0] = 1;
         numbers[1] = packed_number(bits, added);
     } else {
@@ -95,7 +88,7 @@ impl<R: Rooms, M: Measure> PackedGroups<R, M> {
         requires packed { let m = M.meaning ordered.1 in
             let n = room_network m (R.plan ordered.0).weight in
             MayBePacked m.floor.width bits (reduced_network ordered.3 ordered.2 n) }
-        requires adds { AddsSteps ordered.3 ordered.2 (M.meaning ordered.1) }
+        requires adds { AddsSteps ordered.3 (M.meaning ordered.1) }
         ensures parts { result ≡ (ordered, bits) }
         ensures ends { let m = M.meaning ordered.1 in
             let n = room_network m (R.plan ordered.0).weight in
@@ -108,6 +101,12 @@ impl<R: Rooms, M: Measure> PackedGroups<R, M> {
             let q = packed_network m.floor.width bits o in
             (test : ConditionalTest) (tail : Tail)
             → Follows test tail o → Follows test tail q }
+        ensures goes_on { let m = M.meaning ordered.1 in
+            let n = room_network m (R.plan ordered.0).weight in
+            let o = reduced_network ordered.3 ordered.2 n in
+            let w = m.floor.width in
+            (g : ℕ) → g ≤ o.count
+            → GoesOn o (packed_network w bits o) g g (packed_key w (2 ^ bits)) }
     {
         ordered.sound();
         PackedGroups {
@@ -171,7 +170,7 @@ impl<R: Rooms, M: Measure> Roomed for PackedGroups<R, M> {
         2 + ((M.meaning p.0.1).floor.width + (M.meaning p.0.1).step_width) };
 
     ghost step_of = { λ p g room c.
-        shifting_step p.0.3 p.0.2 p.1 ((M.meaning p.0.1).floor.next g room c)
+        shifting_step p.0.3 p.1 ((M.meaning p.0.1).floor.next g room c)
         ((M.meaning p.0.1).step g room c) };
 
     ghost outlook_width = { λ p. (M.meaning p.0.1).outlook_width };
@@ -191,11 +190,10 @@ impl<R: Rooms, M: Measure> Roomed for PackedGroups<R, M> {
         let (numbers, inner) = step.split_at_mut(2);
         self.stages.step(stage, room, choice, inner);
         let groups = self.stages.inner();
-        let sizes = groups.sizes();
         let order = groups.order();
         let left = front(inner, room.len());
         let added = behind(inner, room.len());
-        write_shift(order, self.stages.bits(), sizes, left, added, numbers);
+        write_shift(order, self.stages.bits(), left, added, numbers);
     }
 
     #[inline(always)]
@@ -234,5 +232,26 @@ impl<R: Rooms, M: Measure> Roomed for PackedGroups<R, M> {
         tail: Tail,
     ) -> Verdict {
         self.stages.verdict_by(stage, room, outlook, partial, tail)
+    }
+}
+
+impl<R: Rooms, M: Measure> Onward for PackedGroups<R, M> {
+    ghost use Rattle.std.specs.Prelude.{◌^◌};
+    ghost use Rattle.symmetry_reduction.specs.OrderedGroups.{groups_in_order};
+    ghost use Rattle.packed_keys.specs.PackedGroups.{AreOrderable};
+    ghost use Rattle.packed_keys.specs.PackedKeys.{packed_key};
+
+    ghost takes = { λ p.
+        AreOrderable p.0.3 p.0.2 (room_network (M.meaning p.0.1) (R.plan p.0.0).weight) };
+
+    ghost image_of = { λ p g key.
+        packed_key (M.meaning p.0.1).floor.width (2 ^ p.1) (groups_in_order p.0.3 p.0.2 key) };
+
+    fn write_image(&self, stage: usize, key: &[i128], image: &mut [i128]) {
+        let groups = self.stages.inner();
+        let mut numbers = [0i128; 16];
+        let ordered = &mut numbers[..key.len()];
+        groups.write_image(stage, key, ordered);
+        self.stages.write(stage, ordered, image);
     }
 }

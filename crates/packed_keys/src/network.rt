@@ -1,10 +1,11 @@
 // Networks whose partials stand in one number.
-ghost use Rattle.std.specs.Prelude.{◌≡◌, ◌+◌, ◌-◌, ◌^◌, ◌≤◌, ◌++◌, ℤ, Bool, drop, length};
+ghost use Rattle.std.specs.Prelude.{◌≡◌, ℕ, ◌+◌, ◌-◌, ◌^◌, ◌≤◌, ◌++◌, ℤ, Bool, drop, length};
 ghost use Rattle.weights.specs.Conditional.{ConditionalTest};
 ghost use Rattle.weights.specs.declared.tails.Tail.{Tail};
 ghost use Rattle.networks.specs.Completions.{value_weights};
 ghost use Rattle.networks.specs.Follows.{Follows};
 ghost use Rattle.networks.specs.Network.{IsReached};
+ghost use Rattle.networks.specs.GoesOn.{GoesOn};
 ghost use Rattle.packed_keys.specs.PackedKeys.{MayBePacked, packed_key, packed_network};
 ghost use Rattle.packed_keys.specs.PackedKeys.{unpacked, unpacked_key};
 ghost use Rattle.packed_keys.specs.PackedSteps.{AreDigits};
@@ -75,6 +76,10 @@ impl<S: Roomed> Packed<S> {
             let q = packed_network (S.room_width stages) bits n in
             (test : ConditionalTest) (tail : Tail)
             → Follows test tail n → Follows test tail q }
+        ensures goes_on { let n = S.Stages.network stages in
+            let w = S.room_width stages in
+            (g : ℕ) → g ≤ n.count
+            → GoesOn n (packed_network w bits n) g g (packed_key w (2 ^ bits)) }
     {
         let _lawful = stages.stages();
         let slots = stages.width() - stages.room_width();
@@ -83,6 +88,16 @@ impl<S: Roomed> Packed<S> {
             bits,
             slots,
         }
+    }
+
+    /// Writes a reached key of the network packed.
+    pub(crate) fn write(&self, _stage: usize, key: &[i128], packed: &mut [i128])
+        requires reached { IsReached (S.Stages.network self.now.0) _stage key.now }
+        requires room { length packed.old ≡ S.room_width self.now.0 + 1 }
+        ensures { packed.new ≡ packed_key (S.room_width self.now.0) (2 ^ self.now.1) key.now }
+    {
+        let _lawful = self.stages.stages();
+        pack_key(self.stages.room_width(), self.bits, key, packed);
     }
 
     /// The network whose partials are packed.

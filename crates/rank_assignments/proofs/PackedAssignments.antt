@@ -53,10 +53,10 @@ all-unassigned : (k : ℕ) → list_any (λ r. int_eq r (pos 0)) (unassigned k) 
 all-unassigned zero = refl
 all-unassigned (suc k) = all-unassigned k
 
-stays-within : (k : ℕ) (closes : Bool) (room : List ℤ) → stay (order_for k) (alike k) (cond closes (unassigned k) room) ≡ true → closes ≡ false
+stays-within : (k : ℕ) (closes : Bool) (room : List ℤ) → stay (order_for k) (cond closes (unassigned k) room) ≡ true → closes ≡ false
 stays-within k closes room = by (nat_lt k 7) closes
   where
-    by : (b closes : Bool) → stay (cond b SumsWhereAllRemain Sums) (alike k) (cond closes (unassigned k) room) ≡ true → closes ≡ false
+    by : (b closes : Bool) → stay (cond b SumsWhereAllRemain Sums) (cond closes (unassigned k) room) ≡ true → closes ≡ false
     by true true e = absurd (cc (sym e ∙ all-unassigned k))
     by true false e = refl
     by false closes e = absurd (cc e)
@@ -89,7 +89,7 @@ module _ (k : ℕ) (vs : List Assignment) (judge : Judge) (a : AreAssignments k 
       by (suc n) f = absurd (cc (sym e ∙ (m.each g h (omega (arith, f))).closes))
 
   -- so there a choice adds a number to those that get it
-  pub assigned-adds : AddsSteps (order_for k) (alike k) (assigned_sums k vs reflections judge)
+  pub assigned-adds : AddsSteps (order_for k) (assigned_sums k vs reflections judge)
   assigned-adds = record {
     steps = refl;
     wide = λ g room c p v. length-raises (assignment_at vs g).value c ∙ long g room c p v;

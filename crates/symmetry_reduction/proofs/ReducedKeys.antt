@@ -1,5 +1,5 @@
 -- Where symmetry of groups of equal size keep what is asked of a network, its keys may be put in order.
-use Rattle.std.proofs.Common.{◌≡◌, ℕ, List, length, take, drop, true, false, cond, refl, sym, ◌∙◌, ap, arith, length-drop}
+use Rattle.std.proofs.Common.{◌≡◌, ℕ, ◌≤◌, List, length, take, drop, true, false, cond, refl, sym, ◌∙◌, ap, arith, length-drop}
 use Rattle.std.specs.Prelude.{ℤ, Bool}
 use Rattle.std.proofs.lemmas.List.{length-map, length-take}
 use Rattle.weights.specs.Conditional.{ConditionalTest}
@@ -14,11 +14,15 @@ use Rattle.networks.specs.Network.{Network, IsReached}
 use Rattle.networks.specs.Rooms.{IsRoomed}
 use Rattle.networks.specs.declared.verdicts.Judge.{Judge}
 use Rattle.networks.proofs.Mapping.{IsReadInOrbit, InOrbit, mapped-follows, mapped-lawful, mapped-reached, mapped-roomed, mapped-total, mapped-values, read-back, moved_on, unmoved}
-use Rattle.symmetry_reduction.specs.OrderedGroups.{IsExchange, by_sums, groups_in_order, lefts, may_precede, places_of, sorted_groups, stay, sums}
+use Rattle.networks.specs.GoesOn.{GoesOn}
+use Rattle.networks.proofs.GoingOn.{ends-alike, written-goes_on}
+use Rattle.symmetry_reduction.specs.OrderedGroups.{IsExchange, groups_in_order, lefts, may_precede, places_of, sorted_groups, stay, sums}
 use Rattle.symmetry_reduction.specs.ReducedNetworks.{MayBeReduced, reduced_network}
 use Rattle.symmetry_reduction.specs.OrderSteps.{StaysLawful}
 use Rattle.symmetry_reduction.specs.declared.orders.Order.{Order}
+use Rattle.symmetry_reduction.specs.declared.orders.Order.TheVariants.{Sums}
 use Rattle.symmetry_reduction.specs.declared.places.Place.{Place}
+use Rattle.symmetry_reduction.proofs.EvenOrder.{sorted-even}
 use Rattle.symmetry_reduction.proofs.PlaceOrder.{front-key, length-places, order-folds, order-room, room_in_order}
 
 module _ (order : Order) {sizes : List ℕ} {n : Network} {judge : Judge} (a : MayBeReduced sizes n judge) (l : IsLawful n) where
@@ -35,21 +39,21 @@ module _ (order : Order) {sizes : List ℕ} {n : Network} {judge : Judge} (a : M
 
   -- the room of a key in order, which the room decides
   abbrev room_of : List ℤ → List ℤ
-  room_of room = cond (stay order sizes room) room (room_in_order sizes room)
+  room_of room = cond (stay order room) room (room_in_order sizes room)
 
   room-sorted : (g : ℕ) (k : List ℤ) → IsReached n g k → take (length sizes) (groups_in_order order sizes k) ≡ room_of (take (length sizes) k)
-  room-sorted g k r = by (stay order sizes (take (length sizes) k))
+  room-sorted g k r = by (stay order (take (length sizes) k))
     where
-      by : (b : Bool) → take (length sizes) (cond b k (sorted_groups (by_sums order) sizes k)) ≡ cond b (take (length sizes) k) (room_in_order sizes (take (length sizes) k))
+      by : (b : Bool) → take (length sizes) (cond b k (sorted_groups sizes k)) ≡ cond b (take (length sizes) k) (room_in_order sizes (take (length sizes) k))
       by true = refl
       by false =
           let room : List ℤ = take (length sizes) k in
           let partial : List ℤ = drop (length sizes) k in
-          let ps : List Place = in_order (may_precede (by_sums order)) (places_of sizes room partial) in
+          let ps : List Place = in_order may_precede (places_of sizes room partial) in
           let room_long : length room ≡ length sizes = length-take (length sizes) k ∙ omega (arith, l.long g k r, a.wide) in
           let partial_long : length partial ≡ length sizes = length-drop (length sizes) k ∙ omega (arith, l.long g k r, a.wide) in
-          let long : length (lefts ps) ≡ length sizes = length-map ps (λ (p : Place). p.left) ∙ length-in_order (may_precede (by_sums order)) (places_of sizes room partial) ∙ length-places sizes room partial room_long partial_long in
-          front-key (length sizes) (lefts ps) (sums ps) long ∙ order-room (by_sums order) sizes room partial partial_long
+          let long : length (lefts ps) ≡ length sizes = length-map ps (λ (p : Place). p.left) ∙ length-in_order may_precede (places_of sizes room partial) ∙ length-places sizes room partial room_long partial_long in
+          front-key (length sizes) (lefts ps) (sums ps) long ∙ order-room sizes room partial partial_long
 
   pub stays-lawful : IsRoomed n (length sizes) → StaysLawful order sizes n
   stays-lawful rooms = record {
@@ -72,3 +76,10 @@ module _ (order : Order) {sizes : List ℕ} {n : Network} {judge : Judge} (a : M
 
   pub reduced-follows : (test : ConditionalTest) (tail : Tail) → judge ≡ judge_of test → Follows test tail n → Follows test tail (reduced_network order sizes n)
   reduced-follows = mapped-follows by-symmetry n.width judge a.intervals a.low a.high
+
+-- in order by sums too, the network goes on for the one that is not in order
+pub reduced-goes_on : {sizes : List ℕ} {n : Network} {judge : Judge} → MayBeReduced sizes n judge → IsLawful n → (g : ℕ) → g ≤ n.count → GoesOn n (reduced_network Sums sizes n) g g (groups_in_order Sums sizes)
+reduced-goes_on {sizes} {n} {judge} a l =
+    written-goes_on (by-symmetry Sums a l) n.width l
+    (λ g k j r u. sorted-even sizes k j (l.long g k r ∙ a.wide) u)
+    (ends-alike a.symmetry judge a.intervals)

@@ -1,30 +1,32 @@
 // Networks of rooms in whose keys groups are in order.
-ghost use Rattle.std.specs.Prelude.{◌≡◌, ℕ, ℤ, Bool, List};
+ghost use Rattle.std.specs.Prelude.{◌≡◌, ℕ, ◌≤◌, ℤ, Bool, List};
 ghost use Rattle.weights.specs.Conditional.{ConditionalTest};
 ghost use Rattle.weights.specs.declared.tails.Tail.{Tail};
 ghost use Rattle.networks.specs.Completions.{value_weights};
 ghost use Rattle.networks.specs.Follows.{Follows};
 ghost use Rattle.networks.specs.Judged.{judge_of};
 ghost use Rattle.networks.specs.Network.{IsReached};
+ghost use Rattle.networks.specs.GoesOn.{GoesOn};
 ghost use Rattle.room_network.specs.Plans.{Plan};
 ghost use Rattle.room_network.specs.RoomNetworks.{room_network};
+ghost use Rattle.symmetry_reduction.specs.declared.orders.Order.TheVariants.{Sums};
 ghost use Rattle.symmetry_reduction.specs.OrderSteps.{IsReduced};
+ghost use Rattle.symmetry_reduction.specs.OrderedGroups.{groups_in_order};
 ghost use Rattle.symmetry_reduction.specs.ReducedNetworks.{AreItsRooms, MayBeReduced};
 ghost use Rattle.symmetry_reduction.specs.ReducedNetworks.{reduced_network};
 
 use crate::keys::{put_groups_in_order, put_sums_in_order};
 use crate::orders::Order;
-use networks::{Roomed, Stages, Verdict, behind, front};
+use networks::{Onward, Roomed, Stages, Verdict, behind, front};
 use room_network::{Measure, RoomNetwork, Rooms};
 use std::marker::Model;
 use weights::Tail;
 
-/// A network of rooms in which groups of equal size that stand side by side are in order. Where
-/// this is by what remains of them and then by their sums, k such groups have up to k! times fewer
-/// keys. Where it is by what remains of them alone, there are as few rooms, with more keys in each,
-/// but a choice that leaves the groups in order only adds to their sums. In the last order this is
-/// so of every choice but those after which something remains of each group again. It is seen as
-/// its rooms, its measure, the groups' sizes, and their order.
+/// A network of rooms in which groups of equal size that stand side by side are in order, by what
+/// remains of them and then by their sums: k such groups have up to k! times fewer keys. In the
+/// second order they are put so where something remains of each: a choice after which nothing
+/// remains of some only adds to their sums. It is seen as its rooms, its measure, the groups'
+/// sizes, and their order.
 #[derive(Drop)]
 pub struct SymmetryReduced<R: Rooms, M: Measure> {
     stages: RoomNetwork<R, M>,
@@ -73,6 +75,10 @@ impl<R: Rooms, M: Measure> SymmetryReduced<R, M> {
         ensures reached { let n = room_network (M.meaning stages.1) (R.plan stages.0).weight in
             (g : ℕ) (key : List ℤ)
             → IsReached (reduced_network order sizes.items n) g key → IsReached n g key }
+        ensures goes_on { let n = room_network (M.meaning stages.1) (R.plan stages.0).weight in
+            order ≡ Sums → (g : ℕ) → g ≤ n.count
+            → GoesOn n (reduced_network order sizes.items n) g g
+            (groups_in_order order sizes.items) }
     {
         let _lawful = stages.stages();
         let _roomed = stages.room_width();
@@ -90,13 +96,6 @@ impl<R: Rooms, M: Measure> SymmetryReduced<R, M> {
         ensures { result ≡ self.now.3 }
     {
         self.order
-    }
-
-    /// The groups' sizes.
-    pub fn sizes(&self) -> &[u64]
-        ensures { result.now ≡ self.now.2 }
-    {
-        self.sizes.as_slice()
     }
 
     /// Nothing: what `new` asked of it, and that its rooms are sound, is ensured.
@@ -226,5 +225,20 @@ impl<R: Rooms, M: Measure> Roomed for SymmetryReduced<R, M> {
         tail: Tail,
     ) -> Verdict {
         self.stages.verdict_by(stage, room, outlook, partial, tail)
+    }
+}
+
+impl<R: Rooms, M: Measure> Onward for SymmetryReduced<R, M> {
+    ghost use Rattle.std.specs.Prelude.{◌≡◌, ◌+◌, length};
+    ghost use Rattle.symmetry_reduction.specs.OrderedGroups.{groups_in_order};
+
+    ghost takes = { λ s g key. length key ≡ length s.2 + length s.2 };
+
+    ghost image_of = { λ s g key. groups_in_order s.3 s.2 key };
+
+    fn write_image(&self, _stage: usize, key: &[i128], image: &mut [i128]) {
+        self.sound();
+        image.copy_from_slice(key);
+        put_groups_in_order(self.order, self.sizes.as_slice(), image);
     }
 }

@@ -5,3 +5,6 @@ returns-clause-ends g c = c.new.ensures.ends
 
 pub returns-clause-follows : goal.returns-clause-follows
 returns-clause-follows g c = c.new.ensures.follows
+
+pub returns-clause-goes_on : goal.returns-clause-goes_on
+returns-clause-goes_on g c = c.new.ensures.goes_on

@@ -7,13 +7,13 @@ use Rattle.packed_keys.proofs.PackedParts.{one-number}
 use Rattle.packed_keys.proofs.groups.PackedGroupsRoomed.advance.Goals as goal
 
 pub only_adds-requires : goal.only_adds-requires
-only_adds-requires g c = step-long c.args.self.now.0.3 c.args.self.now.0.2 c.args.self.now.1 _ _ c.args.step.now c.requires.step
+only_adds-requires g c = step-long c.args.self.now.0.3 c.args.self.now.1 _ _ c.args.step.now c.requires.step
 
 pub shifted-requires-clause-long : goal.shifted-requires-clause-long
-shifted-requires-clause-long g c = step-long c.args.self.now.0.3 c.args.self.now.0.2 c.args.self.now.1 _ _ c.args.step.now c.requires.step
+shifted-requires-clause-long g c = step-long c.args.self.now.0.3 c.args.self.now.1 _ _ c.args.step.now c.requires.step
 
 pub behind-requires : goal.behind-requires
-behind-requires g c = step-long c.args.self.now.0.3 c.args.self.now.0.2 c.args.self.now.1 _ _ c.args.step.now c.requires.step
+behind-requires g c = step-long c.args.self.now.0.3 c.args.self.now.1 _ _ c.args.step.now c.requires.step
 
 pub shifted-requires-clause-one : goal.shifted-requires-clause-one
 shifted-requires-clause-one g c = one-number (packed-of (rw c.self.view_is at c.self.invariant)) c.args.stage c.args.room.now c.args.partial.now c.requires.room c.requires.reached
@@ -27,7 +27,7 @@ advance-requires-clause-reached g c = rw (← c.self.view_is) at c.requires.reac
 
 pub advance-requires-clause-step : goal.advance-requires-clause-step
 advance-requires-clause-step g c =
-    rw (← c.self.view_is) at (c.behind.ensures ∙ step-behind c.args.self.now.0.3 c.args.self.now.0.2 c.args.self.now.1 _ _ c.args.step.now c.requires.step)
+    rw (← c.self.view_is) at (c.behind.ensures ∙ step-behind c.args.self.now.0.3 c.args.self.now.1 _ _ c.args.step.now c.requires.step)
 
 pub returns-then-only_adds : goal.returns-then-only_adds
 returns-then-only_adds g c =

@@ -10,11 +10,11 @@ pub write_shift-requires-clause-digits : goal.write_shift-requires-clause-digits
 write_shift-requires-clause-digits g c =
     let i = c.self.invariant in
     let arc = rw (← c.self.view_is) at c.requires.arc in
-    rw (c.bits.ensures, c.order-order.ensures, c.sizes-sizes.ensures, c.inner-groups.ensures, c.front-left.ensures.room, c.behind-added.ensures, c.step.ensures, step-front i.ordered c.args.stage c.args.room.now c.args.choice.now arc.wide, step-back i.ordered c.args.stage c.args.room.now c.args.choice.now arc.wide)
+    rw (c.bits.ensures, c.order-order.ensures, c.inner-groups.ensures, c.front-left.ensures.room, c.behind-added.ensures, c.step.ensures, step-front i.ordered c.args.stage c.args.room.now c.args.choice.now arc.wide, step-back i.ordered c.args.stage c.args.room.now c.args.choice.now arc.wide)
     (in-digits i c.args.stage c.args.room.now c.args.choice.now arc (rw (← c.self.view_is) at c.requires.before))
 
 pub returns : goal.returns
 returns g c =
     let i = c.self.invariant in
     let arc = rw (← c.self.view_is) at c.requires.arc in
-    rw (← c.self.view_is, c.write_shift.ensures, c.bits.ensures, c.order-order.ensures, c.sizes-sizes.ensures, c.inner-groups.ensures, c.front-left.ensures.room, c.behind-added.ensures, c.step.ensures, step-front i.ordered c.args.stage c.args.room.now c.args.choice.now arc.wide, step-back i.ordered c.args.stage c.args.room.now c.args.choice.now arc.wide) refl
+    rw (← c.self.view_is, c.write_shift.ensures, c.bits.ensures, c.order-order.ensures, c.inner-groups.ensures, c.front-left.ensures.room, c.behind-added.ensures, c.step.ensures, step-front i.ordered c.args.stage c.args.room.now c.args.choice.now arc.wide, step-back i.ordered c.args.stage c.args.room.now c.args.choice.now arc.wide) refl

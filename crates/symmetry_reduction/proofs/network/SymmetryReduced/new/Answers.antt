@@ -1,8 +1,12 @@
-use Rattle.std.proofs.Common.{subst}
+use Rattle.std.proofs.Common.{subst, sym}
+use Rattle.networks.specs.GoesOn.{GoesOn}
+use Rattle.symmetry_reduction.specs.OrderedGroups.{groups_in_order}
+use Rattle.symmetry_reduction.specs.ReducedNetworks.{reduced_network}
+use Rattle.symmetry_reduction.specs.declared.orders.Order.{Order}
 use Rattle.networks.specs.Network.{Network}
 use Rattle.networks.specs.Rooms.{IsRoomed}
 use Rattle.room_network.specs.RoomNetworks.{room_network}
-use Rattle.symmetry_reduction.proofs.ReducedKeys.{reduced-follows, reduced-reached, reduced-values, stays-lawful}
+use Rattle.symmetry_reduction.proofs.ReducedKeys.{reduced-follows, reduced-goes_on, reduced-reached, reduced-values, stays-lawful}
 use Rattle.symmetry_reduction.proofs.network.SymmetryReduced.new.Goals as goal
 
 pub returns-clause-ends : goal.returns-clause-ends
@@ -22,3 +26,9 @@ invariant_of-result g c =
       sound = c.stages-sound.ensures.sound;
       ordered = stays-lawful c.args.order c.requires.ordered c.stages-lawful.ensures.lawful (subst (IsRoomed n) c.requires.rooms.width c.room_width-roomed.ensures.roomed);
     }
+
+pub returns-clause-goes_on : goal.returns-clause-goes_on
+returns-clause-goes_on g c = λ is i h.
+    let n : Network = room_network (g.M.Measure.meaning c.args.stages.1) (g.R.Rooms.plan c.args.stages.0).weight in
+    let sizes = c.args.sizes.items in
+    subst (λ (o : Order). GoesOn n (reduced_network o sizes n) i i (groups_in_order o sizes)) (sym is) (reduced-goes_on c.requires.ordered c.stages-lawful.ensures.lawful i h)
