@@ -40,7 +40,7 @@ pub use networks::{
 };
 pub use nodes::StageNodes;
 pub use prepared::{Prepared, network_of};
-pub use quick::quick_answer;
+pub use quick::{quick_answer, quick_numerators};
 pub use row_sweeps::row_sums;
 pub use spreads::{spread, spread_by_rooms};
 pub use sums::{tail_sum, tail_sum_by_rooms, tail_sums_by_rooms, total_of};
