@@ -5,11 +5,14 @@ mod answering;
 mod arcs;
 mod checked_sums;
 mod first_tails;
+mod flat_keys;
 mod from_keys;
+mod images;
 mod links;
 mod listed_keys;
 mod nodes;
 mod one_of;
+mod ordering;
 mod prepared;
 mod quick;
 mod rooms;
@@ -32,13 +35,16 @@ mod walks;
 mod widths;
 
 pub use answering::{answer, distribution};
+pub use flat_keys::{FlatKeys, laid_flat};
 pub use from_keys::sum_from_keys;
+pub use images::sum_by_images;
 pub use listed_keys::{counts_of, tail_sum_from};
 pub use networks::{
-    Additive, AdditiveStages, Answer, Interval, Judge, Kept, OneOf, Roomed, Spread, Stages,
+    Additive, AdditiveStages, Answer, Interval, Judge, Kept, OneOf, Onward, Roomed, Spread, Stages,
     SumValue, TailSum, TailSums, Verdict, Way, Whole, behind, front, only, write_key,
 };
 pub use nodes::StageNodes;
+pub use ordering::{Entry, entries_of};
 pub use prepared::{Prepared, network_of};
 pub use quick::{quick_answer, quick_numerators};
 pub use row_sweeps::row_sums;

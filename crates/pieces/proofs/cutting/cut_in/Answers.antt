@@ -7,9 +7,9 @@ use Rattle.networks.specs.declared.tail_sums.TailSum.{TailSum}
 use Rattle.networks.specs.Network.{Network, IsReached}
 use Rattle.stage_network.specs.SweepSteps.{IsSweeping, first_course}
 use Rattle.stage_network.proofs.Conserved.{all_weaker}
-use Rattle.pieces.specs.declared.ordering.Entry.{Entry}
-use Rattle.pieces.specs.Ordering.{entry_node}
-use Rattle.pieces.proofs.Ascending.{AllInRooms}
+use Rattle.stage_network.specs.declared.ordering.Entry.{Entry}
+use Rattle.stage_network.specs.Ordering.{entry_node}
+use Rattle.stage_network.proofs.Ascending.{AllInRooms}
 use Rattle.pieces.proofs.FoundKeys.{found-cut}
 use Rattle.pieces.proofs.Finding.{found-of, closed-of}
 use Rattle.pieces.proofs.cutting.cut_in.Goals as goal
@@ -54,4 +54,4 @@ returns-clause-cut g c =
     let width : ℕ = c.advance_to.new.self.nodes.room_width in
     let is : map entry_node entries ≡ nodes = ap (map entry_node) c.as_mut_slice.ensures.value ∙ c.in_ok-entries.ensures.nodes in
     let rooms : AllInRooms width entries = subst (AllInRooms width) (sym c.as_mut_slice.ensures.value) c.in_ok-entries.ensures.rooms in
-    found-cut n s.lawful c.args.tail c.args.at width nodes found entries c.laid_flat.new.entries is c.laid_flat.ensures.permutation rooms c.laid_flat.ensures.sorted _ _ _ _ refl (ap (λ (sum : TailSum). sum.sum) c.of.ensures ∙ closed) (rw c.width.ensures at c.in_ok-rows.ensures.nodes) (rw c.width.ensures at c.in_ok-rows.ensures.long)
+    found-cut n s.lawful c.args.tail c.args.at width nodes found entries c.laid_flat.new.entries is c.laid_flat.ensures.permutation rooms c.laid_flat.ensures.sorted _ _ _ _ refl (ap (λ (sum : TailSum). sum.sum) c.of.ensures ∙ closed) (rw c.width.ensures at c.in_ok-flat.ensures.nodes) (rw c.width.ensures at c.in_ok-flat.ensures.long)

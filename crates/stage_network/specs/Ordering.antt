@@ -3,7 +3,7 @@ use Rattle.std.specs.Prelude.{◌++◌}
 use Rattle.std.specs.Ordering.{ordering_then}
 use Rattle.std.specs.declared.cmp.Ordering.{Ordering}
 use Rattle.node_pool.specs.Nodes.{Node, key_cmp, node}
-use Rattle.pieces.specs.declared.ordering.Entry.{Entry}
+use Rattle.stage_network.specs.declared.ordering.Entry.{Entry}
 
 -- the node that an entry shows
 abbrev pub entry_node : Entry → Node

@@ -18,8 +18,8 @@ use Rattle.node_pool.specs.Nodes.{Node, key_cmp, key_eq, keys, weighted}
 use Rattle.node_pool.proofs.Puts.{alike, unlike, key_equiv}
 use Rattle.stage_network.specs.NodeSteps.{AllHeavy}
 use Rattle.stage_network.proofs.Gathered.{same-members}
-use Rattle.pieces.specs.declared.ordering.Entry.{Entry}
-use Rattle.pieces.specs.Ordering.{entry_cmp, entry_node}
+use Rattle.stage_network.specs.declared.ordering.Entry.{Entry}
+use Rattle.stage_network.specs.Ordering.{entry_cmp, entry_node}
 
 other_way : (k y : List ℤ) → key_eq k y ≡ false → key_eq y k ≡ false
 other_way k y differ = unlike y k (λ e. let yes : key_eq k y ≡ true = alike k y (sym e) in cc)

@@ -1,9 +1,9 @@
 use Rattle.std.proofs.Common.{◌≡◌}
 use Rattle.std.specs.Prelude.{length}
 use Rattle.node_pool.specs.Nodes.{Node}
-use Rattle.pieces.proofs.Ascending.{still_all}
-use Rattle.pieces.proofs.Laying.{laid-more, laid-all}
-use Rattle.pieces.proofs.cutting.laid_flat.Goals as goal
+use Rattle.stage_network.proofs.Ascending.{still_all}
+use Rattle.stage_network.proofs.Laying.{laid-more, laid-all}
+use Rattle.stage_network.proofs.flat_keys.laid_flat.Goals as goal
 
 pub loop-i-preserved : goal.loop-i-preserved
 loop-i-preserved c =

@@ -6,9 +6,9 @@ use Rattle.node_pool.specs.Nodes.{Node, node}
 use Rattle.stage_network.proofs.OneArc.{key_is}
 use Rattle.stage_network.proofs.OpenKeys.{map-append}
 use Rattle.stage_network.proofs.Stepping.{is_node}
-use Rattle.pieces.specs.declared.ordering.Entry.{Entry}
-use Rattle.pieces.specs.Ordering.{entry_node}
-use Rattle.pieces.proofs.ordering.entries_of.Goals as goal
+use Rattle.stage_network.specs.declared.ordering.Entry.{Entry}
+use Rattle.stage_network.specs.Ordering.{entry_node}
+use Rattle.stage_network.proofs.ordering.entries_of.Goals as goal
 
 pub loop-i-preserved : goal.loop-i-preserved
 loop-i-preserved g c =

@@ -1,5 +1,5 @@
-use Rattle.pieces.proofs.Laying.{AreLaid}
-use Rattle.pieces.proofs.cutting.laid_flat.Given as goal
+use Rattle.stage_network.proofs.Laying.{AreLaid}
+use Rattle.stage_network.proofs.flat_keys.laid_flat.Given as goal
 
 -- the entries before this one are laid flat
 abbrev pub invariant-loop-i : goal.invariant-loop-i

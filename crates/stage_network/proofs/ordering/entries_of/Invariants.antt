@@ -1,8 +1,8 @@
 use Rattle.std.proofs.Common.{◌≡◌, length, map, take}
 use Rattle.std.specs.List.{AllByRecursion}
-use Rattle.pieces.specs.declared.ordering.Entry.{Entry}
-use Rattle.pieces.specs.Ordering.{entry_node}
-use Rattle.pieces.proofs.ordering.entries_of.Given as goal
+use Rattle.stage_network.specs.declared.ordering.Entry.{Entry}
+use Rattle.stage_network.specs.Ordering.{entry_node}
+use Rattle.stage_network.proofs.ordering.entries_of.Given as goal
 
 -- the nodes before this one are listed
 abbrev pub invariant-loop-i : goal.invariant-loop-i

@@ -3,10 +3,10 @@ ghost use Rattle.std.specs.Prelude.{◌≡◌, length, map, IfOk, IsPermutation}
 ghost use Rattle.std.specs.List.{AllByRecursion};
 ghost use Rattle.std.specs.List.Sorted.{IsSortedBy};
 ghost use Rattle.std.specs.Ordering.{is_lt};
-ghost use Rattle.pieces.specs.declared.ordering.Entry.{Entry};
-ghost use Rattle.pieces.specs.Ordering.{entry_cmp, entry_node};
+ghost use Rattle.stage_network.specs.declared.ordering.Entry.{Entry};
+ghost use Rattle.stage_network.specs.Ordering.{entry_cmp, entry_node};
 
-use stage_network::StageNodes;
+use crate::nodes::StageNodes;
 use std::alloc::Global;
 use std::cmp::Ordering;
 use weights::{Count, NoMemory};

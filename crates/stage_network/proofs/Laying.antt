@@ -1,18 +1,14 @@
 -- Entries that are laid flat, one after another.
-use Rattle.std.proofs.Common.{◌≡◌, ℕ, ◌+◌, ◌*◌, ◌<◌, ◌≤◌, List, [], ◌∷◌, ◌++◌, length, map, take, get_or, sym, ◌∙◌, ap, subst, arith, zero, suc, append_assoc}
+use Rattle.std.proofs.Common.{◌≡◌, ℕ, ◌+◌, ◌*◌, ◌<◌, ◌≤◌, List, [], ◌∷◌, ◌++◌, length, map, take, get_or, sym, ◌∙◌, ap, subst, arith, append_assoc}
 use Rattle.std.specs.Prelude.{ℤ}
 use Rattle.std.specs.List.{AllByRecursion}
 use Rattle.std.proofs.lemmas.List.{get_or-map, length-map, take_all, take_more}
 use Rattle.node_pool.specs.Nodes.{Node, node}
 use Rattle.node_pool.specs.PoolSteps.{IsRow, nodes_of}
 use Rattle.node_pool.proofs.NodeLists.{nodes-more, row-more}
-use Rattle.pieces.specs.declared.ordering.Entry.{Entry}
-use Rattle.pieces.specs.Ordering.{entry_node}
-
-all_at : (P : Node → Type 0) (nodes : List Node) (i : ℕ) (d : Node) → AllByRecursion P nodes → i < length nodes → P (get_or nodes i d)
-all_at P [] i d a h = absurd (omega (arith, h))
-all_at P (b ∷ nodes) zero d a h = a.0
-all_at P (b ∷ nodes) (suc i) d a h = all_at P nodes i d a.1 (omega (arith, h))
+use Rattle.stage_network.proofs.Roomwise.{all_at}
+use Rattle.stage_network.specs.declared.ordering.Entry.{Entry}
+use Rattle.stage_network.specs.Ordering.{entry_node}
 
 pub record AreLaid (width : ℕ) (entries : List Entry) (i : ℕ) (row : List ℤ) (weights : List ℕ) : Type 0 where
   pub nodes : nodes_of width row weights ≡ take i (map entry_node entries)

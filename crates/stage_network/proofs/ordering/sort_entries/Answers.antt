@@ -2,9 +2,9 @@ use Rattle.std.proofs.Common.{◌≡◌, rules}
 use Rattle.std.specs.Ordering.{is_lt}
 use Rattle.std.proofs.lemmas.Cmp.{lists_total, int_cmp_total, on_total, then_total}
 use Rattle.std.proofs.lemmas.List.Sorted.{ranks_by, answers_always}
-use Rattle.pieces.specs.declared.ordering.Entry.{Entry}
-use Rattle.pieces.specs.Ordering.{entry_cmp}
-use Rattle.pieces.proofs.ordering.sort_entries.Goals as goal
+use Rattle.stage_network.specs.declared.ordering.Entry.{Entry}
+use Rattle.stage_network.specs.Ordering.{entry_cmp}
+use Rattle.stage_network.proofs.ordering.sort_entries.Goals as goal
 
 pub returns-clause-sorted : goal.returns-clause-sorted
 returns-clause-sorted c =
