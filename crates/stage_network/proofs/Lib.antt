@@ -30,3 +30,4 @@ pub mod Spans
 pub mod RowCourses
 pub mod Gathering
 pub mod RowLines
+pub mod RowStarts
