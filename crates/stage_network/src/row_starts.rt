@@ -80,7 +80,11 @@ fn plan_rows(
     for i in 0..count {
         let rows = plans.len();
         let goes_on = i != 0 && ascends(width, key_width, keys, i);
-        let target = if goes_on { rows.saturating_sub(1) } else { rows };
+        let target = if goes_on {
+            rows.saturating_sub(1)
+        } else {
+            rows
+        };
         let number = number_behind(key_at(key_width, keys, i), width);
         match plan_of(number, 1, 1) {
             Some(plan) => note(&mut plans, target, plan, 0)?,
@@ -204,7 +208,9 @@ pub fn settle_rows<C: Count, S: Roomed>(
     while start < count {
         let end = row_end(width, key_width, keys, count, start);
         let (lowest, stride, _) = room_plan(&plans, target)?;
-        write_row(width, key_width, keys, weights, start, end, lowest, stride, row)?;
+        write_row(
+            width, key_width, keys, weights, start, end, lowest, stride, row,
+        )?;
         let room = front(key_at(key_width, keys, start), width);
         sums = row.settle(stages, stage, keep, room, sums)?;
         row.keep(room, kept)?;

@@ -83,7 +83,9 @@ impl<C: Count> RowSweep<C> {
         let width = stages.room_width();
         let mut row = RoomRow::<C>::new(alloc)?;
         let mut rows = RoomRows::<C>::new(alloc, width);
-        let sums = settle_rows(alloc, stages, keep, stage, keys, weights, &mut row, &mut rows)?;
+        let sums = settle_rows(
+            alloc, stages, keep, stage, keys, weights, &mut row, &mut rows,
+        )?;
         let arcs = RowArcs::new(alloc, stages)?;
         Ok(RowSweep {
             keep,
