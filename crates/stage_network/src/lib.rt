@@ -24,6 +24,7 @@ mod row_keeping;
 mod row_plans;
 mod row_rooms;
 mod row_settling;
+mod row_starts;
 mod row_sweeps;
 mod settling;
 mod spreads;
