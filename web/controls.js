@@ -30,8 +30,11 @@ function selectOf(id, choices, value) {
 // A file that was dropped or chosen, with its bytes unchanged, until the text is edited.
 let chosen = null;
 let table = [];
+// The first row that was confirmed to be a header, as JSON.
+let confirmed = '';
 
 const separatorWord = () => byId('separator').value || separatorOf(byId('data').value);
+const firstRow = () => JSON.stringify(table[0]?.cells);
 const headers = () => (table[0]?.cells ?? []).map((name, place) => name.trim() || `column ${place + 1}`);
 
 const LONGEST_FILE = 1048576;
@@ -40,26 +43,23 @@ const LONGEST_FILE = 1048576;
 async function takeFile(file) {
   chosen = { name: file.name, bytes: new Uint8Array(await file.slice(0, LONGEST_FILE + 1).arrayBuffer()) };
   byId('data').value = new TextDecoder().decode(chosen.bytes);
+  confirmed = '';
   readAgain();
 }
 
 function readAgain() {
-  const before = JSON.stringify(table[0]?.cells);
+  const before = firstRow();
   table = rowsOf(byId('data').value, SEPARATORS[separatorWord()]);
   const rows = Math.max(table.length - 1, 0);
   byId('found').textContent = table.length === 0 ? 'No rows yet'
     : `${chosen ? `${chosen.name}: ` : ''}${rows} ${rows === 1 ? 'row' : 'rows'} below the header, ${headers().length} `
-      + `${headers().length === 1 ? 'column' : 'columns'}, separated by ${separatorWord()}`;
+      + `${headers().length === 1 ? 'column' : 'columns'}, separated by ${separatorWord()}s`;
   showDoubt();
-  if (JSON.stringify(table[0]?.cells) !== before) showColumns();
+  if (firstRow() !== before) showColumns();
   else showOptions();
   showPreview();
 }
 
-// The first row that was confirmed to be a header, as JSON.
-let confirmed = '';
-
-const firstRow = () => JSON.stringify(table[0]?.cells);
 const isDoubtful = () => mayBeData(table) && firstRow() !== confirmed;
 
 // Asks whether the first row is data, where it looks like data.
@@ -136,8 +136,7 @@ function showChoices() {
   byId('choices').replaceChildren(...groups.values());
 }
 
-// Shows the choices that are found, with their headings. It says so if there are none, and where to find an option whose
-// name was typed.
+// Shows the choices that are found, with their headings.
 function findChoices() {
   const text = byId('find').value, option = optionFound(text);
   const found = option === undefined ? testsFound(text, namesElsewhere()) : Object.keys(TESTS);
@@ -147,8 +146,17 @@ function findChoices() {
     }
     group.hidden = group.querySelector('.choice:not([hidden])') === null;
   }
-  byId('search-said').textContent = option ? `“${text.trim()}” is ${option}` : found.length > 0 ? ''
-    : `No test on this page matches “${text.trim()}”. Try a word of your question, such as spread or trend.`;
+  byId('search-said').textContent = searchSaid(text.trim(), option, found);
+}
+
+// What a search says beside its list: where an option is whose name was typed, that there is no such test, or that the test
+// which is chosen is none of those found.
+function searchSaid(text, option, found) {
+  if (option !== undefined) return `“${text}” is ${option}`;
+  const test = testNow();
+  if (found.includes(test.name)) return '';
+  const still = `The chosen test is still: ${test.title}.`;
+  return found.length > 0 ? still : `No test on this page is called “${text}”. ${still}`;
 }
 
 // Scrolls the list, not the page, to the chosen test.
@@ -241,17 +249,25 @@ const OPTIONS = {
   },
   odds: {
     control: () => labelled('Odds ratio', asText('odds', '1/1'), '--odds'),
-    value: () => byId('odds').value,
+    value: () => asFraction(byId('odds').value),
   },
   miss: {
     control: () => labelled('Allowed error', asText('miss', '1/20'), '--miss'),
-    value: () => byId('miss').value,
+    value: () => asFraction(byId('miss').value),
   },
   missing: {
     control: () => labelled('Rows with a missing field', selectOf('missing', MISSING, ''), '--missing'),
     value: () => byId('missing').value,
   },
 };
+
+// A whole number or a decimal as the fraction that the program takes. Any other text stays as it is.
+function asFraction(text) {
+  const [number, whole, decimals = ''] = text.trim().match(/^(\d*)(?:\.(\d+))?$/) ?? [''];
+  if (number === '') return text.trim();
+  const over = BigInt(whole + decimals), under = 10n ** BigInt(decimals.length), divisor = greatestDivisor(over, under);
+  return `${over / divisor}/${under / divisor}`;
+}
 
 // Which of two groups is the second sample, to which the statistic refers. Reports of strata do not name the groups, so for
 // them the order is always given. A label with a comma cannot be listed.
@@ -314,7 +330,7 @@ function askedNow() {
     bytes: bytesNow(),
     headers: picked.map(column => names[column]),
     labels: test.layout === 'stratified' ? groupsOfStrata() : undefined,
-    odds: (test.options.includes('odds') && byId('odds').value.trim()) || undefined,
+    odds: (test.options.includes('odds') && OPTIONS.odds.value()) || undefined,
   };
 }
 

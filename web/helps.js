@@ -11,9 +11,9 @@ const HELPS = {
   'value of --row-scores': 'The row scores must be 2 to 8 whole numbers from −10^9 to 10^9, separated by commas.',
   'value of --column-scores': 'The column scores must be 2 to 64 whole numbers from −10^9 to 10^9, separated by commas.',
   'value of --columns': 'Choose each column once, and as many columns as the test reads.',
-  'value of --miss': 'The error must be a fraction P/Q of whole numbers from 1 to 1000, with P less than Q. 1/20 gives 95% '
-    + 'confidence.',
-  'value of --odds': 'The odds ratio must be a fraction P/Q of whole numbers from 1 to 1000: 2/1 for 2, 3/2 for 1.5.',
+  'value of --miss': 'The error must be a fraction P/Q of whole numbers from 1 to 1000, with P less than Q, or a decimal. '
+    + '1/20 gives 95% confidence.',
+  'value of --odds': 'The odds ratio must be a fraction P/Q of whole numbers from 1 to 1000, or a decimal: 3/2 or 1.5.',
   '--columns does not fit the data': 'A chosen column does not exist in the table. Check the separator.',
   '--order does not fit the data': 'The labels of the order differ from those of the table. List all labels, spelled '
     + 'exactly as in the table.',

@@ -188,6 +188,7 @@ function listen() {
   byId('is-data').onclick = addHeader;
   byId('is-header').onclick = confirmHeader;
   byId('choices').onchange = () => {
+    findChoices();
     showColumns();
     showPreview();
   };
