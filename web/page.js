@@ -76,12 +76,12 @@ async function run(event) {
   clearAnswer();
   const from = startClock('Running …');
   const data = await ask(asked.words, asked.bytes), took = seconds(from);
-  const protocol = await protocolOf(asked);
+  const record = await recordOf(asked);
   if (number !== runs) return;
   if (data.stopped) return stopClock(`Stopped after ${took}, without an answer.`);
   const isAnswered = data.answer?.status === 0;
   stopClock(data.fault ? 'Ended by an error.' : isAnswered ? `Answered in ${took}.` : 'Refused.');
-  showAnswer(asked, data, protocol);
+  showAnswer(asked, data, record);
   byId('answer').scrollIntoView({ block: 'nearest' });
   if (isAnswered && asked.test !== 'shift') await runForPicture(asked, number, took);
 }
@@ -96,7 +96,7 @@ function askFirst() {
   byId('is-data').focus();
 }
 
-const SHOWN = ['asked', 'protocol', 'refusal', 'reading', 'tails', 'drawing', 'caption', 'report', 'command'];
+const SHOWN = ['asked', 'record', 'refusal', 'reading', 'tails', 'drawing', 'caption', 'report', 'command'];
 
 function clearAnswer() {
   byId('answer').hidden = true;
@@ -104,12 +104,12 @@ function clearAnswer() {
   SHOWN.forEach(id => byId(id).replaceChildren());
 }
 
-function showAnswer(asked, { answer, fault }, protocol) {
+function showAnswer(asked, { answer, fault }, record) {
   byId('answer').hidden = false;
   byId('asked').textContent = `${TESTS[asked.test].question} ${TESTS[asked.test].title}.`;
   byId('command').textContent = commandOf(asked.words);
   byId('copy').textContent = 'Copy';
-  byId('protocol').textContent = protocol;
+  byId('record').textContent = record;
   byId('whole').hidden = answer?.status !== 0;
   if (fault) return showRefusal(`No answer: ${fault}`, 'The program on the command line may give one.');
   if (answer.status === 0) return showReading(asked, answer.report);
@@ -139,8 +139,8 @@ function tableOf(tails) {
   return made('table', {}, made('thead', {}, made('tr', {}, ...head)), made('tbody', {}, ...rows));
 }
 
-// What a protocol needs: the time, and the bytes that were read.
-async function protocolOf(asked) {
+// What a record of the run needs: the time, and the bytes that were read.
+async function recordOf(asked) {
   const digest = await crypto.subtle?.digest('SHA-256', asked.bytes);
   const sum = digest && [...new Uint8Array(digest)].map(byte => byte.toString(16).padStart(2, '0')).join('');
   const name = chosen === null ? 'The pasted table' : chosen.name;

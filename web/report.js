@@ -94,7 +94,7 @@ function namesOf(report, asked) {
 // Which data the answer refers to: the lines between the test and the statistic.
 function sizesSaid(report, test, names) {
   const said = report.sizes.map(line => sizeSaid(line, test, names));
-  const sizes = report.groups.map(it => `${quoted(it.label)} (${it.size})`);
+  const sizes = report.groups.map(it => `${quoted(it.label)} (n = ${it.size})`);
   if (report.groups.length === 2 && test.options.includes('tested')) {
     said.unshift(`The second sample, ${sizes[1]}, is compared with the first, ${sizes[0]}.`);
   } else if (report.groups.length > 0) {
@@ -105,38 +105,45 @@ function sizesSaid(report, test, names) {
   return said;
 }
 
+const SCORES_SAID = {
+  wilcoxon: 'Wilcoxon', ansari: 'Ansari-Bradley', mood: 'Mood', savage: 'Savage', median: 'median', raw: 'raw',
+};
+
 function sizeSaid(line, test, names) {
   const [word, ...rest] = line.split(' ');
   const differences = isOneColumn(names) ? names.first : `${names.second} minus ${names.first}`;
+  const counted = (one, many) => `${rest[0]} ${rest[0] === '1' ? one : many}`;
   const said = {
     table: () => `The table has ${rest[0]} rows, ${rest[2]} columns and ${rest[4]} subjects.`,
-    blocks: () => `There are ${rest[0]} blocks with ${rest[2]} treatments each: ${names.order}.`,
-    strata: () => `There are ${rest[0]} strata with ${rest[2]} subjects in total.`,
-    scores: () => `The test uses ${rest[0]} scores.`,
+    blocks: () => `The data have ${counted('block', 'blocks')} with ${rest[2]} treatments: ${names.order}.`,
+    strata: () => `The data have ${counted('stratum', 'strata')} and ${rest[2]} subjects.`,
+    scores: () => `The test uses ${SCORES_SAID[rest[0]]} scores.`,
     peak: () => `The peak is ${names.peak}.`,
     rows: () => test.layout === 'pairs'
-      ? `The test uses the differences, ${differences}: of ${rest[0]}, ${rest[2]} are not 0 and enter the test.`
-      : `There are ${rest[0]} subjects; ${names.first} is the first value and ${names.second} the second.`,
+      ? `The test uses the differences ${differences}. Of ${counted('difference', 'differences')}, ${rest[2]} `
+        + `${rest[2] === '1' ? 'is' : 'are'} not 0 and ${rest[2] === '1' ? 'counts' : 'count'}.`
+      : `The data have ${counted('subject', 'subjects')}; ${names.first} is the first value and ${names.second} the second.`,
   }[word];
   return said ? said() : line;
 }
 
 // What a tail counts, and what a small p-value of it is evidence of.
 function tailSaid(tail, report, test, names) {
-  const value = quotientText(report.statistic);
-  const extreme = {
-    less: `a statistic of at most ${value}`,
-    greater: `a statistic of at least ${value}`,
-    two: twoSidedSaid(test),
-  }[tail.name];
-  const counted = `${grouped(tail.over)} of ${names.odds ? 'this weight' : 'them'} ${tail.over === 1n ? 'has' : 'have'}`;
-  return `${counted} ${extreme}. ${evidenceOf(tail.name, report, test, names)}`;
+  const { one, many, what } = extremeSaid(tail.name, quotientText(report.statistic), test);
+  const number = grouped(tail.over);
+  const counted = names.odds ? `Those that ${many} ${what} weigh ${number}.`
+    : `${number} of them ${tail.over === 1n ? one : many} ${what}.`;
+  return `${counted} ${evidenceOf(tail.name, report, test, names)}`;
 }
 
-function twoSidedSaid(test) {
-  if (test.name === 'fisher') return 'a table that is no more likely than the observed one';
-  if (test.name === 'zelen') return 'tables that are no more likely than the observed ones';
-  return 'a statistic at least as far from its mean as the observed one, on either side';
+// What one of the rearrangements in a tail has or gives, and many of them have or give.
+function extremeSaid(name, value, test) {
+  const has = what => ({ one: 'has', many: 'have', what }), gives = what => ({ one: 'gives', many: 'give', what });
+  if (name === 'less') return has(`a statistic of at most ${value}`);
+  if (name === 'greater') return has(`a statistic of at least ${value}`);
+  if (test.name === 'fisher') return gives('a table that is no more likely than the observed one');
+  if (test.name === 'zelen') return gives('tables that are no more likely than the observed ones');
+  return has('a statistic at least as far from its mean as the observed one, on either side');
 }
 
 function evidenceOf(name, report, test, names) {
@@ -161,7 +168,7 @@ function readingOf(report, asked) {
   if (test.scoring) sentences.push(test.scoring);
   const total = grouped(report.total);
   const ways = test.rearrangements;
-  sentences.push(names.odds ? `At an odds ratio of ${names.odds}, the ${ways} have a total weight of ${total}.`
+  sentences.push(names.odds ? `At an odds ratio of ${names.odds}, the ${ways} weigh ${total} in total.`
     : `Under the null hypothesis, the ${total} ${ways} are equally likely.`);
   const tails = report.tails.map(tail => ({ ...tail, ...partText(tail), said: tailSaid(tail, report, test, names) }));
   return { sentences, tails };
@@ -177,8 +184,8 @@ function shiftReading(report, names) {
     return { sentences, tails: [] };
   }
   sentences.push(`The exact confidence interval is from ${quotientText(report.lower)} to ${quotientText(report.upper)}.`);
+  const level = quotientText({ over: miss.under - miss.over, under: miss.under });
   sentences.push(`Without ties, it misses the true shift with probability ${miss.over}/${miss.under} = ${miss.decimals}, so `
-    + `the confidence level is ${miss.under - miss.over}/${miss.under}, about `
-    + `${roundedText(miss.under - miss.over, miss.under)}. If values can be tied, the level is at least this.`);
+    + `the confidence level is ${level}. If values can be tied, the level is at least this.`);
   return { sentences, tails: [] };
 }
