@@ -314,7 +314,9 @@ async function tryKeys() {
 async function tryFind() {
   const shown = async words => {
     await type('find', words);
-    return browser.value('[...document.querySelectorAll(".choice:not([hidden]) input")].map(one => one.value)');
+    const isShown = 'choice => choice.getClientRects().length > 0';
+    const choices = `[...document.querySelectorAll('.choice')].filter(${isShown})`;
+    return browser.value(`${choices}.map(choice => choice.querySelector('input').value)`);
   };
   await choose('fisher');
   tell((await shown('npar m-w')).join() === 'ranksum', 'a test by its name in SPSS');
@@ -322,6 +324,7 @@ async function tryFind() {
   await press('Enter');
   tell(await browser.value('testNow().name') === 'ranksum', 'which enter chooses');
   tell((await shown('wilcox.test paired')).join() === 'signedrank', 'and in R');
+  tell((await shown('kruskal wallis')).join() === 'kw', 'and without its hyphen');
   tell((await textOf('search-said')).includes('chosen test is still: Wilcoxon rank-sum'), 'while another is still chosen');
   tell((await shown('larger values')).includes('ranksum'), 'and by its question');
   tell(await textOf('search-said') === '', 'which is the chosen one');

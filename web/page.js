@@ -183,7 +183,10 @@ function listen() {
   byId('stop').onclick = stop;
   byId('print').onclick = () => window.print();
   byId('copy').onclick = copyCommand;
-  byId('find').oninput = findChoices;
+  byId('find').oninput = () => {
+    findChoices();
+    byId('choices').scrollTop = 0;
+  };
   byId('find').onkeydown = chooseFirst;
   byId('is-data').onclick = addHeader;
   byId('is-header').onclick = confirmHeader;

@@ -45,7 +45,7 @@ const OPTIONS_ELSEWHERE = [
 ];
 
 const LITTLE_WORDS = ['test', 'the', 'proc', 'exact', 'for', 'of', 'and', 'a', 'an', 'in'];
-const singular = word => word.replace(/(?<=[^s])s$/, '');
+const singular = word => word.replace(/([^s])s$/, '$1');
 const joined = word => word.replace(/[^\p{L}\p{N}_]/gu, '');
 
 // The words of a text, without case, accents and apostrophes, and with their hyphens and dots.
