@@ -44,7 +44,7 @@ const OPTIONS_ELSEWHERE = [
   [['sep', 'delimiter'], '“Separator” in step 1.'],
 ];
 
-const LITTLE_WORDS = ['test', 'the', 'proc', 'exact', 'for', 'of', 'and', 'a', 'an', 'in'];
+const LITTLE_WORDS = ['test', 'the', 'proc', 'exact', 'method', 'for', 'of', 'and', 'a', 'an', 'in'];
 const singular = word => word.replace(/([^s])s$/, '$1');
 const joined = word => word.replace(/[^\p{L}\p{N}_]/gu, '');
 
@@ -91,7 +91,8 @@ function hasWord(words, asked) {
   return begins(singular(joined(asked))) || parts.every(part => part.length > 1 && begins(singular(part)));
 }
 
-// The names of the tests that are meant: those that have this very name; else those that have each of its words.
+// The names of the tests that are meant: those that have this very name; else those that have each of its words; else those
+// that are meant by what stands before the arguments of a call, or before the end of a statement.
 function testsFound(text, elsewhere) {
   const all = Object.values(TESTS);
   for (const key of [keyOf(text), keyOf(text, LITTLE_WORDS)]) {
@@ -103,6 +104,8 @@ function testsFound(text, elsewhere) {
     const words = wordsToFind([test.group, test.question, ...namesOfTest(test, elsewhere)].join(' '));
     return asked.every(word => hasWord(words, word));
   });
+  const head = text.split(/[(;]/)[0];
+  if (found.length === 0 && head.trim() !== '' && head !== text) return testsFound(head, elsewhere);
   return found.map(test => test.name);
 }
 
