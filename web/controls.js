@@ -252,7 +252,7 @@ const OPTIONS = {
     value: () => asFraction(byId('odds').value),
   },
   miss: {
-    control: () => labelled('Allowed error', asText('miss', '1/20'), '--miss'),
+    control: () => labelled('Error (1 − confidence level)', asText('miss', '1/20'), '--miss'),
     value: () => asFraction(byId('miss').value),
   },
   missing: {

@@ -39,7 +39,7 @@ const OPTIONS_ELSEWHERE = [
   [['alternative', 'sides', 'tail', 'one-sided', 'two-sided'], '“Tail” in step 3. It refers to the second sample; '
     + '“alternative” in R and scipy refers to the first.'],
   [['or'], '“Odds ratio” in step 3, for fisher and strata.'],
-  [['conf.level', 'conf.int', 'alpha'], '“Allowed error” in step 3, for shift: 1/20 gives 95% confidence.'],
+  [['conf.level', 'conf.int', 'alpha'], '“Error” in step 3, for shift: 1/20 gives 95% confidence.'],
   [['na.action', 'na.rm', 'na.omit', 'nan_policy'], '“Rows with a missing field” in step 3.'],
   [['sep', 'delimiter'], '“Separator” in step 1.'],
 ];
