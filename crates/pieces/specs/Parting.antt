@@ -6,7 +6,7 @@ use Rattle.networks.specs.Completions.{extreme_weight}
 use Rattle.networks.specs.Network.{Network}
 use Rattle.stage_network.specs.FromKeys.{AreStarts}
 use Rattle.pieces.specs.declared.cuts.CountedCut.{CountedCut}
-use Rattle.pieces.specs.Cuts.{counted_nodes, cut_stage, piece_sum}
+use Rattle.pieces.specs.Cuts.{counted_nodes, piece_sum}
 
 -- the owners of the keys from place i on
 abbrev pub dealt : ℕ → ℕ → ℕ → List ℕ

@@ -129,8 +129,9 @@ fn part_cut<S: Roomed>(
 ) -> Result<CountedCut, NoMemory>
     requires { 1 ≤ parts }
     ensures cut { IfOk result (IsPartCut (S.Stages.network stages.now) tail at parts part) }
-    ensures fits { SumFits (piece_sum (S.Stages.network stages.now) tail at parts part) }
-    ensures add { PiecesAddUp (S.Stages.network stages.now) tail at parts }
+    ensures fits { let n = S.Stages.network stages.now in
+        OnOk result (SumFits (piece_sum n tail at parts part)) }
+    ensures add { OnOk result (PiecesAddUp (S.Stages.network stages.now) tail at parts) }
 {
     let count = stages.stages();
     let from = cut_by_rooms(alloc, stages, tail, at.min(count))?;

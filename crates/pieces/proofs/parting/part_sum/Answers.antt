@@ -3,7 +3,7 @@ use Rattle.piece_texts.specs.PieceTexts.{SumFits}
 use Rattle.pieces.proofs.parting.part_sum.Goals as goal
 
 pub returns-clause-sums : goal.returns-clause-sums
-returns-clause-sums g c = ap (λ s. record { closed = c.in_ok-own.own.closed; sum = s }) c.in_ok-sum_from_keys.ensures ∙ c.in_ok-own.ensures.cut.sums
+returns-clause-sums g c = ap (λ s. record { closed = c.in_ok-own.own.closed; sum = s }) (rw (c.deref.ensures.value, c.deref-2.ensures.value) at c.in_ok-sum_from_keys.ensures) ∙ c.in_ok-own.ensures.cut.sums
 
 pub returns-clause-fits : goal.returns-clause-fits
 returns-clause-fits g c = subst SumFits (sym (returns-clause-sums g c)) c.in_ok-own.ensures.fits
