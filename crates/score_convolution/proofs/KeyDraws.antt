@@ -1,7 +1,7 @@
 -- Keys that are sums of scores, with the draws of the subjects who are left after their stage.
 use Rattle.std.proofs.Common.{◌≡◌, ℕ, zero, suc, ◌+◌, ◌*◌, ◌^◌, ◌/◌, ◌<◌, ◌≤◌, List, [], ◌∷◌, ◌++◌, length, take, drop, get_or, Bool, cond, refl, sym, ◌∙◌, ap, arith}
-use Rattle.std.specs.Prelude.{ℤ, pos, ◌+ℤ◌, unsigned_abs}
-use Rattle.std.specs.List.{AllByRecursion, sum}
+use Rattle.std.specs.Prelude.{ℤ, pos, ◌+ℤ◌}
+use Rattle.std.specs.List.{AllByRecursion}
 use Rattle.std.proofs.Math.Nat.{mul-le-mul_left}
 use Rattle.std.proofs.lemmas.Int.{ints}
 use Rattle.std.proofs.lemmas.List.Sums.{sum_by-cons, sum_by_more, sum_by_more_le}
@@ -20,7 +20,7 @@ use Rattle.networks.specs.Network.{Network, IsReached}
 use Rattle.stage_network.specs.FromKeys.{AreStarts}
 use Rattle.scores.specs.Scores.{labelled_sum}
 use Rattle.score_convolution.specs.Draws.{draw_sum}
-use Rattle.score_convolution.specs.DrawRows.{IsDrawRow, number_of, row_draws}
+use Rattle.score_convolution.specs.DrawRows.{number_of, row_draws}
 use Rattle.score_convolution.specs.DrawnSums.{passing_onward}
 use Rattle.score_convolution.specs.Meetings.{AreFew, pair_draws}
 use Rattle.score_convolution.specs.Sides.{once}
@@ -28,7 +28,6 @@ use Rattle.score_convolution.specs.declared.rows.DrawRow.{DrawRow}
 use Rattle.score_convolution.proofs.BothParts.{started}
 use Rattle.score_convolution.proofs.DrawnLabels.{signed-draws}
 use Rattle.score_convolution.proofs.RowPairs.{pairs-most}
-use Rattle.score_convolution.proofs.ScoreTotals.{size-plus}
 use Rattle.score_convolution.proofs.RowSteps.{cells-moved, cells-same, cells_draws}
 
 -- a row that is moved by a key
@@ -103,21 +102,6 @@ onward-draws p rule same v scores =
     sym (started (λ n. once p) 0 v scores)
     ∙ sym (signed-draws (once p) scores 0 v)
     ∙ sum_by-same (λ xs. once p (v +ℤ labelled_sum 1 scores xs)) (λ xs. cond (passes rule (v +ℤ labelled_sum 1 scores xs)) 1 0) (λ xs. ap (λ b. cond b 1 0) (same (v +ℤ labelled_sum 1 scores xs))) (sign_lists (length scores))
-
--- ---- one key, whose row is moved
-
-module _ {K : Type 0} (cells_of : K → List ℕ) (limit stride : ℕ) (one other row : DrawRow K) (key : ℤ) (same : row.tally ≡ one.tally) (as_many : row.total ≡ one.total) (lowest : row.lowest ≡ one.lowest +ℤ key) where
-  pub key-few : IsDrawRow cells_of limit one → IsDrawRow cells_of limit other → one.total * other.total ≤ MAX → unsigned_abs key + (unsigned_abs one.lowest + unsigned_abs other.lowest) ≤ MAX → AreFew cells_of limit row other
-  key-few first second few small = record {
-    first = record {
-      whole = as_many ∙ first.whole ∙ ap (λ t. sum (cells_of t)) (sym same);
-      within = rw as_many first.within;
-      fits = rw as_many first.fits;
-    };
-    second = second;
-    fits = rw as_many few;
-    small = rw lowest (omega (arith, size-plus one.lowest key, small));
-  }
 
 -- the pairs of all keys are within the limit where their draws are
 pub pairs-fit : {K : Type 0} (cells_of : K → List ℕ) (limit stride : ℕ) (one other : DrawRow K) → AreFew cells_of limit one other → (p : ℤ → Bool) (nodes : List Node) → weighted (λ k. one.total * other.total) nodes ≤ MAX

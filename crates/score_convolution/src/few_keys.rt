@@ -70,7 +70,7 @@ pub(crate) fn few_sums<S: Roomed>(
 }
 
 // The sum over keys, on from where they stand; None where that comes to many keys.
-fn onward_in<S: Roomed>(
+fn onward_in<C: Count, S: Roomed>(
     alloc: Global,
     stages: &S,
     tail: Tail,
@@ -84,13 +84,15 @@ fn onward_in<S: Roomed>(
     requires laid { let n = S.Stages.network stages.now in
         nodes_of n.width keys.now weights.now ≡ from.nodes }
     requires starts { AreStarts (S.Stages.network stages.now) stage keys.now weights.now }
+    requires limit { let n = S.Stages.network stages.now in
+        weighted (total_weight n stage) (nodes_of n.width keys.now weights.now) ≤ C.LIMIT }
     ensures { let n = S.Stages.network stages.now in
         IfOk result (λ some. IfSome some (λ sum.
         sum ≡ weighted (extreme_weight n tail from.stage) from.nodes)) }
 {
     let count = stages.stages();
     let keep = Kept::Open(only(tail));
-    let mut sweep = Sweep::<Wide>::from_keys(alloc, stages, keep, stage, keys, weights)?;
+    let mut sweep = Sweep::<C>::from_keys(alloc, stages, keep, stage, keys, weights)?;
     while sweep.stage < count && are_few(sweep.nodes.len(), number) {
         sweep.advance(stages)?;
     }
@@ -118,5 +120,5 @@ pub(crate) fn few_sum_onward<S: Roomed>(
         IfOk result (λ some. IfSome some (λ sum. sum
         ≡ weighted (extreme_weight n tail stage) (nodes_of n.width keys.now weights.now))) }
 {
-    onward_in(alloc, stages, tail, stage, keys, weights, number)
+    onward_in::<Wide, S>(alloc, stages, tail, stage, keys, weights, number)
 }

@@ -10,7 +10,7 @@ use Rattle.node_pool.proofs.NodeLists.{length-nodes}
 use Rattle.score_convolution.specs.DrawRows.{number_of}
 use Rattle.score_convolution.specs.Meetings.{AreFew, pair_draws}
 use Rattle.score_convolution.specs.Sides.{is_in, once}
-use Rattle.score_convolution.proofs.KeyDraws.{key-few, key-fits, key-more, pairs-fit, pairs-moved}
+use Rattle.score_convolution.proofs.KeyDraws.{key-fits, key-more, pairs-fit, pairs-moved}
 use Rattle.score_convolution.proofs.onward.key_pairs.Given.{Over}
 use Rattle.score_convolution.proofs.onward.key_pairs.Goals as goal
 use Rattle.score_convolution.proofs.onward.key_pairs.Goals.{After-pairs_in}
