@@ -699,13 +699,15 @@ def _source(
         path = os.fspath(data)
         if names:
             raise ValueError("columns of a file are selected by number, as columns=[2, 3]")
-        rows = _rows_of_file(path, separator)
-        if header is None and rows is not None:
+        bare = _bytes_of(path) if header is False else None
+        rows = _rows_of_file(path, separator) if bare is None else _rows_of_bytes(bare, separator)
+        if header is None:
             _ask(path, rows, columns)
         width = len(rows[0]) if rows else 2
-        if header is False and rows is not None:
-            return _Source(None, _below_header(path, width, separator), columns, count or width)
-        return _Source(path, None, columns, count or width)
+        if bare is None:
+            return _Source(path, None, columns, count or width)
+        first = _SEPARATORS.get(separator or "", ",").join(f"field{i}" for i in range(1, width + 1))
+        return _Source(None, first.encode() + b"\n" + bare, columns, count or width)
     if header is not None:
         raise ValueError("header= belongs to a file that is given by its path")
     if data is None:
@@ -719,15 +721,27 @@ def _source(
 _SEPARATORS = {"semicolon": ";", "tab": "\t"}
 
 
-def _rows_of_file(path: str, separator: str | None) -> list[list[str]] | None:
-    """The rows of a file, or None if it cannot be looked at: what is wrong with it is for the program to say."""
+def _bytes_of(path: str) -> bytes | None:
+    """The bytes of a file without a byte order mark, or None if it cannot be read: that is for the program to say."""
     try:
-        if not os.path.isfile(path) or os.path.getsize(path) > _LONGEST_FILE:
-            return None
-        with open(path, newline="", encoding="utf-8-sig", errors="replace") as source:
-            return [row for row in csv.reader(source, delimiter=_SEPARATORS.get(separator or "", ",")) if row]
-    except (OSError, ValueError, csv.Error):
+        with open(path, "rb") as source:
+            return source.read(_LONGEST_FILE + 1).removeprefix(codecs.BOM_UTF8)
+    except OSError:
         return None
+
+
+def _rows_of_file(path: str, separator: str | None) -> list[list[str]]:
+    """The rows of a file that may be read twice, or none."""
+    return _rows_of_bytes((_bytes_of(path) if os.path.isfile(path) else None) or b"", separator)
+
+
+def _rows_of_bytes(file: bytes, separator: str | None) -> list[list[str]]:
+    """The rows that these bytes have, or none: what is wrong with them is for the program to say."""
+    lines = io.StringIO(file.decode("utf-8", "replace"), newline="")
+    try:
+        return [row for row in csv.reader(lines, delimiter=_SEPARATORS.get(separator or "", ",")) if row]
+    except csv.Error:
+        return []
 
 
 def _is_number(text: str) -> bool:
@@ -736,22 +750,15 @@ def _is_number(text: str) -> bool:
 
 def _ask(path: str, rows: list[list[str]], columns: _Numbers) -> None:
     """Asks whether the first row is a header, if it has a number above a column of numbers."""
-    listed = range(1, len(rows[0]) + 1 if rows else 1) if columns is None else columns
-    for field in (int(str(field)) for field in listed if str(field).isdigit()):
-        column = [row[field - 1] for row in rows if 0 < field <= len(row)]
+    fields = range(1, len(rows[0]) + 1) if rows else range(0)
+    for field in fields if columns is None else [field for field in fields if str(field) in map(str, columns)]:
+        column = [row[field - 1] for row in rows if field <= len(row)]
         below = [text for text in column[1:] if text.strip() not in ("", "NA")]
         if below and all(map(_is_number, [column[0], *below])):
             raise ValueError(
                 f"the first row of {path} looks like data: {column[0]!r} stands above a column of numbers. Say "
                 "header=False if it is data, or header=True if it is the header"
             )
-
-
-def _below_header(path: str, width: int, separator: str | None) -> bytes:
-    """The bytes of a file without a header, below one."""
-    header = _SEPARATORS.get(separator or "", ",").join(f"field{i}" for i in range(1, width + 1))
-    with open(path, "rb") as source:
-        return header.encode() + b"\n" + source.read().removeprefix(codecs.BOM_UTF8)
 
 
 def _table(

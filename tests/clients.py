@@ -11,6 +11,7 @@ import pickle
 import random
 import sys
 import tempfile
+import threading
 import warnings
 from fractions import Fraction
 
@@ -232,6 +233,10 @@ with tempfile.TemporaryDirectory() as folder:
         tell((found.sizes[0], found.greater) == ("group 3 x", Fraction(1, 20)), "Python: it is data")
         found = exact.run("ranksum", bare, header=True, **options)
         tell(found.sizes[0] == "group 2 x", "Python: it is a header")
+    pipe = pathlib.Path(folder) / "pipe"
+    os.mkfifo(pipe)
+    threading.Thread(target=pipe.write_text, args=("x,1\nx,2\ny,4\ny,5\n",)).start()
+    tell(exact.run("ranksum", pipe, header=False).total == 6, "Python: a pipe without a header")
     bare.write_text("2019,2020\n1,2\n3,5\n", encoding="utf-8")
     tell(exact.run("signedrank", bare, header=True).total == 4, "Python: a header of numbers")
     bare.write_text("group,value\nx,1\nx,2\ny,2.5\n", encoding="utf-8")
@@ -250,6 +255,7 @@ tell(refused(exact.Usage, "ranksum", six, tail="left"), "Python: refused words")
 tell(refused(exact.BadData, "ranksum", {"x": [1, float("nan")], "y": [2]}), "Python: a missing value")
 tell(refused(exact.TooWide, "ranksum", {"x": range(66), "y": range(65)}), "Python: too wide")
 tell(refused(exact.ReadFault, "ranksum", "no such file"), "Python: a file that is not there")
+tell(refused(exact.ReadFault, "ranksum", "no such file", header=False), "Python: nor without a header")
 gap = {"x": [1, 2, 3, None], "y": [4, float("nan"), 5, 6]}
 kept = exact.run("ranksum", gap, missing="drop")
 tell(kept.dropped == 2 and kept.greater == exact.run("ranksum", six).greater, "Python: missing values dropped")
