@@ -404,6 +404,9 @@ exact_ask_of_names <- function(x, test) {
 
 # the columns that a formula selects
 exact_formula_rows <- function(test, formula, data) {
+  if (!is.null(data) && !is.list(data) && !is.environment(data)) {
+    stop("with a formula, `data` is a data frame", call. = FALSE)
+  }
   form <- exact_form(test)
   parts <- exact_parts(test, form, formula, data)
   found <- lapply(parts, eval, data, environment(formula))

@@ -25,13 +25,12 @@
     >>> found.estimate, found.lower, found.upper, found.miss
     (Fraction(3, 1), Fraction(2, 1), Fraction(4, 1), Fraction(1, 5))
 
-Data frames of pandas and polars are read by column name:
+Data frames of pandas and polars are read by column name, as is any mapping from names to columns:
 
-    >>> import pandas
-    >>> rats = pandas.DataFrame({"drug": list("ccctttt"), "time": [300, 300, 271, 22, 75, 18, 163]})
+    >>> rats = {"drug": list("ccctttt"), "time": [300, 300, 271, 22, 75, 18, 163]}  # or pandas.DataFrame(...)
     >>> exact.run("ranksum", rats, group="drug", value="time", tail="less").pvalue
     Fraction(1, 35)
-    >>> patients = pandas.DataFrame({"before": [1.5, 2, 4, 3], "after": [2, 4, 7.25, 3.75], "id": [1, 2, 3, 4]})
+    >>> patients = {"before": [1.5, 2, 4, 3], "after": [2, 4, 7.25, 3.75], "id": [1, 2, 3, 4]}
     >>> exact.run("signedrank", patients, columns=["before", "after"]).greater
     Fraction(1, 16)
 
@@ -409,8 +408,8 @@ def run(
     program: The path of the program. Without it the library is used if `library` loaded it, then the path in the
     environment variable EXACT, then the program that was installed with this module, then the one on the PATH.
 
-        >>> import exact, pandas
-        >>> rats = pandas.DataFrame({"drug": list("ccctttt"), "time": [300, 300, 271, 22, 75, 18, 163]})
+        >>> import exact
+        >>> rats = {"drug": list("ccctttt"), "time": [300, 300, 271, 22, 75, 18, 163]}  # or pandas.DataFrame(...)
         >>> # do the controls stay longer?
         >>> exact.run("ranksum", rats, group="drug", value="time", alternative="greater").pvalue
         Fraction(1, 35)

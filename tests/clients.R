@@ -134,6 +134,7 @@ fails(exact_test("friedman", v ~ gr | st, data = rbind(d, d[6, ])), c("block '3'
 fails(exact_test("ranksum", v ~ 1, data = d), "'1'", "no group")
 fails(exact_test("ranksum", ~ gr, data = d), "value ~ group", "no value")
 fails(exact_test("ranksum", cbind(v, st) ~ gr, data = d), "cbind(v, st)", "two values")
+fails(exact_test("ranksum", v ~ gr, 1:3), "data frame", "numbers in place of a data frame")
 fails(exact_test("ranksum", v ~ gr[1:3], data = d), "gr[1:3]", "too few labels")
 fails(exact_test("kendall", ~ v + gr + st, data = d), "'gr'", "three variables")
 fails(exact_test("signedrank", v ~ gr, data = d), "paired = TRUE", "a formula for pairs")
