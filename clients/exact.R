@@ -139,8 +139,8 @@ exact_tests <- list(
   cochran = c("Exact Cochran Q test", "sum of squared totals"),
   fisher = c("Fisher's exact test", "first cell", "the odds ratio is * ODDS", "below", "above"),
   linear = c("Exact linear-by-linear association test", "T", "the column score * with the row score", "falls", "rises"),
-  strata = c("Exact Mantel-Haenszel test of strata", "sum of first cells", "the common odds ratio is * ODDS",
-             "below", "above"),
+  strata = c("Exact test of conditional independence in strata (Mantel-Haenszel)", "sum of first cells",
+             "the common odds ratio is * ODDS", "below", "above"),
   zelen = c("Exact Zelen test for homogeneity of odds ratios", "probability of the tables"),
   stratranksum = c("Exact stratified Wilcoxon rank sum test", "W", "values of SECOND are * than those of FIRST",
                    "less", "greater"),
@@ -187,7 +187,7 @@ exact_check <- function(options, known) {
   near <- if (nzchar(unknown[1])) agrep(unknown[1], known, max.distance = 0.35, value = TRUE)
   said <- if (nzchar(unknown[1])) paste0("'", unknown[1], "' is not an option") else "an argument has no name"
   meant <- if (length(near) > 0) paste0("; did you mean '", near[1], "'?")
-  stop(said, meant, if (is.null(meant)) ";", " The options are ", paste(known, collapse = ", "), call. = FALSE)
+  stop(said, meant, if (is.null(meant)) ".", " The options are ", paste(known, collapse = ", "), call. = FALSE)
 }
 
 # a fraction, a whole number or a decimal as P/Q; what is none of these is left to the program to refuse
@@ -592,9 +592,9 @@ exact_letters <- function(test, sizes, statistic, scores, about) {
 }
 
 # what the print says about a letter
-exact_letter_notes <- c(H = " (kruskal.test also corrects it for ties)",
-                        S = " (friedman.test also corrects it for ties)",
-                        tau = " (if there are no ties, that of cor.test)")
+exact_letter_notes <- c(H = " (Kruskal-Wallis chi-squared of kruskal.test, before its correction for ties)",
+                        S = " (Friedman chi-squared of friedman.test, before its correction for ties)",
+                        tau = " (tau of cor.test, if there are no ties)")
 
 # what is known about a test; a table larger than 2 by 2 has no first cell that determines it
 exact_known <- function(test, sizes) {

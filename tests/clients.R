@@ -199,7 +199,7 @@ tell(setequal(union(exact_options, exact_shift_options), setdiff(options, divide
 # the letters of R's own functions, on data without ties
 shows(exact_test("ranksum", 1:3, c(2.5, 4, 5)), "W = 14 (of y)", "U = 8 (of y), W of wilcox.test = 1", what = "U")
 shows(exact_test("kendall", data_of("tuna")), "tau = 0.4444", what = "tau")
-shows(exact_test("friedman", data_of("rounding")), "S = 10.636", what = "S")
+shows(exact_test("friedman", data_of("rounding")), "S = 10.636", "Friedman chi-squared", "before its correction", what = "S")
 has_letter <- function(ours, letter, theirs) {
   tell(isTRUE(all.equal(ours$letters[[letter]], unname(theirs))), paste("R's own:", letter))
 }
