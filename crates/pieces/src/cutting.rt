@@ -13,7 +13,7 @@ use crate::cuts::CountedCut;
 use crate::ordering::{Entry, entries_of, sort_entries};
 use crate::rows::Rows;
 use networks::{Kept, Roomed, Stages, only};
-use stage_network::{Sweep, Width, total_of, width_of};
+use stage_network::{Width, sweep_to, total_of, width_of};
 use std::alloc::Global;
 use weights::{Count, Narrow, NoMemory, Tail, Wide};
 
@@ -53,8 +53,7 @@ fn cut_in<C: Count, S: Roomed>(
 {
     let _lawful = stages.stages();
     let keep = Kept::Open(only(tail));
-    let mut sweep = Sweep::<C>::new(alloc, stages, keep)?;
-    sweep.advance_to(stages, at)?;
+    let sweep = sweep_to::<C, S>(alloc, stages, keep, at)?;
     let mut entries = entries_of(alloc, &sweep.nodes)?;
     let rows = laid_flat(alloc, stages.width(), entries.as_mut_slice())?;
     Ok(CountedCut {
