@@ -10,9 +10,16 @@ ghost use Rattle.distribution.specs.ByStatistic.{GoesByStatistic};
 
 use crate::filtered::weight_of;
 use networks::{Answer, Spread, TailSum};
-use stage_network::Prepared;
+use stage_network::{Prepared, quick_numerators};
 use std::alloc::Global;
 use weights::{NoMemory, Rule, Tail, Tails};
+
+// The tail of both sides alone.
+const TWO: Tails = Tails {
+    less: false,
+    greater: false,
+    two: true,
+};
 
 // Whether a test has a tail of one side.
 fn has_one_side<P: Prepared>(problem: &P) -> bool
@@ -38,16 +45,6 @@ fn both_by_statistic<P: Prepared>(problem: &P) -> bool
     }
 }
 
-// Whether a tail goes by the statistic, as each of one side does.
-fn goes_by_statistic<P: Prepared>(problem: &P, tail: Tail) -> bool
-    ensures { result ≡ true → GoesByStatistic (P.test problem.now) tail }
-{
-    match tail {
-        Tail::Less | Tail::Greater => true,
-        Tail::Two => both_by_statistic(problem),
-    }
-}
-
 // The weight of the lines whose values pass the rule of a tail that goes by the statistic.
 fn weight_for<P: Prepared>(problem: &P, tail: Tail, spread: &Spread) -> u128
     requires goes { GoesByStatistic (P.test problem.now) tail }
@@ -59,50 +56,55 @@ fn weight_for<P: Prepared>(problem: &P, tail: Tail, spread: &Spread) -> u128
     weight_of(spread.as_slice(), rule)
 }
 
-// The numerator of a tail: of the lines, where these tell it, else by the tail's quick network.
-fn numerator_of<P: Prepared>(
-    alloc: Global,
-    problem: &P,
-    tail: Tail,
-    spread: &Spread,
-) -> Result<u128, NoMemory>
-    requires has { (P.test problem.now).has_tail tail ≡ true }
-    requires lines { spread.now ≡ distribution (P.test problem.now) }
-    requires weights { WeightsFit spread.now }
-    ensures { IfOk result (λ sum. sum ≡ numerator (P.test problem.now) tail) }
-{
-    if goes_by_statistic(problem, tail) {
-        return Ok(weight_for(problem, tail, spread));
-    }
-    let found = problem.quick_sum(alloc, true, tail)?;
-    Ok(found.sum)
-}
-
-// The numerator of a tail, where it is asked.
-fn tail_from<P: Prepared>(
-    alloc: Global,
+// The numerator of a tail that goes by the statistic, where it is asked.
+fn asked_weight<P: Prepared>(
     problem: &P,
     asked: bool,
     tail: Tail,
     spread: &Spread,
-) -> Result<Option<TailSum>, NoMemory>
-    requires has { asked ≡ true → (P.test problem.now).has_tail tail ≡ true }
+) -> Option<TailSum>
+    requires goes { GoesByStatistic (P.test problem.now) tail }
     requires lines { spread.now ≡ distribution (P.test problem.now) }
     requires weights { WeightsFit spread.now }
     ensures { let sum = tail_of (P.test problem.now) uncounted tail way.Plain in
+        result ≡ asked_tail asked sum }
+{
+    if !asked {
+        return None;
+    }
+    let sum = weight_for(problem, tail, spread);
+    Some(TailSum { sum, opened: 0 })
+}
+
+// The numerator of both sides, where it is asked: of the lines, where these tell it, else by the
+// quick ways.
+fn asked_on_both<P: Prepared>(
+    alloc: Global,
+    problem: &P,
+    asked: bool,
+    spread: &Spread,
+) -> Result<Option<TailSum>, NoMemory>
+    requires has { asked ≡ true → (P.test problem.now).has_tail Two ≡ true }
+    requires lines { spread.now ≡ distribution (P.test problem.now) }
+    requires weights { WeightsFit spread.now }
+    ensures { let sum = tail_of (P.test problem.now) uncounted Two way.Plain in
         IfOk result (λ found. found ≡ asked_tail asked sum) }
 {
+    if both_by_statistic(problem) {
+        return Ok(asked_weight(problem, asked, Tail::Two, spread));
+    }
     if !asked {
         return Ok(None);
     }
-    let sum = numerator_of(alloc, problem, tail, spread)?;
+    let sums = quick_numerators(alloc, problem, TWO)?;
+    let sum = sums.two.sum;
     Ok(Some(TailSum { sum, opened: 0 }))
 }
 
 /// The answer of a test for tails that it has, where its whole distribution is known and no key is
 /// to be counted: the numbers of [`stage_network::quick_answer`]. A tail that goes by the statistic
-/// is a sum of weights of lines; a quick network is swept only for both sides of a test by rarity
-/// that has one-sided tails too.
+/// is a sum of weights of lines; only both sides of a test by rarity that has one-sided tails too
+/// go by [`stage_network::quick_numerators`].
 pub fn answer_from<P: Prepared>(
     alloc: Global,
     problem: &P,
@@ -117,9 +119,9 @@ pub fn answer_from<P: Prepared>(
     ensures some { IfOk result (λ answer. 1 ≤ answer.total) }
 {
     let frame = problem.frame();
-    let less = tail_from(alloc, problem, tails.less, Tail::Less, spread)?;
-    let greater = tail_from(alloc, problem, tails.greater, Tail::Greater, spread)?;
-    let two = tail_from(alloc, problem, tails.two, Tail::Two, spread)?;
+    let less = asked_weight(problem, tails.less, Tail::Less, spread);
+    let greater = asked_weight(problem, tails.greater, Tail::Greater, spread);
+    let two = asked_on_both(alloc, problem, tails.two, spread)?;
     Ok(Answer {
         statistic: frame.statistic,
         scale: frame.scale,

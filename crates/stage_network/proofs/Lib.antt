@@ -33,3 +33,4 @@ pub mod RowLines
 pub mod Ascending
 pub mod Laying
 pub mod Imaged
+pub mod RowStarts

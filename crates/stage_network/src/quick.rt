@@ -23,9 +23,10 @@ fn uncounted(found: TailSum) -> TailSum
     }
 }
 
-// The numerators of the asked tails. Where the quick ways find no memory, the networks that the
-// open keys are counted in may: they need not hold as much at once.
-fn numerators_of<P: Prepared>(
+/// The numerators of tails that a test has, by the quick ways, or, where these find no memory, by
+/// the networks of `answer`, which need not hold as much at once. How many keys were open is not
+/// told.
+pub fn quick_numerators<P: Prepared>(
     alloc: Global,
     problem: &P,
     tails: Tails,
@@ -50,7 +51,7 @@ fn uncounted_sums<P: Prepared>(
     ensures { IfOk result (λ sums. (t : Tail) → asks tails t ≡ true
         → sum_for sums t ≡ tail_of (P.test problem.now) uncounted t way.Plain) }
 {
-    let sums = numerators_of(alloc, problem, tails)?;
+    let sums = quick_numerators(alloc, problem, tails)?;
     Ok(TailSums {
         less: uncounted(sums.less),
         greater: uncounted(sums.greater),
