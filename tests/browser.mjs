@@ -1,4 +1,4 @@
-// Opens a page from the disk in Chromium without a window, and speaks to it over a pipe, by the DevTools protocol.
+// Opens a page from the disk in headless Chromium, and controls it over a pipe by the DevTools protocol.
 import { spawn } from 'node:child_process';
 import fs from 'node:fs';
 import os from 'node:os';
@@ -39,7 +39,7 @@ export class Browser {
     return result;
   }
 
-  // Opens a file. What it asks of a network, and what it complains of, is kept.
+  // Opens a file. Its requests and its error messages are recorded.
   async open(file) {
     const { targetId } = await this.call('Target.createTarget', { url: 'about:blank' });
     this.session = (await this.call('Target.attachToTarget', { targetId, flatten: true })).sessionId;
@@ -55,7 +55,7 @@ export class Browser {
     await this.until('document.readyState === "complete"');
   }
 
-  // What an expression of the page comes to.
+  // The value of an expression in the page.
   async value(expression) {
     const told = await this.call('Runtime.evaluate', { expression, awaitPromise: true, returnByValue: true });
     if (told.exceptionDetails) throw new Error(told.exceptionDetails.exception?.description ?? expression);
@@ -67,7 +67,7 @@ export class Browser {
       if (await this.value(expression)) return;
       await new Promise(resolve => setTimeout(resolve, 10));
     }
-    throw new Error(`it does not come: ${expression}`);
+    throw new Error(`it never came true: ${expression}`);
   }
 
   async version() {

@@ -1,5 +1,5 @@
-// Tries the page in Chromium: page_browser.mjs CHROMIUM PAGE EXAMPLES PROBLEM...; a line for each try, 0 where it came
-// right, else 1.
+// Tests the page in Chromium: page_browser.mjs CHROMIUM PAGE EXAMPLES PROBLEM... Each check prints a line, with 0 if it
+// passed and 1 if not.
 import fs from 'node:fs';
 import os from 'node:os';
 import path from 'node:path';
@@ -12,7 +12,7 @@ const browser = new Browser(program);
 await browser.open(page);
 await browser.until('typeof listen === "function" && byId("form").onsubmit !== null');
 
-// ---- the words of a problem, through the page's own worker
+// ---- the words of a problem, answered by the page's own worker
 
 const base64 = data => JSON.stringify(Buffer.from(data).toString('base64'));
 
@@ -36,12 +36,12 @@ const type = (id, text) => browser.value(`(() => {
 const paste = text => type('data', text);
 const textOf = id => browser.value(`byId('${id}').textContent`);
 
-// Chooses a test; another comes between, since options stay as they are while the test does.
+// Chooses a test. Another test comes first, since options are kept as long as the test is the same.
 async function choose(test) {
   for (const name of [test === 'runs' ? 'shift' : 'runs', test]) await browser.value(`byId('test-${name}').click()`);
 }
 
-// Sets a control to a value, and says whether it is there and takes it.
+// Sets a control to a value. Says whether the control exists and accepts the value.
 const set = (id, value) => browser.value(`(() => {
   const control = byId(${JSON.stringify(id)});
   if (control === null) return false;
@@ -69,7 +69,7 @@ async function reported() {
   return await textOf('report') || `${await browser.value('byId("refusal").querySelector("strong").textContent')}\n`;
 }
 
-// Sets the form as words say, and says whether its controls can say them.
+// Sets the form to the words of a command. Says whether the controls can express them.
 async function fill(words) {
   const [test, , ...options] = words;
   if (!await browser.value(`'${test}' in TESTS`)) return false;
@@ -84,7 +84,7 @@ async function fill(words) {
   return true;
 }
 
-// Options with their values behind an equals sign, those of columns and of what stands between them first.
+// Options with their values after an equals sign, the separator and the columns first.
 function joined(options) {
   const all = [];
   for (let i = 0; i < options.length; i += 1) {
@@ -97,7 +97,7 @@ function joined(options) {
   return all.sort((a, b) => place(a) - place(b));
 }
 
-// ---- each example that the controls can say, pasted
+// ---- each example that the controls can express, pasted
 
 async function tryExample(name) {
   const words = fs.readFileSync(path.join(examples, `${name}.words`), 'utf8').split('\n').slice(0, -1);
@@ -113,7 +113,7 @@ async function tryExample(name) {
   return true;
 }
 
-// ---- tables as they come
+// ---- tables in various forms
 
 const SIX = ['x,1', 'x,2', 'x,3', 'y,4', 'y,5', 'y,6'];
 const six = (separator, end = '\n') => ['group,value', ...SIX].map(line => line.replace(',', separator) + end).join('');
@@ -127,19 +127,19 @@ async function tryTable(what, text, test, wanted) {
 }
 
 async function tryTables() {
-  await tryTable('tabs, as a spreadsheet copies them', six('\t', '\r\n'), 'ranksum', GREATER);
+  await tryTable('tabs, as copied from a spreadsheet', six('\t', '\r\n'), 'ranksum', GREATER);
   await tryTable('semicolons', six(';'), 'ranksum', GREATER);
   await tryTable('fields in quotes', six('","').replace(/^|$(?=\n)/gm, '"').replace(/"$/, ''), 'ranksum', GREATER);
   const mixed = SIX.map((line, i) => `${i + 1},${line[2]},n${i},${line[0]}\n`).join('');
-  await tryTable('columns by what they look like', `id,value,note,group\n${mixed}`, 'ranksum', GREATER);
-  await tryTable('a paste of nothing', '', 'ranksum', 'refused: row 1: no header\n');
+  await tryTable('columns chosen by what they look like', `id,value,note,group\n${mixed}`, 'ranksum', GREATER);
+  await tryTable('an empty paste', '', 'ranksum', 'refused: row 1: no header\n');
   await tryTable('a header alone', 'group,value\n', 'ranksum', 'refused: row 1: ends too early\n');
   await tryTable('decimal commas', 'group;value\nx;1,5\ny;2,5\n', 'ranksum', 'refused: row 2 field 2: not a number\n');
   await tryTable('a missing cell', 'group,value\nx,1\nx,\ny,2\n', 'ranksum', 'refused: row 3 field 2: missing\n');
   await set('missing', 'drop');
   await run();
-  tell((await reported()).includes('dropped 1\n'), 'a missing cell that is left out');
-  await tryTable('no column for what is read', 'value\n1\n2\n', 'ranksum', 'refused: ');
+  tell((await reported()).includes('dropped 1\n'), 'a missing cell, left out');
+  await tryTable('too few columns', 'value\n1\n2\n', 'ranksum', 'refused: ');
   const long = `group,value\n${'x,1\n'.repeat(300000)}`;
   await tryTable('a table that is too long', long, 'ranksum', 'refused: file longer than 1048576 bytes\n');
 }
@@ -161,18 +161,60 @@ async function tryFile() {
   fs.rmSync(file);
 }
 
+// Drops a file with these bytes on the page.
+const drop = (name, bytes) => browser.value(`(() => {
+  const dataTransfer = new DataTransfer();
+  dataTransfer.items.add(new File([Uint8Array.from(${JSON.stringify([...bytes])})], ${JSON.stringify(name)}));
+  document.dispatchEvent(new DragEvent('drop', { dataTransfer }));
+})()`);
+
 async function tryDrop() {
   await paste('nothing');
-  await browser.value(`(() => {
-    const dataTransfer = new DataTransfer();
-    dataTransfer.items.add(new File([${JSON.stringify(six('\t'))}], '-x.csv'));
-    document.dispatchEvent(new DragEvent('drop', { dataTransfer }));
-  })()`);
+  await drop('-x.csv', Buffer.from(six('\t')));
   await browser.until('chosen !== null && byId("data").value.startsWith("group\\tvalue")');
   await choose('ranksum');
   await run();
   tell((await reported()).includes(GREATER), 'a file that is dropped');
   tell(await textOf('command') === 'exact ranksum ./-x.csv --separator=tab', 'whose name begins with a dash');
+}
+
+// ---- a first row that may be data
+
+const NO_HEADER = 'c,300\nc,19\nt,17\nt,12\n';
+const click = id => browser.value(`byId('${id}').click()`);
+const isAsked = () => browser.value('!byId("doubt").hidden');
+
+async function tryFirstRow() {
+  await paste(NO_HEADER);
+  await choose('ranksum');
+  await browser.value('byId("form").requestSubmit()');
+  tell(await isAsked() && await browser.value('byId("answer").hidden'), 'a first row that may be data is asked about');
+  tell((await textOf('first-row')) === 'c, 300', 'and shown');
+  tell(await browser.value('document.activeElement.id') === 'is-data', 'with the answer at hand');
+  await click('is-data');
+  const text = await browser.value('byId("data").value');
+  tell(!await isAsked() && text === `column 1,column 2\n${NO_HEADER}`, 'a header is added');
+  await run();
+  tell((await reported()).includes('group 2 c\ngroup 2 t\n'), 'and all rows are data');
+  await paste(NO_HEADER);
+  await click('is-header');
+  await run();
+  tell((await reported()).includes('group 1 c\ngroup 2 t\n'), 'or the row is the header');
+}
+
+// A file keeps its bytes: its mark, and a letter that is no UTF-8.
+async function tryFirstRowOfFile() {
+  const mark = Buffer.from('\ufeff'), rows = Buffer.from('c;300\n\xe9;19\nc;17\n', 'latin1');
+  await drop('rats.csv', Buffer.concat([mark, rows]));
+  await browser.until('!byId("doubt").hidden');
+  await click('is-data');
+  await browser.until('chosen.name === "with-header-rats.csv"');
+  const bytes = Buffer.from(await browser.value('[...chosen.bytes]'));
+  tell(bytes.equals(Buffer.concat([mark, Buffer.from('column 1;column 2\n'), rows])), 'a file gets a header');
+  await choose('ranksum');
+  await run();
+  const command = 'exact ranksum with-header-rats.csv --separator=semicolon';
+  tell(await textOf('command') === command, 'and then another name');
 }
 
 // ---- a refusal, a stop, the picture, the keys
@@ -184,7 +226,7 @@ async function tryRefusal() {
   tell(field === '5 cm', 'its field is marked');
   const row = await browser.value('((it) => it.value.slice(it.selectionStart, it.selectionEnd))(byId("data"))');
   tell(row === 'y,5 cm', 'and its row');
-  tell((await textOf('refusal')).includes('decimal comma'), 'and it is said what helps');
+  tell((await textOf('refusal')).includes('decimal comma'), 'with its help');
   await tryTable('and the next run', six(','), 'ranksum', GREATER);
   const marks = await browser.value('document.querySelectorAll("#preview .marked, #refusal p").length');
   tell(marks === 0, 'takes the marks away');
@@ -211,7 +253,7 @@ async function tryPicture() {
   tell(await bars('bar') === 8 && await bars('tail') === 2, 'their picture');
   await browser.value('byId("tails").querySelector("[value=greater]").click()');
   tell(await bars('bar') === 9 && await bars('tail') === 1, 'and that of another tail');
-  tell((await textOf('caption')).includes('Marked is greater 1/20 0.050000.'), 'with its caption');
+  tell((await textOf('caption')).includes('The marked tail is greater, 1/20 0.050000.'), 'with its caption');
 }
 
 const DRAWN = {
@@ -232,7 +274,7 @@ const DRAWN = {
   queue: ['runs'],
 };
 
-// Each test that an example has marks its tails: their weights are the numerators of the report.
+// Each test of an example marks its tails: their weights sum to the numerators of the report.
 async function tryTails(name, test) {
   await paste(fs.readFileSync(path.join(examples, `${name}.csv`), 'utf8'));
   await choose(test);
@@ -241,7 +283,7 @@ async function tryTails(name, test) {
   await browser.until('!byId("picture").hidden && byId("stop").disabled');
   for (const tail of await browser.value('[...byId("tails").querySelectorAll("input")].map(one => one.value)')) {
     await browser.value(`byId('tails').querySelector('[value=${tail}]').click()`);
-    tell((await textOf('caption')).includes(`Marked is ${tail} `), `${name}: ${test}, ${tail} is marked`);
+    tell((await textOf('caption')).includes(`The marked tail is ${tail}, `), `${name}: ${test}, ${tail} is marked`);
   }
 }
 
@@ -272,7 +314,9 @@ async function tryKeys() {
 async function tryFind() {
   const shown = async words => {
     await type('find', words);
-    return browser.value('[...document.querySelectorAll(".choice:not([hidden]) input")].map(one => one.value)');
+    const isShown = 'choice => choice.getClientRects().length > 0';
+    const choices = `[...document.querySelectorAll('.choice')].filter(${isShown})`;
+    return browser.value(`${choices}.map(choice => choice.querySelector('input').value)`);
   };
   await choose('fisher');
   tell((await shown('npar m-w')).join() === 'ranksum', 'a test by its name in SPSS');
@@ -280,11 +324,28 @@ async function tryFind() {
   await press('Enter');
   tell(await browser.value('testNow().name') === 'ranksum', 'which enter chooses');
   tell((await shown('wilcox.test paired')).join() === 'signedrank', 'and in R');
-  tell((await shown('greater values')).includes('ranksum'), 'and by its question');
-  tell((await shown('')).length === 24, 'and all of them');
+  tell((await shown('kruskal wallis')).join() === 'kw', 'and without its hyphen');
+  tell((await textOf('search-said')).includes('chosen test is still: Wilcoxon rank-sum'), 'while another is still chosen');
+  tell((await shown('larger values')).includes('ranksum'), 'and by its question');
+  tell(await textOf('search-said') === '', 'which is the chosen one');
+  tell((await shown('chisq.test')).length === 0, 'a test that is not here is not found');
+  tell((await textOf('search-said')).startsWith('No test on this page is called “chisq.test”.'), 'and that is said');
+  tell((await shown('--alternative')).length === 24, 'an option is no test');
+  tell((await textOf('search-said')).startsWith('“--alternative” is “Tail” in step 3.'), 'but is elsewhere');
+  tell((await shown('')).length === 24 && await textOf('search-said') === '', 'and all of them');
 }
 
-// Every control has a name for who does not see it.
+// A decimal is taken for the fraction that it is.
+async function tryFractions() {
+  await paste('p,q\n5,1\n1,5\n');
+  await choose('fisher');
+  await set('odds', '1.5');
+  await run();
+  tell(await textOf('command') === 'exact fisher data.csv --odds=3/2', 'a decimal is a fraction');
+  tell((await textOf('reading')).includes('odds ratio above 3/2'), 'which the reading names');
+}
+
+// Every control has an accessible name.
 async function tryNames() {
   const { nodes } = await browser.call('Accessibility.getFullAXTree');
   const kinds = ['button', 'textbox', 'searchbox', 'combobox', 'radio', 'checkbox'];
@@ -292,7 +353,7 @@ async function tryNames() {
   tell(controls.length > 30 && controls.every(node => (node.name?.value ?? '') !== ''), 'each control has a name');
 }
 
-// ---- what leaves, and a browser that lacks what the page needs
+// ---- requests, and a browser that lacks what the page needs
 
 async function tryLeaving() {
   const refused = await browser.value(`new Promise(resolve => {
@@ -311,7 +372,7 @@ async function tryWithoutWideMemory() {
   await browser.call('Page.addScriptToEvaluateOnNewDocument', { source: 'WebAssembly.validate = () => false;' });
   await browser.call('Page.reload');
   await browser.until('document.readyState === "complete" && byId("run").disabled');
-  tell((await textOf('state')).includes('no 64-bit memories'), 'a browser without 64-bit memories is told');
+  tell((await textOf('state')).includes('64-bit memories'), 'a browser without 64-bit memories is told');
 }
 
 for (const folder of problems) await tryProblem(folder);
@@ -323,6 +384,8 @@ tell(said >= 45, `${said} examples by the controls`);
 await tryTables();
 await tryFile();
 await tryDrop();
+await tryFirstRow();
+await tryFirstRowOfFile();
 await tryRefusal();
 await tryStop();
 await tryPicture();
@@ -331,6 +394,7 @@ for (const [name, tests] of Object.entries(DRAWN)) {
 }
 await tryKeys();
 await tryFind();
+await tryFractions();
 await tryNames();
 await tryLeaving();
 await tryWithoutWideMemory();

@@ -1,5 +1,5 @@
-// Tries the module of a page in Node on the problems of `page`: page_module.mjs PAGE PROBLEM...; a line for each try, 0
-// where it came right, else 1.
+// Tests the module of a page in Node on the problems of `page`: page_module.mjs PAGE PROBLEM... Each check prints a line,
+// with 0 if it passed and 1 if not.
 import fs from 'node:fs';
 import path from 'node:path';
 import vm from 'node:vm';
@@ -11,7 +11,7 @@ const html = fs.readFileSync(page, 'utf8');
 const partOf = id => html.match(new RegExp(`<script type="[^"]*" id="${id}">([^<]*)</script>`))[1];
 const bytes = zlib.gunzipSync(Buffer.from(partOf('module'), 'base64'));
 
-// Before their standard was settled 64-bit memories grew by numbers.
+// In drafts of the standard 64-bit memories grew by numbers.
 const { grow } = WebAssembly.Memory.prototype;
 WebAssembly.Memory.prototype.grow = function growEither(pages) {
   try {
@@ -32,7 +32,7 @@ function isWanted(engine, problem) {
   return transcript(engine.answer(problem.words, problem.bytes)) === problem.wanted;
 }
 
-// The places of a section's content in the module, by its number.
+// The positions of a section and its content in the module, by the section's number.
 function sectionOf(module, number) {
   let at = 8;
   const length = () => {
@@ -53,12 +53,12 @@ function sectionOf(module, number) {
   throw new Error(`no section ${number}`);
 }
 
-// A number as a module has it.
+// A number as a module encodes it.
 function numberBytes(value) {
   return value < 128 ? [value] : [value % 128 + 128, ...numberBytes(Math.floor(value / 128))];
 }
 
-// The module with a memory that has only so many more pages than it begins with.
+// The module with a memory that may grow by only so many pages.
 function withLittleMemory(module, pages) {
   const { from, content, to } = sectionOf(module, 5);
   const least = new WebAssembly.Instance(new WebAssembly.Module(module)).exports.memory.buffer.byteLength / 65536;
@@ -68,7 +68,7 @@ function withLittleMemory(module, pages) {
   return Buffer.concat([module.subarray(0, from), section, module.subarray(to)]);
 }
 
-// The module with a stack of 32 KiB in place of its 8 MiB.
+// The module with a stack of 32 KiB instead of 8 MiB.
 function withLittleStack(module) {
   const { content, to } = sectionOf(module, 6);
   const at = module.subarray(content, to).indexOf(Uint8Array.of(0x42, 0x80, 0x80, 0x80, 0x04));

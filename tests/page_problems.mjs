@@ -1,8 +1,8 @@
-// What the tries of the page share.
+// What the tests of the page share.
 import fs from 'node:fs';
 import path from 'node:path';
 
-// The words, the bytes of the file and the wanted transcript of a problem.
+// The words, the bytes of the file and the expected transcript of a problem.
 export function problemOf(folder) {
   const words = fs.readFileSync(path.join(folder, 'words'), 'utf8').split('\n').slice(0, -1);
   const isFile = name => fs.existsSync(name) && fs.statSync(name).isFile();

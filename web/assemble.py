@@ -1,7 +1,7 @@
-"""Puts the page into one file, which a browser opens from the disk: assemble.py MODULE.wasm PAGE.html ORIGIN.
+"""Puts the page into one file that a browser opens from the disk: assemble.py MODULE.wasm PAGE.html ORIGIN.
 
-The page is made of the sources of this folder, of the module and of the table of names in docs/WHICH.md. Its content
-security policy lets it run its own script, by the sum of its bytes, and fetch nothing. ORIGIN says what it was made of.
+The page is made of the sources in this folder, the module and the table of names in docs/WHICH.md. Its content security
+policy lets it run its own script, identified by its checksum, and fetch nothing. ORIGIN says what it was made of.
 """
 import base64
 import gzip
@@ -13,7 +13,7 @@ import re
 import sys
 
 FOLDER = pathlib.Path(__file__).resolve().parent
-SCRIPT = ("tests.js", "table.js", "report.js", "picture.js", "helps.js", "controls.js", "page.js")
+SCRIPT = ("tests.js", "search.js", "table.js", "report.js", "picture.js", "helps.js", "controls.js", "page.js")
 WORKER = ("engine.js", "worker.js")
 
 
@@ -22,7 +22,7 @@ def text(*names):
 
 
 def names_elsewhere():
-    """The names of each test in other programs, by the table of docs/WHICH.md."""
+    """The names of each test in other software, from the table in docs/WHICH.md."""
     page = (FOLDER.parent / "docs" / "WHICH.md").read_text(encoding="utf-8")
     table = re.search(r"^\| command \| R .*\n(?:\|.*\n)+", page, re.MULTILINE).group(0)
     rows = [re.split(r"(?<!\\)\|", line)[1:-1] for line in table.splitlines()]
@@ -31,7 +31,7 @@ def names_elsewhere():
 
 
 def allowed(source):
-    """The word of a policy that lets a page use this inline source, and no other."""
+    """The source expression of a policy that allows this inline source and no other."""
     return f"'sha256-{base64.b64encode(hashlib.sha256(source.encode()).digest()).decode()}'"
 
 

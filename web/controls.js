@@ -1,9 +1,9 @@
 'use strict';
-// The controls of the page: the table, the question, the columns and the options, and the words that they come to.
+// The controls of the page: the table, the question, the columns and the options, and the command that they make.
 
 const byId = id => document.getElementById(id);
 
-// An element with its properties and what stands in it.
+// An element with its properties and its content.
 function made(name, properties = {}, ...inside) {
   const element = document.createElement(name);
   for (const [property, value] of Object.entries(properties)) {
@@ -14,7 +14,7 @@ function made(name, properties = {}, ...inside) {
   return element;
 }
 
-// A control with its label, and the option of the program that it stands for.
+// A control with its label and the option of the program that it sets.
 function labelled(label, control, option) {
   return made('label', {}, label, ' ', control, ...(option ? [' ', made('code', {}, option)] : []));
 }
@@ -27,43 +27,69 @@ function selectOf(id, choices, value) {
 
 // ---- the table
 
-// A file that was dropped or chosen, its bytes as they are, until the text is edited.
+// A file that was dropped or chosen, with its bytes unchanged, until the text is edited.
 let chosen = null;
 let table = [];
+// The first row that was confirmed to be a header, as JSON.
+let confirmed = '';
 
 const separatorWord = () => byId('separator').value || separatorOf(byId('data').value);
+const firstRow = () => JSON.stringify(table[0]?.cells);
 const headers = () => (table[0]?.cells ?? []).map((name, place) => name.trim() || `column ${place + 1}`);
 
 const LONGEST_FILE = 1048576;
 
-// A file that is too long is read so far that the program says so.
+// Of a file that is too long, enough is read for the program to say so.
 async function takeFile(file) {
   chosen = { name: file.name, bytes: new Uint8Array(await file.slice(0, LONGEST_FILE + 1).arrayBuffer()) };
   byId('data').value = new TextDecoder().decode(chosen.bytes);
+  confirmed = '';
   readAgain();
 }
 
 function readAgain() {
-  const before = JSON.stringify(table[0]?.cells);
+  const before = firstRow();
   table = rowsOf(byId('data').value, SEPARATORS[separatorWord()]);
   const rows = Math.max(table.length - 1, 0);
-  byId('found').textContent = table.length === 0 ? 'no row yet'
+  byId('found').textContent = table.length === 0 ? 'No rows yet'
     : `${chosen ? `${chosen.name}: ` : ''}${rows} ${rows === 1 ? 'row' : 'rows'} below the header, ${headers().length} `
-      + `${headers().length === 1 ? 'column' : 'columns'}, ${separatorWord()} between fields${headerDoubt()}`;
-  if (JSON.stringify(table[0]?.cells) !== before) showColumns();
+      + `${headers().length === 1 ? 'column' : 'columns'}, separated by ${separatorWord()}s`;
+  showDoubt();
+  if (firstRow() !== before) showColumns();
   else showOptions();
   showPreview();
 }
 
-// A first row of numbers may be no header.
-function headerDoubt() {
-  const hasNumbers = table.length > 1 && table[0].cells.some(cell => NUMBER.test(cell));
-  return hasNumbers ? '. The first row has numbers: is it a header?' : '';
+const isDoubtful = () => mayBeData(table) && firstRow() !== confirmed;
+
+// Asks whether the first row is data, where it looks like data.
+function showDoubt() {
+  byId('doubt').hidden = !isDoubtful();
+  byId('first-row').textContent = isDoubtful() ? table[0].cells.join(', ') : '';
 }
+
+function confirmHeader() {
+  confirmed = firstRow();
+  showDoubt();
+}
+
+// Puts a header above a first row that is data. A file keeps its own bytes below it, and gets a name of its own.
+async function addHeader() {
+  const header = headerFor(table, SEPARATORS[separatorWord()]);
+  if (chosen !== null) {
+    const { name, bytes } = chosen, mark = startsWithMark(bytes) ? 3 : 0;
+    return takeFile(new File([bytes.slice(0, mark), header, bytes.slice(mark)], `with-header-${name}`));
+  }
+  byId('data').value = byId('data').value.replace(/^\ufeff?/, start => start + header);
+  readAgain();
+}
+
+// Whether bytes begin with the byte order mark of UTF-8.
+const startsWithMark = bytes => bytes[0] === 0xef && bytes[1] === 0xbb && bytes[2] === 0xbf;
 
 const marks = isMarked => ({ className: isMarked ? 'marked' : '' });
 
-// The first rows, or those about a marked one, of which a field may be marked too. Rows and fields count from 1.
+// The first rows, or those around a marked row, in which a field may be marked too. Rows and fields are counted from 1.
 function showPreview(marked) {
   if (table.length === 0) return byId('preview').replaceChildren();
   const roles = pickedColumns();
@@ -84,7 +110,7 @@ function roleOf(roles, place) {
   return names.length > 0 ? [made('span', {}, names.join(', '))] : [];
 }
 
-// Marks the row in the text, too.
+// Marks the row in the text as well.
 function markRow(place) {
   showPreview(place);
   const row = table[place.row - 1];
@@ -98,7 +124,7 @@ const namesElsewhere = () => JSON.parse(byId('names').textContent);
 function showChoices() {
   const elsewhere = namesElsewhere(), groups = new Map();
   for (const test of Object.values(TESTS)) {
-    const names = Object.entries(elsewhere[test.name] ?? {}).map(([where, name]) => `${where} ${name}`);
+    const names = Object.entries(elsewhere[test.name] ?? {}).map(([where, name]) => `${where}: ${name}`);
     const id = `test-${test.name}`;
     const choice = made('div', { className: 'choice' },
       made('input', { type: 'radio', name: 'test', id, value: test.name, checked: test.name === 'ranksum' }),
@@ -110,19 +136,30 @@ function showChoices() {
   byId('choices').replaceChildren(...groups.values());
 }
 
-// Shows the choices that have each of the words, and their headings.
+// Shows the choices that are found, with their headings.
 function findChoices() {
-  const words = byId('find').value.toLowerCase().split(/\s+/);
+  const text = byId('find').value, option = optionFound(text);
+  const found = option === undefined ? testsFound(text, namesElsewhere()) : Object.keys(TESTS);
   for (const group of byId('choices').children) {
     for (const choice of group.querySelectorAll('.choice')) {
-      const text = `${group.firstChild.textContent} ${choice.textContent}`.toLowerCase();
-      choice.hidden = !words.every(word => text.includes(word));
+      choice.hidden = !found.includes(choice.querySelector('input').value);
     }
     group.hidden = group.querySelector('.choice:not([hidden])') === null;
   }
+  byId('search-said').textContent = searchSaid(text.trim(), option, found);
 }
 
-// Scrolls the list, and not the page, to the test that is chosen.
+// What a search says beside its list: where an option is whose name was typed, that there is no such test, or that the test
+// which is chosen is none of those found.
+function searchSaid(text, option, found) {
+  if (option !== undefined) return `“${text}” is ${option}`;
+  const test = testNow();
+  if (found.includes(test.name)) return '';
+  const still = `The chosen test is still: ${test.title}.`;
+  return found.length > 0 ? still : `No test on this page is called “${text}”. ${still}`;
+}
+
+// Scrolls the list, not the page, to the chosen test.
 function showChosen() {
   const choice = document.querySelector('.choice:has(:checked)');
   byId('choices').scrollTop = choice.offsetTop - 40;
@@ -138,10 +175,10 @@ function fieldNames() {
   return layout.fields ?? headers().slice(0, layout.most).map(numbered);
 }
 
-// A choice of columns for each field of the layout, or a box for each column of a table of counts.
+// A choice of column for each field of the layout, or a box for each column of a table of counts.
 function showColumns() {
   const test = testNow(), layout = LAYOUTS[test.layout], likely = likelyColumns(layout, table);
-  byId('layout').textContent = `${test.title}: each row has ${layout.row}.`;
+  byId('layout').textContent = `${test.title}: each row holds ${layout.row}.`;
   const columns = headers().map((name, place) => [String(place), `${place + 1}: ${name}`]);
   byId('columns').replaceChildren(...(layout.most > 8 ? boxesOf(columns, likely) : selectsOf(layout, columns, likely)));
   showOptions();
@@ -173,21 +210,21 @@ function asText(id, placeholder, value = '') {
   return made('input', { id, placeholder, value, size: Math.max(value.length, 12), autocomplete: 'off' });
 }
 
-// The column of the labels, and its labels.
+// The column of labels, and its labels.
 const labelColumn = () => pickedColumns()[testNow().layout === 'stratified' ? 1 : 0];
 const labelsNow = () => labelsOf(table, labelColumn());
 
 const SCORES = [['', 'wilcoxon'], ['ansari'], ['mood'], ['savage'], ['median'], ['raw']];
-const MISSING = [['', 'are refused'], ['drop', 'are left out']];
+const MISSING = [['', 'refuse the table'], ['drop', 'leave them out']];
 
-// Of each option: its control, and its value where it is one that is not the program's own.
+// For each option: its control, and its value if this differs from the program's default.
 const OPTIONS = {
   tail: {
     control: () => labelled('Tail', selectOf('tail', [['', 'all'], ...testNow().tails.map(tail => [tail])], ''), '--tail'),
     value: () => byId('tail').value,
   },
   tested: {
-    control: () => labelled('Tested is', selectOf('tested', ...testedChoices()), '--order'),
+    control: () => labelled('Second sample', selectOf('tested', ...testedChoices()), '--order'),
     value: () => byId('tested').value,
   },
   order: {
@@ -203,20 +240,20 @@ const OPTIONS = {
     value: () => byId('peak').value,
   },
   'row-scores': {
-    control: () => labelled('Scores of the rows', asText('row-scores', '1,2,3'), '--row-scores'),
+    control: () => labelled('Row scores', asText('row-scores', '1,2,3'), '--row-scores'),
     value: () => byId('row-scores').value,
   },
   'column-scores': {
-    control: () => labelled('Scores of the columns', asText('column-scores', '1,2,3'), '--column-scores'),
+    control: () => labelled('Column scores', asText('column-scores', '1,2,3'), '--column-scores'),
     value: () => byId('column-scores').value,
   },
   odds: {
     control: () => labelled('Odds ratio', asText('odds', '1/1'), '--odds'),
-    value: () => byId('odds').value,
+    value: () => asFraction(byId('odds').value),
   },
   miss: {
-    control: () => labelled('The limits may miss', asText('miss', '1/20'), '--miss'),
-    value: () => byId('miss').value,
+    control: () => labelled('Error (1 − confidence level)', asText('miss', '1/20'), '--miss'),
+    value: () => asFraction(byId('miss').value),
   },
   missing: {
     control: () => labelled('Rows with a missing field', selectOf('missing', MISSING, ''), '--missing'),
@@ -224,8 +261,16 @@ const OPTIONS = {
   },
 };
 
-// Which of two groups is tested: the second one, or the first if the order is turned round. Reports of strata do not
-// name the groups, so there the order is always said. A label with a comma cannot be listed.
+// A whole number or a decimal as the fraction that the program takes. Any other text stays as it is.
+function asFraction(text) {
+  const [number, whole, decimals = ''] = text.trim().match(/^(\d*)(?:\.(\d+))?$/) ?? [''];
+  if (number === '') return text.trim();
+  const over = BigInt(whole + decimals), under = 10n ** BigInt(decimals.length), divisor = greatestDivisor(over, under);
+  return `${over / divisor}/${under / divisor}`;
+}
+
+// Which of two groups is the second sample, to which the statistic refers. Reports of strata do not name the groups, so for
+// them the order is always given. A label with a comma cannot be listed.
 function testedChoices() {
   const [first, second, ...more] = labelsNow();
   const canBeListed = second !== undefined && more.length === 0 && !`${first}${second}`.includes(',');
@@ -235,23 +280,23 @@ function testedChoices() {
 }
 
 function peakChoices(order) {
-  return [['', 'choose it'], ...order.map((label, i) => [String(i + 1), `${i + 1}: ${label.trim()}`])];
+  return [['', 'choose one'], ...order.map((label, i) => [String(i + 1), `${i + 1}: ${label.trim()}`])];
 }
 
-// The peak is a group of the order that is wanted.
+// The peak is one of the groups, in the order that was given.
 function showPeaks() {
   const peak = byId('peak');
   if (peak !== null) peak.replaceWith(selectOf('peak', peakChoices(byId('order').value.split(',')), peak.value));
 }
 
-// The names of the options that go with the test.
+// The names of the options that the test takes.
 function optionsOf(test) {
   const tail = test.tails.length > 1 ? ['tail'] : [];
   const missing = LAYOUTS[test.layout].missing ? ['missing'] : [];
   return [...tail, ...test.options, ...missing];
 }
 
-// The controls of the test's options. What was chosen before stays where it is still a choice.
+// The controls of the test's options. Earlier choices are kept as long as the test and the labels are the same.
 function showOptions() {
   const before = new Map([...byId('options').querySelectorAll('select, input')].map(it => [it.id, it.value]));
   const labels = JSON.stringify([testNow().name, labelsNow()]);
@@ -267,7 +312,7 @@ function showOptions() {
 
 // ---- the words
 
-// What is asked now: the words of the program, and what the reading of its report needs.
+// What is asked now: the words for the program, and what the reading of its report needs.
 function askedNow() {
   const test = testNow(), picked = pickedColumns(), names = headers();
   const words = [test.name, fileName()];
@@ -285,7 +330,7 @@ function askedNow() {
     bytes: bytesNow(),
     headers: picked.map(column => names[column]),
     labels: test.layout === 'stratified' ? groupsOfStrata() : undefined,
-    odds: (test.options.includes('odds') && byId('odds').value.trim()) || undefined,
+    odds: (test.options.includes('odds') && OPTIONS.odds.value()) || undefined,
   };
 }
 
@@ -297,7 +342,7 @@ function groupsOfStrata() {
 const fileName = () => chosen === null ? 'data.csv' : chosen.name.replace(/^-/, './-');
 const bytesNow = () => chosen?.bytes ?? new TextEncoder().encode(byId('data').value);
 
-// Words as a shell reads them.
+// The words as a shell reads them.
 function commandOf(words) {
   const isPlain = word => /^[\w@%+=:,./-]+$/.test(word);
   return ['exact', ...words].map(word => isPlain(word) ? word : `'${word.replaceAll("'", "'\\''")}'`).join(' ');

@@ -1,6 +1,6 @@
 'use strict';
-// Calls the module: the words and the bytes of a run go in, its status with the report or the line of refusal comes out.
-// The module imports nothing, so it has no way to a file, a clock or the network.
+// Calls the module: the words and the bytes of a run go in; its status, and the report or the line of refusal, come out.
+// The module imports nothing, so it cannot reach a file, a clock or the network.
 
 const NO_ROOM = 6;
 const LINE_ROOM = 96;
@@ -12,7 +12,7 @@ class Engine {
     this.module = module;
   }
 
-  // Each run has an instance, and so a memory, of its own.
+  // Each run has its own instance, and so its own memory.
   answer(words, bytes) {
     for (let room = 2 ** 22; ; room *= 8) {
       const answer = this.answerIn(room, words, bytes);
@@ -20,12 +20,12 @@ class Engine {
     }
   }
 
-  // A run with so many bytes for its report.
+  // A run with this many bytes for its report.
   answerIn(room, words, bytes) {
     const { memory, exact_answer: exactAnswer } = new WebAssembly.Instance(this.module).exports;
     const packed = packedWords(words);
     const parts = [packed.length, bytes.length, room, LINE_ROOM];
-    // What is added to the memory is the caller's own: words, bytes, report, line and the two counts.
+    // The added memory belongs to the caller: words, bytes, report, line and the two counts.
     let at = memory.buffer.byteLength;
     memory.grow(BigInt(Math.ceil((parts.reduce((sum, part) => sum + part) + 24) / MEMORY_PAGE)));
     const places = parts.map(length => {
@@ -43,8 +43,8 @@ class Engine {
   }
 }
 
-// The words one behind another, each ended by a byte 0.
+// The words one after another, each ended by a zero byte.
 function packedWords(words) {
-  if (words.some(word => word.includes('\0'))) throw new Error('a word has a byte 0');
+  if (words.some(word => word.includes('\0'))) throw new Error('a word contains a zero byte');
   return new TextEncoder().encode(words.map(word => `${word}\0`).join(''));
 }

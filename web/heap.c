@@ -1,19 +1,20 @@
-/* The heap of the module in a page: the three calls that the kit has over malloc, here over Doug Lea's allocator, whose
-   pages come from memory.grow. The page makes the memory grow too, so new pages need not follow the last ones. dlmalloc.c
-   stands in no folder of ours: tools/make_page finds it. Nothing is proved of this file. What it owes is the contract of
-   the kit's libc::heap: a block of so many bytes at a multiple of 16, or the word that there is none. */
+/* The heap of the module in a page. It has the three calls that the kit otherwise bases on malloc, here based on Doug Lea's
+   allocator, which takes its pages from memory.grow. The page grows the memory as well, so new pages need not follow the
+   last ones. dlmalloc.c is not part of this repository: tools/make_page finds it. Nothing is proved about this file. It must
+   keep the contract of the kit's libc::heap: a block of the given size at a multiple of 16, or the answer that there is
+   none. */
 typedef unsigned long size_t;
 typedef long ptrdiff_t;
 
 enum { PAGE = 65536 };
 
-/* New memory, of whole pages; its end, where none is asked for. */
+/* New memory, in whole pages. If none is asked for, the end of the memory. */
 static void *grown(ptrdiff_t bytes) {
     size_t was = __builtin_wasm_memory_grow(0, (size_t)bytes / PAGE);
     return was == (size_t)-1 ? (void *)-1 : (void *)(was * PAGE);
 }
 
-/* The allocator without a system below it, and without threads. */
+/* The allocator, without an operating system and without threads. */
 #define LACKS_ERRNO_H
 #define LACKS_STDLIB_H
 #define LACKS_STRING_H

@@ -1,9 +1,9 @@
 'use strict';
-// The page: asks the worker, shows its answer, and stops it.
+// The page: runs the worker, shows its answer, and stops it.
 
 // ---- the worker
 
-// whether there are 64-bit memories: a module that has one, of no page
+// Whether the browser has 64-bit memories: a module that has one, with no pages.
 const HAS_WIDE_MEMORY = globalThis.WebAssembly?.validate(Uint8Array.of(0, 97, 115, 109, 1, 0, 0, 0, 5, 3, 1, 4, 0));
 const WORKER = URL.createObjectURL(new Blob([byId('worker').textContent], { type: 'text/javascript' }));
 let worker = null;
@@ -12,11 +12,11 @@ let waiting = null;
 function startWorker() {
   worker = new Worker(WORKER);
   worker.onmessage = ({ data }) => waiting?.(data);
-  worker.onerror = event => waiting?.({ fault: event.message ?? 'the worker does not start' });
+  worker.onerror = event => waiting?.({ fault: event.message ?? 'the worker did not start' });
   worker.postMessage({ packed: byId('module').textContent.trim() });
 }
 
-// The answer of one run, or a fault, or that it was stopped.
+// The answer of one run, or its fault, or the fact that it was stopped.
 function ask(words, bytes) {
   if (waiting !== null) stop();
   return new Promise(resolve => {
@@ -28,7 +28,7 @@ function ask(words, bytes) {
   });
 }
 
-// Ends a run: the worker with it, and a new one stands ready for the next.
+// Ends a run, and the worker with it. A new worker is ready for the next run.
 function stop() {
   worker.terminate();
   waiting?.({ stopped: true });
@@ -63,29 +63,40 @@ function stopClock(said) {
 
 // ---- a run
 
-// A run that a later one has replaced shows nothing any more.
+// A run that a later one has replaced shows nothing.
 let runs = 0;
 
 async function run(event) {
   event.preventDefault();
   if (worker === null) return;
   readAgain();
+  if (isDoubtful()) return askFirst();
   runs += 1;
   const number = runs, asked = askedNow();
   clearAnswer();
   const from = startClock('Running …');
   const data = await ask(asked.words, asked.bytes), took = seconds(from);
-  const protocol = await protocolOf(asked);
+  const record = await recordOf(asked);
   if (number !== runs) return;
-  if (data.stopped) return stopClock(`Stopped after ${took}: there is no answer.`);
+  if (data.stopped) return stopClock(`Stopped after ${took}, without an answer.`);
   const isAnswered = data.answer?.status === 0;
-  stopClock(data.fault ? 'Ended by a fault.' : isAnswered ? `Answered in ${took}.` : 'Refused.');
-  showAnswer(asked, data, protocol);
+  stopClock(data.fault ? 'Ended by an error.' : isAnswered ? `Answered in ${took}.` : 'Refused.');
+  showAnswer(asked, data, record);
   byId('answer').scrollIntoView({ block: 'nearest' });
   if (isAnswered && asked.test !== 'shift') await runForPicture(asked, number, took);
 }
 
-const SHOWN = ['asked', 'protocol', 'refusal', 'reading', 'tails', 'drawing', 'caption', 'report', 'command'];
+// A first row that may be data is decided on before a run.
+function askFirst() {
+  runs += 1;
+  if (waiting !== null) stop();
+  clearAnswer();
+  stopClock('Please answer the question about the first row.');
+  byId('doubt').scrollIntoView({ block: 'nearest' });
+  byId('is-data').focus();
+}
+
+const SHOWN = ['asked', 'record', 'refusal', 'reading', 'tails', 'drawing', 'caption', 'report', 'command'];
 
 function clearAnswer() {
   byId('answer').hidden = true;
@@ -93,14 +104,14 @@ function clearAnswer() {
   SHOWN.forEach(id => byId(id).replaceChildren());
 }
 
-function showAnswer(asked, { answer, fault }, protocol) {
+function showAnswer(asked, { answer, fault }, record) {
   byId('answer').hidden = false;
   byId('asked').textContent = `${TESTS[asked.test].question} ${TESTS[asked.test].title}.`;
   byId('command').textContent = commandOf(asked.words);
   byId('copy').textContent = 'Copy';
-  byId('protocol').textContent = protocol;
+  byId('record').textContent = record;
   byId('whole').hidden = answer?.status !== 0;
-  if (fault) return showRefusal(`No answer: ${fault}`, 'The program on the command line may have one.');
+  if (fault) return showRefusal(`No answer: ${fault}`, 'The program on the command line may give one.');
   if (answer.status === 0) return showReading(asked, answer.report);
   showRefusal(answer.line.trim(), helpOf(answer.line));
   const place = placeOf(answer.line);
@@ -118,9 +129,9 @@ function showReading(asked, text) {
   byId('reading').replaceChildren(...lines, ...(tails.length > 0 ? [tableOf(tails)] : []));
 }
 
-// A row for each tail: what it says, and p.
+// A row for each tail, with its p-value and what it means.
 function tableOf(tails) {
-  const head = ['Tail', 'p-value', 'What it says'].map(name => made('th', { scope: 'col' }, name));
+  const head = ['Tail', 'p-value', 'Meaning'].map(name => made('th', { scope: 'col' }, name));
   const rows = tails.map(({ name, said, decimals, fraction }) => {
     const p = made('div', { className: 'p' }, `p = ${decimals}`), exact = made('div', { className: 'fraction' }, fraction);
     return made('tr', {}, made('th', { scope: 'row' }, name), made('td', {}, p, exact), made('td', {}, said));
@@ -128,23 +139,23 @@ function tableOf(tails) {
   return made('table', {}, made('thead', {}, made('tr', {}, ...head)), made('tbody', {}, ...rows));
 }
 
-// What a protocol owes: when, of which bytes.
-async function protocolOf(asked) {
+// What a record of the run needs: the time, and the bytes that were read.
+async function recordOf(asked) {
   const digest = await crypto.subtle?.digest('SHA-256', asked.bytes);
   const sum = digest && [...new Uint8Array(digest)].map(byte => byte.toString(16).padStart(2, '0')).join('');
-  const name = chosen === null ? 'The table that was pasted' : chosen.name;
+  const name = chosen === null ? 'The pasted table' : chosen.name;
   return `${name}: ${asked.bytes.length} bytes${sum ? `, SHA-256 ${sum}` : ''}. ${new Date().toLocaleString('en-GB')}.`;
 }
 
 // ---- the picture
 
-// The distribution comes from a run of its own, so that the answer need not wait for it.
+// The distribution comes from a second run, so that the answer does not wait for it.
 async function runForPicture(asked, number, took) {
-  const from = startClock('Drawing its distribution …');
+  const from = startClock('Drawing the distribution …');
   const data = await ask([...asked.words, '--distribution'], asked.bytes);
   if (number !== runs) return;
   const isThere = data.answer?.status === 0;
-  const picture = data.stopped ? `; the picture was stopped after ${seconds(from)}` : '; there is no picture of it';
+  const picture = data.stopped ? `; the picture was stopped after ${seconds(from)}` : '; there is no picture';
   stopClock(`Answered in ${took}${isThere ? '' : picture}.`);
   if (isThere) showPicture(readReport(data.answer.report), asked);
 }
@@ -172,9 +183,15 @@ function listen() {
   byId('stop').onclick = stop;
   byId('print').onclick = () => window.print();
   byId('copy').onclick = copyCommand;
-  byId('find').oninput = findChoices;
+  byId('find').oninput = () => {
+    findChoices();
+    byId('choices').scrollTop = 0;
+  };
   byId('find').onkeydown = chooseFirst;
+  byId('is-data').onclick = addHeader;
+  byId('is-header').onclick = confirmHeader;
   byId('choices').onchange = () => {
+    findChoices();
     showColumns();
     showPreview();
   };
@@ -199,17 +216,17 @@ function listen() {
 
 function copyCommand() {
   getSelection().selectAllChildren(byId('command'));
-  byId('copy').textContent = document.execCommand('copy') ? 'Copied' : 'It is marked: copy it';
+  byId('copy').textContent = document.execCommand('copy') ? 'Copied' : 'Selected: copy it';
 }
 
-// Enter takes the first test that was found, and runs nothing.
+// Enter chooses the first test that was found, and runs nothing.
 function chooseFirst(event) {
   if (event.key !== 'Enter' || event.ctrlKey || event.metaKey) return;
   event.preventDefault();
   byId('choices').querySelector('.choice:not([hidden]) input')?.click();
 }
 
-// A file that is dropped anywhere on the page is taken as the table.
+// A file that is dropped anywhere on the page becomes the table.
 function listenToDrops() {
   const over = isOver => event => {
     event.preventDefault();
@@ -231,6 +248,6 @@ if (HAS_WIDE_MEMORY) {
   startWorker();
 } else {
   byId('run').disabled = true;
-  byId('state').textContent = 'This browser has no 64-bit memories for WebAssembly, which the proved program needs. '
-    + 'Take a newer browser, or the program on the command line.';
+  byId('state').textContent = 'The proved program needs 64-bit memories of WebAssembly, which this browser lacks. Use a '
+    + 'newer browser, or the program on the command line.';
 }

@@ -1,9 +1,9 @@
 'use strict';
-// Draws the distribution of a report, with a tail marked. All numbers come from the report; places and heights are rounded.
+// Draws the distribution of a report, with a tail marked. Numbers come from the report; positions and heights are rounded.
 
 const MOST_COLUMNS = 140;
 
-// Whether a value with its weight is in the tail: by the statistic, by its distance from the mean, or by likelihood.
+// Whether a value with its weight is in the tail: by the statistic, by its distance from the mean, or by its probability.
 function tailRule(report, tail, test) {
   const observed = report.statistic.over;
   if (tail === 'less') return ([value]) => value <= observed;
@@ -19,7 +19,7 @@ function tailRule(report, tail, test) {
   return ([value]) => distance(value) >= distance(observed);
 }
 
-// The values of the tail, or none where their weights are not the numerator that the report gives.
+// A rule for the values of the tail, or null if their weights do not sum to the numerator of the report.
 function markedBy(report, tail, test) {
   const asked = report.tails.find(it => it.name === tail);
   const isExtreme = tailRule(report, tail, test);
@@ -27,19 +27,19 @@ function markedBy(report, tail, test) {
   return asked !== undefined && sum === asked.over ? isExtreme : null;
 }
 
-// Whether the statistic is itself how likely a table is: then its values go over many powers of ten.
+// Whether the statistic is the probability of a table. Its values then span many powers of ten.
 function isLikelihood(report, test) {
   return test === 'zelen' || (test === 'fisher' && !isTwoByTwo(report));
 }
 
-// Where a value stands, from 0 to 1.
+// The position of a value, from 0 to 1.
 function placesOf(report, test) {
   const measure = isLikelihood(report, test) ? value => Math.log(Number(value)) : Number;
   const low = measure(report.values[0][0]), high = measure(report.values[report.values.length - 1][0]);
   return value => high > low ? (measure(value) - low) / (high - low) : 0.5;
 }
 
-// Columns with their place, their weight and that of their marked part. Many values share a column.
+// Columns with their position, their weight and the weight of their marked part. Many values may share a column.
 function columnsOf(values, placeOf, isExtreme) {
   const columns = new Map(), last = MOST_COLUMNS - 1;
   for (const line of values) {
@@ -60,7 +60,7 @@ function drawn(name, properties, text) {
   return element;
 }
 
-// The bars, the marked part of each at the bottom.
+// The bars, with the marked part of each at the bottom.
 function barsOf(columns, width, height) {
   const most = columns.reduce((top, it) => it.weight > top ? it.weight : top, 1n);
   const tall = weight => Number(weight * 100000n / most) / 100000 * height;
@@ -76,7 +76,7 @@ function barsOf(columns, width, height) {
   return bars;
 }
 
-// The line below, with the least, the observed and the greatest value.
+// The axis, with the smallest, the observed and the largest value.
 function axisOf(report, placeOf, width, height) {
   const { over, under } = report.statistic;
   const said = value => under === 1n ? grouped(value) : roundedText(value, under);
@@ -94,7 +94,7 @@ function axisOf(report, placeOf, width, height) {
   return parts;
 }
 
-// The picture with its caption, which is also its text for who cannot see it.
+// The picture with its caption, which is also its text for readers who cannot see it.
 function pictureOf(report, tail, test, width) {
   const height = 190, isExtreme = markedBy(report, tail, test), placeOf = placesOf(report, test);
   const svg = drawn('svg', { viewBox: `0 0 ${width} ${height + 36}`, role: 'img', 'aria-labelledby': 'picture-title' });
@@ -108,7 +108,7 @@ function pictureOf(report, tail, test, width) {
 
 function captionOf(report, name, isMarked) {
   const { over, under, decimals } = report.tails.find(tail => tail.name === name);
-  const marked = isMarked ? `Marked is ${name} ${over}/${under} ${decimals}.` : 'No tail is marked.';
-  return `The distribution of the statistic, of ${grouped(report.values.length)} values. The broken line is the observed `
-    + `one, ${quotientText(report.statistic)}. ${marked}`;
+  const marked = isMarked ? `The marked tail is ${name}, ${over}/${under} ${decimals}.` : 'No tail is marked.';
+  return `The distribution of the statistic, which has ${grouped(report.values.length)} values. The dashed line is the `
+    + `observed value, ${quotientText(report.statistic)}. ${marked}`;
 }

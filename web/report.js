@@ -1,11 +1,11 @@
 'use strict';
-// Reads a report of the program, and says it in plain words. Numbers stay whole: they are BigInt.
+// Reads a report of the program and explains it in plain words. Numbers stay exact: they are BigInt.
 
 const TAILS = ['less', 'greater', 'two'];
 const QUOTIENTS = ['statistic', 'estimate', 'lower', 'upper', 'miss'];
 const NUMBERS = ['total', 'dropped', 'differences'];
 
-// The report by its lines, each a word and what belongs to it.
+// The report by its lines, each a word followed by its values.
 function readReport(text) {
   const report = { sizes: [], groups: [], tails: [], values: [] };
   for (const line of text.split('\n').slice(1, -1)) {
@@ -20,7 +20,7 @@ function readReport(text) {
   return report;
 }
 
-// A quotient `over/under`, with the decimals behind it where they stand there.
+// A quotient `over/under`, with the decimals that follow it, if any.
 function readPart([quotient, decimals]) {
   const [over, under] = quotient.split('/').map(BigInt);
   return { over, under, decimals };
@@ -34,7 +34,7 @@ function greatestDivisor(a, b) {
   return magnitude(a);
 }
 
-// A quotient as a reader wants it: a whole number, a decimal that is exact, or a fraction with a decimal beside it.
+// A quotient in its most readable form: a whole number, an exact decimal, or a fraction with its approximate value.
 function quotientText({ over, under }) {
   const divisor = greatestDivisor(over, under) || 1n;
   const [a, b] = [over / divisor, under / divisor];
@@ -48,14 +48,14 @@ function quotientText({ over, under }) {
   return `${a}/${b}, about ${roundedText(a, b)}`;
 }
 
-// A quotient whose decimals end after so many places.
+// A quotient as a decimal that terminates after the given number of places.
 function decimalText(over, under, places) {
   const digits = String(magnitude(over) * 10n ** BigInt(places) / under).padStart(places + 1, '0');
   const whole = grouped(BigInt(digits.slice(0, digits.length - places)));
   return (over < 0n ? '−' : '') + whole + (places > 0 ? `.${digits.slice(-places)}` : '');
 }
 
-// A quotient to five digits.
+// A quotient rounded to five significant digits.
 function roundedText(over, under) {
   if (over === 0n) return '0';
   const size = magnitude(over), sign = over < 0n ? '−' : '';
@@ -77,7 +77,7 @@ const quoted = label => `“${label}”`;
 
 const isTwoByTwo = report => report.sizes.some(line => line.startsWith('table 2 by 2 '));
 
-// The words by which a test's sentences name the samples: labels, or headers of the columns.
+// How a test's sentences name the samples: by their labels, or by the headers of the columns.
 function namesOf(report, asked) {
   const labels = report.groups.length > 0 ? report.groups.map(it => it.label) : asked.labels ?? asked.headers;
   const peak = report.sizes.find(line => line.startsWith('peak '));
@@ -91,72 +91,85 @@ function namesOf(report, asked) {
   };
 }
 
-// Which data the answer is of: the lines between the test and the statistic.
+// Which data the answer refers to: the lines between the test and the statistic.
 function sizesSaid(report, test, names) {
   const said = report.sizes.map(line => sizeSaid(line, test, names));
-  const sizes = report.groups.map(it => `${quoted(it.label)} (${it.size})`);
+  const sizes = report.groups.map(it => `${quoted(it.label)} (n = ${it.size})`);
   if (report.groups.length === 2 && test.options.includes('tested')) {
-    said.unshift(`Tested is the second sample, ${sizes[1]}, against the first, ${sizes[0]}.`);
+    said.unshift(`The second sample, ${sizes[1]}, is compared with the first, ${sizes[0]}.`);
   } else if (report.groups.length > 0) {
-    const what = test.layout === 'sequence' ? 'The labels are' : 'The groups are, in this order,';
+    const what = test.layout === 'sequence' ? 'The labels are' : 'The groups, in this order, are';
     said.unshift(`${what} ${sizes.join(', ')}.`);
   }
-  if (report.dropped !== undefined) said.push(`Rows with a missing field that were left out: ${report.dropped}.`);
+  if (report.dropped !== undefined) said.push(`Rows left out because a field is missing: ${report.dropped}.`);
   return said;
 }
 
+const SCORES_SAID = {
+  wilcoxon: 'Wilcoxon', ansari: 'Ansari-Bradley', mood: 'Mood', savage: 'Savage', median: 'median', raw: 'raw',
+};
+
 function sizeSaid(line, test, names) {
   const [word, ...rest] = line.split(' ');
-  const differences = isOneColumn(names) ? `${names.first}, taken as differences` : `${names.second} less ${names.first}`;
+  const differences = isOneColumn(names) ? names.first : `${names.second} minus ${names.first}`;
+  const counted = (one, many) => `${rest[0]} ${rest[0] === '1' ? one : many}`;
   const said = {
-    table: () => `The table has ${rest[0]} rows and ${rest[2]} columns, and ${rest[4]} subjects in it.`,
-    blocks: () => `There are ${rest[0]} blocks with ${rest[2]} treatments each: ${names.order}.`,
-    strata: () => `There are ${rest[0]} strata with ${rest[2]} subjects in all.`,
-    scores: () => `The scores are of the kind ${rest[0]}.`,
+    table: () => `The table has ${rest[0]} rows, ${rest[2]} columns and ${rest[4]} subjects.`,
+    blocks: () => `The data have ${counted('block', 'blocks')} with ${rest[2]} treatments: ${names.order}.`,
+    strata: () => `The data have ${counted('stratum', 'strata')} and ${rest[2]} subjects.`,
+    scores: () => `The test uses ${SCORES_SAID[rest[0]]} scores.`,
     peak: () => `The peak is ${names.peak}.`,
     rows: () => test.layout === 'pairs'
-      ? `Tested are the values of ${differences}: ${rest[0]} rows, of which ${rest[2]} are not 0 and count.`
-      : `There are ${rest[0]} subjects; ${names.first} is the first value, ${names.second} the second.`,
+      ? `The test uses the differences ${differences}. Of ${counted('difference', 'differences')}, ${rest[2]} `
+        + `${rest[2] === '1' ? 'is' : 'are'} not 0 and ${rest[2] === '1' ? 'counts' : 'count'}.`
+      : `The data have ${counted('subject', 'subjects')}; ${names.first} is the first value and ${names.second} the second.`,
   }[word];
   return said ? said() : line;
 }
 
-// What a tail counts, and what a small p-value of it speaks for.
+// What a tail counts, and what a small p-value of it is evidence of.
 function tailSaid(tail, report, test, names) {
-  const value = quotientText(report.statistic);
-  const byLikelihood = test.name === 'fisher' || test.name === 'zelen';
-  const extreme = {
-    less: `a statistic of at most ${value}`,
-    greater: `a statistic of at least ${value}`,
-    two: byLikelihood ? `tables that are at most as likely as ${test.name === 'zelen' ? 'those' : 'the one'} observed`
-      : 'a statistic at least as far from its mean as the observed one, on either side',
-  }[tail.name];
-  const counted = `${grouped(tail.over)} of ${names.odds ? 'this weight' : 'them'} ${tail.over === 1n ? 'has' : 'have'}`;
-  return `${counted} ${extreme}. ${speaksFor(tail.name, report, test, names)}`;
+  const { one, many, what } = extremeSaid(tail.name, quotientText(report.statistic), test);
+  const number = grouped(tail.over);
+  const counted = names.odds ? `Those that ${many} ${what} weigh ${number}.`
+    : `${number} of them ${tail.over === 1n ? one : many} ${what}.`;
+  return `${counted} ${evidenceOf(tail.name, report, test, names)}`;
 }
 
-function speaksFor(name, report, test, names) {
+// What one of the rearrangements in a tail has or gives, and many of them have or give.
+function extremeSaid(name, value, test) {
+  const has = what => ({ one: 'has', many: 'have', what }), gives = what => ({ one: 'gives', many: 'give', what });
+  if (name === 'less') return has(`a statistic of at most ${value}`);
+  if (name === 'greater') return has(`a statistic of at least ${value}`);
+  if (test.name === 'fisher') return gives('a table that is no more likely than the observed one');
+  if (test.name === 'zelen') return gives('tables that are no more likely than the observed ones');
+  return has('a statistic at least as far from its mean as the observed one, on either side');
+}
+
+function evidenceOf(name, report, test, names) {
   const what = test[name](names);
-  if (what !== 'either') return `A small p-value speaks for ${what}.`;
-  return report.tails.length > 1 ? 'A small p-value speaks for either of these.'
-    : `A small p-value speaks for either ${test.less(names)}, or ${test.greater(names)}.`;
+  if (what !== 'either') return `A small p-value is evidence of ${what}.`;
+  return report.tails.length > 1 ? 'A small p-value is evidence of either alternative.'
+    : `A small p-value is evidence of either ${test.less(names)}, or ${test.greater(names)}.`;
 }
 
-// p as it is printed, and to five digits where the decimals that are printed do not tell it.
+// p as the report prints it, and with five significant digits where the printed decimals are too few.
 function partText({ over, under, decimals }) {
   const tiny = over > 0n && over * 1000n < under ? `, about ${roundedText(over, under)}` : '';
   return { fraction: `${over}/${under}`, decimals: `${decimals}${tiny}` };
 }
 
-// A whole reading: sentences on the data, the statistic, and a row for each tail.
+// The whole reading: sentences on the data and the statistic, and a row for each tail.
 function readingOf(report, asked) {
   const test = TESTS[asked.test], names = namesOf(report, asked);
   if (asked.test === 'shift') return shiftReading(report, names);
   const sentences = sizesSaid(report, test, names);
   sentences.push(`The statistic is ${test.statistic(names)}: ${quotientText(report.statistic)}.`);
+  if (test.scoring) sentences.push(test.scoring);
   const total = grouped(report.total);
-  sentences.push(names.odds ? `Where the odds ratio is ${names.odds}, the ${test.rearrangements} weigh ${total} in all.`
-    : `Where there is no effect, each of the ${total} ${test.rearrangements} is as likely as any other.`);
+  const ways = test.rearrangements;
+  sentences.push(names.odds ? `At an odds ratio of ${names.odds}, the ${ways} weigh ${total} in total.`
+    : `Under the null hypothesis, the ${total} ${ways} are equally likely.`);
   const tails = report.tails.map(tail => ({ ...tail, ...partText(tail), said: tailSaid(tail, report, test, names) }));
   return { sentences, tails };
 }
@@ -164,14 +177,15 @@ function readingOf(report, asked) {
 function shiftReading(report, names) {
   const sentences = sizesSaid(report, TESTS.shift, names);
   const { miss } = report;
-  sentences.push(`The values of ${names.second} lie above those of ${names.first} by ${quotientText(report.estimate)}, the `
-    + `median of ${grouped(report.differences)} differences; a number below 0 says that they lie below.`);
+  sentences.push(`The estimated shift, ${names.second} minus ${names.first}, is ${quotientText(report.estimate)}. It is the `
+    + `median of ${grouped(report.differences)} differences.`);
   if (report.lower === null) {
-    sentences.push('No limits miss so little: there are too few values, or too little may be missed.');
+    sentences.push('There is no confidence interval at this level: the samples are too small for it.');
     return { sentences, tails: [] };
   }
-  sentences.push(`The exact limits are ${quotientText(report.lower)} and ${quotientText(report.upper)}.`);
-  sentences.push(`They miss the shift in ${miss.over}/${miss.under} = ${miss.decimals} of all cases, so the confidence is `
-    + `${miss.under - miss.over}/${miss.under}, about ${roundedText(miss.under - miss.over, miss.under)}.`);
+  sentences.push(`The exact confidence interval is from ${quotientText(report.lower)} to ${quotientText(report.upper)}.`);
+  const level = quotientText({ over: miss.under - miss.over, under: miss.under });
+  sentences.push(`Without ties, it misses the true shift with probability ${miss.over}/${miss.under} = ${miss.decimals}, so `
+    + `the confidence level is ${level}. If values can be tied, the level is at least this.`);
   return { sentences, tails: [] };
 }

@@ -1,10 +1,11 @@
 'use strict';
-// Reads a pasted table: what stands between its fields, its rows as the program counts them, and which of its columns a
-// test is likely to want. It serves the controls and the marking of a row alone; the program reads the bytes anew.
+// Reads a pasted table: its separator, its rows as the program counts them, whether its first row may be data, and which
+// columns a test is likely to need. This serves the controls and the marking of a row only; the program reads the bytes
+// itself.
 
 const SEPARATORS = { comma: ',', semicolon: ';', tab: '\t' };
 
-// The word of the separator that the first row speaks for.
+// The word for the separator that the first row suggests.
 function separatorOf(text) {
   const header = text.split(/[\r\n]/).find(line => line !== '') ?? '';
   const bare = header.replace(/"[^"]*"/g, '');
@@ -13,8 +14,8 @@ function separatorOf(text) {
   return times('semicolon') > 0 && times('semicolon') >= times('comma') ? 'semicolon' : 'comma';
 }
 
-// The end of the field that begins at a place, and its text: a field in quotes may hold separators, ends of lines and
-// doubled quotes.
+// The text of the field that begins at a position, and where it ends. A quoted field may contain separators, line breaks
+// and doubled quotes.
 function fieldAt(text, from, separator) {
   let to = from, cell = '';
   if (text[to] === '"') {
@@ -29,7 +30,7 @@ function fieldAt(text, from, separator) {
   return { cell: cell + text.slice(rest, to), to };
 }
 
-// The rows, each with its cells and where it stands in the text. Empty lines are no rows.
+// The rows, each with its cells and its position in the text. Empty lines are not rows.
 function rowsOf(text, separator) {
   const rows = [];
   let at = text.startsWith('\ufeff') ? 1 : 0;
@@ -53,7 +54,7 @@ function rowsOf(text, separator) {
 const NUMBER = /^[ \t]*[+-]?(\d+\.?\d*|\.\d+)([eE][+-]?\d+)?[ \t]*$/;
 const isMissing = cell => /^[ \t]*(NA)?[ \t]*$/.test(cell);
 
-// What a column looks like: numbers, or labels, or the numbers of the rows.
+// What a column looks like: numbers, labels, or row numbers.
 function columnOf(table, place) {
   const cells = table.slice(1).map(row => row.cells[place] ?? '').filter(cell => !isMissing(cell));
   const isNumbers = cells.length > 0 && cells.every(cell => NUMBER.test(cell));
@@ -61,7 +62,21 @@ function columnOf(table, place) {
   return { place, isNumbers, countsRows, different: new Set(cells.map(cell => cell.trim())).size };
 }
 
-// The labels of a column in the order in which they come, at most nine of them.
+// Whether the first row may be data: a number stands above a column of numbers; or, if no column holds numbers, each of its
+// fields occurs again below it.
+function mayBeData(table) {
+  const columns = (table[0]?.cells ?? []).map((cell, place) => ({ cell, ...columnOf(table, place) }));
+  const numeric = columns.filter(it => it.isNumbers);
+  if (numeric.length > 0) return numeric.some(it => NUMBER.test(it.cell));
+  return columns.length > 0 && columns.every(({ cell, place }) => table.slice(1).some(row => row.cells[place] === cell));
+}
+
+// A header for a table without one, as a line of its own.
+function headerFor(table, separator) {
+  return `${table[0].cells.map((_, place) => `column ${place + 1}`).join(separator)}\n`;
+}
+
+// The labels of a column in order of first appearance, at most nine.
 function labelsOf(table, place) {
   const labels = new Set();
   for (const { cells } of table.slice(1)) {
@@ -71,7 +86,7 @@ function labelsOf(table, place) {
   return [...labels];
 }
 
-// The columns that a layout is likely to want: all of them in their order where their number fits, else by what they look
+// The columns that a layout is likely to need: all, in their order, if their number fits; otherwise chosen by what they look
 // like. Places are counted from 0.
 function likelyColumns(layout, table) {
   const all = (table[0]?.cells ?? []).map((_, place) => columnOf(table, place));

@@ -1,203 +1,211 @@
 'use strict';
-// What the page knows of each test: its question, the layout of its file, its options, and what its tails speak for, as
-// docs/TESTS.md says it.
+// What the page knows about each test: its question, the layout of its file, its options, and what a small p-value of each
+// tail is evidence of. docs/TESTS.md has the definitions.
 
-// A layout: what each row of the file has, the fields that the test reads, each with the name of its control, or how
-// many of one kind there may be, and whether --missing goes with it.
+// A layout: what each row of the file holds; the fields that the test reads, each with the label of its control, or how
+// many columns of one kind there may be; and whether --missing applies.
 const LAYOUTS = {
   pairs: {
     row: 'both values of a pair, or one difference', missing: true,
     fields: ['First value, or difference', 'Second value'], optional: 1,
   },
   groups: { row: 'a label and a value', missing: true, fields: ['Label', 'Value'] },
-  blocks: { row: 'a block, with a value for each treatment', missing: true, least: 2, most: 8, of: 'Treatment' },
-  changes: { row: 'two counts, in two rows', least: 2, most: 2, of: 'Counts' },
-  table: { row: 'a row of a table of counts', least: 2, most: 64, of: 'Counts' },
+  blocks: { row: 'a block, with one value per treatment', missing: true, least: 2, most: 8, of: 'Treatment' },
+  changes: { row: 'two counts; there are two rows', least: 2, most: 2, of: 'Counts' },
+  table: { row: 'one row of a table of counts', least: 2, most: 64, of: 'Counts' },
   strata: {
-    row: 'a name and the four counts of a table of two by two',
+    row: 'the name of a stratum and the four counts of its 2×2 table',
     fields: ['Name of the stratum', 'Count a', 'Count b', 'Count c', 'Count d'],
   },
   stratified: { row: 'a stratum, a label and a value', missing: true, fields: ['Stratum', 'Label', 'Value'] },
-  bivariate: { row: 'two values of one subject', missing: true, fields: ['First value', 'Second value'] },
-  sequence: { row: 'a label, in the order of the sequence', missing: true, fields: ['Label'] },
+  bivariate: { row: 'two measurements of one subject', missing: true, fields: ['First value', 'Second value'] },
+  sequence: { row: 'one label, in the order of observation', missing: true, fields: ['Label'] },
 };
 
-const ONE_SIDE_OR_TWO = ['less', 'greater', 'two'];
-const LABELLINGS = 'ways to give the labels to the rows';
-const ROW_LABELLINGS = 'ways to give the row labels to the subjects';
+const ALL_TAILS = ['less', 'greater', 'two'];
+const ONE_SAMPLE = 'One sample: pairs or differences';
+const BIVARIATE = 'Two measurements per subject, and sequences';
+const ASSIGNMENTS = 'ways to assign the labels to the values';
+const TABLES = 'ways to assign the row labels to the subjects';
 const WITHIN_BLOCKS = 'ways to arrange the values within the blocks';
 const isOneColumn = it => it.second === undefined;
 
-// Of each test: the heading it stands under, its layout, tails and options, its question, its title, what its
-// rearrangements are, what its statistic is, and of each tail what a small p-value of it speaks for. `it` has `first` and
-// `second`, the labels of two groups or the headers of two columns, and `order`, all of them. A test may be `like` another.
+// For each test: its heading, layout, tails and options; its question and its title; what its rearrangements are; what its
+// statistic is, with a sentence on how it scores values where its title does not say so; and what a small p-value of each
+// tail is evidence of, where `either` stands for both directions. `it` has `first` and `second`, the labels of two groups or
+// the headers of two columns, and `order`, all of them. A test may be `like` another.
 const TESTS = {
   signedrank: {
-    group: 'One sample: pairs, or differences', layout: 'pairs', tails: ONE_SIDE_OR_TWO,
-    question: 'Do paired values rise (fall) from the first to the second?', title: 'Wilcoxon’s signed rank test',
-    rearrangements: 'ways to give the differences their signs',
+    group: ONE_SAMPLE, layout: 'pairs', tails: ALL_TAILS,
+    question: 'Do paired values increase (or decrease) from the first to the second?',
+    title: 'Wilcoxon signed-rank test', rearrangements: 'ways to assign signs to the differences',
     statistic: () => 'the sum of the ranks of the positive differences',
-    less: it => isOneColumn(it) ? 'differences below 0' : `lesser values of ${it.second} than of ${it.first}`,
-    greater: it => isOneColumn(it) ? 'differences above 0' : `greater values of ${it.second} than of ${it.first}`,
+    less: it => isOneColumn(it) ? 'differences below 0' : `smaller values of ${it.second} than of ${it.first}`,
+    greater: it => isOneColumn(it) ? 'differences above 0' : `larger values of ${it.second} than of ${it.first}`,
     two: () => 'either',
   },
   sign: {
-    like: 'signedrank', question: 'Do paired values rise (fall), by their signs alone?', title: 'Sign test',
-    statistic: () => 'the number of positive differences',
+    like: 'signedrank', question: 'Do paired values increase (or decrease), judged by their signs alone?',
+    title: 'Sign test', statistic: () => 'the number of positive differences',
   },
   rawsigned: {
-    like: 'signedrank', question: 'Do paired values rise (fall), by the differences themselves?',
-    title: 'Randomization test of differences (Fisher)', statistic: () => 'the sum of the positive differences',
+    like: 'signedrank', question: 'Do paired values increase (or decrease), judged by the differences themselves?',
+    title: 'Fisher’s randomization test for paired differences', statistic: () => 'the sum of the positive differences',
   },
   mcnemar: {
-    group: 'One sample: pairs, or differences', layout: 'changes', tails: ONE_SIDE_OR_TWO,
-    question: 'Is one kind of change more frequent than the other (yes to no, no to yes)?', title: 'McNemar’s test',
-    rearrangements: 'ways to divide the changes into the two kinds',
-    statistic: () => 'the second count of the first row',
-    less: () => 'a second count of the first row that is less than the first of the second',
-    greater: () => 'a second count of the first row that is greater than the first of the second',
+    group: ONE_SAMPLE, layout: 'changes', tails: ALL_TAILS,
+    question: 'Is one kind of change more frequent than the other (yes to no, or no to yes)?', title: 'McNemar’s test',
+    rearrangements: 'ways to divide the changes between the two kinds',
+    statistic: () => 'b, the second count of the first row (c is the first count of the second row)',
+    less: () => 'fewer changes of kind b than of kind c', greater: () => 'more changes of kind b than of kind c',
     two: () => 'either',
   },
   ranksum: {
-    group: 'Two samples', layout: 'groups', tails: ONE_SIDE_OR_TWO, options: ['tested'],
-    question: 'Has one sample greater values than the other?', title: 'Wilcoxon’s rank sum test, Mann and Whitney’s U',
-    rearrangements: LABELLINGS, statistic: it => `the sum of the ranks of ${it.second}`,
-    less: it => `lesser values in ${it.second} than in ${it.first}`,
-    greater: it => `greater values in ${it.second} than in ${it.first}`,
+    group: 'Two samples', layout: 'groups', tails: ALL_TAILS, options: ['tested'],
+    question: 'Does one sample tend to have larger values than the other?',
+    title: 'Wilcoxon rank-sum test (Mann-Whitney U)', rearrangements: ASSIGNMENTS,
+    statistic: it => `the sum of the ranks of ${it.second}`,
+    less: it => `smaller values in ${it.second} than in ${it.first}`,
+    greater: it => `larger values in ${it.second} than in ${it.first}`,
     two: () => 'either',
   },
   raw: {
-    like: 'ranksum', question: 'Has one sample greater values, by the values themselves?',
-    title: 'Permutation test of two samples (Fisher, Pitman)', statistic: it => `the sum of the values of ${it.second}`,
+    like: 'ranksum', question: 'Does one sample have larger values, judged by the values themselves?',
+    title: 'Two-sample permutation test (Fisher-Pitman)', statistic: it => `the sum of the values of ${it.second}`,
   },
   median: {
-    like: 'ranksum', question: 'Has one sample more values above the common median?',
-    title: 'Median test (Brown and Mood)',
-    statistic: it => `the number of values of ${it.second} above the common median`,
+    like: 'ranksum', question: 'Does one sample have more values above the common median?',
+    title: 'Median test (Brown-Mood)',
+    statistic: it => `the sum of the median scores of ${it.second}`,
+    scoring: 'A value above the common median scores 1, and a value below it 0. Values equal to the median share the mean '
+      + 'score of their places, which is 1 for a place in the upper half and 0 for any other: 1/2, for example.',
     less: it => `fewer values of ${it.second} above the common median`,
     greater: it => `more values of ${it.second} above the common median`,
   },
   ansari: {
-    like: 'ranksum', question: 'Is one sample more widely spread than the other, about a common median?',
-    title: 'Test of Ansari and Bradley',
-    statistic: it => `the sum of the scores of ${it.second}, which are small at both ends`,
-    less: it => `values of ${it.second} that are more widely spread than those of ${it.first}`,
-    greater: it => `values of ${it.second} that are less widely spread than those of ${it.first}`,
+    like: 'ranksum', question: 'Is one sample more spread out than the other, around a common median?',
+    title: 'Ansari-Bradley test',
+    statistic: it => `the sum of the scores of ${it.second}, which are small at both ends of the ordered values`,
+    less: it => `a wider spread of ${it.second} than of ${it.first}`,
+    greater: it => `a narrower spread of ${it.second} than of ${it.first}`,
   },
   mood: {
-    like: 'ranksum', question: 'Is one sample more widely spread, by squared distances of ranks?',
-    title: 'Mood’s test of spread',
-    statistic: it => `the sum of the scores of ${it.second}, which are great at both ends`,
-    less: it => `values of ${it.second} that are less widely spread than those of ${it.first}`,
-    greater: it => `values of ${it.second} that are more widely spread than those of ${it.first}`,
+    like: 'ranksum', question: 'Is one sample more spread out than the other, judged by squared rank distances?',
+    title: 'Mood’s test of dispersion',
+    statistic: it => `the sum of the scores of ${it.second}, which are large at both ends of the ordered values`,
+    less: it => `a narrower spread of ${it.second} than of ${it.first}`,
+    greater: it => `a wider spread of ${it.second} than of ${it.first}`,
   },
   savage: {
-    like: 'ranksum', question: 'Are one sample’s waiting times longer by a factor?',
-    title: 'Savage’s test, exponential scores',
+    like: 'ranksum', question: 'Are the waiting times in one sample longer by a constant factor?',
+    title: 'Savage’s test (exponential scores)',
     statistic: it => `the sum of the exponential scores of ${it.second}`,
     less: it => `shorter times in ${it.second} than in ${it.first}`,
     greater: it => `longer times in ${it.second} than in ${it.first}`,
   },
   shift: {
     group: 'Two samples', layout: 'groups', tails: [], options: ['tested', 'miss'],
-    question: 'By how much are one sample’s values greater than the other’s, and within which limits?',
-    title: 'Estimate of Hodges and Lehmann, with exact limits',
+    question: 'By how much are the values of one sample larger? (An estimate, not a test.)',
+    title: 'Hodges-Lehmann estimate with an exact confidence interval',
   },
   kw: {
     group: 'Several samples', layout: 'groups', tails: ['greater'], options: ['scores'],
-    question: 'Do two to eight samples differ?', title: 'Test of Kruskal and Wallis', rearrangements: LABELLINGS,
-    statistic: () => 'the sum over the groups of their squared sums of scores, each divided by the size of its group',
-    greater: () => 'samples that differ',
+    question: 'Do two to eight samples differ?', title: 'Kruskal-Wallis test', rearrangements: ASSIGNMENTS,
+    statistic: () => 'the sum over the groups of R²/n, where R is a group’s sum of scores and n its size',
+    greater: () => 'differences between the samples',
   },
   jt: {
-    group: 'Several samples', layout: 'groups', tails: ONE_SIDE_OR_TWO, options: ['order'],
-    question: 'Do samples rise in a given order?', title: 'Test of Jonckheere and Terpstra', rearrangements: LABELLINGS,
-    statistic: () => 'the number of pairs of values that rise in the order of the groups, equal ones counted by half',
-    less: it => `values that fall in the order ${it.order}`,
-    greater: it => `values that rise in the order ${it.order}`,
+    group: 'Several samples', layout: 'groups', tails: ALL_TAILS, options: ['order'],
+    question: 'Do the samples increase in a given order?', title: 'Jonckheere-Terpstra test',
+    rearrangements: ASSIGNMENTS,
+    statistic: () => 'the number of pairs of values that increase in the order of the groups, with ties counted as 1/2',
+    less: it => `a decrease in the order ${it.order}`, greater: it => `an increase in the order ${it.order}`,
     two: () => 'either',
   },
   umbrella: {
-    like: 'jt', options: ['order', 'peak'], question: 'Do samples rise up to one of them, and fall from there on?',
-    title: 'Test of Mack and Wolfe',
-    statistic: () => 'the number of pairs that rise up to the peak or fall from it on, equal ones counted by half',
-    less: it => `values that fall up to ${it.peak} and rise from there on, in the order ${it.order}`,
-    greater: it => `values that rise up to ${it.peak} and fall from there on, in the order ${it.order}`,
+    like: 'jt', options: ['order', 'peak'], question: 'Do the samples increase up to a peak and then decrease?',
+    title: 'Mack-Wolfe test for umbrella alternatives',
+    statistic: () => 'the number of pairs of values that increase up to the peak or decrease after it, with ties counted as '
+      + '1/2',
+    less: it => `a decrease up to ${it.peak} and an increase after it, in the order ${it.order}`,
+    greater: it => `an increase up to ${it.peak} and a decrease after it, in the order ${it.order}`,
   },
   friedman: {
     group: 'Blocks', layout: 'blocks', tails: ['greater'],
-    question: 'Do treatments differ that each block had all of?', title: 'Friedman’s test',
-    rearrangements: WITHIN_BLOCKS, statistic: () => 'the sum of the treatments’ squared sums of ranks',
-    greater: () => 'treatments that differ',
+    question: 'Do treatments differ, when every block received each?', title: 'Friedman test',
+    rearrangements: WITHIN_BLOCKS, statistic: () => 'the sum of the squared rank sums of the treatments',
+    greater: () => 'differences between the treatments',
   },
   page: {
-    group: 'Blocks', layout: 'blocks', tails: ONE_SIDE_OR_TWO,
-    question: 'Do treatments rise in the order of the columns?', title: 'Page’s trend test',
+    group: 'Blocks', layout: 'blocks', tails: ALL_TAILS,
+    question: 'Do the treatments increase in the order of the columns?', title: 'Page’s trend test',
     rearrangements: WITHIN_BLOCKS,
-    statistic: () => 'the sum of the treatments’ sums of ranks, each times the number of its column',
-    less: it => `values that fall in the order ${it.order}`,
-    greater: it => `values that rise in the order ${it.order}`,
+    statistic: () => 'the sum of the rank sums of the treatments, each multiplied by the number of its column',
+    less: it => `a decrease in the order ${it.order}`, greater: it => `an increase in the order ${it.order}`,
     two: () => 'either',
   },
   cochran: {
-    like: 'friedman', question: 'Do treatments differ whose outcomes are 0 and 1?', title: 'Cochran’s Q',
-    statistic: () => 'the sum of the treatments’ squared totals',
+    like: 'friedman', question: 'Do treatments differ, when every block received each and the outcomes are 0 or 1?',
+    title: 'Cochran’s Q test', statistic: () => 'the sum of the squared totals of the treatments',
   },
   fisher: {
-    group: 'Tables of counts', layout: 'table', tails: ONE_SIDE_OR_TWO, options: ['odds'],
-    question: 'Are two classifications independent?', title: 'Fisher’s exact test, Freeman and Halton’s',
-    rearrangements: ROW_LABELLINGS, statistic: it => it.isTwoByTwo ? 'the first cell' : 'the probability of the table',
-    less: it => it.odds ? `an odds ratio below ${it.odds}` : `fewer of the first row in ${it.first} than by independence`,
-    greater: it => it.odds ? `an odds ratio above ${it.odds}` : `more of the first row in ${it.first} than by independence`,
-    two: () => 'classifications that are not independent',
+    group: 'Tables of counts', layout: 'table', tails: ALL_TAILS, options: ['odds'],
+    question: 'Are two classifications independent?',
+    title: 'Fisher’s exact test (Fisher-Freeman-Halton for tables larger than 2×2)',
+    rearrangements: TABLES, statistic: it => it.isTwoByTwo ? 'the first cell' : 'the probability of the table',
+    less: it => it.odds ? `an odds ratio below ${it.odds}`
+      : `fewer subjects of the first row in ${it.first} than expected under independence`,
+    greater: it => it.odds ? `an odds ratio above ${it.odds}`
+      : `more subjects of the first row in ${it.first} than expected under independence`,
+    two: () => 'an association of the two classifications',
   },
   linear: {
-    group: 'Tables of counts', layout: 'table', tails: ONE_SIDE_OR_TWO, options: ['row-scores', 'column-scores'],
-    question: 'Two ordered classifications: do they rise together?',
-    title: 'Linear-by-linear association, trend test of Armitage', rearrangements: ROW_LABELLINGS,
-    statistic: () => 'the sum over the cells of the count times the scores of its row and column',
-    less: () => 'scores of which one falls where the other rises', greater: () => 'scores that rise together',
-    two: () => 'either',
+    group: 'Tables of counts', layout: 'table', tails: ALL_TAILS, options: ['row-scores', 'column-scores'],
+    question: 'Do two ordered classifications increase together?',
+    title: 'Linear-by-linear association (Cochran-Armitage trend test for two rows)', rearrangements: TABLES,
+    statistic: () => 'the sum over the cells of the count times its row score and its column score',
+    less: () => 'a negative association of row scores and column scores',
+    greater: () => 'a positive association of row scores and column scores', two: () => 'either',
   },
   strata: {
-    group: 'Strata', layout: 'strata', tails: ONE_SIDE_OR_TWO, options: ['odds'],
-    question: 'Are two factors independent in each of several tables of two by two? (Zelen’s test comes first.)',
-    title: 'Exact test of the hypothesis of Mantel and Haenszel',
-    rearrangements: `${ROW_LABELLINGS} of each stratum`,
+    group: 'Strata', layout: 'strata', tails: ALL_TAILS, options: ['odds'],
+    question: 'Are two factors independent within each of several 2×2 tables? (Run Zelen’s test first.)',
+    title: 'Exact Mantel-Haenszel test of a common odds ratio', rearrangements: `${TABLES} within each stratum`,
     statistic: () => 'the sum of the first cells',
-    less: it => `an odds ratio below ${it.odds ?? 1}`, greater: it => `an odds ratio above ${it.odds ?? 1}`,
+    less: it => `a common odds ratio below ${it.odds ?? 1}`,
+    greater: it => `a common odds ratio above ${it.odds ?? 1}`,
     two: () => 'either',
   },
   zelen: {
     group: 'Strata', layout: 'strata', tails: ['two'],
-    question: 'Is the odds ratio the same in several tables of two by two?', title: 'Zelen’s test of equal odds ratios',
-    rearrangements: `${ROW_LABELLINGS} of each stratum whose first cells have the observed sum`,
-    statistic: () => 'the probability of the tables', two: () => 'odds ratios that are not the same in all strata',
+    question: 'Is the odds ratio the same in several 2×2 tables?', title: 'Zelen’s test of equal odds ratios',
+    rearrangements: `${TABLES} within each stratum that keep the sum of the first cells`,
+    statistic: () => 'the probability of the tables', two: () => 'odds ratios that differ between the strata',
   },
   stratranksum: {
-    group: 'Strata', layout: 'stratified', tails: ONE_SIDE_OR_TWO, options: ['tested'],
-    question: 'Has one sample greater values than the other, within strata?',
-    title: 'Rank sum test within strata, unweighted',
-    rearrangements: 'ways to give the labels to the subjects of each stratum',
-    statistic: it => `the sum of the ranks of ${it.second} within the strata`,
-    less: it => `lesser values in ${it.second} than in ${it.first}`,
-    greater: it => `greater values in ${it.second} than in ${it.first}`,
+    group: 'Strata', layout: 'stratified', tails: ALL_TAILS, options: ['tested'],
+    question: 'Does one sample tend to have larger values than the other, within strata?',
+    title: 'Stratified Wilcoxon rank-sum test (unweighted)',
+    rearrangements: 'ways to assign the labels to the values within each stratum',
+    statistic: it => `the sum of the within-stratum ranks of ${it.second}`,
+    less: it => `smaller values in ${it.second} than in ${it.first}`,
+    greater: it => `larger values in ${it.second} than in ${it.first}`,
     two: () => 'either',
   },
   kendall: {
-    group: 'Two values of each subject, and sequences', layout: 'bivariate', tails: ONE_SIDE_OR_TWO,
-    question: 'Do two quantities rise together?', title: 'Kendall’s rank correlation',
-    rearrangements: 'ways to give the second values to the subjects',
-    statistic: () => 'the number of pairs of subjects that stand in one order, less that of pairs in the other',
-    less: it => `values of ${it.second} that fall where those of ${it.first} rise`,
-    greater: it => `values of ${it.second} that rise with those of ${it.first}`,
+    group: BIVARIATE, layout: 'bivariate', tails: ALL_TAILS,
+    question: 'Do two variables increase together?', title: 'Kendall’s rank correlation (tau)',
+    rearrangements: 'ways to assign the second values to the subjects',
+    statistic: () => 'the number of concordant pairs of subjects minus the number of discordant pairs',
+    less: it => `a negative association of ${it.first} and ${it.second}`,
+    greater: it => `a positive association of ${it.first} and ${it.second}`,
     two: () => 'either',
   },
   runs: {
-    group: 'Two values of each subject, and sequences', layout: 'sequence', tails: ONE_SIDE_OR_TWO,
-    question: 'Are two kinds mixed by chance in a sequence?', title: 'Runs test of Wald and Wolfowitz',
-    rearrangements: 'orders of the labels', statistic: () => 'the number of runs, stretches of equal labels',
-    less: () => 'labels that keep together', greater: () => 'labels that take turns', two: () => 'either',
+    group: BIVARIATE, layout: 'sequence', tails: ALL_TAILS,
+    question: 'Are two kinds of label in random order?', title: 'Runs test (Wald-Wolfowitz)',
+    rearrangements: 'orders of the labels', statistic: () => 'the number of runs, that is, stretches of equal labels',
+    less: () => 'clustering of equal labels', greater: () => 'alternation of the labels', two: () => 'either',
   },
 };
 for (const [name, test] of Object.entries(TESTS)) {

@@ -1,10 +1,11 @@
 """Translates the proved library to WebAssembly: translate.py KIT MODULE.bc ALLOCATOR STACK OUT.wasm.
 
 KIT is the kit's folder, MODULE.bc the LLVM module that its backend made of the library for x86-64, ALLOCATOR the folder
-of dlmalloc.c, STACK the bytes of the stack. The kit's backend compiles no heap for wasm64. Of a crate without one its
-module for wasm64 is that for x86-64 but for two guards, which are written here in the same words: a function traps where
-its frame would lie below the stack, and an export goes through __rattle_enter and __rattle_leave, so that none is entered
-after a trap or while another runs. Nothing of this step is proved; tests/page holds what comes out against the program.
+of dlmalloc.c, and STACK the size of the stack in bytes. The kit's backend does not compile the heap for wasm64. For a
+crate without a heap its modules for wasm64 and x86-64 differ only by two guards, which are added here in the same form: a
+function traps if its frame would lie below the stack, and an export goes through __rattle_enter and __rattle_leave, so
+that none is entered after a trap or while another runs. This step is not proved; tests/page compares the result with the
+program.
 """
 import itertools
 import pathlib
@@ -17,7 +18,7 @@ FOLDER = pathlib.Path(__file__).resolve().parent
 TARGET = "wasm64-unknown-unknown"
 LAYOUT = "e-m:e-p:64:64-p10:8:8-p20:8:8-i64:64-i128:128-n32:64-S128-ni:1:10:20"
 CPU = "lime1"
-# the words with which the kit calls clang for wasm64
+# the options with which the kit calls clang for wasm64
 FLAGS = [
     f"--target={TARGET}", f"-mcpu={CPU}", "-mllvm", "-expand-div-rem-bits=64", "-mllvm", "-expand-fp-convert-bits=64",
     "-ffunction-sections", "-fdata-sections", "-mllvm", "-trap-unreachable", "-mllvm", "-no-x86-call-frame-opt",
@@ -44,7 +45,7 @@ declare ptr @llvm.frameaddress.p0(i32 immarg)
 
 
 def with_frame_guard(lines):
-    """The lines of a function, with the guard behind the last `alloca` of its first block. A leaf has no frame."""
+    """The lines of a function, with the guard after the last `alloca` of its first block. A leaf has no frame."""
     first = next((i for i, line in enumerate(lines) if line and not line.startswith((" ", "start:"))), len(lines))
     places = [i for i, line in enumerate(lines[:first]) if "= alloca " in line]
     calls = any(re.search(r"\bcall\b(?! void @llvm\.(memset|memmove|trap))", line) for line in lines)
@@ -55,7 +56,7 @@ def with_frame_guard(lines):
 
 
 def entry_guard(name, kind, parameters):
-    """A function under an export's name, which is entered only where no call has trapped or runs."""
+    """A function under an export's name, which is entered only if no call has trapped or is running."""
     given = ", ".join(f"{one.split()[0]} {one.split()[-1]}" for one in parameters.split(", ") if one)
     answer = kind.split()[-1]
     return f"""define {kind}@{name}({parameters}) nounwind "target-cpu"="{CPU}" "wasm-export-name"="{name}" {{
@@ -76,7 +77,7 @@ run:
 
 
 def refuse_foreign(text):
-    """Stops at what means something else on another processor, or would not stand beside the guards."""
+    """Stops at code that means something else on another processor, or that the guards would break."""
     found = {*re.findall(r"@(llvm\.x86\.[\w.]+)", text), *re.findall(r"\basm (?:sideeffect )?\"", text)}
     if found:
         sys.exit(f"translate.py: code for x86-64 alone: {sorted(found)}")
@@ -119,13 +120,13 @@ class Reader:
         return byte if byte < 128 else byte - 128 + 128 * self.number()
 
     def export(self):
-        """The name of an export, and its kind: 0 is a function, 2 a memory."""
+        """The name of an export, and its kind: 0 for a function, 2 for a memory."""
         name, kind, _ = self.take(self.number()).decode(), self.take(1)[0], self.number()
         return name, kind
 
 
 def check_surface(wasm):
-    """Stops where a module has imports, or exports another function than the one."""
+    """Stops if a module has imports, or if it exports other functions than exact_answer."""
     reader, sections = Reader(wasm, 8), {}
     while reader.at < len(wasm):
         number = reader.take(1)[0]

@@ -1,8 +1,8 @@
 'use strict';
-// The worker of the page: it has the engine, so that the page can end a long run by ending the worker. What ends a run
-// without an answer, as a stack that does not do, is a fault.
+// The worker of the page. It runs the engine, so that the page can end a long run by ending the worker. Whatever ends a run
+// without an answer, such as a stack that is too small, is a fault.
 
-// The module as it stands in the page: base64 of what gzip made of it.
+// The engine of the module in the page, which is compressed by gzip and written in base64.
 async function engineOf(packed) {
   const bytes = Uint8Array.from(atob(packed), letter => letter.charCodeAt(0));
   const stream = new Blob([bytes]).stream().pipeThrough(new DecompressionStream('gzip'));

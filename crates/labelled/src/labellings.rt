@@ -68,6 +68,19 @@ impl<S: LabelStatistic> UnweightedTest for ByLabels<S> {
     fn numerators(&self, alloc: Global, judge: Judge, tails: Tails) -> Result<TailSums, NoMemory> {
         self.statistic.numerators(alloc, judge, tails)
     }
+
+    fn sum_onward(
+        &self,
+        alloc: Global,
+        judge: Judge,
+        tail: Tail,
+        stage: usize,
+        keys: &[i128],
+        weights: &[u128],
+    ) -> Result<u128, NoMemory> {
+        self.statistic
+            .sum_onward(alloc, judge, tail, stage, keys, weights)
+    }
 }
 
 /// A test of labellings whose data are checked. It is seen as its statistic.

@@ -103,4 +103,17 @@ impl<T: UnweightedTest> Prepared for Unweighted<T> {
     fn numerators(&self, alloc: Global, tails: Tails) -> Result<TailSums, NoMemory> {
         self.test.numerators(alloc, Judge::of(&self.frame), tails)
     }
+
+    fn sum_onward(
+        &self,
+        alloc: Global,
+        tail: Tail,
+        stage: usize,
+        keys: &[i128],
+        weights: &[u128],
+    ) -> Result<u128, NoMemory> {
+        let judge = Judge::of(&self.frame);
+        self.test
+            .sum_onward(alloc, judge, tail, stage, keys, weights)
+    }
 }

@@ -2,14 +2,18 @@
 ghost use Rattle.std.specs.Prelude.{◌≡◌, Contains, IfOk};
 ghost use Rattle.weights.specs.Conditional.{ConditionalTest};
 ghost use Rattle.weights.specs.declared.tails.Tail.{Tail};
+ghost use Rattle.node_pool.specs.Nodes.{weighted};
+ghost use Rattle.node_pool.specs.PoolSteps.{nodes_of};
+ghost use Rattle.networks.specs.Completions.{extreme_weight};
 ghost use Rattle.enumerate.specs.Walk.{BeginsWith, StepsThrough};
 ghost use Rattle.networks.specs.Judged.{judge_of};
 ghost use Rattle.networks.specs.Network.{Network};
 ghost use Rattle.networks.specs.Follows.{AreNumerators, Follows, HasTails};
+ghost use Rattle.stage_network.specs.FromKeys.{AreStarts};
 ghost use Rattle.labelled.specs.UnweightedTests.{CanBeAnswered};
 
 use networks::{Judge, Roomed, TailSums};
-use stage_network::tail_sums_by_rooms;
+use stage_network::{sum_from_keys, tail_sums_by_rooms};
 use std::alloc::Global;
 use weights::{Bytes, NoMemory, Tail, Tails};
 
@@ -81,5 +85,28 @@ pub trait UnweightedTest {
         let stages = self.quick_stages_of(alloc, judge)?;
         let sums = tail_sums_by_rooms(alloc, &stages, tails)?;
         Ok(sums)
+    }
+
+    /// The sum, over distinct keys that are reached at a stage of the network that runs and lie one
+    /// after another, of the key's weight times the summed weight of its extreme completions. Any
+    /// way to that sum serves.
+    fn sum_onward(
+        &self,
+        alloc: Global,
+        judge: Judge,
+        tail: Tail,
+        stage: usize,
+        keys: &[i128],
+        weights: &[u128],
+    ) -> Result<u128, NoMemory>
+        requires judge { judge ≡ judge_of (test self.now) }
+        requires starts { AreStarts (running self.now) stage keys.now weights.now }
+        ensures { let n = running self.now in
+            IfOk result (λ sum. sum
+            ≡ weighted (extreme_weight n tail stage) (nodes_of n.width keys.now weights.now)) }
+    {
+        let stages = self.stages_of(alloc, judge)?;
+        let sum = sum_from_keys(alloc, &stages, tail, stage, keys, weights)?;
+        Ok(sum)
     }
 }

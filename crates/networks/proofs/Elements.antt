@@ -1,5 +1,5 @@
 -- What an element of a list adds to a sum, and what a filter leaves.
-use Rattle.std.proofs.Common.{ℕ, ◌≤◌, List, filter, subst}
+use Rattle.std.proofs.Common.{ℕ, ◌≤◌, List, subst}
 use Rattle.std.specs.List.{sum_by, Contains}
 use Rattle.std.proofs.lemmas.List.Sums.{get_or-le-sum_by}
 

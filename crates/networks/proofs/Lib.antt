@@ -25,3 +25,4 @@ pub mod Images
 pub mod Writing
 pub mod Lumping
 pub mod Mapping
+pub mod GoingOn

@@ -34,7 +34,7 @@ pub record IsReadInOrbit (n : Network) (moved : List ℤ → List ℤ → Type 0
   pub symmetry : IsSymmetry n moved
   pub reads : (g : ℕ) (k : List ℤ) → IsReached n g k → InOrbit moved k (read (write k))
 
-within : (n : Network) (g : ℕ) (k : List ℤ) → IsReached n g k → g ≤ n.count
+pub within : (n : Network) (g : ℕ) (k : List ℤ) → IsReached n g k → g ≤ n.count
 within n zero k r = omega arith
 within n (suc g) k r = omega (arith, r.3)
 
@@ -55,7 +55,7 @@ module _ {n : Network} {moved : List ℤ → List ℤ → Type 0} (s : IsSymmetr
   orbit-stays g k _ r (moved_on i j t u) = s.stays g i j (orbit-stays g k i r t) u
 
   -- what no exchange changes of reached keys, symmetry do not change
-  orbit-keeps : {X : Type 0} (f : List ℤ → X) (g : ℕ) → ((k j : List ℤ) → IsReached n g k → moved k j → f j ≡ f k) → (k j : List ℤ) → IsReached n g k → InOrbit moved k j → f j ≡ f k
+  pub orbit-keeps : {X : Type 0} (f : List ℤ → X) (g : ℕ) → ((k j : List ℤ) → IsReached n g k → moved k j → f j ≡ f k) → (k j : List ℤ) → IsReached n g k → InOrbit moved k j → f j ≡ f k
   orbit-keeps f g e k _ r (unmoved j is) = ap f is
   orbit-keeps f g e k _ r (moved_on i j t u) = e i j (orbit-stays g k i r t) u ∙ orbit-keeps f g e k i r t
 
@@ -79,7 +79,7 @@ module _ {n : Network} {moved : List ℤ → List ℤ → Type 0} {write read : 
     written-of (suc g) j (i, c, r, before, o, e) = (n.next g (read i) c, (read i, c, mapped-reached g i r, before, o, refl), e)
 
     -- so each key goes on as those do that are read as symmetry of it
-    abbrev alike : ℕ → List ℤ → List ℤ → Type 0
+    abbrev pub alike : ℕ → List ℤ → List ℤ → Type 0
     alike g k j = IsReached n g k × InOrbit moved k (read j)
 
     same-moved : (f h : List ℤ → ℕ) (g : ℕ) → ((k j : List ℤ) → alike g k j → f k ≡ h j) → (k j : List ℤ) → IsReached n g k → moved k j → f j ≡ f k
@@ -88,7 +88,7 @@ module _ {n : Network} {moved : List ℤ → List ℤ → Type 0} {write read : 
         same j (write j) (there, m.reads g j there)
         ∙ sym (same k (write j) (r, moved-first k j (read (write j)) u (m.reads g j there)))
 
-    mapped-lumped : Lumped n q alike
+    pub mapped-lumped : Lumped n q alike
     mapped-lumped = record {
       count = refl;
       first = (refl, m.reads 0 n.first refl);

@@ -19,10 +19,10 @@ use Rattle.networks.proofs.Images.{OpensImages, opened-images}
 
 -- ---- where something weighs, an arc leads
 
-one_where : Bool → ℕ
+pub one_where : Bool → ℕ
 one_where b = cond b 1 0
 
-some_term : {X : Type 0} (h : X → ℕ) (xs : List X) → 1 ≤ sum_by h xs → (x : X) × Contains xs x × (1 ≤ h x)
+pub some_term : {X : Type 0} (h : X → ℕ) (xs : List X) → 1 ≤ sum_by h xs → (x : X) × Contains xs x × (1 ≤ h x)
 some_term h [] most = absurd (omega (arith, most))
 some_term {X} h (x ∷ xs) most = by (h x) refl (some_term h xs)
   where
@@ -33,11 +33,11 @@ some_term {X} h (x ∷ xs) most = by (h x) refl (some_term h xs)
         (later.0, Contains-later x later.0 xs later.1, later.2)
 
 -- an arc of at least 1 to a key weighs there
-leads : (w : ℕ) (j k : List ℤ) → 1 ≤ w → j ≡ k → 1 ≤ w * one_where (key_eq j k)
+pub leads : (w : ℕ) (j k : List ℤ) → 1 ≤ w → j ≡ k → 1 ≤ w * one_where (key_eq j k)
 unfolding one_where
 leads w j k some e = rw (alike j k e) (omega (arith, some))
 
-led : (w : ℕ) (j k : List ℤ) → 1 ≤ w * one_where (key_eq j k) → j ≡ k
+pub led : (w : ℕ) (j k : List ℤ) → 1 ≤ w * one_where (key_eq j k) → j ≡ k
 unfolding one_where
 led w j k most = by (key_eq j k) refl most
   where

@@ -12,6 +12,7 @@ pub mod Follows
 pub mod Lumped
 pub mod Symmetries
 pub mod Mapped
+pub mod GoesOn
 pub mod Written
 pub mod OneOf
 pub mod PartialSums

@@ -13,10 +13,10 @@ use Rattle.networks.specs.Completions.{total_weight}
 use Rattle.networks.specs.Laws.{IsLawful}
 use Rattle.networks.specs.Network.{Network, IsReached}
 use Rattle.stage_network.specs.NodeSteps.{AllHeavy, AllReached}
-use Rattle.pieces.specs.declared.ordering.Entry.{Entry}
+use Rattle.stage_network.specs.declared.ordering.Entry.{Entry}
 use Rattle.pieces.specs.Cuts.{IsCutAt, closed_sum, met_sum, keys_open_at}
-use Rattle.pieces.specs.Ordering.{entry_cmp, entry_node}
-use Rattle.pieces.proofs.Ascending.{AllInRooms, same-sums, still_all, still_distinct, still_members, ascending}
+use Rattle.stage_network.specs.Ordering.{entry_cmp, entry_node}
+use Rattle.stage_network.proofs.Ascending.{AllInRooms, same-sums, still_all, still_distinct, still_members, ascending}
 
 -- nodes at the open keys of a stage
 pub record AreFound (n : Network) (t : Tail) (at : ℕ) (nodes : List Node) : Type 0 where

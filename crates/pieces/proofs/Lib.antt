@@ -5,8 +5,6 @@ mod Owned
 mod Placed
 pub mod CutSums
 pub mod WrittenPieces
-mod Ascending
-mod Laying
 mod FoundKeys
 mod CountedCuts
 mod Finding

@@ -1,4 +1,3 @@
 pub mod Cuts
 pub mod Undivided
-pub mod Ordering
 pub mod Parting

@@ -1,43 +1,14 @@
 // A network cut at a stage: the open keys there, and what was closed before them.
-ghost use Rattle.std.specs.Prelude.{◌≡◌, ◌*◌, ◌≤◌, length, map, IfOk, IsPermutation};
-ghost use Rattle.std.specs.List.{AllByRecursion};
-ghost use Rattle.std.specs.List.Sorted.{IsSortedBy};
-ghost use Rattle.std.specs.Ordering.{is_lt};
-ghost use Rattle.node_pool.specs.Nodes.{Node, keys};
-ghost use Rattle.node_pool.specs.PoolSteps.{nodes_of};
+ghost use Rattle.std.specs.Prelude.{◌≡◌, ◌≤◌, IfOk};
+ghost use Rattle.node_pool.specs.Nodes.{keys};
 ghost use Rattle.networks.specs.Completions.{total_weight};
 ghost use Rattle.pieces.specs.Cuts.{IsCountedCut, PartsAddUp, counted_nodes};
-ghost use Rattle.pieces.specs.Ordering.{entry_cmp, entry_node};
 
 use crate::cuts::CountedCut;
-use crate::ordering::{Entry, entries_of, sort_entries};
-use crate::rows::Rows;
 use networks::{Kept, Roomed, Stages, only};
-use stage_network::{Sweep, Width, total_of, width_of};
+use stage_network::{Width, entries_of, laid_flat, sweep_to, total_of, width_of};
 use std::alloc::Global;
 use weights::{Count, Narrow, NoMemory, Tail, Wide};
-
-// Sorts nodes by their keys, and lays them flat.
-fn laid_flat(alloc: Global, width: usize, entries: &mut [Entry<'_>]) -> Result<Rows, NoMemory>
-    requires { AllByRecursion (λ (a : Node). length a.key ≡ width) (map entry_node entries.old) }
-    ensures permutation { IsPermutation entries.old entries.new }
-    ensures sorted { IsSortedBy (λ a b. is_lt (entry_cmp a b)) entries.new }
-    ensures nodes { IfOk result (λ rows.
-        nodes_of width rows.keys.items rows.weights.items ≡ map entry_node entries.new) }
-    ensures long { IfOk result (λ rows.
-        length rows.keys.items ≡ length rows.weights.items * width) }
-{
-    sort_entries(entries);
-    let mut keys = Vec::new(alloc);
-    let mut weights = Vec::new(alloc);
-    for i in 0..entries.len() {
-        let entry = entries[i];
-        keys.extend_from_slice(entry.room)?;
-        keys.extend_from_slice(entry.partial)?;
-        weights.push(entry.weight)?;
-    }
-    Ok(Rows { keys, weights })
-}
 
 // The cut in counts of one width.
 fn cut_in<C: Count, S: Roomed>(
@@ -53,15 +24,14 @@ fn cut_in<C: Count, S: Roomed>(
 {
     let _lawful = stages.stages();
     let keep = Kept::Open(only(tail));
-    let mut sweep = Sweep::<C>::new(alloc, stages, keep)?;
-    sweep.advance_to(stages, at)?;
+    let sweep = sweep_to::<C, S>(alloc, stages, keep, at)?;
     let mut entries = entries_of(alloc, &sweep.nodes)?;
-    let rows = laid_flat(alloc, stages.width(), entries.as_mut_slice())?;
+    let flat = laid_flat(alloc, stages.width(), entries.as_mut_slice())?;
     Ok(CountedCut {
         at,
         closed: sweep.sums.of(tail).sum,
-        keys: rows.keys,
-        weights: rows.weights,
+        keys: flat.keys,
+        weights: flat.weights,
     })
 }
 

@@ -6,15 +6,13 @@ mod cuts;
 mod cutting;
 mod listed;
 mod merges;
-mod ordering;
 mod parting;
-mod rows;
 
 pub use cuts::{CountedCut, Cut};
 pub use cutting::cut_by_rooms;
 pub use listed::{cut, run_piece};
 pub use merges::merge;
-pub use parting::{part_sum, piece_by_rooms};
+pub use parting::{part_sum, piece_by_rooms, prepared_part};
 pub use piece_texts::{
     MergeFault, Merged, Piece, PieceFault, PieceSum, Pieces, name_of, piece_text, read_pieces,
 };

@@ -8,9 +8,8 @@ ghost use Rattle.run_outcome.specs.Outcome.{IsPartOf, asked, part_of, piece_for,
 ghost use Rattle.run_outcome.specs.Question.{question_about};
 
 use crate::reports::{Asking, Heading};
-use networks::Stages;
 use piece_texts::{Piece, PieceSum, name_of, piece_text};
-use pieces::part_sum;
+use pieces::prepared_part;
 use report::compose_head;
 use settings::PieceOf;
 use stage_network::Prepared;
@@ -59,11 +58,9 @@ fn tail_piece<P: Prepared>(
     if !is_asked {
         return Ok(None);
     }
-    let stages = problem.stages_of(alloc, tail)?;
-    let _lawful = stages.stages();
-    let sums = part_sum(
+    let sums = prepared_part(
         alloc,
-        &stages,
+        problem,
         tail,
         part.at as usize,
         part.parts,

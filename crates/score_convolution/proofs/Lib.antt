@@ -16,4 +16,6 @@ mod LeftDraws
 mod Bounding
 mod Spots
 mod SpotMerges
+mod Halves
+mod KeyDraws
 pub mod Numerators

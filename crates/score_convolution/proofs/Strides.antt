@@ -95,9 +95,13 @@ divides-each d scores is k e h =
     let later : Contains (pos 0 ∷ scores) s = Contains-append_right (pos 0 ∷ []) scores s (Contains-get_or scores k e h) in
     subst (λ z. d ∣ unsigned_abs z) from_none (is s (pos 0) later (Contains-get_or (pos 0 ∷ scores) 0 (pos 0) (omega arith)))
 
--- those of the scores in order, the stride being 0 or not
+-- the stride being 0 or not
+pub divides-all : (d : ℕ) (scores : List ℤ) → AreApart d (pos 0 ∷ scores) → All (λ s. max d 1 ∣ unsigned_abs s) scores
+divides-all d scores is = λ k e h. divides-some d (unsigned_abs (get_or scores k e)) (divides-each d scores is k e h)
+
+-- those of the scores in order
 pub divides-ascending : (d : ℕ) (scores : List ℤ) → AreApart d (pos 0 ∷ scores) → All (λ s. max d 1 ∣ unsigned_abs s) (ascending scores)
-divides-ascending d scores is = All-permutation (λ s. max d 1 ∣ unsigned_abs s) scores (ascending scores) (in_order-permutes int_le scores) (λ k e h. divides-some d (unsigned_abs (get_or scores k e)) (divides-each d scores is k e h))
+divides-ascending d scores is = All-permutation (λ s. max d 1 ∣ unsigned_abs s) scores (ascending scores) (in_order-permutes int_le scores) (divides-all d scores is)
 
 -- ---- ascending order
 

@@ -62,7 +62,7 @@ counted-wide scores all drawn within half fits = record {
 
 -- ---- of any number of subjects
 
-few-signs : (n : ℕ) → 2 ^ n ≤ MAX → n ≤ 126
+pub few-signs : (n : ℕ) → 2 ^ n ≤ MAX → n ≤ 126
 few-signs n h = elim (cases_lt n 127) [ inl l ↦ omega (arith, l) | inr l ↦ absurd (too-many (pow_mono {i = 127} {j = n} (omega (arith, l)))) ]
   where
     top : MAX + 1 ≤ 2 ^ 127

@@ -1,5 +1,5 @@
 -- Sums of scores that pass a rule.
-use Rattle.std.specs.Prelude.{ℕ, ℤ, ◌-◌, List, [], ◌∷◌, length}
+use Rattle.std.specs.Prelude.{ℕ, ℤ, ◌-◌, ◌+ℤ◌, List, [], ◌∷◌, length}
 use Rattle.std.specs.List.{count_by}
 use Rattle.weights.specs.Labellings.{labellings, sign_lists}
 use Rattle.weights.specs.Rules.{passes}
@@ -17,3 +17,8 @@ passing_draws rule n scores =
 abbrev pub passing_signs : Rule → List ℤ → ℕ
 passing_signs rule scores =
     count_by (λ xs. passes rule (labelled_sum 1 scores xs)) (sign_lists (length scores))
+
+-- how many of them have one that passes with so much that is there already
+abbrev pub passing_onward : Rule → ℤ → List ℤ → ℕ
+passing_onward rule v scores = count_by (λ xs. passes rule (v +ℤ labelled_sum 1 scores xs))
+    (sign_lists (length scores))

@@ -19,6 +19,7 @@ mod few_keys;
 mod left;
 mod lists;
 mod meeting;
+mod onward;
 mod pairs;
 mod rows;
 mod sides;
@@ -26,5 +27,6 @@ mod signs;
 mod tails;
 mod tallies;
 
+pub use onward::sign_sum_onward;
 pub use signs::sign_sums;
 pub use tails::drawn_sums;

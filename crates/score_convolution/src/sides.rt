@@ -9,7 +9,7 @@ ghost use Rattle.score_convolution.specs.Sides.{AreOrdered, AreSidesOf, has_side
 ghost use Rattle.score_convolution.specs.Sides.{is_in, sides_for};
 
 use networks::Judge;
-use weights::Rule;
+use weights::{Rule, Tail};
 
 /// Which values pass.
 #[derive(Clone, Copy, Debug, Drop, PartialEq, Eq)]
@@ -117,5 +117,15 @@ impl TailSides {
             greater: sides_of(judge.greater)?,
             two: sides_of(judge.two)?,
         })
+    }
+    /// Those of a tail.
+    pub(crate) fn of_tail(&self, tail: Tail) -> Sides
+        ensures { result ≡ sides_for self.now tail }
+    {
+        match tail {
+            Tail::Less => self.less,
+            Tail::Greater => self.greater,
+            Tail::Two => self.two,
+        }
     }
 }

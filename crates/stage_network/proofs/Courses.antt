@@ -1,5 +1,5 @@
 -- A sweep along its course, stage by stage: what comes there, what stays and what is closed.
-use Rattle.std.proofs.Common.{◌≡◌, ℕ, zero, suc, ◌+◌, ◌*◌, ◌<◌, ◌≤◌, List, [], ◌∷◌, Bool, false, refl, sym, ◌∙◌, ap, subst, arith, take, length}
+use Rattle.std.proofs.Common.{◌≡◌, ℕ, zero, suc, ◌+◌, ◌*◌, ◌<◌, ◌≤◌, List, [], ◌∷◌, Bool, true, false, refl, sym, ◌∙◌, ap, subst, arith, take, length}
 use Rattle.std.specs.Prelude.{ℤ, map}
 use Rattle.std.specs.List.{filter, sum_by, flat_map, IsDistinct}
 use Rattle.std.specs.Set.{distinct_count}
@@ -14,16 +14,16 @@ use Rattle.networks.specs.declared.tail_sums.TailSums.{TailSums}
 use Rattle.networks.specs.declared.tail_sums.Kept.{Kept}
 use Rattle.networks.specs.declared.tail_sums.Kept.TheVariants.{Open, All}
 use Rattle.stage_network.specs.declared.sweep.Sweep.{Sweep}
-use Rattle.networks.specs.Asked.{asked}
+use Rattle.networks.specs.Asked.{asked, asks}
 use Rattle.networks.specs.Network.{Network, IsReached}
 use Rattle.networks.specs.Completions.{total_weight, extreme_weight}
 use Rattle.networks.specs.Laws.{IsLawful}
 use Rattle.networks.specs.Opened.{is_open, is_open_for_some, reached_by_some, opened_by_some}
-use Rattle.stage_network.specs.NodeSteps.{all_successors, AllReached, AllHeavy}
+use Rattle.stage_network.specs.NodeSteps.{all_successors, AllReached, AllHeavy, AreNodes}
 use Rattle.networks.specs.EachTail.{sum_for}
 use Rattle.stage_network.specs.SweepSteps.{stays, staying, closed_at, counted, counted_keys, Course, first_course, arriving, on_the_way, HasSwept, IsCourse, IsSweeping, IsSwept, AreHere}
-use Rattle.stage_network.proofs.Asked.{asked-lawful}
-use Rattle.networks.proofs.Steps.{filter_none, total_weight-step, extreme_weight-step}
+use Rattle.stage_network.proofs.Asked.{asked-extreme_at, asked-lawful}
+use Rattle.networks.proofs.Steps.{sum_by-same, filter_none, total_weight-step, extreme_weight-step}
 use Rattle.stage_network.proofs.Bounds.{weights-le-weighted}
 use Rattle.stage_network.proofs.NodeSums.{open-for}
 use Rattle.stage_network.proofs.OpenKeys.{counted-once, keys-opened_to}
@@ -164,28 +164,37 @@ module _ (n : Network) (lawful : IsLawful n) (limit : ℕ) (course : Course) (st
           heavy = heavy;
         }
 
+-- where a sweep stands, by the number of its stage
+module _ (n : Network) (lawful : IsLawful n) (limit : ℕ) (course : Course) (starts : IsCourse n limit course) (m g : ℕ) (at : g ≡ course.stage + m) (within : g ≤ n.count) (sums : TailSums) (nodes : List Node) (swept : HasSwept n course m sums nodes) where
+  pub standing-reached : AllReached n g nodes
+  standing-reached = subst (λ j. AllReached n j nodes) (sym at) (swept-reached n lawful limit course starts m sums nodes (omega (arith, at, within)) swept)
+
+  pub standing-nodes : g < n.count → AreNodes n g nodes
+  standing-nodes before = record { lawful = lawful; before = before; reached = standing-reached; heavy = swept.heavy }
+
+  pub standing-light : weighted (λ k. 1) nodes ≤ MAX
+  standing-light = omega (
+    arith,
+    weights-le-weighted n lawful g within nodes standing-reached,
+    ap (λ j. weighted (total_weight n j) nodes) at,
+    swept-light n lawful limit course starts m sums nodes (omega (arith, at, within)) swept Less,
+    starts.light.fits,
+  )
+
 -- a sweep stands at nodes of its stage
-pub sweeping-nodes : {C : Type 0} (n : Network) (width step_width limit : ℕ) (course : Course) (sweep : Sweep C) → IsSweeping n width step_width limit course sweep → AllReached n sweep.stage sweep.nodes.nodes
-sweeping-nodes n width step_width limit course sweep s =
-    subst (λ g. AllReached n g sweep.nodes.nodes) (sym s.stands) (swept-reached n s.lawful limit course s.starts s.gone sweep.sums sweep.nodes.nodes (omega (arith, s.stands, s.within)) s.swept)
+module _ {C : Type 0} (n : Network) (width step_width limit : ℕ) (course : Course) (sweep : Sweep C) (s : IsSweeping n width step_width limit course sweep) where
+  pub sweeping-nodes : AllReached n sweep.stage sweep.nodes.nodes
+  sweeping-nodes = standing-reached n s.lawful limit course s.starts s.gone sweep.stage s.stands s.within sweep.sums sweep.nodes.nodes s.swept
 
-pub sweeping-here : {C : Type 0} (n : Network) (width step_width limit : ℕ) (course : Course) (sweep : Sweep C) → IsSweeping n width step_width limit course sweep → sweep.stage < n.count → AreHere n width sweep.stage sweep.nodes
-sweeping-here n width step_width limit course sweep s before = record {
-  nodes = record { lawful = s.lawful; before = before; reached = sweeping-nodes n width step_width limit course sweep s; heavy = s.swept.heavy };
-  roomed = s.stores.roomed;
-  shape = s.stores.nodes;
-}
+  pub sweeping-here : sweep.stage < n.count → AreHere n width sweep.stage sweep.nodes
+  sweeping-here before = record {
+    nodes = standing-nodes n s.lawful limit course s.starts s.gone sweep.stage s.stands s.within sweep.sums sweep.nodes.nodes s.swept before;
+    roomed = s.stores.roomed;
+    shape = s.stores.nodes;
+  }
 
-pub sweeping-light : {C : Type 0} (n : Network) (width step_width limit : ℕ) (course : Course) (sweep : Sweep C) → IsSweeping n width step_width limit course sweep → weighted (λ k. 1) sweep.nodes.nodes ≤ MAX
-sweeping-light n width step_width limit course sweep s =
-    let nodes = sweep.nodes.nodes in
-    omega (
-      arith,
-      weights-le-weighted n s.lawful sweep.stage s.within nodes (sweeping-nodes n width step_width limit course sweep s),
-      ap (λ g. weighted (total_weight n g) nodes) s.stands,
-      swept-light n s.lawful limit course s.starts s.gone sweep.sums nodes (omega (arith, s.stands, s.within)) s.swept Less,
-      s.starts.light.fits,
-    )
+  pub sweeping-light : weighted (λ k. 1) sweep.nodes.nodes ≤ MAX
+  sweeping-light = standing-light n s.lawful limit course s.starts s.gone sweep.stage s.stands s.within sweep.sums sweep.nodes.nodes s.swept
 
 -- at the last stage nothing is open
 none-stays : (n : Network) → IsLawful n → (tails : Tails) (all : List Node) → AllReached n n.count all → staying n (Open tails) n.count all ≡ []
@@ -245,6 +254,12 @@ module _ (n : Network) (l : IsLawful n) (limit : ℕ) (tails : Tails) (stage : �
       let v : ℕ → List ℤ → ℕ = extreme_weight (asked tails n) t in
       let kept = conserved n l limit starting starts v (λ g all. weighted (closed_at n (Open tails) t g) all) (λ g k before. extreme_weight-step (asked tails n) t g k before) (λ g all. open-split n l tails t g all) m to-last in
       omega (arith, swept.sum t, kept, ap (weighted (v (stage + m))) none-left)
+
+  -- of the one tail that is asked
+  pub only-sum : (tail : Tail) → asks tails tail ≡ true → (sums : TailSums) (nodes : List Node) → HasSwept n starting m sums nodes → (sum_for sums tail).sum ≡ weighted (extreme_weight n tail stage) from
+  only-sum tail asked sums nodes swept =
+      swept-sum sums nodes swept tail
+      ∙ sum_by-same _ _ (λ (a : Node). ap (λ m. a.weight * m) (asked-extreme_at tails n tail asked stage a.key)) from
 
 -- what was closed on the way from the first key, and what is left, is all that is extreme
 pub swept-kept : (n : Network) → IsLawful n → (limit : ℕ) (tails : Tails) → IsCourse n limit (first_course n (Open tails)) → (m : ℕ) → 0 + m ≤ n.count → (sums : TailSums) (nodes : List Node) → HasSwept n (first_course n (Open tails)) m sums nodes → (t : Tail) → (sum_for sums t).sum + weighted (extreme_weight (asked tails n) t (0 + m)) nodes ≡ extreme_weight (asked tails n) t 0 n.first

@@ -30,3 +30,7 @@ pub mod Spans
 pub mod RowCourses
 pub mod Gathering
 pub mod RowLines
+pub mod Ascending
+pub mod Laying
+pub mod Imaged
+pub mod RowStarts

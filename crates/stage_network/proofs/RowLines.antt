@@ -1,5 +1,5 @@
 -- The nodes of rows, cell by cell and row by row.
-use Rattle.std.proofs.Common.{◌≡◌, ℕ, zero, suc, ◌+◌, ◌<◌, List, [], ◌∷◌, ◌++◌, length, take, get_or, refl, sym, ◌∙◌, ap, arith, append-nil, append_assoc}
+use Rattle.std.proofs.Common.{◌≡◌, ℕ, zero, suc, ◌+◌, ◌<◌, List, [], ◌∷◌, ◌++◌, length, take, map, replicate, get_or, refl, sym, ◌∙◌, ap, arith, append-nil, append_assoc}
 use Rattle.std.specs.Prelude.{ℤ}
 use Rattle.std.proofs.lemmas.List.{length-take-le}
 use Rattle.node_pool.specs.Nodes.{Node, node}
@@ -8,6 +8,11 @@ use Rattle.count_arrays.proofs.RowNodes.{row-parts}
 use Rattle.stage_network.specs.ArcSteps.{lift}
 use Rattle.stage_network.specs.RowSteps.{Row, all_nodes, row_whole}
 use Rattle.stage_network.proofs.OpenKeys.{map-append}
+
+-- empty cells
+pub map-replicate : {X : Type 0} (number : X → ℕ) (m : ℕ) (x : X) → number x ≡ 0 → map number (replicate m x) ≡ replicate m 0
+map-replicate number zero x e = refl
+map-replicate number (suc m) x e = rw (e, map-replicate number m x e) refl
 
 -- one element more
 take-one : (xs : List ℕ) (i : ℕ) → i < length xs → take (i + 1) xs ≡ take i xs ++ get_or xs i 0 ∷ []

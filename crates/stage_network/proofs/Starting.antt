@@ -1,13 +1,14 @@
 -- The keys that a sweep begins from, one by one.
 use Rattle.std.proofs.Common.{◌≡◌, ℕ, zero, suc, ◌+◌, ◌*◌, ◌^◌, ◌<◌, ◌≤◌, List, [], ◌∷◌, ◌++◌, length, take, drop, get_or, Bool, refl, sym, ◌∙◌, ap, subst, arith}
 use Rattle.std.specs.Prelude.{ℤ}
-use Rattle.std.specs.List.{filter}
-use Rattle.std.proofs.lemmas.List.{length-append}
+use Rattle.std.specs.List.{filter, IsDistinct}
+use Rattle.std.proofs.lemmas.List.{length-append, take_all}
 use Rattle.std.proofs.lemmas.List.Sums.{sum_by_more, sum_by_more_le}
 use Rattle.std.proofs.lemmas.List.Elements.{filter_more}
 use Rattle.weights.specs.declared.tails.Tail.{Tail}
 use Rattle.weights.specs.declared.TheConstants.{MAX}
-use Rattle.node_pool.specs.Nodes.{Node, NodeRow, node, weighted}
+use Rattle.weights.proofs.Filters.{all_filter}
+use Rattle.node_pool.specs.Nodes.{Node, NodeRow, node, key_eq, keys, weighted}
 use Rattle.node_pool.specs.PoolSteps.{nodes_of}
 use Rattle.node_pool.specs.TableSteps.{key_at}
 use Rattle.node_pool.proofs.NodeLists.{nodes-at, length-nodes}
@@ -16,18 +17,23 @@ use Rattle.networks.specs.declared.tail_sums.Kept.TheVariants.{Open, All}
 use Rattle.networks.specs.declared.tail_sums.TailSums.{TailSums}
 use Rattle.networks.specs.Asked.{asked}
 use Rattle.networks.specs.Completions.{total_weight}
-use Rattle.stage_network.specs.FromKeys.{AreStarts}
+use Rattle.stage_network.specs.FromKeys.{AreStarts, course_from}
 use Rattle.networks.specs.Laws.{IsLawful}
 use Rattle.networks.specs.Network.{Network, IsReached}
 use Rattle.networks.specs.Opened.{is_open}
+use Rattle.stage_network.specs.NodeSteps.{AllHeavy, AllReached}
 use Rattle.stage_network.specs.StageSteps.{Housed}
 use Rattle.stage_network.specs.ArcSteps.{lift}
 use Rattle.networks.specs.EachTail.{sum_for}
-use Rattle.stage_network.specs.SweepSteps.{IsRoomful, stays, staying, closed_at, counted}
+use Rattle.stage_network.specs.SweepSteps.{HasSwept, IsCourse, IsRoomful, stays, staying, closed_at, counted}
 use Rattle.stage_network.proofs.ArcLists.{choice-fits}
 use Rattle.networks.proofs.Bounds.{total_weight-least}
 use Rattle.stage_network.proofs.Roomwise.{all_at, lift-whole}
-use Rattle.stage_network.proofs.Sweeps.{closed-le, counted-le}
+use Rattle.stage_network.proofs.OpenKeys.{one_distinct}
+use Rattle.stage_network.proofs.Carried.{open-distinct}
+use Rattle.stage_network.proofs.Sweeps.{closed-le, counted-le, counted-staying}
+use Rattle.stage_network.proofs.Sweeps.{one as first_one}
+use Rattle.stage_network.proofs.Courses.{swept-first}
 
 -- a key alone in its room
 lift_one : (width : ℕ) (room key partial : List ℤ) (w : ℕ) → room ≡ take width key → partial ≡ drop width key → lift room (node partial w ∷ []) ≡ node key w ∷ []
@@ -139,3 +145,38 @@ module _ (n : Network) (g : ℕ) (row : List ℤ) (weights : List ℕ) (starts :
   total-fits f w total rest is r t =
       let at : (get_or (nodes_of n.width row weights) i (node [] 0)).weight * f (get_or (nodes_of n.width row weights) i (node [] 0)).key ≡ w * rest = ap (λ (a : Node). a.weight * f a.key) here ∙ ap (λ m. m * f (key_at n.width row i)) (sym is) ∙ ap (λ m. w * m) (sym r) in
       omega (arith, sum_by_more_le (λ (a : Node). a.weight * f a.key) (nodes_of n.width row weights) i (node [] 0) inside, at, t)
+
+-- a sweep can start with these keys, and stands at those that stay once they are settled
+module _ (n : Network) (keep : Kept) (g : ℕ) (row : List ℤ) (weights : List ℕ) (starts : AreStarts n g row weights) where
+  pub starts-course : (limit : ℕ) → weighted (total_weight n g) (nodes_of n.width row weights) ≤ limit → IsCourse n limit (course_from n keep g row weights)
+  starts-course limit light = record {
+    within = starts.within;
+    reached = starts.reached;
+    heavy = starts.heavy;
+    light = record { limit = light; fits = starts.fits };
+  }
+
+  pub starts-swept : (sums : TailSums) (kept : List Node) → kept ≡ staying n keep g (nodes_of n.width row weights) → ((t : Tail) → (sum_for sums t).sum ≡ weighted (closed_at n keep t g) (nodes_of n.width row weights)) → ((t : Tail) → (sum_for sums t).opened ≡ counted n keep t g (nodes_of n.width row weights)) → HasSwept n (course_from n keep g row weights) 0 sums kept
+  starts-swept sums kept is sum opened =
+      let all = nodes_of n.width row weights in
+      let heavy : AllHeavy kept = rw is (all_filter (λ (a : Node). 1 ≤ a.weight) (λ a. stays n keep g a.key) all starts.heavy) in
+      swept-first n (course_from n keep g row weights) sums kept is starts.heavy heavy (rw is (open-distinct (stays n keep g) all starts.distinct)) sum
+      (λ t. opened t ∙ sym (ap (counted n keep t g) is ∙ counted-staying n keep t g all))
+
+-- the first key, laid flat
+module _ (n : Network) (key : List ℤ) (l : IsLawful n) (is : key ≡ n.first) where
+  pub first-laid : nodes_of n.width key (1 ∷ []) ≡ node n.first 1 ∷ []
+  first-laid = ap (λ k. node k 1 ∷ []) (take_all n.width key (omega (arith, ap length is, l.long 0 n.first refl)) ∙ is)
+
+  pub first-total : weighted (total_weight n 0) (nodes_of n.width key (1 ∷ [])) ≡ total_weight n 0 n.first
+  first-total = ap (weighted (total_weight n 0)) first-laid ∙ first_one (total_weight n 0) n.first
+
+  pub first-starts : AreStarts n 0 key (1 ∷ [])
+  first-starts = record {
+    within = omega arith;
+    long = omega (arith, ap length is, l.long 0 n.first refl);
+    reached = subst (AllReached n 0) (sym first-laid) (refl, tt);
+    heavy = subst AllHeavy (sym first-laid) (omega arith, tt);
+    distinct = subst (λ ns. IsDistinct key_eq (keys ns)) (sym first-laid) (one_distinct n.first);
+    fits = omega (arith, first-total, l.fits);
+  }

@@ -108,18 +108,19 @@ pub staying-none : (n : Network) (g : ℕ) (nodes : List Node) → staying n All
 staying-none n g [] = refl
 staying-none n g (a ∷ nodes) = ap (λ ns. a ∷ ns) (staying-none n g nodes)
 
--- what is counted of nodes that stay is counted of all, and of two lists apart
-pub counted-more : (n : Network) (keep : Kept) (t : Tail) (g : ℕ) (kept work : List Node) → counted n keep t g (kept ++ staying n keep g work) ≡ counted n keep t g kept + counted n keep t g work
-counted-more n All t g kept work = refl
-counted-more n (Open tails) t g kept work =
-    let f : List ℤ → Bool = is_open (asked tails n) t g in
-    ap length (filter-append (λ (a : Node). f a.key) kept (staying n (Open tails) g work))
-    ∙ length-append (filter (λ (a : Node). f a.key) kept) (filter (λ (a : Node). f a.key) (staying n (Open tails) g work))
-    ∙ ap (λ ns. length (filter (λ (a : Node). f a.key) kept) + length ns) (filter-both f (is_open_for_some (asked tails n) g) (open-for (asked tails n) t g) work)
+-- what is counted of two lists is counted apart, and of nodes that stay is counted of all
+pub counted-append : (n : Network) (keep : Kept) (t : Tail) (g : ℕ) (xs ys : List Node) → counted n keep t g (xs ++ ys) ≡ counted n keep t g xs + counted n keep t g ys
+counted-append n All t g xs ys = refl
+counted-append n (Open tails) t g xs ys =
+    let free : Node → Bool = λ a. is_open (asked tails n) t g a.key in
+    ap length (filter-append free xs ys) ∙ length-append (filter free xs) (filter free ys)
 
 pub counted-staying : (n : Network) (keep : Kept) (t : Tail) (g : ℕ) (nodes : List Node) → counted n keep t g (staying n keep g nodes) ≡ counted n keep t g nodes
 counted-staying n All t g nodes = refl
 counted-staying n (Open tails) t g nodes = ap length (filter-both (is_open (asked tails n) t g) (is_open_for_some (asked tails n) g) (open-for (asked tails n) t g) nodes)
+
+pub counted-more : (n : Network) (keep : Kept) (t : Tail) (g : ℕ) (kept work : List Node) → counted n keep t g (kept ++ staying n keep g work) ≡ counted n keep t g kept + counted n keep t g work
+counted-more n keep t g kept work = counted-append n keep t g kept (staying n keep g work) ∙ ap (λ m. counted n keep t g kept + m) (counted-staying n keep t g work)
 
 pub counted-nothing : (n : Network) (keep : Kept) (t : Tail) (g : ℕ) (m : ℕ) → m ≡ m + counted n keep t g []
 counted-nothing n All t g m = omega arith

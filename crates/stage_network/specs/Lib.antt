@@ -6,3 +6,5 @@ pub mod Listed
 pub mod RowSteps
 pub mod RowSweeps
 pub mod FromKeys
+pub mod Ordering
+pub mod Images

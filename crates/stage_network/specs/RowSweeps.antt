@@ -1,17 +1,16 @@
 -- A sweep over rows of cells: what it owns, and where it stands.
-use Rattle.std.specs.Prelude.{◌≡◌, ℕ, ℤ, ◌<◌, ◌≤◌, pos, List, length, map}
+use Rattle.std.specs.Prelude.{◌≡◌, ℕ, ℤ, ◌+◌, ◌<◌, ◌≤◌, pos, List, length, map}
 use Rattle.node_pool.specs.Nodes.{Node}
 use Rattle.count_arrays.specs.Rows.{row_nodes}
 use Rattle.stage_network.specs.declared.row_arcs.RowArcs.{RowArcs}
 use Rattle.stage_network.specs.declared.row_filling.RoomRow.{RoomRow}
 use Rattle.stage_network.specs.declared.row_sweeps.RowSweep.{RowSweep}
 use Rattle.networks.specs.Network.{Network}
-use Rattle.networks.specs.Completions.{total_weight}
 use Rattle.networks.specs.Laws.{IsLawful}
 use Rattle.networks.specs.Rooms.{IsRoomed}
 use Rattle.networks.specs.Shifts.{IsShifting}
 use Rattle.stage_network.specs.NodeSteps.{AreNodes}
-use Rattle.stage_network.specs.SweepSteps.{AreListed, HasBuffers, HasSwept, first_course}
+use Rattle.stage_network.specs.SweepSteps.{AreListed, Course, HasBuffers, HasSwept, IsCourse}
 use Rattle.stage_network.specs.RowSteps.{Row, RowList, AreShifts, all_nodes}
 
 -- rows of a stage before the last, in rooms of this width, which steps shift
@@ -52,12 +51,14 @@ pub record HasRowStores {C : Type 0} (n : Network) (width step_width : ℕ) (num
   pub arcs : HasRowBuffers n width step_width sweep.arcs
   pub row : IsRoomRow number sweep.row
 
--- a sweep from the first key stands at a stage
+-- a sweep of this course stands at a stage
 pub record IsRowSweeping {C : Type 0} (n : Network) (width step_width limit : ℕ)
-    (number : C → ℕ) (sweep : RowSweep C) : Type 0 where
+    (number : C → ℕ) (course : Course) (sweep : RowSweep C) : Type 0 where
   pub lawful : IsLawful n
-  pub light : total_weight n 0 n.first ≤ limit
+  pub starts : IsCourse n limit course
   pub stores : HasRowStores n width step_width number sweep
+  pub keeps : sweep.keep ≡ course.keep
+  pub gone : ℕ
+  pub stands : sweep.stage ≡ course.stage + gone
   pub within : sweep.stage ≤ n.count
-  pub swept : let nodes = all_nodes sweep.rows.rows in
-      HasSwept n (first_course n sweep.keep) sweep.stage sweep.sums nodes
+  pub swept : HasSwept n course gone sweep.sums (all_nodes sweep.rows.rows)

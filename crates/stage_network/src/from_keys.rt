@@ -6,12 +6,15 @@ ghost use Rattle.node_pool.specs.PoolSteps.{nodes_of};
 ghost use Rattle.networks.specs.Completions.{extreme_weight, total_weight};
 ghost use Rattle.stage_network.specs.FromKeys.{AreStarts, course_from};
 ghost use Rattle.networks.specs.EachTail.{sum_for};
+ghost use Rattle.networks.specs.Shifts.{IsShifting};
 ghost use Rattle.stage_network.specs.SweepSteps.{IsSweeping, closed_at, counted, staying};
 
 use crate::nodes::StageNodes;
 use crate::rooms::RoomPool;
+use crate::row_sweeps::RowSweep;
 use crate::settling::settle;
 use crate::stage_arcs::StageArcs;
+use crate::stops::Stop;
 use crate::sweep::Sweep;
 use crate::widths::{Width, width_of};
 use networks::{Kept, Roomed, Stages, TailSums, behind, front, only};
@@ -140,7 +143,35 @@ fn total_from<S: Stages>(stages: &S, stage: usize, keys: &[i128], weights: &[u12
     total
 }
 
-// The sum over keys in counts of one width.
+// The sum over keys by rows of cells.
+fn sum_by_rows<C: Count, S: Roomed>(
+    alloc: Global,
+    stages: &S,
+    tail: Tail,
+    stage: usize,
+    keys: &[i128],
+    weights: &[u128],
+) -> Result<u128, Stop>
+    ghost nodes: { List Node }
+    requires shifting { let n = S.Stages.network stages.now in
+        let width = S.room_width stages.now in
+        IsShifting n width (S.step_width stages.now) (S.step_of stages.now) }
+    requires laid { let n = S.Stages.network stages.now in
+        nodes_of n.width keys.now weights.now ≡ nodes }
+    requires starts { AreStarts (S.Stages.network stages.now) stage keys.now weights.now }
+    requires limit { let n = S.Stages.network stages.now in
+        weighted (total_weight n stage) nodes ≤ C.LIMIT }
+    ensures { let n = S.Stages.network stages.now in
+        IfOk result (λ sum. sum ≡ weighted (extreme_weight n tail stage) nodes) }
+{
+    let count = stages.stages();
+    let keep = Kept::Open(only(tail));
+    let mut sweep = RowSweep::<C>::from_keys(alloc, stages, keep, stage, keys, weights)?;
+    sweep.advance_to(stages, count)?;
+    Ok(sweep.sums.of(tail).sum)
+}
+
+// The sum over keys in counts of one width: by rows of cells where these serve and find memory.
 fn sum_in<C: Count, S: Roomed>(
     alloc: Global,
     stages: &S,
@@ -158,6 +189,11 @@ fn sum_in<C: Count, S: Roomed>(
     ensures { let n = S.Stages.network stages.now in
         IfOk result (λ sum. sum ≡ weighted (extreme_weight n tail stage) nodes) }
 {
+    if stages.is_shift() {
+        if let Ok(sum) = sum_by_rows::<C, S>(alloc, stages, tail, stage, keys, weights) {
+            return Ok(sum);
+        }
+    }
     let count = stages.stages();
     let keep = Kept::Open(only(tail));
     let mut sweep = Sweep::<C>::from_keys(alloc, stages, keep, stage, keys, weights)?;

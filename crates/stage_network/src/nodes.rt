@@ -53,8 +53,8 @@ fn same_until(homes: &[usize], start: usize) -> usize
     end
 }
 
-// Whether two rooms are the same.
-fn is_same(one: &[i128], other: &[i128]) -> bool
+/// Whether two rooms are the same.
+pub fn is_same(one: &[i128], other: &[i128]) -> bool
     ensures { result ≡ true → one.now ≡ other.now }
 {
     one == other

@@ -55,4 +55,18 @@ impl<A: Prepared, B: Prepared> Prepared for OneOf<A, B> {
             OneOf::Second(b) => b.quick_distribution(alloc),
         }
     }
+
+    fn sum_onward(
+        &self,
+        alloc: Global,
+        tail: Tail,
+        stage: usize,
+        keys: &[i128],
+        weights: &[u128],
+    ) -> Result<u128, NoMemory> {
+        match self {
+            OneOf::First(a) => a.sum_onward(alloc, tail, stage, keys, weights),
+            OneOf::Second(b) => b.sum_onward(alloc, tail, stage, keys, weights),
+        }
+    }
 }

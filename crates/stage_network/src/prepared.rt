@@ -3,14 +3,18 @@ ghost use Rattle.std.specs.Prelude.{◌≡◌, true, IfOk};
 ghost use Rattle.weights.specs.Conditional.{distribution, numerator, total};
 ghost use Rattle.weights.specs.Frames.{IsShown};
 ghost use Rattle.weights.specs.declared.tails.Tail.{Tail};
+ghost use Rattle.node_pool.specs.Nodes.{weighted};
+ghost use Rattle.node_pool.specs.PoolSteps.{nodes_of};
 ghost use Rattle.networks.specs.Network.{Network};
 ghost use Rattle.networks.specs.Completions.{extreme_weight, total_weight};
 ghost use Rattle.networks.specs.Follows.{AllFollow, AreNumerators, AreShared};
 ghost use Rattle.networks.specs.Follows.{FollowsAlong, HasTails, OpenAlike};
 ghost use Rattle.networks.specs.Lines.{TailsFit, WeightsFit};
 ghost use Rattle.networks.specs.Written.{AreWritten};
+ghost use Rattle.stage_network.specs.FromKeys.{AreStarts};
 
 use crate::first_tails::{first_among, first_asked};
+use crate::from_keys::sum_from_keys;
 use crate::spreads::spread_by_rooms;
 use crate::sums::{tail_sum_by_rooms, tail_sums_by_rooms};
 use enumerate::Framed;
@@ -112,6 +116,28 @@ pub trait Prepared: Framed {
         let _lawful = stages.stages();
         let found = spread_by_rooms(alloc, &stages)?;
         Ok(found)
+    }
+
+    /// The sum, over distinct keys that are reached at a stage of the network that runs and lie one
+    /// after another, of the key's weight times the summed weight of its extreme completions. Any
+    /// way to that sum serves.
+    fn sum_onward(
+        &self,
+        alloc: Global,
+        tail: Tail,
+        stage: usize,
+        keys: &[i128],
+        weights: &[u128],
+    ) -> Result<u128, NoMemory>
+        requires has { (Self.test self.now).has_tail tail ≡ true }
+        requires starts { AreStarts (running self.now tail) stage keys.now weights.now }
+        ensures { let n = running self.now tail in
+            IfOk result (λ sum. sum
+            ≡ weighted (extreme_weight n tail stage) (nodes_of n.width keys.now weights.now)) }
+    {
+        let stages = self.stages_of(alloc, tail)?;
+        let sum = sum_from_keys(alloc, &stages, tail, stage, keys, weights)?;
+        Ok(sum)
     }
 }
 

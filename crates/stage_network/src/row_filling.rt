@@ -1,7 +1,7 @@
 // A room of the next stage, filled from all rows that lead there.
 ghost use Rattle.std.specs.Prelude.{◌≡◌, ℕ, ℤ, pos, ◌+◌, ◌*◌, ◌<◌, List, [], ◌∷◌, length};
 ghost use Rattle.std.specs.Prelude.{map, replicate, true, OnOk, IfOk, slice_index_or};
-ghost use Rattle.node_pool.specs.Nodes.{Node, node, weighted};
+ghost use Rattle.node_pool.specs.Nodes.{Node, weighted};
 ghost use Rattle.count_arrays.specs.Rows.{row_nodes};
 ghost use Rattle.stage_network.specs.ArcSteps.{spread_out, bucket, lift};
 ghost use Rattle.stage_network.specs.SweepSteps.{IsWithin};
@@ -160,20 +160,5 @@ impl<C: Count> RoomRow<C> {
             place = arc.next;
         }
         Ok(())
-    }
-
-    /// Makes it the row of one key, of weight 1.
-    pub fn write_one(&mut self, number: i128) -> Result<(), Stop>
-        requires { IsRoomRow C.number self.old }
-        ensures ready { OnOk result (IsRoomRow C.number self.new) }
-        ensures one { OnOk result (row_partials C.number self.new ≡ node (number ∷ []) 1 ∷ []) }
-    {
-        let one = match C::of(1) {
-            Some(one) => one,
-            None => return Err(Stop::Thin),
-        };
-        self.lowest = number;
-        self.stride = 1;
-        write_cells(one, 1, &mut self.cells)
     }
 }

@@ -1,24 +1,26 @@
 // A sweep through the stages, room by room, over rows of cells.
-ghost use Rattle.std.specs.Prelude.{◌≡◌, ◌+◌, ◌<◌, ◌≤◌, [], ◌∷◌, ◌++◌, length, take};
-ghost use Rattle.std.specs.Prelude.{OnOk, IfOk, IfSome};
+ghost use Rattle.std.specs.Prelude.{◌≡◌, ◌+◌, ◌<◌, ◌≤◌, OnOk, IfOk, IfSome};
 ghost use Rattle.weights.specs.declared.TheConstants.{MAX};
 ghost use Rattle.weights.specs.declared.tails.Tail.{Tail};
 ghost use Rattle.node_pool.specs.Nodes.{weighted};
+ghost use Rattle.node_pool.specs.PoolSteps.{nodes_of};
 ghost use Rattle.networks.specs.Asked.{asked};
 ghost use Rattle.networks.specs.Completions.{total_weight, extreme_weight};
 ghost use Rattle.networks.specs.Opened.{opened_by_some};
 ghost use Rattle.stage_network.specs.NodeSteps.{AllReached};
 ghost use Rattle.networks.specs.EachTail.{sum_for};
-ghost use Rattle.stage_network.specs.SweepSteps.{HasSwept, IsSwept, first_course};
+ghost use Rattle.stage_network.specs.SweepSteps.{Course, IsSwept, first_course};
+ghost use Rattle.stage_network.specs.FromKeys.{AreStarts, course_from};
 ghost use Rattle.networks.specs.Shifts.{IsShifting};
 ghost use Rattle.stage_network.specs.RowSteps.{all_nodes};
-ghost use Rattle.stage_network.specs.RowSweeps.{IsRoomRow, IsRowSweeping};
+ghost use Rattle.stage_network.specs.RowSweeps.{IsRowSweeping};
 
 use crate::row_arcs::RowArcs;
 use crate::row_filling::RoomRow;
 use crate::row_rooms::RoomRows;
+use crate::row_starts::settle_rows;
 use crate::stops::Stop;
-use networks::{Kept, Roomed, Stages, TailSums, front};
+use networks::{Kept, Roomed, Stages, TailSums};
 use std::alloc::Global;
 use std::mem;
 use weights::{Count, NoMemory, Tails};
@@ -36,43 +38,6 @@ pub struct RowSweep<C: Count> {
     pub row: RoomRow<C>,
 }
 
-// The number behind the room of a key.
-fn number_behind(key: &[i128], width: usize) -> i128
-    requires { length key.now ≡ width + 1 }
-    ensures { key.now ≡ take width key.now ++ result ∷ [] }
-{
-    key[width]
-}
-
-// Settles stage 0, which has one key.
-fn start<C: Count, S: Roomed>(
-    stages: &S,
-    keep: Kept,
-    key: &[i128],
-    row: &mut RoomRow<C>,
-    rows: &mut RoomRows<C>,
-) -> Result<TailSums, Stop>
-    requires shifting { let n = S.Stages.network stages.now in
-        IsShifting n (S.room_width stages.now) (S.step_width stages.now) (S.step_of stages.now) }
-    requires key { key.now ≡ (S.Stages.network stages.now).first }
-    requires ready { IsRoomRow C.number row.old }
-    requires here { rows.old.width ≡ S.room_width stages.now }
-    requires empty { rows.old.rows ≡ [] }
-    ensures ready { OnOk result (IsRoomRow C.number row.new) }
-    ensures width { OnOk result (rows.new.width ≡ rows.old.width) }
-    ensures swept { let n = S.Stages.network stages.now in
-        IfOk result (λ sums. HasSwept n (first_course n keep) 0 sums (all_nodes rows.new.rows)) }
-{
-    let _count = stages.stages();
-    let _width = stages.width();
-    let width = stages.room_width();
-    let room = front(key, width);
-    row.write_one(number_behind(key, width))?;
-    let sums = row.settle(stages, 0, keep, room, TailSums::none())?;
-    row.keep(room, rows)?;
-    Ok(sums)
-}
-
 impl<C: Count> RowSweep<C> {
     /// A sweep that stands at the first key.
     pub fn new<S: Roomed>(alloc: Global, stages: &S, keep: Kept) -> Result<RowSweep<C>, Stop>
@@ -83,21 +48,48 @@ impl<C: Count> RowSweep<C> {
             total_weight n 0 n.first ≤ C.LIMIT }
         ensures sweeping { let n = S.Stages.network stages.now in
             IfOk result (IsRowSweeping n (S.room_width stages.now) (S.step_width stages.now) C.LIMIT
-            C.number) }
-        ensures keep { IfOk result (λ sweep. sweep.keep ≡ keep) }
+            C.number (first_course n keep)) }
+        ensures stage { IfOk result (λ sweep. sweep.stage ≡ 0) }
     {
         let _lawful = stages.stages();
-        let width = stages.room_width();
         let mut numbers = [0i128; 16];
         let key = &mut numbers[..stages.width()];
         stages.first_key(key);
+        RowSweep::from_keys(alloc, stages, keep, 0, key, &[1])
+    }
+
+    /// A sweep that stands at a stage with these keys of it, which lie one after another, and
+    /// their weights, as [`crate::Sweep::from_keys`] does.
+    pub fn from_keys<S: Roomed>(
+        alloc: Global,
+        stages: &S,
+        keep: Kept,
+        stage: usize,
+        keys: &[i128],
+        weights: &[u128],
+    ) -> Result<RowSweep<C>, Stop>
+        requires shifting { let n = S.Stages.network stages.now in
+            let width = S.room_width stages.now in
+            IsShifting n width (S.step_width stages.now) (S.step_of stages.now) }
+        requires starts { AreStarts (S.Stages.network stages.now) stage keys.now weights.now }
+        requires limit { let n = S.Stages.network stages.now in
+            weighted (total_weight n stage) (nodes_of n.width keys.now weights.now) ≤ C.LIMIT }
+        ensures sweeping { let n = S.Stages.network stages.now in
+            IfOk result (IsRowSweeping n (S.room_width stages.now) (S.step_width stages.now) C.LIMIT
+            C.number (course_from n keep stage keys.now weights.now)) }
+        ensures stage { IfOk result (λ sweep. sweep.stage ≡ stage) }
+    {
+        let _count = stages.stages();
+        let width = stages.room_width();
         let mut row = RoomRow::<C>::new(alloc)?;
         let mut rows = RoomRows::<C>::new(alloc, width);
-        let sums = start(stages, keep, key, &mut row, &mut rows)?;
+        let sums = settle_rows(
+            alloc, stages, keep, stage, keys, weights, &mut row, &mut rows,
+        )?;
         let arcs = RowArcs::new(alloc, stages)?;
         Ok(RowSweep {
             keep,
-            stage: 0,
+            stage,
             sums,
             rows,
             ahead: RoomRows::new(alloc, width),
@@ -109,17 +101,17 @@ impl<C: Count> RowSweep<C> {
     /// Takes the sweep one stage on: the rooms of the next stage are filled, one after another, and
     /// each is settled.
     pub fn advance<S: Roomed>(&mut self, stages: &S) -> Result<(), Stop>
+        ghost course: { Course }
         requires before { self.old.stage < (S.Stages.network stages.now).count }
         requires shifting { let n = S.Stages.network stages.now in
             let width = S.room_width stages.now in
             IsShifting n width (S.step_width stages.now) (S.step_of stages.now) }
         requires sweeping { let n = S.Stages.network stages.now in
             IsRowSweeping n (S.room_width stages.now) (S.step_width stages.now) C.LIMIT C.number
-            self.old }
+            course self.old }
         ensures sweeping { let n = S.Stages.network stages.now in
             OnOk result (IsRowSweeping n (S.room_width stages.now) (S.step_width stages.now) C.LIMIT
-            C.number self.new) }
-        ensures keep { OnOk result (self.new.keep ≡ self.old.keep) }
+            C.number course self.new) }
         ensures stage { OnOk result (self.new.stage ≡ self.old.stage + 1) }
     {
         let _count = stages.stages();
@@ -144,6 +136,28 @@ impl<C: Count> RowSweep<C> {
         *stage += 1;
         Ok(())
     }
+
+    /// Takes the sweep on to a later stage, or to where it stands.
+    pub fn advance_to<S: Roomed>(&mut self, stages: &S, to: usize) -> Result<(), Stop>
+        ghost course: { Course }
+        requires order { self.old.stage ≤ to }
+        requires last { to ≤ (S.Stages.network stages.now).count }
+        requires shifting { let n = S.Stages.network stages.now in
+            let width = S.room_width stages.now in
+            IsShifting n width (S.step_width stages.now) (S.step_of stages.now) }
+        requires sweeping { let n = S.Stages.network stages.now in
+            IsRowSweeping n (S.room_width stages.now) (S.step_width stages.now) C.LIMIT C.number
+            course self.old }
+        ensures sweeping { let n = S.Stages.network stages.now in
+            OnOk result (IsRowSweeping n (S.room_width stages.now) (S.step_width stages.now) C.LIMIT
+            C.number course self.new) }
+        ensures stage { OnOk result (self.new.stage ≡ to) }
+    {
+        while self.stage < to {
+            self.advance(stages)?;
+        }
+        Ok(())
+    }
 }
 
 /// Sweeps over rows of cells in counts of one width.
@@ -164,9 +178,7 @@ pub fn sweep_rows<C: Count, S: Roomed>(
 {
     let count = stages.stages();
     let mut sweep = RowSweep::<C>::new(alloc, stages, keep)?;
-    while sweep.stage < count {
-        sweep.advance(stages)?;
-    }
+    sweep.advance_to(stages, count)?;
     Ok(sweep)
 }
 

@@ -10,7 +10,7 @@ use Rattle.pieces.proofs.parting.owned.Goals as goal
 
 pub loop-i-preserved : goal.loop-i-preserved
 loop-i-preserved c =
-    owned-step c.args.width c.args.keys.now c.args.weights.now c.args.owners.now c.args.part c.loop-i.i c.loop-i.rows.keys.items c.push_where.new.self.keys.items c.key_at.result.now c.loop-i.rows.weights.items c.push_where.new.self.weights.items (slice_index_or c.args.weights.now c.loop-i.i 0) _ c.loop-i-test.true c.requires.each c.requires.long refl c.key_at.ensures refl c.in_ok-push_where.ensures.keys c.in_ok-push_where.ensures.weights c.loop-i.invariant
+    owned-step c.args.width c.args.keys.now c.args.weights.now c.args.owners.now c.args.part c.loop-i.i c.loop-i.flat.keys.items c.push_where.new.self.keys.items c.key_at.result.now c.loop-i.flat.weights.items c.push_where.new.self.weights.items (slice_index_or c.args.weights.now c.loop-i.i 0) _ c.loop-i-test.true c.requires.each c.requires.long refl c.key_at.ensures refl c.in_ok-push_where.ensures.keys c.in_ok-push_where.ensures.weights c.loop-i.invariant
 
 pub returns-clause-nodes : goal.returns-clause-nodes
 returns-clause-nodes c =

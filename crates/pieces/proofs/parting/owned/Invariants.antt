@@ -3,4 +3,4 @@ use Rattle.pieces.proofs.parting.owned.Given as goal
 
 -- of the keys before this one, those that the part owns
 abbrev pub invariant-loop-i : goal.invariant-loop-i
-invariant-loop-i l = AreOwned l.width l.keys l.weights l.owners l.part l.i l.rows.keys.items l.rows.weights.items
+invariant-loop-i l = AreOwned l.width l.keys l.weights l.owners l.part l.i l.flat.keys.items l.flat.weights.items

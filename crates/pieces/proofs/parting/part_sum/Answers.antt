@@ -1,41 +1,9 @@
-use Rattle.std.proofs.Common.{◌≡◌, ℕ, length, ap, sym, ◌∙◌, refl, rules, subst}
-use Rattle.std.specs.Prelude.{min}
-use Rattle.node_pool.specs.Nodes.{keys}
-use Rattle.node_pool.proofs.NodeLists.{length-nodes}
-use Rattle.networks.specs.Network.{Network}
+use Rattle.std.proofs.Common.{sym, subst, ap, ◌∙◌}
 use Rattle.piece_texts.specs.PieceTexts.{SumFits}
-use Rattle.pieces.specs.Cuts.{belongs, closed_sum, counted_nodes, cut_stage, open_sum, owned_sum}
-use Rattle.pieces.specs.Parting.{dealt}
-use Rattle.pieces.proofs.CutSums.{dealt-part, piece-fits, pieces-add-up}
-use Rattle.pieces.proofs.Placed.{length-dealt}
 use Rattle.pieces.proofs.parting.part_sum.Goals as goal
 
-pub piece_by_rooms-requires-clause-each : goal.piece_by_rooms-requires-clause-each
-piece_by_rooms-requires-clause-each g c =
-    let count : c.len.result ≡ length c.in_ok-from.from.weights.items = search rules in
-    ap length (c.deref.ensures.value ∙ c.in_ok-owners.ensures) ∙ length-dealt c.args.parts 0 c.len.result ∙ count
-
-pub returns-clause-add : goal.returns-clause-add
-returns-clause-add g c = pieces-add-up (g.S.Stages.network c.args.stages.now) c.stages-count.ensures.lawful c.args.tail c.args.at c.args.parts c.requires
-
 pub returns-clause-sums : goal.returns-clause-sums
-returns-clause-sums g c =
-    let n : Network = g.S.Stages.network c.args.stages.now in
-    let t = c.args.tail in
-    let cut = c.in_ok-from.from in
-    let is = c.in_ok-from.ensures.cut in
-    let parts : ℕ = c.args.parts in
-    let part : ℕ = c.args.part in
-    let small : c.min.result ≡ min c.args.at c.stages-count.result = search rules in
-    let count : c.len.result ≡ length cut.weights.items = search rules in
-    let at : cut.at ≡ cut_stage n c.args.at = c.in_ok-from.ensures.at ∙ small ∙ ap (min c.args.at) c.stages-count.ensures.count in
-    let owners : c.deref.result.now ≡ dealt parts 0 (length (counted_nodes n cut)) = c.deref.ensures.value ∙ c.in_ok-owners.ensures ∙ ap (dealt parts 0) (count ∙ sym (length-nodes n.width cut.keys.items cut.weights.items)) in
-    let closed : cut.closed ≡ closed_sum n t (cut_stage n c.args.at) = is.closed_is ∙ ap (closed_sum n t) at in
-    let sum : c.in_ok-piece_by_rooms.field-0 ≡ open_sum n t (cut_stage n c.args.at) (belongs n t (cut_stage n c.args.at) parts part) =
-    c.in_ok-piece_by_rooms.ensures ∙ ap (λ os. owned_sum n t cut.at (keys (counted_nodes n cut)) os part) owners ∙ dealt-part n t cut parts part is ∙ ap (λ g. open_sum n t g (belongs n t g parts part)) at in
-    rw (closed, sum) refl
+returns-clause-sums g c = ap (λ s. record { closed = c.in_ok-own.own.closed; sum = s }) (rw (c.deref.ensures.value, c.deref-2.ensures.value) at c.in_ok-sum_from_keys.ensures) ∙ c.in_ok-own.ensures.cut.sums
 
 pub returns-clause-fits : goal.returns-clause-fits
-returns-clause-fits g c =
-    let n : Network = g.S.Stages.network c.args.stages.now in
-    subst SumFits (sym (returns-clause-sums g c)) (piece-fits n c.stages-count.ensures.lawful c.args.tail c.args.at c.args.parts c.args.part)
+returns-clause-fits g c = subst SumFits (sym (returns-clause-sums g c)) c.in_ok-own.ensures.fits

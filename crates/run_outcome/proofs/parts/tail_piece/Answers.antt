@@ -11,8 +11,6 @@ returns-clause-sums g c =
     let asked : c.args.is_asked ≡ true = search rules in
     let n : Network = g.P.Prepared.running c.args.problem.now c.args.tail in
     let q : Network = g.P.Prepared.network c.args.problem.now c.args.tail in
-    let cut : c.in_ok-sums.sums ≡ piece_sum n c.args.tail part.at part.parts part.part =
-    c.in_ok-sums.ensures.sums ∙ ap (λ m. piece_sum m c.args.tail part.at part.parts part.part) c.in_ok-stages.ensures.built in
     let whole : c.in_ok-sums.sums ≡ piece_sum q c.args.tail part.at part.parts part.part =
-    cut ∙ piece-written n q c.args.tail (c.in_ok-stages.ensures.written c.args.tail (c.requires.has asked)) part.at part.parts part.part in
+    c.in_ok-sums.ensures.sums ∙ piece-written n q c.args.tail (c.in_ok-sums.ensures.written c.args.tail (c.requires.has asked)) part.at part.parts part.part in
     rw asked (ap Some whole)

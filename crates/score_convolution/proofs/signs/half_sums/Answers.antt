@@ -1,27 +1,13 @@
-use Rattle.std.proofs.Common.{◌≡◌, ◌+◌, ◌*◌, ◌^◌, ◌++◌, ◌/◌, ℕ, List, length, get_or, take, drop, inl, inr, ap, sym, subst, ◌∙◌, arith}
-use Rattle.std.specs.Prelude.{ℤ, pos, All, unsigned_abs}
-use Rattle.std.specs.Int.{◌∣◌}
+use Rattle.std.proofs.Common.{◌≡◌, ◌*◌, ◌^◌, List, length, inl, inr, ap, sym, ◌∙◌, arith}
+use Rattle.std.specs.Prelude.{ℤ, pos}
 use Rattle.std.proofs.lemmas.Nat.{pow-add}
-use Rattle.std.proofs.lemmas.List.{get_or-append-add, length-append, take-append-drop}
-use Rattle.weights.specs.Numbers.{absolute_sum}
 use Rattle.networks.specs.Asked.{asks}
 use Rattle.score_convolution.specs.Sides.{is_in, once, sides_for}
 use Rattle.score_convolution.specs.Draws.{draw_sum}
+use Rattle.score_convolution.proofs.Halves.{second-each, sizes, whole}
 use Rattle.score_convolution.proofs.SignRows.{asked-is, halves-met}
-use Rattle.score_convolution.proofs.ScoreTotals.{absolute-append}
 use Rattle.score_convolution.proofs.Widths.{halves-fit, halves-narrow}
 use Rattle.score_convolution.proofs.signs.half_sums.Goals as goal
-
--- both halves are all
-whole : (scores first second : List ℤ) → first ≡ take (length scores / 2) scores → second ≡ drop (length scores / 2) scores → first ++ second ≡ scores
-whole scores first second e h = ap (λ xs. xs ++ second) e ∙ ap (λ xs. take (length scores / 2) scores ++ xs) h ∙ take-append-drop (length scores / 2) scores
-
-sizes : (scores first second : List ℤ) → first ++ second ≡ scores → absolute_sum first + absolute_sum second ≡ absolute_sum scores
-sizes scores first second e = sym (absolute-append first second) ∙ ap absolute_sum e
-
-second-each : (d : ℕ) (scores first second : List ℤ) → first ++ second ≡ scores → All (λ s. d ∣ unsigned_abs s) scores → All (λ s. d ∣ unsigned_abs s) second
-second-each d scores first second e all k x h =
-    subst (λ z. d ∣ unsigned_abs z) (ap (λ xs. get_or xs (length first + k) x) (sym e) ∙ get_or-append-add first second k x) (all (length first + k) x (omega (arith, h, length-append first second, ap length e)))
 
 pub sign_row-requires-clause-small : goal.sign_row-requires-clause-small
 sign_row-requires-clause-small g c = omega (arith, sizes c.args.scores.now c.split_at.result.0.now c.split_at.result.1.now (whole c.args.scores.now c.split_at.result.0.now c.split_at.result.1.now c.split_at.ensures.front c.split_at.ensures.back), c.requires.small)

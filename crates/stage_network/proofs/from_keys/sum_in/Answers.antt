@@ -1,11 +1,8 @@
-use Rattle.std.proofs.Common.{◌≡◌, ◌+◌, ◌*◌, ap, subst, ◌∙◌, arith, refl}
+use Rattle.std.proofs.Common.{◌≡◌, ◌+◌, ap, subst, ◌∙◌, arith, refl}
 use Rattle.networks.specs.declared.tail_sums.Kept.TheVariants.{Open}
-use Rattle.stage_network.specs.SweepSteps.{Course, IsSweeping}
-use Rattle.node_pool.specs.Nodes.{Node}
 use Rattle.networks.specs.declared.tail_sums.TailSum.{TailSum}
-use Rattle.stage_network.proofs.Asked.{asked-extreme_at}
-use Rattle.stage_network.proofs.Courses.{swept-sum}
-use Rattle.networks.proofs.Steps.{sum_by-same}
+use Rattle.stage_network.specs.SweepSteps.{Course, IsSweeping}
+use Rattle.stage_network.proofs.Courses.{only-sum}
 use Rattle.stage_network.proofs.from_keys.sum_in.Goals as goal
 
 pub returns : goal.returns
@@ -18,5 +15,4 @@ returns g c =
     let s = subst (λ (course : Course). IsSweeping n (g.S.Roomed.room_width c.args.stages.now) (g.S.Roomed.step_width c.args.stages.now) g.C.Count.LIMIT course c.advance_to.new.self) here c.in_ok-advance_to.ensures.sweeping in
     let last : at + s.gone ≡ n.count = omega (arith, s.stands, c.in_ok-advance_to.ensures.stage, c.stages-count.ensures.count) in
     ap (λ (s : TailSum). s.sum) c.of.ensures
-    ∙ swept-sum n s.lawful g.C.Count.LIMIT tails at g.nodes s.starts s.gone last c.advance_to.new.self.sums c.advance_to.new.self.nodes.nodes s.swept c.args.tail
-    ∙ sum_by-same _ _ (λ (a : Node). ap (λ m. a.weight * m) (asked-extreme_at tails n c.args.tail c.only.ensures.asked at a.key)) g.nodes
+    ∙ only-sum n s.lawful g.C.Count.LIMIT tails at g.nodes s.starts s.gone last c.args.tail c.only.ensures.asked c.advance_to.new.self.sums c.advance_to.new.self.nodes.nodes s.swept

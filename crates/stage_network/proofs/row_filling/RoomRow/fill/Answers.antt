@@ -1,4 +1,4 @@
-use Rattle.std.proofs.Common.{◌≡◌, ◌+◌, ◌-◌, ◌++◌, ℕ, zero, suc, List, [], length, map, replicate, get_or, take, drop, ap, sym, ◌∙◌, arith, refl, subst, to_z, of_z}
+use Rattle.std.proofs.Common.{◌≡◌, ◌+◌, ◌-◌, ◌++◌, ℕ, List, [], length, map, get_or, take, drop, ap, sym, ◌∙◌, arith, refl, subst, to_z, of_z}
 use Rattle.std.specs.Prelude.{ℤ, pos}
 use Rattle.std.proofs.lemmas.List.{take_all, with_items_is}
 use mir.Syntax.{w128}
@@ -10,13 +10,10 @@ use Rattle.stage_network.proofs.Roomwise.{lift-weighted, whole-weighted}
 use Rattle.stage_network.proofs.Gathered.{spread-here}
 use Rattle.stage_network.proofs.OneArc.{no_arc, place_is}
 use Rattle.stage_network.specs.RowSteps.{all_nodes}
+use Rattle.stage_network.proofs.RowLines.{map-replicate}
 use Rattle.stage_network.proofs.Shifted.{shift-low, shift-more}
 use Rattle.stage_network.proofs.Spans.{no_row}
 use Rattle.stage_network.proofs.row_filling.RoomRow.fill.Goals as goal
-
-map-replicate : {X : Type 0} (number : X → ℕ) (m : ℕ) (x : X) → number x ≡ 0 → map number (replicate m x) ≡ replicate m 0
-map-replicate number zero x e = refl
-map-replicate number (suc m) x e = rw (e, map-replicate number m x e) refl
 
 pub loop-place-init : goal.loop-place-init
 loop-place-init g c =

@@ -1,6 +1,0 @@
-use Rattle.pieces.proofs.Laying.{AreLaid}
-use Rattle.pieces.proofs.cutting.laid_flat.Given as goal
-
--- the entries before this one are laid flat
-abbrev pub invariant-loop-i : goal.invariant-loop-i
-invariant-loop-i l = AreLaid l.width l.entries l.i l.keys.items l.weights.items
