@@ -89,8 +89,8 @@ pub fn prepared_blocks(
     requires one_each { length cells ≡ blocks * treatments }
     requires small { All (λ cell. nat_abs cell < 10 ^ 36) cells }
     requires takes { TakesCells kind cells }
-    ensures { let data = record { blocks = blocks; treatments = treatments; cells = cells } in
-        Prepares block_test (blocks_for kind data) result }
+    ensures { let made = record { blocks = blocks; treatments = treatments; cells = cells } in
+        Prepares block_test (blocks_for kind made) result }
 {
     let blocks = blocks_of(blocks, treatments, cells);
     prepare(alloc, kind, &blocks)
