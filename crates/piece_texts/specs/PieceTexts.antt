@@ -42,6 +42,7 @@ piece_text p =
 abbrev pub is_digit : ℕ → Bool
 is_digit d = (nat_le 48 d && nat_le d 57) || (nat_le 97 d && nat_le d 102)
 
+-- each byte is a lower-case hexadecimal digit
 abbrev pub all_digits : List ℕ → Bool
 all_digits digits = list_all is_digit digits
 

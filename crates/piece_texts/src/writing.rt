@@ -1,6 +1,6 @@
 // The text of a piece.
 ghost use Rattle.std.specs.Prelude.{◌≡◌, ◌++◌, IfOk, OnOk};
-ghost use Rattle.piece_texts.specs.PieceTexts.{ended, sums_text, piece_tail_line, piece_text};
+ghost use Rattle.piece_texts.specs.PieceTexts.{IsPiece, ended, sums_text, piece_tail_line, piece_text};
 
 use crate::lines::line_count;
 use crate::piece::{Piece, PieceSum};
@@ -50,8 +50,10 @@ fn push_tail(text: &mut Bytes, words: &[u8], tail: Option<PieceSum>) -> Result<(
 /// The text of a piece, line by line: `piece 1`, the run's name, the number of parts and which of
 /// them it is, the count of the head's lines and these, the closed sum and the part's sum of each
 /// tail that is asked (less, greater, two), and `end`. Every line ends with a line feed, and every
-/// number is in its shortest decimal form. The only error is want of memory.
+/// number is in its shortest decimal form. It needs a piece that is as [`Piece`] says, so that
+/// [`read_pieces`](crate::read_pieces) reads the text. The only error is want of memory.
 pub fn piece_text(alloc: Global, piece: &Piece) -> Result<Bytes, NoMemory>
+    requires { IsPiece piece.now }
     ensures { IfOk result (λ text. text ≡ piece_text piece.now) }
 {
     let mut text = Bytes::empty(alloc);

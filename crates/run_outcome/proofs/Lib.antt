@@ -6,6 +6,7 @@ pub mod Merging
 pub mod OneQuestion
 pub mod OneReading
 pub mod PartAnswered
+pub mod PiecesFormed
 pub mod PreparedOutcome
 pub mod Promised
 pub mod Readings

@@ -1,16 +1,13 @@
 -- The texts of the parts of one run, put together, are the report of the run that is not divided.
-use Rattle.std.proofs.Common.{◌≡◌, ◌≢◌, ◌∙◌, ◌⊎◌, inl, inr, ℕ, suc, ◌+◌, ◌<◌, ◌≤◌, ◌++◌, List, [], ◌∷◌, codes, decimal, length, length-append, map, Bool, true, false, cond, nat_eq, Option, Some, None, Ok, ap, arith, refl, subst, sym}
+use Rattle.std.proofs.Common.{◌≡◌, ◌∙◌, inl, inr, ℕ, ◌<◌, ◌≤◌, ◌++◌, List, [], ◌∷◌, codes, decimal, length, length-append, map, Bool, true, false, cond, Option, Some, None, Ok, ap, arith, refl, subst, sym}
 use Rattle.std.specs.Prelude.{option_map}
 use Rattle.std.specs.List.{AllByRecursion, flat_map}
 use Rattle.outside.specs.declared.source.TheConstants.{LONGEST_FILE}
-use Rattle.weights.specs.Conditional.{ConditionalTest, is_extreme, numerator, observed_statistic, total}
-use Rattle.weights.specs.Frames.{first_tail}
+use Rattle.weights.specs.Conditional.{is_extreme, numerator, observed_statistic, total}
 use Rattle.weights.proofs.Sums.{sum_by-filter-≤}
 use Rattle.weights.specs.declared.TheConstants.{MAX}
 use Rattle.weights.specs.declared.tails.Tail.{Tail}
 use Rattle.weights.specs.declared.tails.Tail.TheVariants.{Less, Greater, Two}
-use Rattle.weights.specs.declared.tails.Tails.{Tails}
-use Rattle.networks.specs.Asked.{asks}
 use Rattle.networks.specs.Completions.{extreme_weight}
 use Rattle.networks.specs.Follows.{answer_of, open_keys}
 use Rattle.networks.specs.Network.{Network}
@@ -18,71 +15,29 @@ use Rattle.networks.proofs.Following.{extreme-is}
 use Rattle.settings.specs.declared.pieces.PieceOf.{PieceOf}
 use Rattle.settings.specs.WholeRuns.{whole}
 use Rattle.settings.specs.declared.settings.Settings.{Settings}
-use Rattle.settings.specs.declared.tails.TailChoice.{TailChoice}
-use Rattle.settings.specs.declared.tails.TailChoice.TheVariants as choice
 use Rattle.piece_texts.specs.declared.merging.Merged.{Merged}
 use Rattle.piece_texts.specs.declared.piece.Piece.{Piece}
 use Rattle.piece_texts.specs.declared.piece.PieceSum.{PieceSum}
 use Rattle.piece_texts.specs.Merges.{MergeGives, greater_of, less_of, merged_number, number_told, summed_to, two_of}
-use Rattle.piece_texts.specs.PieceTexts.{IsPiece, TailFits, ended, line_count, piece_text, piece_tail_line}
+use Rattle.piece_texts.specs.PieceTexts.{IsPiece, ended, line_count, piece_text, piece_tail_line}
 use Rattle.piece_texts.specs.ReadPieces.{AreTexts}
 use Rattle.piece_texts.proofs.EachPart.{all-add-up}
 use Rattle.pieces.specs.Cuts.{piece_sum}
 use Rattle.pieces.specs.Undivided.{AreSumsOf, IsDivided, IsUndivided}
-use Rattle.pieces.proofs.WrittenPieces.{adds-up-written, extreme-written, fits-written}
+use Rattle.pieces.proofs.WrittenPieces.{adds-up-written, extreme-written}
 use Rattle.pieces.proofs.WholeRuns.{undivided-result}
 use Rattle.report.specs.Report.{head_text, report_text}
 use Rattle.report.specs.declared.headings.Title.TheVariants as title
 use Rattle.report.proofs.AnswerLemmas.{merged_text-answer_of}
 use Rattle.run_outcome.specs.Divided.{AreParts, AsksAnswerable, PartAnswers, Serves, WritesUndivided, of_part, settings_of_part}
 use Rattle.run_outcome.specs.MergedRuns.{MergeOutcome, MergesWith, text_of_merged}
-use Rattle.run_outcome.specs.Outcome.{asked, asking_of, outcome_of_bytes, part_of, piece_for, spread_of, tail_piece, tails_in, way_of}
+use Rattle.run_outcome.specs.Outcome.{asking_of, outcome_of_bytes, part_of, piece_for, spread_of, tail_piece, way_of}
 use Rattle.run_outcome.specs.Question.{Question}
 use Rattle.run_outcome.specs.Questions.{Questions}
 use Rattle.run_outcome.specs.declared.parts.PartOf.{PartOf}
-use Rattle.run_outcome.proofs.HeadLines.{head-is}
 use Rattle.run_outcome.proofs.OneQuestion.{answer-of-part, asked-text, other-text}
 use Rattle.run_outcome.proofs.OneReading.{texts-once}
-use Rattle.run_outcome.proofs.RunNameShape.{name-is}
-use Rattle.run_outcome.proofs.Showable.{total-fits}
-
--- ---- tails
-
-asks-own : (test : ConditionalTest) (tail : Tail) → asks (tails_in test) tail ≡ test.has_tail tail
-asks-own test Less = refl
-asks-own test Greater = refl
-asks-own test Two = refl
-
--- of a test that has a tail some tail is asked
-some-asked : (test : ConditionalTest) (ask : TailChoice) (tails : Tails) → test.has_tail (first_tail test) ≡ true → asked ask (tails_in test) ≡ Some tails
-    → (tail : Tail) × (asks tails tail ≡ true)
-some-asked test choice.All tails has is =
-    let same : tails_in test ≡ tails = cc in
-    (first_tail test, subst (λ t. asks t (first_tail test) ≡ true) same (asks-own test (first_tail test) ∙ has))
-some-asked test choice.Less tails has is = (Less, by (test.has_tail Less) is)
-  where
-    by : (b : Bool) → cond b (Some (record { less = true; greater = false; two = false })) None ≡ Some tails → tails.less ≡ true
-    by true e = cc
-    by false e = absurd cc
-some-asked test choice.Greater tails has is = (Greater, by (test.has_tail Greater) is)
-  where
-    by : (b : Bool) → cond b (Some (record { less = false; greater = true; two = false })) None ≡ Some tails → tails.greater ≡ true
-    by true e = cc
-    by false e = absurd cc
-some-asked test choice.Two tails has is = (Two, by (test.has_tail Two) is)
-  where
-    by : (b : Bool) → cond b (Some (record { less = false; greater = false; two = true })) None ≡ Some tails → tails.two ≡ true
-    by true e = cc
-    by false e = absurd cc
-
--- the sums of an asked tail fit
-fits-of : (part : PartOf) (running network : Tail → Network) (test : ConditionalTest) (tail : Tail) (is_asked : Bool) → (is_asked ≡ true → Serves test tail (running tail) (network tail)) → TailFits (tail_piece part network tail is_asked)
-fits-of part running network test tail true serves = fits-written (running tail) (network tail) tail (serves refl).written (serves refl).lawful part.at part.parts part.part
-fits-of part running network test tail false serves = tt
-
-there : (part : PartOf) (network : Tail → Network) (tail : Tail) (is_asked : Bool) → is_asked ≡ true → tail_piece part network tail is_asked ≢ None
-there part network tail true e none = cc
-there part network tail false e none = absurd cc
+use Rattle.run_outcome.proofs.PiecesFormed.{lines-within, piece-formed, usable-part}
 
 -- ---- texts
 
@@ -94,14 +49,6 @@ head-within : (p : Piece) → length p.head ≤ length (piece_text p)
 head-within p =
     let first = ended (codes "piece 1") ++ ended (codes "name " ++ p.name) ++ ended (codes "parts " ++ decimal p.parts) ++ ended (codes "part " ++ decimal p.part) in
     middle (first ++ ended (codes "head " ++ decimal (line_count p.head))) p.head (piece_tail_line (codes "less ") p.less) (piece_tail_line (codes "greater ") p.greater) (piece_tail_line (codes "two ") p.two) (ended (codes "end"))
-
-lines-within : (text : List ℕ) → line_count text ≤ length text
-lines-within [] = omega arith
-lines-within (byte ∷ text) = by (nat_eq byte 10) (lines-within text)
-  where
-    by : (b : Bool) → line_count text ≤ length text → cond b 1 0 + line_count text ≤ suc (length text)
-    by true few = omega (arith, few)
-    by false few = omega (arith, few)
 
 no-text : (p : Piece) (rest : List ℕ) → [] ≡ piece_text p ++ rest → ⊥
 no-text p rest same = cc
@@ -150,30 +97,10 @@ module _ (questions : Questions) (settings : Settings) (file bytes : List ℕ) (
   part-text : (part : ℕ) → part < parts.piece.parts → parts.texts part ≡ piece_text (own part)
   part-text part below = asked-text questions settings file answer (Some (of_part part parts.piece)) (parts.texts part) (written-text part below)
 
-  some-piece : (part : ℕ) → ((own part).less ≢ None) ⊎ (((own part).greater ≢ None) ⊎ ((own part).two ≢ None))
-  some-piece part = by (some-asked question.test settings.tail answer.tails answer.divisible.some_tail answer.are_asked)
-    where
-      by : (tail : Tail) × (asks answer.tails tail ≡ true) → ((own part).less ≢ None) ⊎ (((own part).greater ≢ None) ⊎ ((own part).two ≢ None))
-      by (Less, e) = inl (there (part_at part) question.network Less answer.tails.less e)
-      by (Greater, e) = inr (inl (there (part_at part) question.network Greater answer.tails.greater e))
-      by (Two, e) = inr (inr (there (part_at part) question.network Two answer.tails.two e))
-
   -- each has the form of a piece, where its lines are not too many
   own-formed : line_count own_head ≤ MAX → (part : ℕ) → part < parts.piece.parts → IsPiece (own part)
-  own-formed few part below = record {
-    name = name-is parts.piece.given file;
-    some_parts = parts.alone.usable.some;
-    few_parts = parts.alone.usable.few;
-    part = below;
-    head = head-is settings.test question.sizes question.dropped question.extra (observed_statistic question.test) question.test.scale (total question.test);
-    few_lines = few;
-    some_total = answer.divisible.some_total;
-    total = total-fits question.test answer.divisible.fits;
-    less = fits-of (part_at part) question.running question.network question.test Less answer.tails.less (answer.divisible.networks Less);
-    greater = fits-of (part_at part) question.running question.network question.test Greater answer.tails.greater (answer.divisible.networks Greater);
-    two = fits-of (part_at part) question.running question.network question.test Two answer.tails.two (answer.divisible.networks Two);
-    asked = some-piece part;
-  }
+  own-formed few part below =
+      piece-formed (part_at part) (asking_of settings file) answer.tails question (usable-part file (of_part part parts.piece) (record { at = parts.alone.usable.at; some = parts.alone.usable.some; few = parts.alone.usable.few; part = below })) answer.are_asked answer.divisible few
 
   all-own : (P : Piece → Type 0) → ((part : ℕ) → P (own part)) → (order : List ℕ) → AllByRecursion P (map own order)
   all-own P each [] = tt

@@ -1,6 +1,6 @@
 -- What the words and the bytes of the file that they name come to: the text of a report, or the
 -- first refusal.
-use Rattle.std.specs.Prelude.{◌≤◌, ℕ, List, Bool, true, false, Option, Some, None, IfSome, Result, Ok, Err, length, nat_lt, if◌then◌else◌}
+use Rattle.std.specs.Prelude.{◌<◌, ◌≤◌, ℕ, List, Bool, true, false, Option, Some, None, IfSome, Result, Ok, Err, length, nat_lt, if◌then◌else◌}
 use Rattle.std.specs.Option.{option_map}
 use Rattle.outside.specs.declared.source.TheConstants.{LONGEST_FILE}
 use Rattle.weights.specs.Conditional.{ConditionalTest, distribution, observed_statistic, total}
@@ -28,7 +28,7 @@ use Rattle.settings.specs.declared.pieces.PieceOf.{PieceOf}
 use Rattle.networks.specs.Network.{Network}
 use Rattle.settings.specs.declared.tails.TailChoice.{TailChoice}
 use Rattle.settings.specs.declared.tails.TailChoice.TheVariants as choice
-use Rattle.piece_texts.specs.PieceTexts.{piece_text}
+use Rattle.piece_texts.specs.PieceTexts.{IsName, piece_text}
 use Rattle.piece_texts.specs.RunNames.{run_name}
 use Rattle.piece_texts.specs.declared.piece.Piece.{Piece}
 use Rattle.piece_texts.specs.declared.piece.PieceSum.{PieceSum}
@@ -56,12 +56,15 @@ tails_by has = record { less = has tail.Less; greater = has tail.Greater; two = 
 abbrev pub tails_in : ConditionalTest → Tails
 tails_in test = tails_by test.has_tail
 
+-- only that of small values is asked
 abbrev pub less_alone : Tails
 less_alone = record { less = true; greater = false; two = false }
 
+-- only that of great values is asked
 abbrev pub greater_alone : Tails
 greater_alone = record { less = false; greater = true; two = false }
 
+-- only that on both sides is asked
 abbrev pub two_alone : Tails
 two_alone = record { less = false; greater = false; two = true }
 
@@ -104,9 +107,16 @@ asking_of settings bytes = record {
   piece = option_map (part_of bytes) settings.piece;
 }
 
--- a run is divided into some parts
+-- one of the parts, of which there are 1 to 64, of a run with a name
+pub record IsPartOf (part : PartOf) : Type 0 where
+  pub name : IsName part.name
+  pub some : 1 ≤ part.parts
+  pub few : part.parts ≤ 64
+  pub below : part.part < part.parts
+
+-- what is asked is one of the parts of a run, where a part is asked
 abbrev pub HasParts : Asking → Type 0
-HasParts asking = IfSome asking.piece (λ part. 1 ≤ part.parts)
+HasParts asking = IfSome asking.piece IsPartOf
 
 -- what is asked of the report on made data: all tails
 abbrev pub asking_of_made : ℕ → Asking

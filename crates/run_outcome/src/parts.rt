@@ -1,10 +1,10 @@
 // A part of a divided run.
-ghost use Rattle.std.specs.Prelude.{◌≡◌, ◌≤◌, true, None, IfOk, OnOk};
+ghost use Rattle.std.specs.Prelude.{◌≡◌, ◌≤◌, true, None, Some, IfOk, OnOk};
 ghost use Rattle.weights.specs.Wide.{too_wide};
 ghost use Rattle.networks.specs.Follows.{HasTails};
 ghost use Rattle.piece_texts.specs.PieceTexts.{piece_text};
 ghost use Rattle.run_outcome.specs.Divided.{IsDivisible, Serves};
-ghost use Rattle.run_outcome.specs.Outcome.{part_of, piece_for, tail_piece};
+ghost use Rattle.run_outcome.specs.Outcome.{IsPartOf, asked, part_of, piece_for, tail_piece, tails_in};
 ghost use Rattle.run_outcome.specs.Question.{question_about};
 
 use crate::reports::{Asking, Heading};
@@ -69,7 +69,7 @@ fn tail_piece<P: Prepared>(
     Ok(Some(sums))
 }
 
-/// The text of a part of a problem, for tails that it has.
+/// The text of a part of a problem, for the tails that are asked of it.
 pub(crate) fn piece_for<P: Prepared>(
     alloc: Global,
     asking: Asking,
@@ -78,7 +78,8 @@ pub(crate) fn piece_for<P: Prepared>(
     part: PartOf,
     problem: &P,
 ) -> Result<Bytes, NoMemory>
-    requires parts { 1 ≤ part.parts }
+    requires part { IsPartOf part }
+    requires asked { asked asking.tail (tails_in (P.test problem.now)) ≡ Some tails }
     requires has { HasTails (P.test problem.now) tails }
     requires fits { too_wide (P.test problem.now) ≡ None }
     ensures text { let about = question_about P.test P.network P.running problem.now in
@@ -99,6 +100,7 @@ pub(crate) fn piece_for<P: Prepared>(
         frame.scale,
         frame.total,
     )?;
+    let _long = head.len();
     let piece = Piece {
         name: part.name,
         parts: part.parts,

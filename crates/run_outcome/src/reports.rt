@@ -1,5 +1,5 @@
 // The report of a prepared problem: the same for all tests.
-ghost use Rattle.std.specs.Prelude.{◌≡◌, ◌≤◌, None, IfOk, IfSome, OnOk};
+ghost use Rattle.std.specs.Prelude.{◌≡◌, ◌≤◌, None, Some, IfOk, IfSome, OnOk};
 ghost use Rattle.std.specs.Option.{option_copied};
 ghost use Rattle.weights.specs.Conditional.{distribution};
 ghost use Rattle.weights.specs.Wide.{too_wide};
@@ -205,6 +205,7 @@ fn text_for<P: Prepared>(
     problem: &P,
 ) -> Result<Bytes, NoMemory>
     requires parts { HasParts asking }
+    requires asked { asked asking.tail (tails_in (P.test problem.now)) ≡ Some tails }
     requires has { HasTails (P.test problem.now) tails }
     requires fits { too_wide (P.test problem.now) ≡ None }
     ensures text { let about = question_about P.test P.network P.running problem.now in

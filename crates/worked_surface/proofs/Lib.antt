@@ -1,1 +1,4 @@
+pub mod Conditions
+pub mod FirstBytes
 pub mod FirstColumns
+pub mod OneTossLaws

@@ -1,2 +1,3 @@
 pub mod FirstColumn
+pub mod OneToss
 pub mod TwoSigns

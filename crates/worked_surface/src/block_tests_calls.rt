@@ -1,19 +1,20 @@
 // The public calls of `block_tests`.
-ghost use Rattle.std.specs.Prelude.{◌<◌, ◌≡◌, IfOk, true};
+ghost use Rattle.std.specs.Prelude.{◌<◌, ◌≡◌, IfOk, true, ◌*◌, ◌^◌, ◌≤◌, All, length, nat_abs};
 ghost use Rattle.block_tests.specs.BlockNetworks.{block_network, running_network};
 ghost use Rattle.block_tests.specs.BlockTests.{TakesCells, block_test, blocks_for};
 ghost use Rattle.networks.specs.Completions.{extreme_weight, total_weight};
-ghost use Rattle.networks.specs.Follows.{HasTails, answer_of, open_keys};
+ghost use Rattle.networks.specs.Follows.{answer_of, open_keys};
 ghost use Rattle.networks.specs.Lines.{WeightsFit};
 ghost use Rattle.sample_reader.specs.Data.{block_data_of};
 ghost use Rattle.weights.specs.Conditional.{distribution, numerator, total};
 ghost use Rattle.weights.specs.Wide.{Prepares};
 
+use crate::sample_reader_calls::blocks_of;
 use block_tests::{BlockKind, BlockStages, BlockTest};
 use sample_reader::Blocks;
 use stage_network::{Answer, PrepareFault, Spread, Stages, Way};
 use std::alloc::Global;
-use weights::{NoMemory, Tail, Tails};
+use weights::{Ints, NoMemory, Tail, Tails};
 
 /// A test of blocks, or which number is too wide.
 pub fn prepare(alloc: Global, kind: BlockKind, blocks: &Blocks) -> Result<BlockTest, PrepareFault>
@@ -30,7 +31,9 @@ pub fn answer(
     tails: Tails,
     way: Way,
 ) -> Result<Answer, NoMemory>
-    requires { HasTails (block_test problem.now) tails }
+    requires less { tails.less ≡ true → (block_test problem.now).has_tail Tail.Less ≡ true }
+    requires greater { tails.greater ≡ true → (block_test problem.now).has_tail Tail.Greater ≡ true }
+    requires two { tails.two ≡ true → (block_test problem.now).has_tail Tail.Two ≡ true }
     ensures { let opened = open_keys (block_network problem.now) in
         IfOk result (λ answer.
         answer ≡ answer_of (block_test problem.now) opened tails way) }
@@ -69,4 +72,26 @@ pub fn stages_of(alloc: Global, problem: &BlockTest, tail: Tail) -> Result<Block
         extreme_weight n tail 0 n.first ≡ numerator (block_test problem.now) tail }
 {
     block_tests::stages_of(alloc, problem, tail)
+}
+
+/// A test of blocks of their parts.
+pub fn prepared_blocks(
+    alloc: Global,
+    kind: BlockKind,
+    blocks: u64,
+    treatments: u64,
+    cells: Ints,
+) -> Result<BlockTest, PrepareFault>
+    requires some { 1 ≤ blocks }
+    requires few { blocks ≤ 10000 }
+    requires two { 2 ≤ treatments }
+    requires eight { treatments ≤ 8 }
+    requires one_each { length cells ≡ blocks * treatments }
+    requires small { All (λ cell. nat_abs cell < 10 ^ 36) cells }
+    requires takes { TakesCells kind cells }
+    ensures { let made = record { blocks = blocks; treatments = treatments; cells = cells } in
+        Prepares block_test (blocks_for kind made) result }
+{
+    let blocks = blocks_of(blocks, treatments, cells);
+    prepare(alloc, kind, &blocks)
 }

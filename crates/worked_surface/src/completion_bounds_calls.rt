@@ -1,6 +1,6 @@
 // The public calls of `completion_bounds`.
 ghost use Rattle.std.specs.Prelude.{◌*◌, ◌<◌, ◌≡◌, ◌≤ℤ◌, ◌≤◌, length, min, pos, slice_index_or, sum, ℕ};
-ghost use Rattle.completion_bounds.specs.Boxes.{greatest_squares, least_squares};
+ghost use Rattle.completion_bounds.specs.Boxes.{greatest_squares, least_squares, HoldsSquares};
 ghost use Rattle.completion_bounds.specs.Fillings.{HoldsWeights, greatest_bound, least_bound};
 ghost use Rattle.completion_bounds.specs.Pairings.{ColumnsAscend, IsGreatestPairing, IsLeastPairing, RowsAscend, later_units, pairing_size, row_units};
 ghost use Rattle.weights.specs.Labellings.{number_of_labellings};
@@ -59,6 +59,7 @@ pub fn box_bounds(low: &[i128], high: &[i128], factors: &[u128], cap: u128) -> (
     requires capped { least_squares low.now high.now factors.now ≤ cap }
     ensures least { result.0 ≡ least_squares low.now high.now factors.now }
     ensures greatest { result.1 ≡ min (greatest_squares low.now high.now factors.now) cap }
+    ensures holds { HoldsSquares low.now high.now factors.now cap result.0 result.1 }
 {
     completion_bounds::box_bounds(low, high, factors, cap)
 }

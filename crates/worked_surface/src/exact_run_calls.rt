@@ -1,7 +1,7 @@
 // The public calls of `exact_run`.
 ghost use Rattle.std.specs.Prelude.{◌≡◌, ◌≤◌, ◌⊎◌, IfOk, List, false, map, string_bytes, true, ℕ};
 ghost use Rattle.std.specs.Io.KnownBytes.{Appends};
-ghost use Rattle.exact_run.specs.Divided.{Writes};
+ghost use Rattle.exact_run.specs.Divided.{Writes, PartAnswers};
 ghost use Rattle.exact_run.specs.MadeData.{made_groups};
 ghost use Rattle.exact_run.specs.MergedRuns.{MergePromises};
 ghost use Rattle.exact_run.specs.Outcome.{outcome_of};
@@ -47,6 +47,9 @@ pub fn run<S: Source, O: Sink, E: Sink>(
         (file : List ℕ) → meaning ≡ Ok (command.Merge file)
         → MergePromises result (S.held source.old file) source_rose out_rose took took_prefix
         told }
+    ensures answerable { let meaning = meaning_of (map string_bytes words.now) in
+        (settings : Settings) → meaning ≡ Ok (command.Test settings)
+        → result ≡ Status.Done → PartAnswers settings (S.held source.old settings.file) }
     ensures written { let meaning = meaning_of (map string_bytes words.now) in
         let took = Appends (O.taken out.old) (O.taken out.new) in
         (settings : Settings) → meaning ≡ Ok (command.Test settings)

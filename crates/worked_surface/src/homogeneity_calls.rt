@@ -1,20 +1,22 @@
 // The public calls of `homogeneity`.
-ghost use Rattle.std.specs.Prelude.{◌≡◌, IfOk, true};
+ghost use Rattle.std.specs.Prelude.{◌≡◌, IfOk, true, ◌<◌, ◌^◌, ◌≢◌, ◌≤◌, All, AllPairs, length, nat_abs};
 ghost use Rattle.homogeneity.specs.Homogeneities.{homogeneity_network, homogeneity_test};
 ghost use Rattle.networks.specs.Completions.{extreme_weight, total_weight};
-ghost use Rattle.networks.specs.Follows.{HasTails, answer_of, open_keys};
+ghost use Rattle.networks.specs.Follows.{answer_of, open_keys};
 ghost use Rattle.networks.specs.Lines.{WeightsFit};
 ghost use Rattle.sample_reader.specs.Data.{strata_data_of};
 ghost use Rattle.weights.specs.Conditional.{distribution, numerator, total};
 ghost use Rattle.weights.specs.Wide.{Prepares};
 ghost use Rattle.networks.specs.declared.one_of.OneOf.TheVariants.{First, Second};
+ghost use Rattle.weights.specs.Labellings.{counts_of};
 
+use crate::sample_reader_calls::strata_groups_of;
 use homogeneity::{Homogeneity, HomogeneityStages};
-use sample_reader::StrataGroups;
+use sample_reader::{Labels, StrataGroups};
 use stage_network::{Answer, PrepareFault, Spread, Stages, Way};
 use std::alloc::Global;
 use table_reader::Strata;
-use weights::{NoMemory, Tail, Tails};
+use weights::{Ints, NoMemory, Nums, Tail, Tails};
 
 /// The answer of a test for tails that it has, by either way.
 pub fn answer(
@@ -23,7 +25,9 @@ pub fn answer(
     tails: Tails,
     way: Way,
 ) -> Result<Answer, NoMemory>
-    requires { HasTails (homogeneity_test problem.now) tails }
+    requires less { tails.less ≡ true → (homogeneity_test problem.now).has_tail Tail.Less ≡ true }
+    requires greater { tails.greater ≡ true → (homogeneity_test problem.now).has_tail Tail.Greater ≡ true }
+    requires two { tails.two ≡ true → (homogeneity_test problem.now).has_tail Tail.Two ≡ true }
     ensures { let opened = open_keys (homogeneity_network problem.now) in
         IfOk result (λ answer.
         answer ≡ answer_of (homogeneity_test problem.now) opened tails way) }
@@ -69,4 +73,38 @@ pub fn stages_of(
         extreme_weight n tail 0 n.first ≡ numerator (homogeneity_test problem.now) tail }
 {
     homogeneity::stages_of(alloc, problem, tail)
+}
+
+/// The rank sum test in strata of the parts of its samples.
+pub fn prepared_strata_groups(
+    alloc: Global,
+    strata: Labels,
+    labels: Labels,
+    sizes: Nums,
+    places: Nums,
+    members: Nums,
+    values: Ints,
+) -> Result<Homogeneity, PrepareFault>
+    requires two { length labels ≡ 2 }
+    requires distinct { AllPairs ◌≢◌ labels }
+    requires strata_distinct { AllPairs ◌≢◌ strata }
+    requires few { length values ≤ 10000 }
+    requires small { All (λ value. nat_abs value < 10 ^ 36) values }
+    requires one_each { length members ≡ length values }
+    requires exist { All (λ group. group < length labels) members }
+    requires counted { sizes ≡ counts_of (length labels) members }
+    requires some { All (λ size. 1 ≤ size) sizes }
+    requires places_each { length places ≡ length values }
+    requires strata_exist { All (λ stratum. stratum < length strata) places }
+    requires strata_some { All (λ size. 1 ≤ size) (counts_of (length strata) places) }
+    ensures { let samples = record {
+      strata = strata;
+      labels = labels;
+      places = places;
+      members = members;
+      values = values;
+    } in Prepares homogeneity_test (Second samples) result }
+{
+    let samples = strata_groups_of(strata, labels, sizes, places, members, values);
+    prepare_ranks(alloc, &samples)
 }

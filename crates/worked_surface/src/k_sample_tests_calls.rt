@@ -2,7 +2,7 @@
 ghost use Rattle.std.specs.Prelude.{◌≡◌, ◌≤◌, IfOk, length, true};
 ghost use Rattle.k_sample_tests.specs.KSamples.{k_sample_network, k_sample_test};
 ghost use Rattle.networks.specs.Completions.{extreme_weight, total_weight};
-ghost use Rattle.networks.specs.Follows.{HasTails, answer_of, open_keys};
+ghost use Rattle.networks.specs.Follows.{answer_of, open_keys};
 ghost use Rattle.networks.specs.Lines.{WeightsFit};
 ghost use Rattle.sample_reader.specs.Data.{data_of};
 ghost use Rattle.weights.specs.Conditional.{distribution, numerator, total};
@@ -36,7 +36,9 @@ pub fn prepare_umbrella(alloc: Global, peak: u64, groups: &Groups) -> Result<KSa
 
 /// The answer of a test for tails that it has, by either way.
 pub fn answer(alloc: Global, problem: &KSample, tails: Tails, way: Way) -> Result<Answer, NoMemory>
-    requires { HasTails (k_sample_test problem.now) tails }
+    requires less { tails.less ≡ true → (k_sample_test problem.now).has_tail Tail.Less ≡ true }
+    requires greater { tails.greater ≡ true → (k_sample_test problem.now).has_tail Tail.Greater ≡ true }
+    requires two { tails.two ≡ true → (k_sample_test problem.now).has_tail Tail.Two ≡ true }
     ensures { let opened = open_keys (k_sample_network problem.now) in
         IfOk result (λ answer.
         answer ≡ answer_of (k_sample_test problem.now) opened tails way) }

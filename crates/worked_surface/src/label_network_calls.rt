@@ -132,7 +132,8 @@ pub struct FirstColumn {
     ghost wide: { 2 ≤ length rows.items },
 }
 
-fn write(number: i128, partial: &mut [i128])
+// Writes the one number of a partial or a key.
+pub(crate) fn write(number: i128, partial: &mut [i128])
     requires { length partial.old ≡ 1 }
     ensures { partial.new ≡ number ∷ [] }
 {

@@ -15,6 +15,7 @@ pub mod midranks_calls;
 pub mod node_pool_calls;
 pub mod number_text_calls;
 pub mod one_sample_tests_calls;
+pub mod one_toss;
 pub mod outside_calls;
 pub mod pieces_calls;
 pub mod record_reader_calls;

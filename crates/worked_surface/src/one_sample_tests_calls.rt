@@ -1,7 +1,7 @@
 // The public calls of `one_sample_tests`.
-ghost use Rattle.std.specs.Prelude.{◌<◌, ◌≡◌, IfOk, true};
+ghost use Rattle.std.specs.Prelude.{◌<◌, ◌≡◌, IfOk, true, ◌*◌, ◌^◌, ◌≤◌, All, length, nat_abs};
 ghost use Rattle.networks.specs.Completions.{extreme_weight, total_weight};
-ghost use Rattle.networks.specs.Follows.{HasTails, answer_of, open_keys};
+ghost use Rattle.networks.specs.Follows.{answer_of, open_keys};
 ghost use Rattle.networks.specs.Lines.{WeightsFit};
 ghost use Rattle.one_sample_tests.specs.SignNetwork.{one_sample_network};
 ghost use Rattle.one_sample_tests.specs.SignedSamples.{discordant, one_sample_test, sample_of};
@@ -9,12 +9,13 @@ ghost use Rattle.table_reader.specs.Data.{table_data_of};
 ghost use Rattle.weights.specs.Conditional.{distribution, numerator, total};
 ghost use Rattle.weights.specs.Wide.{Prepares};
 
+use crate::sample_reader_calls::pairs_of;
 use one_sample_tests::{OneSample, OneSampleStages, SignKind};
 use sample_reader::Pairs;
 use stage_network::{Answer, PrepareFault, Spread, Stages, Way};
 use std::alloc::Global;
 use table_reader::Table;
-use weights::{NoMemory, Tail, Tails};
+use weights::{Ints, NoMemory, Tail, Tails};
 
 /// A test of pairs, or which number is too wide.
 pub fn prepare_pairs(
@@ -43,7 +44,9 @@ pub fn answer(
     tails: Tails,
     way: Way,
 ) -> Result<Answer, NoMemory>
-    requires { HasTails (one_sample_test problem.now) tails }
+    requires less { tails.less ≡ true → (one_sample_test problem.now).has_tail Tail.Less ≡ true }
+    requires greater { tails.greater ≡ true → (one_sample_test problem.now).has_tail Tail.Greater ≡ true }
+    requires two { tails.two ≡ true → (one_sample_test problem.now).has_tail Tail.Two ≡ true }
     ensures { let opened = open_keys (one_sample_network problem.now) in
         IfOk result (λ answer.
         answer ≡ answer_of (one_sample_test problem.now) opened tails way) }
@@ -86,4 +89,21 @@ pub fn stages_of(
         extreme_weight n tail 0 n.first ≡ numerator (one_sample_test problem.now) tail }
 {
     one_sample_tests::stages_of(alloc, problem, tail)
+}
+
+/// A test of pairs of their parts.
+pub fn prepared_pairs(
+    alloc: Global,
+    kind: SignKind,
+    rows: u64,
+    differences: Ints,
+) -> Result<OneSample, PrepareFault>
+    requires some { 1 ≤ rows }
+    requires few { rows ≤ 10000 }
+    requires one_each { length differences ≡ rows }
+    requires small { All (λ difference. nat_abs difference < 2 * 10 ^ 36) differences }
+    ensures { Prepares one_sample_test (sample_of kind differences) result }
+{
+    let pairs = pairs_of(rows, differences);
+    prepare_pairs(alloc, kind, &pairs)
 }

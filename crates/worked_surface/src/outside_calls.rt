@@ -1,5 +1,5 @@
 // The public calls of `outside`.
-ghost use Rattle.std.specs.Prelude.{[], ◌++◌, ◌+◌, ◌-◌, ◌<◌, ◌^◌, ◌↔◌, ◌≡◌, ◌≤◌, IfOk, IfSome, IsErr, IsErrOf, IsTrue, List, OnErr, OnOk, drop, false, length, min, take, ℕ};
+ghost use Rattle.std.specs.Prelude.{[], ◌++◌, ◌∷◌, ◌+◌, ◌-◌, ◌<◌, ◌^◌, ◌↔◌, ◌≡◌, ◌≤◌, IfOk, IfSome, IsErr, IsErrOf, IsTrue, List, OnErr, OnOk, drop, false, length, min, take, ℕ};
 ghost use Rattle.std.specs.Io.KnownBytes.{Appends, Consumes, IsAtEnd, WriteAppends};
 ghost use Rattle.std.specs.Vec.{vec_capacity};
 ghost use Rattle.outside.specs.Faults.{AppendsPrefix, Rose};
@@ -200,4 +200,74 @@ pub fn steady_write(sink: &mut SteadySink<'_>, piece: &[u8]) -> Result<usize, Fa
         ≡ min (sink.old.room.now.bytes + length piece.now) (2 ^ 128 - 1) }
 {
     sink.write(piece)
+}
+
+/// A source that holds one byte under every name.
+pub struct OneByte {
+    byte: u8,
+    is_left: bool,
+}
+
+impl Source for OneByte {
+    ghost use Rattle.std.specs.Prelude.{Some, [], ◌∷◌, if◌then◌else◌};
+
+    ghost held = { λ s name. Some (s.byte ∷ []) };
+
+    ghost left = { λ s. Some (if s.is_left then s.byte ∷ [] else []) };
+
+    ghost faults = { λ s. 0 };
+
+    fn start(&mut self, _name: &str) -> Result<(), Failed> {
+        self.is_left = true;
+        Ok(())
+    }
+
+    fn read(&mut self, buf: &mut [u8]) -> Result<usize, Failed> {
+        if !self.is_left || buf.is_empty() {
+            return Ok(0);
+        }
+        buf[0] = self.byte;
+        self.is_left = false;
+        Ok(1)
+    }
+}
+
+/// A sink that takes a byte at a time, and keeps what it took as long as there is memory.
+pub struct Keeping {
+    bytes: Vec<u8>,
+    faults: u64,
+}
+
+impl Sink for Keeping {
+    ghost use Rattle.std.specs.Prelude.{Some};
+
+    ghost taken = { λ s. Some s.bytes.items };
+
+    ghost faults = { λ s. s.faults };
+
+    fn write(&mut self, piece: &[u8]) -> Result<usize, Failed> {
+        if piece.is_empty() {
+            return Ok(0);
+        }
+        if self.bytes.push(piece[0]).is_err() {
+            self.faults = self.faults.saturating_add(1);
+            return Err(Failed);
+        }
+        Ok(1)
+    }
+}
+
+/// All bytes of the one that holds one byte.
+pub fn read_byte(alloc: Global, source: &mut OneByte) -> Result<Bytes, ReadFail>
+    ensures { IfOk result (λ read. read ≡ source.old.byte ∷ []) }
+{
+    read_all(alloc, source, "any")
+}
+
+/// The whole piece is kept, or a fault was counted.
+pub fn keep(sink: &mut Keeping, piece: &[u8]) -> Result<(), WriteFault>
+    ensures ok { OnOk result (sink.new.bytes.items ≡ sink.old.bytes.items ++ piece.now) }
+    ensures fault { OnErr result (Rose sink.old.faults sink.new.faults) }
+{
+    write_all(sink, piece)
 }

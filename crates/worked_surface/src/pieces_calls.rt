@@ -1,12 +1,14 @@
 // The public calls of `pieces`.
-ghost use Rattle.std.specs.Prelude.{◌<◌, ◌≡◌, ◌≤◌, IfOk, length, ℕ};
+ghost use Rattle.std.specs.Prelude.{◌<◌, ◌≡◌, ◌≤◌, IfOk, length, ℕ, ◌≢◌, ◌⊎◌, ◌&&◌, ◌||◌, IfSome, None, nat_le, true, [], ◌∷◌, ◌++◌, List, codes, decimal, Some};
 ghost use Rattle.node_pool.specs.Nodes.{keys};
 ghost use Rattle.piece_texts.specs.Merges.{MergeGives};
-ghost use Rattle.piece_texts.specs.PieceTexts.{piece_text};
+ghost use Rattle.piece_texts.specs.PieceTexts.{line_count, piece_text};
 ghost use Rattle.piece_texts.specs.ReadPieces.{ReadGives};
 ghost use Rattle.piece_texts.specs.RunNames.{run_name};
-ghost use Rattle.pieces.specs.Cuts.{IsCut, cut_nodes, owned_sum};
+ghost use Rattle.pieces.specs.Cuts.{IsCut, cut_nodes, owned_sum, PartsAddUp};
 ghost use Rattle.piece_texts.specs.Places.{piece_at};
+ghost use Rattle.std.specs.List.{AllByRecursion, flat_map, list_all};
+ghost use Rattle.weights.specs.declared.TheConstants.{MAX};
 
 use pieces::{Cut, MergeFault, Merged, Piece, PieceFault, PieceSum, Pieces};
 use stage_network::Stages;
@@ -20,8 +22,27 @@ pub fn name_of(words: &[u8], file: &[u8]) -> [u8; 64]
     pieces::name_of(words, file)
 }
 
-/// The text of a piece.
+/// The text of a piece: its name has 64 lower-case hexadecimal digits, it is one of 1 to 64 parts,
+/// its head ends with the line of its total, and it has a tail.
 pub fn piece_text(alloc: Global, piece: &Piece) -> Result<Bytes, NoMemory>
+    requires long { length piece.now.name ≡ 64 }
+    requires digits { list_all
+        (λ d. (nat_le 48 d && nat_le d 57) || (nat_le 97 d && nat_le d 102)) piece.now.name ≡ true }
+    requires some_parts { 1 ≤ piece.now.parts }
+    requires few_parts { piece.now.parts ≤ 64 }
+    requires part { piece.now.part < piece.now.parts }
+    requires head { (lines : List (List ℕ))
+        × AllByRecursion (λ line. AllByRecursion (λ b. b ≢ 10) line) lines
+        × (piece.now.head ≡ flat_map (λ line. line ++ 10 ∷ []) lines
+        ++ (codes "total " ++ decimal piece.now.total) ++ 10 ∷ []) }
+    requires few_lines { line_count piece.now.head ≤ MAX }
+    requires some_total { 1 ≤ piece.now.total }
+    requires total { piece.now.total ≤ MAX }
+    requires less { IfSome piece.now.less (λ s. (s.closed ≤ MAX) × (s.sum ≤ MAX)) }
+    requires greater { IfSome piece.now.greater (λ s. (s.closed ≤ MAX) × (s.sum ≤ MAX)) }
+    requires two { IfSome piece.now.two (λ s. (s.closed ≤ MAX) × (s.sum ≤ MAX)) }
+    requires tail { (piece.now.less ≢ None)
+        ⊎ ((piece.now.greater ≢ None) ⊎ (piece.now.two ≢ None)) }
     ensures { IfOk result (λ text. text ≡ piece_text piece.now) }
 {
     pieces::piece_text(alloc, piece)
@@ -135,26 +156,36 @@ pub fn cut<S: Stages>(alloc: Global, stages: &S, tail: Tail, at: usize) -> Resul
     requires { at ≤ (S.network stages.now).count }
     ensures at { IfOk result (λ cut. cut.at ≡ at) }
     ensures cut { IfOk result (IsCut (S.network stages.now) tail) }
+    ensures parts { let n = S.network stages.now in
+        IfOk result (λ cut. PartsAddUp n tail at cut.closed (keys (cut_nodes n cut))) }
 {
     pieces::cut(alloc, stages, tail, at)
 }
 
-/// The sum of the keys of a cut that a part owns.
+/// The sum of the keys that a part owns of the cut that `cut` gives, where each of them has an
+/// owner; none where there is another number of owners. With it stand the cut and what it promises.
 pub fn run_piece<S: Stages>(
     alloc: Global,
     stages: &S,
     tail: Tail,
-    from: &Cut,
+    at: usize,
     owners: &[u64],
     part: u64,
-) -> Result<u128, NoMemory>
-    requires cut { IsCut (S.network stages.now) tail from.now }
-    requires each { length owners.now ≡ length from.now.weights }
-    ensures { let n = S.network stages.now in
-        IfOk result (λ sum. sum
-        ≡ owned_sum n tail from.now.at (keys (cut_nodes n from.now)) owners.now part) }
+) -> Result<Option<(Cut, u128)>, NoMemory>
+    requires { at ≤ (S.network stages.now).count }
+    ensures sum { let n = S.network stages.now in
+        IfOk result (λ found. IfSome found (λ both.
+        both.1 ≡ owned_sum n tail at (keys (cut_nodes n both.0)) owners.now part)) }
+    ensures parts { let n = S.network stages.now in
+        IfOk result (λ found. IfSome found (λ both.
+        PartsAddUp n tail at both.0.closed (keys (cut_nodes n both.0)))) }
 {
-    pieces::run_piece(alloc, stages, tail, from, owners, part)
+    let from = pieces::cut(alloc, stages, tail, at)?;
+    if owners.len() != from.weights.len() {
+        return Ok(None);
+    }
+    let sum = pieces::run_piece(alloc, stages, tail, &from, owners, part)?;
+    Ok(Some((from, sum)))
 }
 
 /// A cut, of its four parts.

@@ -1,9 +1,9 @@
 // The public calls of `report`.
-ghost use Rattle.std.specs.Prelude.{◌≡◌, ◌≤◌, IfOk, ℕ};
+ghost use Rattle.std.specs.Prelude.{◌≡◌, ◌≤◌, IfOk, ℕ, IfSome, ◌^◌};
 ghost use Rattle.std.specs.Option.{option_copied};
 ghost use Rattle.report.specs.Refusals.{refusal_line_text};
-ghost use Rattle.report.specs.Report.{AreQuotients, HasQuotients, head_text, merged_text, report_text};
-ghost use Rattle.report.specs.Shift.{IsShowable, shift_text};
+ghost use Rattle.report.specs.Report.{head_text, merged_text, report_text};
+ghost use Rattle.report.specs.Shift.{shift_text};
 ghost use Rattle.report.specs.ShortLines.{bytes_of};
 ghost use Rattle.weights.specs.declared.TheConstants.{MAX};
 ghost use Rattle.report.specs.Decimals.{six_decimals as six_decimals_of};
@@ -28,7 +28,11 @@ pub fn compose(
     nodes: bool,
     spread: Option<&Spread>,
 ) -> Result<Bytes, NoMemory>
-    requires { HasQuotients answer.now }
+    requires some { 1 ≤ answer.now.total }
+    requires fits { answer.now.total ≤ MAX }
+    requires less { IfSome answer.now.less (λ tail. tail.sum ≤ answer.now.total) }
+    requires greater { IfSome answer.now.greater (λ tail. tail.sum ≤ answer.now.total) }
+    requires two { IfSome answer.now.two (λ tail. tail.sum ≤ answer.now.total) }
     ensures { let lines = option_copied spread.entry in IfOk result (λ text.
         text ≡ report_text title sizes.now dropped extra answer.now nodes lines) }
 {
@@ -61,7 +65,11 @@ pub fn compose_merged(
     greater: Option<u128>,
     two: Option<u128>,
 ) -> Result<Bytes, NoMemory>
-    requires { AreQuotients total less greater two }
+    requires some { 1 ≤ total }
+    requires fits { total ≤ MAX }
+    requires less { IfSome less (λ numerator. numerator ≤ total) }
+    requires greater { IfSome greater (λ numerator. numerator ≤ total) }
+    requires two { IfSome two (λ numerator. numerator ≤ total) }
     ensures { IfOk result (λ text. text ≡ merged_text head.now total less greater two) }
 {
     report::compose_merged(alloc, head, total, less, greater, two)
@@ -74,7 +82,10 @@ pub fn compose_shift(
     dropped: Option<u64>,
     limits: &Limits,
 ) -> Result<Bytes, NoMemory>
-    requires { IsShowable limits.now }
+    requires some { 1 ≤ limits.now.total }
+    requires fits { limits.now.total ≤ MAX }
+    requires part { limits.now.missed ≤ limits.now.total }
+    requires places { limits.now.places ≤ 10 ^ 18 }
     ensures { IfOk result (λ text. text ≡ shift_text sizes.now dropped limits.now) }
 {
     report::compose_shift(alloc, sizes, dropped, limits)

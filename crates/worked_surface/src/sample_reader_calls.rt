@@ -1,8 +1,7 @@
 // The public calls of `sample_reader`.
-ghost use Rattle.std.specs.Prelude.{[], ◌*◌, ◌++◌, ◌<◌, ◌^◌, ◌↔◌, ◌∷◌, ◌≡◌, ◌≢◌, ◌≤◌, All, AllPairs, IfErr, IfOk, IsErrOf, IsPermutation, IsTrue, OnErr, OnOk, length, nat_abs};
+ghost use Rattle.std.specs.Prelude.{[], ◌*◌, ◌++◌, ◌<◌, ◌^◌, ◌↔◌, ◌∷◌, ◌≡◌, ◌≢◌, ◌≤◌, All, AllPairs, IfErr, IfOk, IsErrOf, IsPermutation, IsTrue, OnErr, OnOk, length, nat_abs, List, ℕ};
 ghost use Rattle.std.specs.List.{slice_index_or};
 ghost use Rattle.record_reader.specs.Answers.{IsFaultOf};
-ghost use Rattle.record_reader.specs.Layouts.{MayPick};
 ghost use Rattle.sample_reader.specs.CellLayouts.{binary_blocks_in, blocks_in, differences_in};
 ghost use Rattle.sample_reader.specs.Data.{block_data_of, data_of, sequence_data_of, strata_data_of, twin_data_of};
 ghost use Rattle.sample_reader.specs.Dropped.{MayPickFor, dropped_of};
@@ -221,7 +220,12 @@ pub fn pairs(
     picks: &Picks,
     missing: Missing,
 ) -> Result<Pairs, LayoutFault>
-    requires { MayPick 1 2 picks.now }
+    requires least { (fields : List ℕ) → picks.now ≡ Picks.Listed fields → 1 ≤ length fields }
+    requires most { (fields : List ℕ) → picks.now ≡ Picks.Listed fields → length fields ≤ 2 }
+    requires from_one { (fields : List ℕ) → picks.now ≡ Picks.Listed fields
+        → All (λ field. 1 ≤ field) fields }
+    requires distinct { (fields : List ℕ) → picks.now ≡ Picks.Listed fields
+        → AllPairs ◌≢◌ fields }
     ensures ok { IfOk result (λ pairs.
         differences_in missing picks.now rows.now ≡ Ok pairs.differences) }
     ensures fault { IfErr result (IsFaultOf (differences_in missing picks.now rows.now)) }
@@ -237,7 +241,11 @@ pub fn groups(
     most: u64,
     missing: Missing,
 ) -> Result<Groups, LayoutFault>
-    requires picks { MayPick 2 2 picks.now }
+    requires many { (fields : List ℕ) → picks.now ≡ Picks.Listed fields → length fields ≡ 2 }
+    requires from_one { (fields : List ℕ) → picks.now ≡ Picks.Listed fields
+        → All (λ field. 1 ≤ field) fields }
+    requires distinct { (fields : List ℕ) → picks.now ≡ Picks.Listed fields
+        → AllPairs ◌≢◌ fields }
     requires two { 2 ≤ most }
     requires eight { most ≤ 8 }
     ensures ok { IfOk result (λ groups.
@@ -255,7 +263,12 @@ pub fn blocks(
     picks: &Picks,
     missing: Missing,
 ) -> Result<Blocks, LayoutFault>
-    requires { MayPick 2 8 picks.now }
+    requires least { (fields : List ℕ) → picks.now ≡ Picks.Listed fields → 2 ≤ length fields }
+    requires most { (fields : List ℕ) → picks.now ≡ Picks.Listed fields → length fields ≤ 8 }
+    requires from_one { (fields : List ℕ) → picks.now ≡ Picks.Listed fields
+        → All (λ field. 1 ≤ field) fields }
+    requires distinct { (fields : List ℕ) → picks.now ≡ Picks.Listed fields
+        → AllPairs ◌≢◌ fields }
     ensures ok { IfOk result (λ blocks.
         blocks_in missing picks.now rows.now ≡ Ok (block_data_of blocks)) }
     ensures fault { IfErr result (IsFaultOf (blocks_in missing picks.now rows.now)) }
@@ -270,7 +283,12 @@ pub fn binary_blocks(
     picks: &Picks,
     missing: Missing,
 ) -> Result<Blocks, LayoutFault>
-    requires { MayPick 2 8 picks.now }
+    requires least { (fields : List ℕ) → picks.now ≡ Picks.Listed fields → 2 ≤ length fields }
+    requires most { (fields : List ℕ) → picks.now ≡ Picks.Listed fields → length fields ≤ 8 }
+    requires from_one { (fields : List ℕ) → picks.now ≡ Picks.Listed fields
+        → All (λ field. 1 ≤ field) fields }
+    requires distinct { (fields : List ℕ) → picks.now ≡ Picks.Listed fields
+        → AllPairs ◌≢◌ fields }
     ensures ok { IfOk result (λ blocks.
         binary_blocks_in missing picks.now rows.now ≡ Ok (block_data_of blocks)) }
     ensures binary { IfOk result (λ blocks. All IsBinary blocks.cells) }
@@ -286,7 +304,11 @@ pub fn strata_groups(
     picks: &Picks,
     missing: Missing,
 ) -> Result<StrataGroups, LayoutFault>
-    requires { MayPick 3 3 picks.now }
+    requires many { (fields : List ℕ) → picks.now ≡ Picks.Listed fields → length fields ≡ 3 }
+    requires from_one { (fields : List ℕ) → picks.now ≡ Picks.Listed fields
+        → All (λ field. 1 ≤ field) fields }
+    requires distinct { (fields : List ℕ) → picks.now ≡ Picks.Listed fields
+        → AllPairs ◌≢◌ fields }
     ensures ok { IfOk result (λ samples.
         strata_groups_in missing picks.now rows.now ≡ Ok (strata_data_of samples)) }
     ensures fault { IfErr result (IsFaultOf (strata_groups_in missing picks.now rows.now)) }
@@ -301,7 +323,11 @@ pub fn sequence(
     picks: &Picks,
     missing: Missing,
 ) -> Result<Sequence, LayoutFault>
-    requires { MayPick 1 1 picks.now }
+    requires many { (fields : List ℕ) → picks.now ≡ Picks.Listed fields → length fields ≡ 1 }
+    requires from_one { (fields : List ℕ) → picks.now ≡ Picks.Listed fields
+        → All (λ field. 1 ≤ field) fields }
+    requires distinct { (fields : List ℕ) → picks.now ≡ Picks.Listed fields
+        → AllPairs ◌≢◌ fields }
     ensures ok { IfOk result (λ sequence.
         sequence_in missing picks.now rows.now ≡ Ok (sequence_data_of sequence)) }
     ensures fault { IfErr result (IsFaultOf (sequence_in missing picks.now rows.now)) }
@@ -414,10 +440,139 @@ pub fn twins(
     picks: &Picks,
     missing: Missing,
 ) -> Result<Twins, LayoutFault>
-    requires { MayPick 2 2 picks.now }
+    requires many { (fields : List ℕ) → picks.now ≡ Picks.Listed fields → length fields ≡ 2 }
+    requires from_one { (fields : List ℕ) → picks.now ≡ Picks.Listed fields
+        → All (λ field. 1 ≤ field) fields }
+    requires distinct { (fields : List ℕ) → picks.now ≡ Picks.Listed fields
+        → AllPairs ◌≢◌ fields }
     ensures ok { IfOk result (λ twins.
         twins_in missing picks.now rows.now ≡ Ok (twin_data_of twins)) }
     ensures fault { IfErr result (IsFaultOf (twins_in missing picks.now rows.now)) }
 {
     sample_reader::twins(alloc, rows, picks, missing)
+}
+
+/// Pairs, of their two parts.
+pub fn pairs_of(rows: u64, differences: Ints) -> Pairs
+    requires some { 1 ≤ rows }
+    requires few { rows ≤ 10000 }
+    requires one_each { length differences ≡ rows }
+    requires small { All (λ difference. nat_abs difference < 2 * 10 ^ 36) differences }
+    ensures rows { result.rows ≡ rows }
+    ensures differences { result.differences ≡ differences }
+{
+    Pairs { rows, differences }
+}
+
+/// Groups, of their four parts.
+pub fn groups_of(labels: Labels, sizes: Nums, members: Nums, values: Ints) -> Groups
+    requires two { 2 ≤ length labels }
+    requires eight { length labels ≤ 8 }
+    requires distinct { AllPairs ◌≢◌ labels }
+    requires few { length values ≤ 10000 }
+    requires small { All (λ value. nat_abs value < 10 ^ 36) values }
+    requires one_each { length members ≡ length values }
+    requires exist { All (λ group. group < length labels) members }
+    requires counted { sizes ≡ counts_of (length labels) members }
+    requires some { All (λ size. 1 ≤ size) sizes }
+    ensures { data_of result ≡ record { labels = labels; members = members; values = values } }
+{
+    Groups {
+        labels,
+        sizes,
+        members,
+        values,
+    }
+}
+
+/// Blocks, of their three parts.
+pub fn blocks_of(blocks: u64, treatments: u64, cells: Ints) -> Blocks
+    requires some { 1 ≤ blocks }
+    requires few { blocks ≤ 10000 }
+    requires two { 2 ≤ treatments }
+    requires eight { treatments ≤ 8 }
+    requires one_each { length cells ≡ blocks * treatments }
+    requires small { All (λ cell. nat_abs cell < 10 ^ 36) cells }
+    ensures data { block_data_of result
+        ≡ record { blocks = blocks; treatments = treatments; cells = cells } }
+    ensures cells { result.cells ≡ cells }
+{
+    Blocks {
+        blocks,
+        treatments,
+        cells,
+    }
+}
+
+/// Groups in strata, of their six parts.
+pub fn strata_groups_of(
+    strata: Labels,
+    labels: Labels,
+    sizes: Nums,
+    places: Nums,
+    members: Nums,
+    values: Ints,
+) -> StrataGroups
+    requires two { length labels ≡ 2 }
+    requires distinct { AllPairs ◌≢◌ labels }
+    requires strata_distinct { AllPairs ◌≢◌ strata }
+    requires few { length values ≤ 10000 }
+    requires small { All (λ value. nat_abs value < 10 ^ 36) values }
+    requires one_each { length members ≡ length values }
+    requires exist { All (λ group. group < length labels) members }
+    requires counted { sizes ≡ counts_of (length labels) members }
+    requires some { All (λ size. 1 ≤ size) sizes }
+    requires places_each { length places ≡ length values }
+    requires strata_exist { All (λ stratum. stratum < length strata) places }
+    requires strata_some { All (λ size. 1 ≤ size) (counts_of (length strata) places) }
+    ensures { strata_data_of result ≡ record {
+      strata = strata;
+      labels = labels;
+      places = places;
+      members = members;
+      values = values;
+    } }
+{
+    StrataGroups {
+        strata,
+        labels,
+        sizes,
+        places,
+        members,
+        values,
+    }
+}
+
+/// A bivariate sample, of its three parts.
+pub fn twins_of(rows: u64, first: Ints, second: Ints) -> Twins
+    requires some { 1 ≤ rows }
+    requires few { rows ≤ 120 }
+    requires first { length first ≡ rows }
+    requires second { length second ≡ rows }
+    requires first_small { All (λ value. nat_abs value < 10 ^ 36) first }
+    requires second_small { All (λ value. nat_abs value < 10 ^ 36) second }
+    ensures { twin_data_of result ≡ record { first = first; second = second } }
+{
+    Twins {
+        rows,
+        first,
+        second,
+    }
+}
+
+/// A sequence, of its three parts.
+pub fn sequence_of(labels: Labels, sizes: Nums, members: Nums) -> Sequence
+    requires two { length labels ≡ 2 }
+    requires distinct { AllPairs ◌≢◌ labels }
+    requires few { length members ≤ 10000 }
+    requires exist { All (λ label. label < length labels) members }
+    requires counted { sizes ≡ counts_of (length labels) members }
+    requires some { All (λ size. 1 ≤ size) sizes }
+    ensures { sequence_data_of result ≡ record { labels = labels; members = members } }
+{
+    Sequence {
+        labels,
+        sizes,
+        members,
+    }
 }

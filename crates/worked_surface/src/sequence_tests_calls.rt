@@ -1,19 +1,21 @@
 // The public calls of `sequence_tests`.
-ghost use Rattle.std.specs.Prelude.{◌≡◌, IfOk, true};
+ghost use Rattle.std.specs.Prelude.{◌≡◌, IfOk, true, ◌<◌, ◌^◌, ◌≢◌, ◌≤◌, All, AllPairs, length, nat_abs};
 ghost use Rattle.networks.specs.Completions.{extreme_weight, total_weight};
-ghost use Rattle.networks.specs.Follows.{HasTails, answer_of, open_keys};
+ghost use Rattle.networks.specs.Follows.{answer_of, open_keys};
 ghost use Rattle.networks.specs.Lines.{WeightsFit};
 ghost use Rattle.sample_reader.specs.Data.{sequence_data_of, twin_data_of};
 ghost use Rattle.sequence_tests.specs.SequenceTests.{running_network, sequence_network, sequence_test};
 ghost use Rattle.weights.specs.Conditional.{distribution, numerator, total};
 ghost use Rattle.weights.specs.Wide.{Prepares};
 ghost use Rattle.networks.specs.declared.one_of.OneOf.TheVariants.{First, Second};
+ghost use Rattle.weights.specs.Labellings.{counts_of};
 
-use sample_reader::{Sequence, Twins};
+use crate::sample_reader_calls::{sequence_of, twins_of};
+use sample_reader::{Labels, Sequence, Twins};
 use sequence_tests::{SequenceStages, SequenceTest};
 use stage_network::{Answer, PrepareFault, Spread, Stages, Way};
 use std::alloc::Global;
-use weights::{NoMemory, Tail, Tails};
+use weights::{Ints, NoMemory, Nums, Tail, Tails};
 
 /// The answer of a test for tails that it has, by either way.
 pub fn answer(
@@ -22,7 +24,9 @@ pub fn answer(
     tails: Tails,
     way: Way,
 ) -> Result<Answer, NoMemory>
-    requires { HasTails (sequence_test problem.now) tails }
+    requires less { tails.less ≡ true → (sequence_test problem.now).has_tail Tail.Less ≡ true }
+    requires greater { tails.greater ≡ true → (sequence_test problem.now).has_tail Tail.Greater ≡ true }
+    requires two { tails.two ≡ true → (sequence_test problem.now).has_tail Tail.Two ≡ true }
     ensures { let opened = open_keys (sequence_network problem.now) in
         IfOk result (λ answer.
         answer ≡ answer_of (sequence_test problem.now) opened tails way) }
@@ -68,4 +72,44 @@ pub fn stages_of(
         extreme_weight n tail 0 n.first ≡ numerator (sequence_test problem.now) tail }
 {
     sequence_tests::stages_of(alloc, problem, tail)
+}
+
+/// Kendall's test of the parts of a bivariate sample.
+pub fn prepared_twins(
+    alloc: Global,
+    rows: u64,
+    first: Ints,
+    second: Ints,
+) -> Result<SequenceTest, PrepareFault>
+    requires some { 1 ≤ rows }
+    requires few { rows ≤ 120 }
+    requires first { length first ≡ rows }
+    requires second { length second ≡ rows }
+    requires first_small { All (λ value. nat_abs value < 10 ^ 36) first }
+    requires second_small { All (λ value. nat_abs value < 10 ^ 36) second }
+    ensures { let twins = record { first = first; second = second } in
+        Prepares sequence_test (First twins) result }
+{
+    let twins = twins_of(rows, first, second);
+    prepare_kendall(alloc, &twins)
+}
+
+/// The runs test of the parts of a sequence.
+pub fn prepared_sequence(
+    alloc: Global,
+    labels: Labels,
+    sizes: Nums,
+    members: Nums,
+) -> Result<SequenceTest, PrepareFault>
+    requires two { length labels ≡ 2 }
+    requires distinct { AllPairs ◌≢◌ labels }
+    requires few { length members ≤ 10000 }
+    requires exist { All (λ label. label < length labels) members }
+    requires counted { sizes ≡ counts_of (length labels) members }
+    requires some { All (λ size. 1 ≤ size) sizes }
+    ensures { let sequence = record { labels = labels; members = members } in
+        Prepares sequence_test (Second sequence) result }
+{
+    let sequence = sequence_of(labels, sizes, members);
+    prepare_runs(alloc, &sequence)
 }

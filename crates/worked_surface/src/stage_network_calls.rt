@@ -1,15 +1,15 @@
 // The public calls of `stage_network`.
-ghost use Rattle.std.specs.Prelude.{[], ◌++◌, ◌<◌, ◌^◌, ◌↔◌, ◌∷◌, ◌≡◌, IfOk, IsTrue, OnErr, OnOk, length, map, nat_abs};
-ghost use Rattle.std.specs.List.{Contains};
+ghost use Rattle.std.specs.Prelude.{[], ◌++◌, ◌<◌, ◌^◌, ◌↔◌, ◌∷◌, ◌≡◌, ◌≤◌, ◌*◌, IfOk, IsTrue, OnErr, OnOk, length, map, nat_abs};
+ghost use Rattle.std.specs.List.{AllByRecursion, Contains, IsDistinct};
 ghost use Rattle.networks.specs.Completions.{extreme_weight, total_weight, value_weights};
 ghost use Rattle.networks.specs.Follows.{statistic_sums};
 ghost use Rattle.networks.specs.Laws.{IsLawful};
 ghost use Rattle.networks.specs.Lines.{IsAboveLast, IsAscending, IsSpreadOf, WeightsFit};
 ghost use Rattle.networks.specs.Network.{IsReached, pending};
 ghost use Rattle.networks.specs.Opened.{opened_below};
-ghost use Rattle.node_pool.specs.Nodes.{weighted};
+ghost use Rattle.node_pool.specs.Nodes.{key_eq, keys as keys_in, weighted};
 ghost use Rattle.node_pool.specs.PoolSteps.{nodes_of};
-ghost use Rattle.stage_network.specs.FromKeys.{AreStarts};
+ghost use Rattle.weights.specs.declared.TheConstants.{MAX};
 ghost use Rattle.worked_surface.specs.TwoSigns.{two_signs};
 
 use crate::enumerate_calls::TwoSigns;
@@ -244,8 +244,8 @@ pub fn is_wide_total(fault: PrepareFault) -> bool
     }
 }
 
-/// The sum over keys that are reached at a stage of each one's weight times the summed weight of
-/// its extreme completions.
+/// The sum over keys, laid flat, that differ and are reached at a stage, each with a weight of at
+/// least 1: of each one's weight times the summed weight of its extreme completions.
 pub fn tail_sum_from<S: Stages>(
     alloc: Global,
     stages: &S,
@@ -254,7 +254,18 @@ pub fn tail_sum_from<S: Stages>(
     keys: &Ints,
     weights: &Ints,
 ) -> Result<u128, NoMemory>
-    requires { AreStarts (S.network stages.now) at keys.now (map nat_abs weights.now) }
+    requires within { at ≤ (S.network stages.now).count }
+    requires flat { length keys.now ≡ length weights.now * (S.network stages.now).width }
+    requires reached { let n = S.network stages.now in
+        AllByRecursion (λ node. IsReached n at node.key)
+        (nodes_of n.width keys.now (map nat_abs weights.now)) }
+    requires weighty { let n = S.network stages.now in
+        AllByRecursion (λ node. 1 ≤ node.weight)
+        (nodes_of n.width keys.now (map nat_abs weights.now)) }
+    requires distinct { let n = S.network stages.now in
+        IsDistinct key_eq (keys_in (nodes_of n.width keys.now (map nat_abs weights.now))) }
+    requires fits { let n = S.network stages.now in
+        weighted (total_weight n at) (nodes_of n.width keys.now (map nat_abs weights.now)) ≤ MAX }
     ensures { let n = S.network stages.now in
         let nodes = nodes_of n.width keys.now (map nat_abs weights.now) in
         IfOk result (λ sum. sum ≡ weighted (extreme_weight n tail at) nodes) }

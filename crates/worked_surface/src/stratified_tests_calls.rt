@@ -1,7 +1,7 @@
 // The public calls of `stratified_tests`.
-ghost use Rattle.std.specs.Prelude.{◌≡◌, IfOk, true};
+ghost use Rattle.std.specs.Prelude.{◌≡◌, IfOk, true, ◌%◌, ◌≤◌, All, length};
 ghost use Rattle.networks.specs.Completions.{extreme_weight, total_weight};
-ghost use Rattle.networks.specs.Follows.{HasTails, answer_of, open_keys};
+ghost use Rattle.networks.specs.Follows.{answer_of, open_keys};
 ghost use Rattle.networks.specs.Lines.{WeightsFit};
 ghost use Rattle.stratified_tests.specs.StrataNetwork.{strata_network};
 ghost use Rattle.stratified_tests.specs.StrataTests.{data_of, strata_test};
@@ -9,11 +9,12 @@ ghost use Rattle.weights.specs.Conditional.{distribution, numerator, total};
 ghost use Rattle.weights.specs.Odds.{IsOdds};
 ghost use Rattle.weights.specs.Wide.{Prepares};
 
+use crate::table_reader_calls::strata_of;
 use stage_network::{Answer, PrepareFault, Spread, Stages, Way};
 use std::alloc::Global;
 use stratified_tests::{StrataStages, StrataTest};
 use table_reader::Strata;
-use weights::{NoMemory, Odds, Tail, Tails};
+use weights::{NoMemory, Nums, Odds, Tail, Tails};
 
 /// A test of strata, or which number is too wide.
 pub fn prepare(alloc: Global, strata: &Strata) -> Result<StrataTest, PrepareFault>
@@ -37,7 +38,9 @@ pub fn answer(
     tails: Tails,
     way: Way,
 ) -> Result<Answer, NoMemory>
-    requires { HasTails (strata_test problem.now) tails }
+    requires less { tails.less ≡ true → (strata_test problem.now).has_tail Tail.Less ≡ true }
+    requires greater { tails.greater ≡ true → (strata_test problem.now).has_tail Tail.Greater ≡ true }
+    requires two { tails.two ≡ true → (strata_test problem.now).has_tail Tail.Two ≡ true }
     ensures { let opened = open_keys (strata_network problem.now) in
         IfOk result (λ answer.
         answer ≡ answer_of (strata_test problem.now) opened tails way) }
@@ -65,4 +68,16 @@ pub fn stages_of(alloc: Global, problem: &StrataTest, tail: Tail) -> Result<Stra
         extreme_weight n tail 0 n.first ≡ numerator (strata_test problem.now) tail }
 {
     stratified_tests::stages_of(alloc, problem, tail)
+}
+
+/// A test of strata of their cells.
+pub fn prepared_strata(alloc: Global, cells: Nums) -> Result<StrataTest, PrepareFault>
+    requires some { 4 ≤ length cells }
+    requires few { length cells ≤ 40000 }
+    requires four_each { length cells % 4 ≡ 0 }
+    requires counts { All (λ cell. cell ≤ 1000000) cells }
+    ensures { Prepares strata_test (data_of None cells) result }
+{
+    let strata = strata_of(cells);
+    prepare(alloc, &strata)
 }

@@ -1,7 +1,6 @@
 // The public calls of `table_reader`.
-ghost use Rattle.std.specs.Prelude.{◌%◌, ◌*◌, ◌≡◌, ◌≤◌, All, IfErr, IfOk, length};
+ghost use Rattle.std.specs.Prelude.{◌%◌, ◌*◌, ◌≡◌, ◌≤◌, All, IfErr, IfOk, length, List, ℕ, ◌≢◌, AllPairs, true, false};
 ghost use Rattle.record_reader.specs.Answers.{IsFaultOf};
-ghost use Rattle.record_reader.specs.Layouts.{MayPick};
 ghost use Rattle.table_reader.specs.Data.{table_data_of};
 ghost use Rattle.table_reader.specs.Kept.{HasShape};
 ghost use Rattle.table_reader.specs.StrataLayout.{strata_in};
@@ -57,8 +56,15 @@ pub fn table(
     picks: &Picks,
     two_by_two: bool,
 ) -> Result<Table, LayoutFault>
-    requires { let shape = table_shape two_by_two in
-        MayPick shape.narrowest shape.widest picks.now }
+    requires least { (fields : List ℕ) → picks.now ≡ Picks.Listed fields → 2 ≤ length fields }
+    requires most { (fields : List ℕ) → picks.now ≡ Picks.Listed fields → two_by_two ≡ false
+        → length fields ≤ 64 }
+    requires square { (fields : List ℕ) → picks.now ≡ Picks.Listed fields → two_by_two ≡ true
+        → length fields ≤ 2 }
+    requires from_one { (fields : List ℕ) → picks.now ≡ Picks.Listed fields
+        → All (λ field. 1 ≤ field) fields }
+    requires distinct { (fields : List ℕ) → picks.now ≡ Picks.Listed fields
+        → AllPairs ◌≢◌ fields }
     ensures ok { IfOk result (λ table.
         table_in two_by_two picks.now rows.now ≡ Ok (table_data_of table)) }
     ensures shape { IfOk result (λ table.
@@ -70,9 +76,41 @@ pub fn table(
 
 /// Strata of a file, or the first fault.
 pub fn strata(alloc: Global, rows: &Rows, picks: &Picks) -> Result<Strata, LayoutFault>
-    requires { MayPick 5 5 picks.now }
+    requires many { (fields : List ℕ) → picks.now ≡ Picks.Listed fields → length fields ≡ 5 }
+    requires from_one { (fields : List ℕ) → picks.now ≡ Picks.Listed fields
+        → All (λ field. 1 ≤ field) fields }
+    requires distinct { (fields : List ℕ) → picks.now ≡ Picks.Listed fields
+        → AllPairs ◌≢◌ fields }
     ensures ok { IfOk result (λ strata. strata_in picks.now rows.now ≡ Ok strata.cells) }
     ensures fault { IfErr result (IsFaultOf (strata_in picks.now rows.now)) }
 {
     table_reader::strata(alloc, rows, picks)
+}
+
+/// A table, of its three parts.
+pub fn table_of(rows: u64, columns: u64, cells: Nums) -> Table
+    requires two_rows { 2 ≤ rows }
+    requires few_rows { rows ≤ 8 }
+    requires two_columns { 2 ≤ columns }
+    requires few_columns { columns ≤ 64 }
+    requires one_each { length cells ≡ rows * columns }
+    requires counts { All (λ cell. cell ≤ 1000000) cells }
+    ensures { table_data_of result ≡ record { rows = rows; columns = columns; cells = cells } }
+{
+    Table {
+        rows,
+        columns,
+        cells,
+    }
+}
+
+/// Strata, of their cells.
+pub fn strata_of(cells: Nums) -> Strata
+    requires some { 4 ≤ length cells }
+    requires few { length cells ≤ 40000 }
+    requires four_each { length cells % 4 ≡ 0 }
+    requires counts { All (λ cell. cell ≤ 1000000) cells }
+    ensures { result.cells ≡ cells }
+{
+    Strata { cells }
 }

@@ -1,7 +1,7 @@
 // The public calls of `table_tests`.
-ghost use Rattle.std.specs.Prelude.{◌≡◌, IfOk, length, true};
+ghost use Rattle.std.specs.Prelude.{◌≡◌, IfOk, length, true, ◌*◌, ◌≤◌, All};
 ghost use Rattle.networks.specs.Completions.{extreme_weight, total_weight};
-ghost use Rattle.networks.specs.Follows.{HasTails, answer_of, open_keys};
+ghost use Rattle.networks.specs.Follows.{answer_of, open_keys};
 ghost use Rattle.networks.specs.Lines.{WeightsFit};
 ghost use Rattle.table_reader.specs.Data.{table_data_of};
 ghost use Rattle.two_by_two.specs.OddsSteps.{weighted_of};
@@ -14,11 +14,12 @@ ghost use Rattle.weights.specs.Odds.{IsOdds};
 ghost use Rattle.weights.specs.Wide.{Prepares};
 ghost use Rattle.networks.specs.declared.one_of.OneOf.TheVariants.{First, Second};
 
+use crate::table_reader_calls::table_of;
 use stage_network::{Answer, PrepareFault, Spread, Stages, Way};
 use std::alloc::Global;
 use table_reader::Table;
 use table_tests::{TableStages, TableTest};
-use weights::{NoMemory, Odds, Tail, Tails};
+use weights::{NoMemory, Nums, Odds, Tail, Tails};
 
 /// Fisher's test, or which number is too wide.
 pub fn prepare_fisher(alloc: Global, table: &Table) -> Result<TableTest, PrepareFault>
@@ -61,7 +62,9 @@ pub fn answer(
     tails: Tails,
     way: Way,
 ) -> Result<Answer, NoMemory>
-    requires { HasTails (table_test problem.now) tails }
+    requires less { tails.less ≡ true → (table_test problem.now).has_tail Tail.Less ≡ true }
+    requires greater { tails.greater ≡ true → (table_test problem.now).has_tail Tail.Greater ≡ true }
+    requires two { tails.two ≡ true → (table_test problem.now).has_tail Tail.Two ≡ true }
     ensures { let opened = open_keys (table_network problem.now) in
         IfOk result (λ answer.
         answer ≡ answer_of (table_test problem.now) opened tails way) }
@@ -89,4 +92,24 @@ pub fn stages_of(alloc: Global, problem: &TableTest, tail: Tail) -> Result<Table
         extreme_weight n tail 0 n.first ≡ numerator (table_test problem.now) tail }
 {
     table_tests::stages_of(alloc, problem, tail)
+}
+
+/// Fisher's test of a table of its parts.
+pub fn prepared_table(
+    alloc: Global,
+    rows: u64,
+    columns: u64,
+    cells: Nums,
+) -> Result<TableTest, PrepareFault>
+    requires two_rows { 2 ≤ rows }
+    requires few_rows { rows ≤ 8 }
+    requires two_columns { 2 ≤ columns }
+    requires few_columns { columns ≤ 64 }
+    requires one_each { length cells ≡ rows * columns }
+    requires counts { All (λ cell. cell ≤ 1000000) cells }
+    ensures { let table = record { rows = rows; columns = columns; cells = cells } in
+        Prepares table_test (First (First table)) result }
+{
+    let table = table_of(rows, columns, cells);
+    prepare_fisher(alloc, &table)
 }

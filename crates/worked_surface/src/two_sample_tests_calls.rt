@@ -1,20 +1,23 @@
 // The public calls of `two_sample_tests`.
-ghost use Rattle.std.specs.Prelude.{◌≡◌, IfOk, length, true};
+ghost use Rattle.std.specs.Prelude.{◌≡◌, IfOk, length, true, ◌<◌, ◌^◌, ◌≢◌, ◌≤◌, All, AllPairs, nat_abs};
 ghost use Rattle.networks.specs.Completions.{extreme_weight, total_weight};
-ghost use Rattle.networks.specs.Follows.{HasTails, answer_of, open_keys};
+ghost use Rattle.networks.specs.Follows.{answer_of, open_keys};
 ghost use Rattle.networks.specs.Lines.{WeightsFit};
 ghost use Rattle.sample_reader.specs.Data.{data_of};
 ghost use Rattle.two_sample_tests.specs.Columns.{two_sample_network};
 ghost use Rattle.two_sample_tests.specs.TwoSamples.{two_sample_test};
 ghost use Rattle.weights.specs.Conditional.{distribution, numerator, total};
 ghost use Rattle.weights.specs.Wide.{Prepares};
+ghost use Rattle.weights.specs.Labellings.{counts_of};
 
-use sample_reader::Groups;
+use crate::enumerate_calls::plain_tail;
+use crate::sample_reader_calls::groups_of;
+use sample_reader::{Groups, Labels};
 use scores::ScoreKind;
 use stage_network::{Answer, PrepareFault, Spread, Stages, Way};
 use std::alloc::Global;
 use two_sample_tests::{TwoSample, TwoSampleStages};
-use weights::{NoMemory, Tail, Tails};
+use weights::{Ints, NoMemory, Nums, Tail, Tails};
 
 /// A test of two samples, or which number is too wide.
 pub fn prepare(alloc: Global, kind: ScoreKind, groups: &Groups) -> Result<TwoSample, PrepareFault>
@@ -32,7 +35,9 @@ pub fn answer(
     tails: Tails,
     way: Way,
 ) -> Result<Answer, NoMemory>
-    requires { HasTails (two_sample_test problem.now) tails }
+    requires less { tails.less ≡ true → (two_sample_test problem.now).has_tail Tail.Less ≡ true }
+    requires greater { tails.greater ≡ true → (two_sample_test problem.now).has_tail Tail.Greater ≡ true }
+    requires two { tails.two ≡ true → (two_sample_test problem.now).has_tail Tail.Two ≡ true }
     ensures { let opened = open_keys (two_sample_network problem.now) in
         IfOk result (λ answer.
         answer ≡ answer_of (two_sample_test problem.now) opened tails way) }
@@ -64,4 +69,36 @@ pub fn stages_of(
         extreme_weight n tail 0 n.first ≡ numerator (two_sample_test problem.now) tail }
 {
     two_sample_tests::stages_of(alloc, problem, tail)
+}
+
+/// The numerator of a tail that the test has, by the slow walk.
+pub fn walked_tail(alloc: Global, problem: &TwoSample, tail: Tail) -> Result<u128, NoMemory>
+    requires { (two_sample_test problem.now).has_tail tail ≡ true }
+    ensures { IfOk result (λ sum. sum ≡ numerator (two_sample_test problem.now) tail) }
+{
+    plain_tail(alloc, problem, tail)
+}
+
+/// A test of two samples of their parts.
+pub fn prepared_groups(
+    alloc: Global,
+    kind: ScoreKind,
+    labels: Labels,
+    sizes: Nums,
+    members: Nums,
+    values: Ints,
+) -> Result<TwoSample, PrepareFault>
+    requires two { length labels ≡ 2 }
+    requires distinct { AllPairs ◌≢◌ labels }
+    requires few { length values ≤ 10000 }
+    requires small { All (λ value. nat_abs value < 10 ^ 36) values }
+    requires one_each { length members ≡ length values }
+    requires exist { All (λ group. group < length labels) members }
+    requires counted { sizes ≡ counts_of (length labels) members }
+    requires some { All (λ size. 1 ≤ size) sizes }
+    ensures { let groups = record { labels = labels; members = members; values = values } in
+        Prepares two_sample_test (record { kind = kind; groups = groups }) result }
+{
+    let groups = groups_of(labels, sizes, members, values);
+    prepare(alloc, kind, &groups)
 }

@@ -281,3 +281,44 @@ pub fn labelling_count(counts: &[u64]) -> Option<u128>
 {
     weights::multinomial(counts)
 }
+
+/// A count of up to 255.
+#[derive(Clone, Copy)]
+pub struct Small(u8);
+
+impl Count for Small {
+    const LIMIT: u128 = 255;
+
+    ghost LIMIT = { 255 };
+
+    ghost number = { λ count. count.0 };
+
+    fn of(value: u128) -> Option<Small> {
+        match u8::try_from(value) {
+            Ok(value) => Some(Small(value)),
+            Err(_) => None,
+        }
+    }
+
+    fn value(self) -> u128 {
+        self.0 as u128
+    }
+
+    fn checked_add(self, other: Small) -> Option<Small> {
+        let sum = self.0.checked_add(other.0)?;
+        Some(Small(sum))
+    }
+
+    fn checked_mul(self, other: Small) -> Option<Small> {
+        let product = self.0.checked_mul(other.0)?;
+        Some(Small(product))
+    }
+}
+
+/// The sum of two of them.
+pub fn small_sum(count: Small, other: Small) -> Option<Small>
+    ensures { let number = ⟦<Small as Count>⟧.number in
+        IsExactUpTo 255 number result (number count + number other) }
+{
+    count_sum(count, other)
+}

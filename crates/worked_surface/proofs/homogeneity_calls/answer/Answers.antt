@@ -1,0 +1,6 @@
+use Rattle.homogeneity.specs.Homogeneities.{homogeneity_test}
+use Rattle.worked_surface.proofs.Conditions.{has-tails}
+use Rattle.worked_surface.proofs.homogeneity_calls.answer.Goals as goal
+
+pub answer-requires : goal.answer-requires
+answer-requires c = has-tails (homogeneity_test c.args.problem.now) c.args.tails c.requires.less c.requires.greater c.requires.two

@@ -1,0 +1,5 @@
+use Rattle.worked_surface.proofs.Conditions.{may-pick}
+use Rattle.worked_surface.proofs.sample_reader_calls.binary_blocks.Goals as goal
+
+pub binary_blocks-requires : goal.binary_blocks-requires
+binary_blocks-requires c = may-pick 2 8 c.args.picks.now c.requires.least c.requires.most c.requires.from_one c.requires.distinct

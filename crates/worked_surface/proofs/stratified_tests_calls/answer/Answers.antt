@@ -1,0 +1,6 @@
+use Rattle.stratified_tests.specs.StrataTests.{strata_test}
+use Rattle.worked_surface.proofs.Conditions.{has-tails}
+use Rattle.worked_surface.proofs.stratified_tests_calls.answer.Goals as goal
+
+pub answer-requires : goal.answer-requires
+answer-requires c = has-tails (strata_test c.args.problem.now) c.args.tails c.requires.less c.requires.greater c.requires.two

@@ -1,0 +1,6 @@
+use Rattle.table_tests.specs.TableTests.{table_test}
+use Rattle.worked_surface.proofs.Conditions.{has-tails}
+use Rattle.worked_surface.proofs.table_tests_calls.answer.Goals as goal
+
+pub answer-requires : goal.answer-requires
+answer-requires c = has-tails (table_test c.args.problem.now) c.args.tails c.requires.less c.requires.greater c.requires.two
