@@ -127,7 +127,7 @@ pub fn sign_sum_onward<S: Roomed>(
     let sides = all.of_tail(tail);
     let stride = common_divisor(left).max(1);
     let dense = are_few_sums(left, stride);
-    if !has_few_steps(keys.len(), left, stride, dense) {
+    if !has_few_steps(keys.len(), left, dense) {
         return sum_from_keys(alloc, stages, tail, stage, keys, weights);
     }
     if dense {
