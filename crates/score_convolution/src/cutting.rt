@@ -135,15 +135,13 @@ pub(crate) fn are_near_sums(scores: &[i128], stride: u128) -> bool
     absolute_sum(scores) / stride < 1 << 64
 }
 
-/// Whether it takes few steps to read so many keys against the draws of those who are left: no more
-/// than to draw all of these in one list, or than two tenths of a second or so.
-pub(crate) fn has_few_steps(keys: usize, left: &[i128], stride: u128, dense: bool) -> bool
-    requires { 0 < stride }
-{
-    let each = if dense {
-        absolute_sum(left) / stride
-    } else {
-        1 << (left.len() / 2).min(126)
-    };
+/// Whether it takes few steps to read so many keys against the draws of those who are left: in rows
+/// of cells, fewer than the keys of so many stages; in lists, no more than all of these draws are,
+/// or than a fraction of a second.
+pub(crate) fn has_few_steps(keys: usize, left: &[i128], dense: bool) -> bool {
+    if dense {
+        return keys / 32 <= left.len();
+    }
+    let each = 1u128 << (left.len() / 2).min(126);
     (keys as u128).saturating_mul(each) <= 1 << left.len().max(26).min(126)
 }

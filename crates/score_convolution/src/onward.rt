@@ -1,7 +1,7 @@
-// The lists of signs whose sum of scores passes the rule of a tail, where the marks of some subjects
-// are chosen already: those that make up the keys of a stage.
-ghost use Rattle.std.specs.Prelude.{◌≡◌, ℕ, ℤ, pos, ◌+ℤ◌, ◌+◌, ◌*◌, ◌^◌, ◌<◌, ◌≤◌, List, length, All};
-ghost use Rattle.std.specs.Prelude.{unsigned_abs, IfOk};
+// The lists of signs whose sum of scores passes the rule of a tail, where the marks of some
+// subjects are chosen already: those that make up the keys of a stage.
+ghost use Rattle.std.specs.Prelude.{◌≡◌, ℕ, ℤ, pos, ◌+ℤ◌, ◌+◌, ◌*◌, ◌^◌, ◌<◌, ◌≤◌, List, length};
+ghost use Rattle.std.specs.Prelude.{unsigned_abs, All, IfOk};
 ghost use Rattle.std.specs.Int.{◌∣◌};
 ghost use Rattle.weights.specs.Numbers.{absolute_sum};
 ghost use Rattle.weights.specs.declared.TheConstants.{MAX};
@@ -127,7 +127,7 @@ pub fn sign_sum_onward<S: Roomed>(
     let sides = all.of_tail(tail);
     let stride = common_divisor(left).max(1);
     let dense = are_few_sums(left, stride);
-    if !has_few_steps(keys.len(), left, stride, dense) {
+    if !has_few_steps(keys.len(), left, dense) {
         return sum_from_keys(alloc, stages, tail, stage, keys, weights);
     }
     if dense {
