@@ -5,7 +5,9 @@ Frames are stand-ins that behave as those of polars and pyarrow; where pandas or
 import decimal
 import importlib.util
 import pathlib
+import pickle
 import sys
+import warnings
 from fractions import Fraction
 
 sys.path.insert(0, str(pathlib.Path(__file__).resolve().parent.parent / "clients"))
@@ -130,7 +132,7 @@ tell(refused(TypeError, ["str", "list of values"], "ranksum", {"x": "123", "y": 
 tell(refused(ValueError, ["same name"], "signedrank", Twice({"a": BEFORE, "b": AFTER})), "two columns of one name")
 tell(refused(ValueError, ["same length", "[3, 4]"], "signedrank", {"a": BEFORE[:3], "b": AFTER}), "unequal columns")
 tell(refused(ValueError, ["'tim'", "'time'"], "ranksum", rats, value="tim", group="drug"), "a column that is not there")
-tell(refused(ValueError, ["has no names"], "ranksum", [["x", 1]], value="time", group="drug"), "rows have no names")
+tell(refused(ValueError, ["no column names"], "ranksum", [["x", 1]], value="time", group="drug"), "rows have no names")
 tell(refused(ValueError, ["by number"], "ranksum", "six.csv", value="time", group="drug"), "nor has a file")
 tell(refused(ValueError, ["not by both"], "ranksum", rats, value="time", columns=["drug"]), "two ways to pick")
 tell(refused(ValueError, ["same names"], "ranksum", [{"g": 1, "v": 2}, {"g": 1}]), "records of other names")
@@ -189,12 +191,18 @@ try:
 except ValueError as fault:
     tell("tail" in str(fault), "no p-value of both sides with odds")
 tell(exact.run("fisher", [[3, 1], [1, 3]], odds="2/1", tail="less").pvalue == tea.less, "a side with odds")
-told = "<exact.Report ranksum: group 3 x, group 3 y; statistic 15; less 1, greater 1/20, two 1/10>"
+letters = "W 15 (U 9, W of wilcox.test 0)"
+told = f"<exact.Report ranksum: group 3 x, group 3 y; {letters}; less 1, greater 1/20, two 1/10>"
 tell(repr(report) == told, "a short repr")
 tell(repr(shifted) == "<exact.Shift group 3 x, group 3 y; estimate 3; limits 2 to 4; miss 1/5>", "that of a shift")
 formatted = f"{report.pvalue:.3f} {report.pvalue:.1%} {report.pvalue:>5} {report.pvalue}"
 tell(formatted == "0.100 10.0%  1/10 1/10" and f"{shifted.miss:.2e}" == "2.00e-01", "fractions are formatted")
 tell(isinstance(report.two, Fraction) and eval(repr(report.two)) == report.two, "they are fractions")
+two = report.two
+sums = [1 - two, two * 2, 2 * two, two / 3, -two, sum([two, two]), abs(two), 1 - (two + 1), round(two, 2)]
+formatted = " ".join(f"{value:.3f}" for value in sums)
+tell(formatted == "0.900 0.200 0.200 0.033 -0.100 0.200 0.100 -0.100 0.100", "results are formatted too")
+tell(two + 0.5 == 0.6 and two**2 == Fraction(1, 100) and pickle.loads(pickle.dumps(two)) == two, "they are as others")
 tell(exact.__version__ == (pathlib.Path(__file__).parent.parent / "VERSION").read_text().strip(), "the version")
 
 # ---- the libraries of frames that are there
@@ -219,6 +227,41 @@ if importlib.util.find_spec("pandas"):
     masked = {"x": numpy.ma.array([1, 2, 3], mask=[0, 0, 1]), "y": numpy.array([4, 5, 6])}
     tell(exact.run("ranksum", masked, missing="drop").dropped == 1, "numpy: masked values")
     tell(refused(ValueError, ["same name"], "signedrank", pair[["after", "after"]]), "pandas: two columns of one name")
+    # the order of ordered categories, however the rows and the columns stand
+    doses = pandas.Categorical(["hi", "hi", "lo", "lo", "mid", "mid"], ["lo", "mid", "hi"], ordered=True)
+    steps = pandas.DataFrame({"gain": [5, 6, 1, 2, 3, 4], "dose": doses})
+    for asked in ({"group": "dose", "value": "gain"}, {"columns": ["dose", "gain"]}, {"columns": [2, 1]}):
+        found = exact.run("jt", steps, **asked)
+        tell((found.statistic, found.two) == (12, Fraction(2, 90)), f"pandas: ordered categories, {asked}")
+    tell(exact.run("jt", steps[["dose", "gain"]]).statistic == 12, "pandas: of all columns")
+    tell(exact.run("jt", steps.astype({"dose": str})[["dose", "gain"]]).statistic == 4, "pandas: labels as they appear")
+    # the shortest texts of numbers of numpy
+    for kind in ("float32", "float16"):
+        cells = numpy.array([0.001, 0.25, 7], dtype=kind)
+        exactly = exact.run("raw", [["x", "0.001"], ["x", "0.25"], ["y", "7"]]).text
+        for name, data in (
+            ("an array", {"x": cells[:2], "y": cells[2:]}),
+            ("a list", {"x": list(cells[:2]), "y": [cells[2]]}),
+            ("a frame", pandas.DataFrame({"g": ["x", "x", "y"], "v": cells})),
+        ):
+            tell(exact.run("raw", data).text == exactly, f"numpy: {kind} in {name}")
+        column = exact.run("rawsigned", pandas.Series(cells)).text
+        tell(column == exact.run("rawsigned", ["0.001", "0.25", "7"]).text, f"pandas: {kind} in a column")
+    fine = numpy.array([1 / 3, 0.012345678901234568, 2.5])
+    tell(exact.run("rawsigned", fine).text == exact.run("rawsigned", fine.tolist()).text, "numpy: double precision")
+    missed = exact.shift({"x": [1, 2, 3], "y": [4, 5, 6]}, miss=numpy.float64(0.2)).miss
+    tell(missed == Fraction(1, 5), "numpy: a fraction")
+    # the header that a file without one gave
+    with warnings.catch_warnings(record=True) as told:
+        warnings.simplefilter("always")
+        exact.run("ranksum", pandas.DataFrame({"c": ["c", "t", "t"], "300": [22.5, 7, 12]}))
+        tell([part.filename for part in told] == [__file__] and "'300'" in str(told[0].message), "pandas: a name")
+        told.clear()
+        exact.run("signedrank", pandas.DataFrame([[1, 2], [3, 5]]))
+        exact.run("signedrank", pandas.DataFrame([[1, 2], [3, 5]], columns=["1", "2"]))
+        exact.run("friedman", pandas.DataFrame([[1, 2], [3, 5]], columns=["2019", "2020"]))
+        exact.run("ranksum", pandas.DataFrame({"c": ["c", "t"], "300": [22.5, 7]}), group="c", value="300")
+        tell(not told, "pandas: names that may be numbers")
 if importlib.util.find_spec("polars"):
     import polars
 

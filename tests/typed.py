@@ -8,5 +8,8 @@ pvalue: Fraction = report.pvalue
 weights: list[int] = [weight for _, weight in report.distribution]
 pairs = exact.run("signedrank", [{"before": 1, "after": 2}], columns=["before", "after"], missing="drop")
 umbrella = exact.run("umbrella", [["a", 1], ["b", 2]], peak=2)
-found: exact.Shift = exact.shift({"x": [1], "y": [2]}, miss=Fraction(1, 5))
+letters: dict[str, Fraction] = exact.run("ranksum", "six.csv", alternative="greater", header=True).letters
+ratios: list[exact.Odds] = [2, 1.5, "3/2", Fraction(3, 2)]
+odds = [exact.run("fisher", [[3, 1], [1, 3]], odds=ratio, tail="less") for ratio in ratios]
+found: exact.Shift = exact.shift({"x": [1], "y": [2]}, miss=0.2)
 limits: tuple[Fraction | None, Fraction | None] = (found.lower, found.upper)

@@ -37,7 +37,12 @@ fn pairs_above<K: Tally>(one: &DrawRow<K>, other: &DrawRow<K>, stride: u128, bou
 }
 
 /// How many pairs have a sum that is in these.
-pub(crate) fn pairs_in<K: Tally>(one: &DrawRow<K>, other: &DrawRow<K>, stride: u128, sides: Sides) -> u128
+pub(crate) fn pairs_in<K: Tally>(
+    one: &DrawRow<K>,
+    other: &DrawRow<K>,
+    stride: u128,
+    sides: Sides,
+) -> u128
     requires few { AreFew K.cells K.LIMIT one.now other.now }
     requires stride { 0 < stride }
     requires ordered { AreOrdered sides }

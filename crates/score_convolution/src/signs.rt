@@ -69,7 +69,11 @@ fn with_subject<K: Tally>(
 }
 
 /// The draws of any number of subjects, in one row.
-pub(crate) fn sign_row<K: Tally>(alloc: Global, scores: &[i128], stride: u128) -> Result<DrawRow<K>, NoMemory>
+pub(crate) fn sign_row<K: Tally>(
+    alloc: Global,
+    scores: &[i128],
+    stride: u128,
+) -> Result<DrawRow<K>, NoMemory>
     requires some { 0 < stride }
     requires apart { All (λ s. stride ∣ unsigned_abs s) scores.now }
     requires small { absolute_sum scores.now ≤ MAX }

@@ -1,16 +1,16 @@
 \name{exact_library}
 \alias{exact_library}
-\title{The tests in this process}
-\description{Loads the proved program as a library, so that runs which name no program go by it, in this process.}
+\title{Run the Tests in This Process}
+\description{Loads the proved program as a library. From then on, runs that name no program use it, within this process.}
 \usage{
 exact_library(folder = Sys.getenv("EXACT_LIBRARY", NA))
 }
 \arguments{
-  \item{folder}{where \file{rexact.so} is; else the folder in the environment variable \env{EXACT_LIBRARY}, else that of
-    the package, else \file{../lib} of the program}
+  \item{folder}{the folder of \file{rexact.so}. Without it these are tried: the folder in the environment variable
+    \env{EXACT_LIBRARY}, that of the package, and \file{../lib} of the program}
 }
 \details{
-  It costs no process and no file, and serves many small runs. But a run cannot be interrupted, and where the stack is
-  too small, the session ends: what takes long is better left to the program.
+  A run then starts no process and writes no file, which pays off for many small runs. But it cannot be interrupted, and
+  too small a stack ends the session, so leave long runs to the program.
 }
-\value{What may be given to single runs as \code{program}, invisibly.}
+\value{The library, invisibly. Pass it as \code{program} to use it for single runs.}

@@ -27,8 +27,8 @@ advance-requires g c =
       (
         h.1,
         (
-        omega (arith, c.loop-sweep-test.true, c.stages-count.ensures.count),
-        subst (λ (k : Kept). IsSweeping n (g.S.Roomed.room_width c.args.stages.now) (g.S.Roomed.step_width c.args.stages.now) g.C.Count.LIMIT (record { keep = k; stage = g.from.stage; nodes = g.from.nodes }) c.loop-sweep.sweep) (sym s.keeps) s,
+          omega (arith, c.loop-sweep-test.true, c.stages-count.ensures.count),
+          subst (λ (k : Kept). IsSweeping n (g.S.Roomed.room_width c.args.stages.now) (g.S.Roomed.step_width c.args.stages.now) g.C.Count.LIMIT (record { keep = k; stage = g.from.stage; nodes = g.from.nodes }) c.loop-sweep.sweep) (sym s.keeps) s,
         ),
       ),
     )

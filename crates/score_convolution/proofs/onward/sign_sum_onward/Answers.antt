@@ -1,4 +1,4 @@
-use Rattle.std.proofs.Common.{◌≡◌, ◌∙◌, ◌^◌, ◌≤◌, ℕ, List, Bool, length, max, ap, arith}
+use Rattle.std.proofs.Common.{◌≡◌, ◌∙◌, ℕ, List, length, max, ap, arith}
 use Rattle.std.specs.Prelude.{ℤ, ◌+ℤ◌, pos, ◌∷◌, All, unsigned_abs, Result, IfOk}
 use Rattle.std.specs.Int.{◌∣◌}
 use Rattle.std.proofs.lemmas.Result.{IfOk-weaker}
