@@ -6,7 +6,7 @@ ghost use Rattle.pieces.specs.Cuts.{IsCountedCut, PartsAddUp, counted_nodes};
 
 use crate::cuts::CountedCut;
 use networks::{Kept, Roomed, Stages, only};
-use stage_network::{Sweep, Width, entries_of, laid_flat, total_of, width_of};
+use stage_network::{Width, entries_of, laid_flat, sweep_to, total_of, width_of};
 use std::alloc::Global;
 use weights::{Count, Narrow, NoMemory, Tail, Wide};
 
@@ -24,8 +24,7 @@ fn cut_in<C: Count, S: Roomed>(
 {
     let _lawful = stages.stages();
     let keep = Kept::Open(only(tail));
-    let mut sweep = Sweep::<C>::new(alloc, stages, keep)?;
-    sweep.advance_to(stages, at)?;
+    let sweep = sweep_to::<C, S>(alloc, stages, keep, at)?;
     let mut entries = entries_of(alloc, &sweep.nodes)?;
     let flat = laid_flat(alloc, stages.width(), entries.as_mut_slice())?;
     Ok(CountedCut {

@@ -32,6 +32,7 @@ mod stage_arcs;
 mod stops;
 mod sums;
 mod sweep;
+mod sweeps_to;
 mod walks;
 mod widths;
 
@@ -52,6 +53,7 @@ pub use row_sweeps::row_sums;
 pub use spreads::{spread, spread_by_rooms};
 pub use sums::{tail_sum, tail_sum_by_rooms, tail_sums_by_rooms, total_of};
 pub use sweep::Sweep;
+pub use sweeps_to::sweep_to;
 pub use walks::plain_spread;
 pub use weights::{Line, PrepareFault, WideOf};
 pub use widths::{Width, width_of};

@@ -68,8 +68,9 @@ fn push_row<C: Count>(
     Ok(())
 }
 
-// The nodes of rows.
-fn nodes_of<C: Count>(alloc: Global, rows: &RoomRows<C>) -> Result<StageNodes<C>, Stop>
+/// The nodes of rows.
+pub fn nodes_of<C: Count>(alloc: Global, rows: &RoomRows<C>) -> Result<StageNodes<C>, Stop>
+    ensures room_width { IfOk result (λ nodes. nodes.room_width ≡ rows.now.width) }
     ensures width { IfOk result (λ nodes. nodes.width ≡ rows.now.width + 1) }
     ensures nodes { IfOk result (λ nodes. nodes.nodes ≡ all_nodes rows.now.rows) }
 {
