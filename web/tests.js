@@ -170,7 +170,7 @@ const TESTS = {
   strata: {
     group: 'Strata', layout: 'strata', tails: ALL_TAILS, options: ['odds'],
     question: 'Are two factors independent within each of several 2×2 tables? (Run Zelen’s test first.)',
-    title: 'Exact Mantel-Haenszel test of a common odds ratio', rearrangements: `${TABLES} within each stratum`,
+    title: 'Exact Mantel-Haenszel test of the common odds ratio', rearrangements: `${TABLES} within each stratum`,
     statistic: () => 'the sum of the first cells',
     less: it => `a common odds ratio below ${it.odds ?? 1}`,
     greater: it => `a common odds ratio above ${it.odds ?? 1}`,

@@ -5,8 +5,8 @@
 \title{Exact Nonparametric Tests}
 \description{
   Computes the exact conditional p-values of a nonparametric test. The data are compared with all their rearrangements, so
-  each p-value is a fraction of two counts. The counting is done by the program \command{exact} of this package, which is
-  machine-checked.
+  each p-value is a fraction of two counts. The counting is done by the machine-checked program
+  \command{exact}, which must be installed.
 }
 \usage{
 exact_test(test, x, y = NULL, data = NULL, paired = FALSE, ...,
@@ -29,8 +29,8 @@ exact_test(test, x, y = NULL, data = NULL, paired = FALSE, ...,
   \item{alternative}{\code{"two.sided"}, \code{"less"} or \code{"greater"}, as in \code{\link{wilcox.test}}: whether the
     \emph{first} sample has smaller or greater values than the second. Alternatively, \code{tail} selects a line of the
     report, which refers to the statistic of the \emph{second} sample. Without either, all tails are computed}
-  \item{program}{the path of the program. Without it that in the environment variable \env{EXACT} is taken, then the
-    program of this package, then the one on the path}
+  \item{program}{the path of the program. Without it these are tried: the path in the environment variable \env{EXACT},
+    a program in the folder \file{bin} of this package, and the one on the path}
   \item{digits}{the number of digits to print}
   \item{row.names, optional}{as in \code{\link{as.data.frame}}}
 }
@@ -67,7 +67,7 @@ exact_test(test, x, y = NULL, data = NULL, paired = FALSE, ...,
 }
 \value{
   An object of classes \code{exact_test} and \code{htest}. \code{statistic} is named by the letter of Hollander and Wolfe,
-  if it is theirs. \code{numerator}, \code{denominator} and \code{total} are strings, because a double cannot hold them.
+  if they give one. \code{numerator}, \code{denominator} and \code{total} are strings, because a double cannot hold them.
   \code{p.value} is that of the requested tail, two-sided if more than one was requested; \code{tails} has all of them.
   \code{alternative} is R's word, for the first sample. \code{sizes} has the sizes of the groups, \code{distribution} the
   whole distribution if requested, \code{dropped} the number of rows that \code{missing = "drop"} left out, and
