@@ -1,5 +1,5 @@
 -- The networks of a test of Kruskal and Wallis, under one type.
-use Rattle.std.specs.Prelude.{ℕ, List}
+use Rattle.std.specs.Prelude.{ℕ, ℤ, List}
 use Rattle.symmetry_reduction.specs.declared.orders.Order.{Order}
 use Rattle.label_network.specs.declared.rooms.LabelRooms.{LabelRooms}
 use Rattle.kruskal_wallis.specs.declared.centred_sums.CentredSums.{CentredSums}
@@ -15,3 +15,12 @@ abbrev pub of_kind :
 of_kind f g h (Packed n) = f n
 of_kind f g h (Ordered n) = g n
 of_kind f g h (Written n) = h n
+
+-- which keys of a stage it takes
+abbrev pub taken_of_kind :
+    ((LabelRooms × CentredSums × List ℕ × Order) × ℕ → ℕ → List ℤ → Type 0)
+    → (LabelRooms × RankSums × List ℕ × Order → ℕ → List ℤ → Type 0)
+    → (LabelRooms × RankSums → ℕ → List ℤ → Type 0) → SquaredStages → ℕ → List ℤ → Type 0
+taken_of_kind f g h (Packed n) = f n
+taken_of_kind f g h (Ordered n) = g n
+taken_of_kind f g h (Written n) = h n

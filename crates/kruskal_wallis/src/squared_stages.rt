@@ -247,9 +247,9 @@ impl Roomed for SquaredStages {
 
 impl Onward for SquaredStages {
     ghost use Rattle.std.specs.Prelude.{◌≡◌, length};
-    ghost use Rattle.kruskal_wallis.specs.SquaredStages.{of_kind};
+    ghost use Rattle.kruskal_wallis.specs.SquaredStages.{of_kind, taken_of_kind};
 
-    ghost takes = { of_kind ⟦<EqualGroups as Onward>⟧.takes
+    ghost takes = { taken_of_kind ⟦<EqualGroups as Onward>⟧.takes
         ⟦<OrderedSums as Onward>⟧.takes
         (λ n g key. length key ≡ (⟦<WrittenSums as Stages>⟧.network n).width) };
 

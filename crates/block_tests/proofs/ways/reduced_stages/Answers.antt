@@ -68,5 +68,5 @@ returns-clause-packs c room =
 pub returns-clause-adds : goal.returns-clause-adds
 returns-clause-adds c =
     let here = (goal.at.returns-clause-adds c).In_ok-stages in
-    rw (c.in_ok-stages.ensures.order ∙ ap order_for c.treatments.ensures, c.in_ok-stages.ensures.sizes ∙ ap alike c.treatments.ensures, c.in_ok-stages.ensures.treatments ∙ c.treatments.ensures, c.in_ok-stages.ensures.items ∙ items-are here, c.in_ok-stages.ensures.judge ∙ c.requires.judge)
+    rw (c.in_ok-stages.ensures.order ∙ ap order_for c.treatments.ensures, c.in_ok-stages.ensures.treatments ∙ c.treatments.ensures, c.in_ok-stages.ensures.items ∙ items-are here, c.in_ok-stages.ensures.judge ∙ c.requires.judge)
     (assigned-adds c.args.test.now.blocks.treatments (all_assignments (block_counts c.args.test.now)) (judge_of (block_test c.args.test.now)) (tests-assignments c.args.test.now c.blocks-blocks.ensures.fitting c.requires.kind Greater) c.in_ok-stages.stages.1.assignments.reflections.items (made here).reflections_are)
