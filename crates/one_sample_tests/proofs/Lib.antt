@@ -1,4 +1,5 @@
 mod MarkSums
 mod MarkNetwork
 mod FittingSamples
+mod MarksLeft
 mod Vectors

@@ -25,9 +25,9 @@ use Rattle.networks.specs.SoundAddends.{AddsBetween, IsAdditive}
 use Rattle.networks.proofs.Bridge.{choices-before}
 use Rattle.networks.proofs.Steps.{passing, passing-step}
 use Rattle.one_sample_tests.specs.SignNetwork.{choices_from, group_at, mark_addends}
-use Rattle.one_sample_tests.specs.SampleSteps.{AreStages, sizes_in}
+use Rattle.one_sample_tests.specs.SampleSteps.{AreStages, sizes_in, subjects_of}
 use Rattle.weights.proofs.Ranges.{range-different}
-use Rattle.one_sample_tests.proofs.MarkSums.{all_plus, binomial-small, by_plus, over-same, over_marks, subjects_of}
+use Rattle.one_sample_tests.proofs.MarkSums.{all_plus, binomial-small, by_plus, over-same, over_marks}
 
 drop-head : (g : ℕ) (groups : List Tie) (t : Tie) (ts : List Tie) → drop g groups ≡ t ∷ ts → (group_at groups g ≡ t) × (drop (g + 1) groups ≡ ts)
 drop-head zero [] t ts d = absurd (cc d)
@@ -44,7 +44,7 @@ grouped-plus : (a b c : ℤ) → (a +ℤ b) +ℤ c ≡ a +ℤ (b +ℤ c)
 grouped-plus a b c = omega (arith, ints)
 
 module _ (groups : List Tie) (judge : Judge) (p : List ℤ → Bool) where
-  passing-is : (ts : List Tie) (g : ℕ) (k : ℤ) → drop g groups ≡ ts → g + length ts ≡ length groups
+  pub passing-is : (ts : List Tie) (g : ℕ) (k : ℤ) → drop g groups ≡ ts → g + length ts ≡ length groups
       → passing (additive_network (mark_addends groups judge)) p (length ts) g (k ∷ []) ≡ over_marks (subjects_of ts) (λ u. cond (p ((k +ℤ u) ∷ [])) 1 0)
   passing-is [] g k d e = by (p (k ∷ [])) ∙ ap (λ z. cond (p (z ∷ [])) 1 0) (sym (plus-none k))
     where
@@ -104,7 +104,7 @@ module _ (groups : List Tie) (judge : Judge) where
       let n : ℕ = (group_at groups g).count in
       sum_by-map (λ c. binomial n (slice_index c 0)) (λ j. j ∷ []) (range_with_len 0 (n + 1)) ∙ ap (λ m. sum_by (binomial n) (range_with_len 0 m)) (add-one n) ∙ all_plus n
 
-  total-from : (ts : List Tie) (g : ℕ) → drop g groups ≡ ts → totals a (length ts) g ≡ 2 ^ values_in ts
+  pub total-from : (ts : List Tie) (g : ℕ) → drop g groups ≡ ts → totals a (length ts) g ≡ 2 ^ values_in ts
   total-from [] g d = refl
   total-from (t ∷ ts) g d =
       let here = drop-head g groups t ts d in
@@ -134,7 +134,7 @@ module _ (groups : List Tie) (judge : Judge) where
     stride-is : (g : ℕ) → stride a g ≡ (group_at groups g).count * nat_abs (group_at groups g).value
     stride-is g = ap (λ z. max (nat_abs (pos 0)) (nat_abs z)) (added g (group_at groups g).count) ∙ omega arith
 
-    reach-from : (ts : List Tie) (g : ℕ) → drop g groups ≡ ts → over_earlier (stride a) (g + length ts) ≡ over_earlier (stride a) g + sizes_in ts
+    pub reach-from : (ts : List Tie) (g : ℕ) → drop g groups ≡ ts → over_earlier (stride a) (g + length ts) ≡ over_earlier (stride a) g + sizes_in ts
     reach-from [] g d = ap (over_earlier (stride a)) (let e : g + 0 ≡ g = omega arith in e) ∙ omega arith
     reach-from (t ∷ ts) g d =
         let here = drop-head g groups t ts d in

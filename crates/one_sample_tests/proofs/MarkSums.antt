@@ -15,6 +15,7 @@ use Rattle.midranks.specs.Ties.{tie_groups, with_one_more}
 use Rattle.midranks.specs.declared.ties.Tie.{Tie}
 use Rattle.midranks.proofs.TieLemmas.{same-from_test}
 use Rattle.scores.specs.Scores.{labelled_sum}
+use Rattle.one_sample_tests.specs.SampleSteps.{subjects_of}
 
 -- the first subject's mark is minus or plus
 abbrev pub over_marks : List ℤ → (ℤ → ℕ) → ℕ
@@ -63,11 +64,6 @@ to-front (x ∷ xs) v ys f =
 behind : (n : ℕ) (x : ℤ) (ys zs : List ℤ) → ((f : ℤ → ℕ) → over_marks ys f ≡ over_marks zs f) → (f : ℤ → ℕ) → over_marks (replicate n x ++ ys) f ≡ over_marks (replicate n x ++ zs) f
 behind zero x ys zs e f = e f
 behind (suc n) x ys zs e f = omega (arith, behind n x ys zs e f, behind n x ys zs e (λ t. f (x +ℤ t)))
-
--- the subjects of groups, group by group
-abbrev pub subjects_of : List Tie → List ℤ
-subjects_of [] = []
-subjects_of (t ∷ ts) = replicate t.count t.value ++ subjects_of ts
 
 one-longer : (n : ℕ) (x y : ℤ) (rest : List ℤ) → x ≡ y → replicate (n + 1) y ++ rest ≡ x ∷ (replicate n y ++ rest)
 one-longer n x y rest e = rw (add-one, e) refl

@@ -1,5 +1,5 @@
 -- What is kept of a prepared test, and of its network.
-use Rattle.std.specs.Prelude.{◌≡◌, ⊤, ℕ, ℤ, pos, ◌*◌, ◌^◌, ◌<◌, ◌≤◌, ◌≤ℤ◌, nat_abs, List, All, length, Result, Ok, Err}
+use Rattle.std.specs.Prelude.{◌≡◌, ⊤, ℕ, ℤ, pos, ◌*◌, ◌^◌, ◌<◌, ◌≤◌, ◌≤ℤ◌, nat_abs, List, [], ◌∷◌, ◌++◌, All, length, replicate, Result, Ok, Err}
 use Rattle.std.specs.List.{sum_by}
 use Rattle.weights.specs.Frames.{IsFrameOf}
 use Rattle.weights.specs.declared.frames.Frame.{Frame}
@@ -51,6 +51,11 @@ IsMadeOf sample (Ok made) = AreMarked sample made.0 × IsFrameOf (one_sample_tes
 IsMadeOf sample (Err (TooWide Total)) = ⊥
 IsMadeOf sample (Err (TooWide Statistic)) = MAX < (one_sample_test sample).bound
 IsMadeOf sample (Err NoMemory) = ⊤
+
+-- the scores of the subjects of groups, group by group
+abbrev pub subjects_of : List Tie → List ℤ
+subjects_of [] = []
+subjects_of (t ∷ ts) = replicate t.count t.value ++ subjects_of ts
 
 -- the sum of the absolute scores of groups
 abbrev pub sizes_in : List Tie → ℕ

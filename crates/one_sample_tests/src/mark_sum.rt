@@ -5,12 +5,12 @@ ghost use Rattle.one_sample_tests.specs.SampleSteps.{AreMarked};
 
 use crate::kinds::SignKind;
 use crate::mark_stages::MarkStages;
-use crate::marks::first_marks;
+use crate::marks::{first_marks, scores_of};
 use crate::scored_marks::ScoredMarks;
 use enumerate::next_signs;
 use labelled::UnweightedTest;
 use networks::{AdditiveStages, Judge, TailSums};
-use score_convolution::sign_sums;
+use score_convolution::{sign_sum_onward, sign_sums};
 use scores::labelled_sum;
 use std::alloc::Global;
 use std::marker::Model;
@@ -101,5 +101,21 @@ impl UnweightedTest for MarkSum {
         let stages = self.stages_of(alloc, judge)?;
         let scores = self.made().scores.as_slice();
         sign_sums(alloc, &stages, scores, &judge, tails)
+    }
+
+    // By draws of the marks that are left after the stage, or by the network.
+    fn sum_onward(
+        &self,
+        alloc: Global,
+        judge: Judge,
+        tail: Tail,
+        stage: usize,
+        keys: &[i128],
+        weights: &[u128],
+    ) -> Result<u128, NoMemory> {
+        let stages = self.stages_of(alloc, judge)?;
+        let left = scores_of(alloc, &self.made().groups.as_slice()[stage..])?;
+        let scores = left.as_slice();
+        sign_sum_onward(alloc, &stages, tail, stage, keys, weights, scores, &judge)
     }
 }

@@ -1,11 +1,12 @@
 // The differences that are used, their absolute values and their signs.
-ghost use Rattle.std.specs.Prelude.{◌≡◌, ◌≤◌, pos, nat_abs, IfOk};
+ghost use Rattle.std.specs.Prelude.{◌≡◌, ◌≤◌, ◌++◌, pos, nat_abs, replicate, OnOk, IfOk};
 ghost use Rattle.weights.specs.declared.TheConstants.{MAX};
 ghost use Rattle.weights.specs.Labellings.{sign_lists};
 ghost use Rattle.enumerate.specs.Walk.{BeginsWith};
 ghost use Rattle.one_sample_tests.specs.SignedSamples.{magnitudes, nonzero, signs_of};
-ghost use Rattle.one_sample_tests.specs.SampleSteps.{AreDifferences};
+ghost use Rattle.one_sample_tests.specs.SampleSteps.{AreDifferences, subjects_of};
 
+use midranks::Tie;
 use std::alloc::Global;
 use weights::{Bytes, Ints, NoMemory};
 
@@ -62,4 +63,26 @@ pub(crate) fn first_marks(alloc: Global, count: usize) -> Result<Bytes, NoMemory
         marks.push(0)?;
     }
     Ok(marks)
+}
+
+/// The values with so many more of one.
+pub(crate) fn push_times(values: &mut Ints, value: i128, times: u64) -> Result<(), NoMemory>
+    ensures { OnOk result (values.new ≡ values.old ++ replicate times value) }
+{
+    for _time in 0..times {
+        values.push(value)?;
+    }
+    Ok(())
+}
+
+/// The scores of the subjects of groups, group by group.
+pub(crate) fn scores_of(alloc: Global, groups: &[Tie]) -> Result<Ints, NoMemory>
+    ensures { IfOk result (λ scores. scores ≡ subjects_of groups.now) }
+{
+    let mut scores = Ints::empty(alloc);
+    for i in 0..groups.len() {
+        let group = groups[i];
+        push_times(&mut scores, group.value, group.count)?;
+    }
+    Ok(scores)
 }

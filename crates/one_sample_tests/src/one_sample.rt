@@ -1,5 +1,5 @@
 // Differences that are prepared for their test.
-ghost use Rattle.std.specs.Prelude.{◌≡◌, ◌≤◌, ◌++◌, length, replicate, OnOk};
+ghost use Rattle.std.specs.Prelude.{◌≡◌, ◌≤◌, length};
 ghost use Rattle.weights.specs.Wide.{Prepares};
 ghost use Rattle.midranks.specs.declared.TheConstants.{MOST_VALUES};
 ghost use Rattle.table_reader.specs.Data.{table_data_of};
@@ -8,12 +8,13 @@ ghost use Rattle.one_sample_tests.specs.SampleSteps.{AreDifferences};
 
 use crate::kinds::SignKind;
 use crate::mark_sum::MarkSum;
+use crate::marks::push_times;
 use crate::scored_marks::made_of;
 use labelled::Unweighted;
 use sample_reader::Pairs;
 use std::alloc::Global;
 use table_reader::Table;
-use weights::{Ints, NoMemory, PrepareFault, WideOf, power};
+use weights::{Ints, PrepareFault, WideOf, power};
 
 /// A test of one sample whose data are checked.
 pub type OneSample = Unweighted<MarkSum>;
@@ -64,16 +65,6 @@ pub fn prepare_pairs(
     ensures { Prepares one_sample_test (sample_of kind pairs.now.differences) result }
 {
     prepare(alloc, kind, pairs.differences.copy()?)
-}
-
-// The differences with so many more of one value.
-fn push_times(differences: &mut Ints, difference: i128, times: u64) -> Result<(), NoMemory>
-    ensures { OnOk result (differences.new ≡ differences.old ++ replicate times difference) }
-{
-    for _time in 0..times {
-        differences.push(difference)?;
-    }
-    Ok(())
 }
 
 /// Prepares the test of the discordant pairs of a table of two rows and two columns, those of its

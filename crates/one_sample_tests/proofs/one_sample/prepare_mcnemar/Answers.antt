@@ -15,7 +15,7 @@ pub prepare-requires-clause-few : goal.prepare-requires-clause-few
 prepare-requires-clause-few c =
     let a : ℕ = get_or c.as_slice-cells.result.now 1 0 in
     let b : ℕ = get_or c.as_slice-cells.result.now 2 0 in
-    let are : c.push_times-2.new.differences ≡ replicate a (pos 1) ++ replicate b (pos 0 -ℤ pos 1) =
+    let are : c.push_times-2.new.values ≡ replicate a (pos 1) ++ replicate b (pos 0 -ℤ pos 1) =
     c.in_ok-push_times-2.ensures ∙ ap (λ ds. ds ++ replicate b (pos 0 -ℤ pos 1)) (c.in_ok-push_times.ensures ∙ ap (λ ds. ds ++ replicate a (pos 1)) c.empty-differences.ensures) in
     rw are (discordant-few a b c.in-Some.ensures.0)
 
@@ -23,6 +23,6 @@ pub prepare-requires-clause-fits : goal.prepare-requires-clause-fits
 prepare-requires-clause-fits c =
     let a : ℕ = get_or c.as_slice-cells.result.now 1 0 in
     let b : ℕ = get_or c.as_slice-cells.result.now 2 0 in
-    let are : c.push_times-2.new.differences ≡ replicate a (pos 1) ++ replicate b (pos 0 -ℤ pos 1) =
+    let are : c.push_times-2.new.values ≡ replicate a (pos 1) ++ replicate b (pos 0 -ℤ pos 1) =
     c.in_ok-push_times-2.ensures ∙ ap (λ ds. ds ++ replicate b (pos 0 -ℤ pos 1)) (c.in_ok-push_times.ensures ∙ ap (λ ds. ds ++ replicate a (pos 1)) c.empty-differences.ensures) in
     rw are (discordant-small a b)
