@@ -6,6 +6,7 @@ TABLE   largest  the largest inputs of each command: what it answers, within a m
         growth   how large a problem of each shape may be, within a second, and within a minute and a gigabyte
         fisher   tables of counts, beside `fisher.test` of R, whose time is taken within R
         peers    problems that R or its packages coin, exactRankTests and kSamples answer exactly, beside those
+        divided  the dearest part of a divided run, beside the undivided run
         inside   call against call: that of the library in this process, with the reading of the bytes and the report of all
                  tails, beside those of R, its packages and scipy for one p, each timed within its own process. PROGRAM is
                  libexact.so, as tools/make_library makes it
@@ -672,8 +673,58 @@ def inside(tests):
         print(f"\n{len(best)} problems, the best peer of each: geometric mean {mean:.1f} times ahead, behind on {behind}")
 
 
+# ---- divided runs
+
+# the test's words, the problem, the file, and the stages and numbers of parts
+DIVIDED = [
+    (["rawsigned"], "44 differences of ten digits", lambda dice: long_differences(44, dice), [(4, 4), (12, 64)]),
+    (["rawsigned"], "60 differences of ten digits", lambda dice: long_differences(60, dice), [(12, 64)]),
+    (["kw"], "3 groups of 14", lambda dice: samples([14] * 3, dice), [(3, 4), (5, 64)]),
+    (["kw"], "4 groups of 7", lambda dice: samples([7] * 4, dice), [(3, 64)]),
+    (["kw"], "5 groups of 4", lambda dice: samples([4] * 5, dice), [(3, 64)]),
+    (["kw", "--scores", "raw"], "4 groups of 4, six digits", lambda dice: long_samples([4] * 4, dice), [(3, 4), (3, 64)]),
+    (["cochran"], "20 blocks of 8", lambda dice: outcomes(20, 8, dice), [(3, 4), (4, 64)]),
+    (["friedman"], "24 blocks of 4", lambda dice: blocks(24, 4, dice), [(3, 4)]),
+    (["friedman"], "8 blocks of 5", lambda dice: blocks(8, 5, dice), [(2, 16)]),
+    (["friedman"], "8 blocks of 6", lambda dice: blocks(8, 6, dice), [(2, 16)]),
+    (["umbrella", "--peak", "2"], "5 groups of 9", lambda dice: samples([9] * 5, dice), [(4, 16)]),
+    (["kendall"], "50 pairs with ties", lambda dice: bivariate(50, dice, (12, 4)), [(3, 16)]),
+    (["linear"], "5 by 5 of 50", lambda dice: table(5, 5, 50, dice), [(1, 16)]),
+    (["fisher"], "5 by 5 of 50", lambda dice: table(5, 5, 50, dice), [(1, 16)]),
+]
+
+
+def long_differences(number, dice):
+    return csv([[dice.randrange(10**9, 10**10) * dice.choice((1, 1, -1))] for _ in range(number)])
+
+
+def long_samples(sizes, dice):
+    return csv([[f"g{g}", dice.randrange(10**5, 10**6)] for g, size in enumerate(sizes) for _ in range(size)])
+
+
+def divided(tests):
+    print("| test | problem | undivided: s, MB | stage, parts | dearest part: s, MB | s of all |\n|---|---|---|---|---|---|")
+    for words, what, made, cuts in DIVIDED:
+        if tests and words[0] not in tests:
+            continue
+        text = made(random.Random(f"{what} {words[0]}"))
+        tail = ["--tail", "two" if words[0] in ("fisher", "linear", "umbrella", "kendall", "rawsigned") else "greater"]
+        command = [words[0], "f.csv", *words[1:], *tail]
+        whole = run(command, text, 120, 4 * MEGABYTES)
+        told = f"{whole.seconds:.2f}, {whole.megabytes:.0f}" if whole.status == 0 else whole.answer()
+        for stage, count in cuts:
+            options = ["--stage", str(stage), "--parts", str(count)]
+            parts = [run([*command, *options, "--part", str(part)], text, 120, 4 * MEGABYTES) for part in range(count)]
+            most, room = max(one.seconds for one in parts), max(one.megabytes for one in parts)
+            ended = all(one.status == 0 for one in parts)
+            dearest = f"{most:.2f}, {room:.0f}" if ended else "not all ended"
+            every = f"{sum(one.seconds for one in parts):.2f}"
+            print(f"| `{' '.join(words)}` | {what} | {told} | {stage}, {count} | {dearest} | {every} |", flush=True)
+
+
 PROGRAM = os.path.realpath(sys.argv[1])
 with tempfile.TemporaryDirectory() as folder:
     os.chdir(folder)
-    {"largest": largest, "growth": growth, "fisher": fisher, "peers": peers, "inside": inside}[sys.argv[2]](sys.argv[3:])
+    TABLES_OF = {"largest": largest, "growth": growth, "fisher": fisher, "peers": peers, "inside": inside, "divided": divided}
+    TABLES_OF[sys.argv[2]](sys.argv[3:])
     os.chdir(EXAMPLES)
