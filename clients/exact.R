@@ -272,11 +272,8 @@ exact_here <- function(program, command, rows, options, room = 0) {
   answer
 }
 
-# the path of the program: that in the environment, else the one of the installed package, else the one on the path
-exact_path <- function() {
-  own <- system.file("bin", "exact", package = "exact")
-  Sys.getenv("EXACT", if (nzchar(own)) own else "exact")
-}
+# the path of the program: that in the environment, else the one on the path
+exact_path <- function() Sys.getenv("EXACT", "exact")
 
 # what helps, by what stands behind the last colon of the program's message
 exact_helps <- c(

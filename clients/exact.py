@@ -467,7 +467,7 @@ def library(folder: str | os.PathLike[str] | None = None) -> Library:
     near = [os.path.dirname(os.path.realpath(__file__)), os.path.join(_HERE, _BROUGHT)]
     places = [asked] if asked else [*near, *([beside] if beside else [])]
     paths = [os.path.join(place, "libexact.so") for place in places]
-    _library = Library(next(filter(os.path.exists, paths), "libexact.so" if not asked else paths[0]))
+    _library = Library(next(filter(os.path.exists, paths), "libexact.so.0" if not asked else paths[0]))
     return _library
 
 

@@ -30,7 +30,7 @@ exact_test(test, x, y = NULL, data = NULL, paired = FALSE, ...,
     \emph{first} sample has smaller or greater values than the second. Alternatively, \code{tail} selects a line of the
     report, which refers to the statistic of the \emph{second} sample. Without either, all tails are computed}
   \item{program}{the path of the program. Without it these are tried: the path in the environment variable \env{EXACT},
-    a program in the folder \file{bin} of this package, and the one on the path}
+    and the program on the path}
   \item{digits}{the number of digits to print}
   \item{row.names, optional}{as in \code{\link{as.data.frame}}}
 }
