@@ -1,5 +1,5 @@
 -- What a stranger spells out is what the calls ask.
-use Rattle.std.proofs.Common.{◌≡◌, ◌≢◌, ℕ, ◌<◌, ◌≤◌, List, length, All, AllPairs, Bool, true, false, Option, Some, None, arith, refl, subst}
+use Rattle.std.proofs.Common.{◌≡◌, ◌≢◌, ℕ, ◌≤◌, List, length, All, AllPairs, Bool, true, false, Option, Some, None, arith, refl, subst}
 use Rattle.std.specs.Prelude.{IfSome}
 use Rattle.weights.specs.Conditional.{ConditionalTest}
 use Rattle.weights.specs.declared.TheConstants.{MAX}

@@ -1,8 +1,8 @@
 -- The toss of a coin is a lawful network.
-use Rattle.std.proofs.Common.{◌≡◌, ◌≢◌, ◌∙◌, ℕ, cond, zero, suc, ◌<◌, ◌≤◌, ◌-◌, nat_eq, List, [], ◌∷◌, length, AllPairs, Bool, true, false, refl, sym, ap, arith}
-use Rattle.std.specs.Prelude.{ℤ, pos, slice_index, int_le, slice_index_or}
+use Rattle.std.proofs.Common.{◌≡◌, ◌≢◌, ℕ, cond, zero, suc, ◌<◌, ◌≤◌, ◌-◌, nat_eq, List, [], ◌∷◌, length, AllPairs, Bool, true, false, refl, sym, arith}
+use Rattle.std.specs.Prelude.{ℤ, pos, int_le, slice_index_or}
 use Rattle.std.proofs.lemmas.Bool.Decides.{nat_tests}
-use Rattle.std.specs.List.{Contains, AllByRecursion}
+use Rattle.std.specs.List.{AllByRecursion}
 use Rattle.weights.specs.declared.tails.Tail.{Tail}
 use Rattle.networks.specs.declared.stages.Verdict.{Verdict}
 use Rattle.networks.specs.declared.stages.Verdict.TheVariants.{Inside, Outside, Undecided}

@@ -1,6 +1,5 @@
 -- A stranger's network: one toss of a coin, whose value is 1 for heads.
-use Rattle.std.specs.Prelude.{ℕ, zero, suc, ℤ, pos, List, [], ◌∷◌, slice_index, slice_index_or, int_le, Bool, true, false, if◌then◌else◌}
-use Rattle.weights.specs.declared.tails.Tail.{Tail}
+use Rattle.std.specs.Prelude.{ℕ, zero, suc, ℤ, pos, List, [], ◌∷◌, slice_index, slice_index_or, int_le, if◌then◌else◌}
 use Rattle.networks.specs.declared.stages.Verdict.{Verdict}
 use Rattle.networks.specs.declared.stages.Verdict.TheVariants.{Inside, Outside, Undecided}
 use Rattle.networks.specs.Network.{Network}

@@ -34,7 +34,7 @@ pub fn piece_text(alloc: Global, piece: &Piece) -> Result<Bytes, NoMemory>
     requires head { (lines : List (List ℕ))
         × AllByRecursion (λ line. AllByRecursion (λ b. b ≢ 10) line) lines
         × (piece.now.head ≡ flat_map (λ line. line ++ 10 ∷ []) lines
-        ++ (codes "total " ++ decimal piece.now.total) ++ 10 ∷ []) }
+        ++ ((codes "total " ++ decimal piece.now.total) ++ 10 ∷ [])) }
     requires few_lines { line_count piece.now.head ≤ MAX }
     requires some_total { 1 ≤ piece.now.total }
     requires total { piece.now.total ≤ MAX }

@@ -1,4 +1,3 @@
-use Rattle.std.proofs.Common.{rules, ◌≡◌, ◌∙◌, [], ◌∷◌}
 use Rattle.worked_surface.proofs.OneTossLaws.{sides-pending}
 use Rattle.worked_surface.proofs.one_toss.OneTossStages.first_choice.Goals as goal
 

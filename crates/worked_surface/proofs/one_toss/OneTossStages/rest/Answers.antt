@@ -1,4 +1,4 @@
-use Rattle.std.proofs.Common.{◌≡◌, sym, ap}
+use Rattle.std.proofs.Common.{sym}
 use Rattle.worked_surface.proofs.OneTossLaws.{rest-first, rest-end}
 use Rattle.worked_surface.proofs.one_toss.OneTossStages.rest.Goals as goal
 

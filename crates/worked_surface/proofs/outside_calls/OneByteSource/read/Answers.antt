@@ -1,5 +1,4 @@
-use Rattle.std.proofs.Common.{rules, arith, ◌≡◌, ◌≤◌, true, length, refl}
-use Rattle.std.proofs.lemmas.Bool.Decides.{nat_tests}
+use Rattle.std.proofs.Common.{rules, ◌≡◌, ◌≤◌, true, length, refl}
 use Rattle.worked_surface.proofs.FirstBytes.{first-byte}
 use Rattle.worked_surface.proofs.outside_calls.OneByteSource.read.Goals as goal
 

@@ -1,6 +1,0 @@
-use Rattle.one_sample_tests.specs.SignedSamples.{one_sample_test}
-use Rattle.worked_surface.proofs.Conditions.{has-tails}
-use Rattle.worked_surface.proofs.one_sample_tests_calls.answer.Goals as goal
-
-pub answer-requires : goal.answer-requires
-answer-requires c = has-tails (one_sample_test c.args.problem.now) c.args.tails c.requires.less c.requires.greater c.requires.two
