@@ -5,6 +5,7 @@ ghost use Rattle.block_tests.specs.BlockTests.{TakesCells, block_test, blocks_fo
 ghost use Rattle.networks.specs.Completions.{extreme_weight, total_weight};
 ghost use Rattle.networks.specs.Follows.{answer_of, open_keys};
 ghost use Rattle.networks.specs.Lines.{WeightsFit};
+ghost use Rattle.sample_reader.specs.CellLayouts.{BlockData};
 ghost use Rattle.sample_reader.specs.Data.{block_data_of};
 ghost use Rattle.weights.specs.Conditional.{distribution, numerator, total};
 ghost use Rattle.weights.specs.Wide.{Prepares};
@@ -89,7 +90,7 @@ pub fn prepared_blocks(
     requires one_each { length cells ≡ blocks * treatments }
     requires small { All (λ cell. nat_abs cell < 10 ^ 36) cells }
     requires takes { TakesCells kind cells }
-    ensures { let made = record { blocks = blocks; treatments = treatments; cells = cells } in
+    ensures { let made : BlockData = record { blocks = blocks; treatments = treatments; cells = cells } in
         Prepares block_test (blocks_for kind made) result }
 {
     let blocks = blocks_of(blocks, treatments, cells);

@@ -5,6 +5,7 @@ ghost use Rattle.networks.specs.Completions.{extreme_weight, total_weight};
 ghost use Rattle.networks.specs.Follows.{answer_of, open_keys};
 ghost use Rattle.networks.specs.Lines.{WeightsFit};
 ghost use Rattle.sample_reader.specs.Data.{strata_data_of};
+ghost use Rattle.sample_reader.specs.StrataGroups.{StrataGroupData};
 ghost use Rattle.weights.specs.Conditional.{distribution, numerator, total};
 ghost use Rattle.weights.specs.Wide.{Prepares};
 ghost use Rattle.networks.specs.declared.one_of.OneOf.TheVariants.{First, Second};
@@ -97,7 +98,7 @@ pub fn prepared_strata_groups(
     requires places_each { length places ≡ length values }
     requires strata_exist { All (λ stratum. stratum < length strata) places }
     requires strata_some { All (λ size. 1 ≤ size) (counts_of (length strata) places) }
-    ensures { let samples = record {
+    ensures { let samples : StrataGroupData = record {
       strata = strata;
       labels = labels;
       places = places;

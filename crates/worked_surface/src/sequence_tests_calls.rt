@@ -4,6 +4,8 @@ ghost use Rattle.networks.specs.Completions.{extreme_weight, total_weight};
 ghost use Rattle.networks.specs.Follows.{answer_of, open_keys};
 ghost use Rattle.networks.specs.Lines.{WeightsFit};
 ghost use Rattle.sample_reader.specs.Data.{sequence_data_of, twin_data_of};
+ghost use Rattle.sample_reader.specs.Sequences.{SequenceData};
+ghost use Rattle.sample_reader.specs.Twins.{TwinData};
 ghost use Rattle.sequence_tests.specs.SequenceTests.{running_network, sequence_network, sequence_test};
 ghost use Rattle.weights.specs.Conditional.{distribution, numerator, total};
 ghost use Rattle.weights.specs.Wide.{Prepares};
@@ -87,7 +89,7 @@ pub fn prepared_twins(
     requires second { length second ≡ rows }
     requires first_small { All (λ value. nat_abs value < 10 ^ 36) first }
     requires second_small { All (λ value. nat_abs value < 10 ^ 36) second }
-    ensures { let twins = record { first = first; second = second } in
+    ensures { let twins : TwinData = record { first = first; second = second } in
         Prepares sequence_test (First twins) result }
 {
     let twins = twins_of(rows, first, second);
@@ -107,7 +109,7 @@ pub fn prepared_sequence(
     requires exist { All (λ label. label < length labels) members }
     requires counted { sizes ≡ counts_of (length labels) members }
     requires some { All (λ size. 1 ≤ size) sizes }
-    ensures { let sequence = record { labels = labels; members = members } in
+    ensures { let sequence : SequenceData = record { labels = labels; members = members } in
         Prepares sequence_test (Second sequence) result }
 {
     let sequence = sequence_of(labels, sizes, members);

@@ -4,6 +4,7 @@ ghost use Rattle.networks.specs.Completions.{extreme_weight, total_weight};
 ghost use Rattle.networks.specs.Follows.{answer_of, open_keys};
 ghost use Rattle.networks.specs.Lines.{WeightsFit};
 ghost use Rattle.table_reader.specs.Data.{table_data_of};
+ghost use Rattle.table_reader.specs.TableLayout.{TableData};
 ghost use Rattle.two_by_two.specs.OddsSteps.{weighted_of};
 ghost use Rattle.table_sums.specs.TableSteps.{AreScores};
 ghost use Rattle.linear_by_linear.specs.LinearSteps.{scored_of};
@@ -107,7 +108,7 @@ pub fn prepared_table(
     requires few_columns { columns ≤ 64 }
     requires one_each { length cells ≡ rows * columns }
     requires counts { All (λ cell. cell ≤ 1000000) cells }
-    ensures { let table = record { rows = rows; columns = columns; cells = cells } in
+    ensures { let table : TableData = record { rows = rows; columns = columns; cells = cells } in
         Prepares table_test (First (First table)) result }
 {
     let table = table_of(rows, columns, cells);

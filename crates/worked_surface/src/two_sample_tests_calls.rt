@@ -4,6 +4,7 @@ ghost use Rattle.networks.specs.Completions.{extreme_weight, total_weight};
 ghost use Rattle.networks.specs.Follows.{answer_of, open_keys};
 ghost use Rattle.networks.specs.Lines.{WeightsFit};
 ghost use Rattle.sample_reader.specs.Data.{data_of};
+ghost use Rattle.sample_reader.specs.Groups.{GroupData};
 ghost use Rattle.two_sample_tests.specs.Columns.{two_sample_network};
 ghost use Rattle.two_sample_tests.specs.TwoSamples.{two_sample_test};
 ghost use Rattle.weights.specs.Conditional.{distribution, numerator, total};
@@ -96,7 +97,7 @@ pub fn prepared_groups(
     requires exist { All (λ group. group < length labels) members }
     requires counted { sizes ≡ counts_of (length labels) members }
     requires some { All (λ size. 1 ≤ size) sizes }
-    ensures { let groups = record { labels = labels; members = members; values = values } in
+    ensures { let groups : GroupData = record { labels = labels; members = members; values = values } in
         Prepares two_sample_test (record { kind = kind; groups = groups }) result }
 {
     let groups = groups_of(labels, sizes, members, values);
