@@ -33,7 +33,8 @@ pub fn answer(
     way: Way,
 ) -> Result<Answer, NoMemory>
     requires less { tails.less ≡ true → (block_test problem.now).has_tail Tail.Less ≡ true }
-    requires greater { tails.greater ≡ true → (block_test problem.now).has_tail Tail.Greater ≡ true }
+    requires greater { tails.greater ≡ true
+        → (block_test problem.now).has_tail Tail.Greater ≡ true }
     requires two { tails.two ≡ true → (block_test problem.now).has_tail Tail.Two ≡ true }
     ensures { let opened = open_keys (block_network problem.now) in
         IfOk result (λ answer.
@@ -90,7 +91,8 @@ pub fn prepared_blocks(
     requires one_each { length cells ≡ blocks * treatments }
     requires small { All (λ cell. nat_abs cell < 10 ^ 36) cells }
     requires takes { TakesCells kind cells }
-    ensures { let made : BlockData = record { blocks = blocks; treatments = treatments; cells = cells } in
+    ensures { let made : BlockData =
+        record { blocks = blocks; treatments = treatments; cells = cells } in
         Prepares block_test (blocks_for kind made) result }
 {
     let blocks = blocks_of(blocks, treatments, cells);

@@ -37,7 +37,8 @@ pub fn prepare_umbrella(alloc: Global, peak: u64, groups: &Groups) -> Result<KSa
 /// The answer of a test for tails that it has, by either way.
 pub fn answer(alloc: Global, problem: &KSample, tails: Tails, way: Way) -> Result<Answer, NoMemory>
     requires less { tails.less ≡ true → (k_sample_test problem.now).has_tail Tail.Less ≡ true }
-    requires greater { tails.greater ≡ true → (k_sample_test problem.now).has_tail Tail.Greater ≡ true }
+    requires greater { tails.greater ≡ true
+        → (k_sample_test problem.now).has_tail Tail.Greater ≡ true }
     requires two { tails.two ≡ true → (k_sample_test problem.now).has_tail Tail.Two ≡ true }
     ensures { let opened = open_keys (k_sample_network problem.now) in
         IfOk result (λ answer.

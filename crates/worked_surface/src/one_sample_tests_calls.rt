@@ -45,7 +45,8 @@ pub fn answer(
     way: Way,
 ) -> Result<Answer, NoMemory>
     requires less { tails.less ≡ true → (one_sample_test problem.now).has_tail Tail.Less ≡ true }
-    requires greater { tails.greater ≡ true → (one_sample_test problem.now).has_tail Tail.Greater ≡ true }
+    requires greater { tails.greater ≡ true
+        → (one_sample_test problem.now).has_tail Tail.Greater ≡ true }
     requires two { tails.two ≡ true → (one_sample_test problem.now).has_tail Tail.Two ≡ true }
     ensures { let opened = open_keys (one_sample_network problem.now) in
         IfOk result (λ answer.

@@ -27,7 +27,8 @@ pub fn answer(
     way: Way,
 ) -> Result<Answer, NoMemory>
     requires less { tails.less ≡ true → (sequence_test problem.now).has_tail Tail.Less ≡ true }
-    requires greater { tails.greater ≡ true → (sequence_test problem.now).has_tail Tail.Greater ≡ true }
+    requires greater { tails.greater ≡ true
+        → (sequence_test problem.now).has_tail Tail.Greater ≡ true }
     requires two { tails.two ≡ true → (sequence_test problem.now).has_tail Tail.Two ≡ true }
     ensures { let opened = open_keys (sequence_network problem.now) in
         IfOk result (λ answer.

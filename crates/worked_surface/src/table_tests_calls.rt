@@ -64,7 +64,8 @@ pub fn answer(
     way: Way,
 ) -> Result<Answer, NoMemory>
     requires less { tails.less ≡ true → (table_test problem.now).has_tail Tail.Less ≡ true }
-    requires greater { tails.greater ≡ true → (table_test problem.now).has_tail Tail.Greater ≡ true }
+    requires greater { tails.greater ≡ true
+        → (table_test problem.now).has_tail Tail.Greater ≡ true }
     requires two { tails.two ≡ true → (table_test problem.now).has_tail Tail.Two ≡ true }
     ensures { let opened = open_keys (table_network problem.now) in
         IfOk result (λ answer.

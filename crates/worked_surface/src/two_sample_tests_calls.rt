@@ -37,7 +37,8 @@ pub fn answer(
     way: Way,
 ) -> Result<Answer, NoMemory>
     requires less { tails.less ≡ true → (two_sample_test problem.now).has_tail Tail.Less ≡ true }
-    requires greater { tails.greater ≡ true → (two_sample_test problem.now).has_tail Tail.Greater ≡ true }
+    requires greater { tails.greater ≡ true
+        → (two_sample_test problem.now).has_tail Tail.Greater ≡ true }
     requires two { tails.two ≡ true → (two_sample_test problem.now).has_tail Tail.Two ≡ true }
     ensures { let opened = open_keys (two_sample_network problem.now) in
         IfOk result (λ answer.
@@ -97,7 +98,8 @@ pub fn prepared_groups(
     requires exist { All (λ group. group < length labels) members }
     requires counted { sizes ≡ counts_of (length labels) members }
     requires some { All (λ size. 1 ≤ size) sizes }
-    ensures { let groups : GroupData = record { labels = labels; members = members; values = values } in
+    ensures { let groups : GroupData =
+        record { labels = labels; members = members; values = values } in
         Prepares two_sample_test (record { kind = kind; groups = groups }) result }
 {
     let groups = groups_of(labels, sizes, members, values);
