@@ -20,7 +20,8 @@ use Rattle.label_network.specs.LabelNetwork.{over_rooms}
 use Rattle.label_network.specs.Meanings.{sizes_in}
 use Rattle.label_network.specs.Meanings.{AreReached as LabelReached}
 use Rattle.label_network.proofs.OverRooms.{over_place, under_place}
-use Rattle.symmetry_reduction.specs.GroupSums.{AreHeld, plus_each}
+use Rattle.symmetry_reduction.specs.GroupSums.{AreHeld}
+use Rattle.networks.specs.PartialSums.{plus}
 use Rattle.kruskal_wallis.specs.CentredSums.{HasNarrowBoxes, from_middle}
 use Rattle.kruskal_wallis.specs.RankSumSteps.{AreAddable, AreNarrow, IsSquaring, parts_of}
 use Rattle.kruskal_wallis.specs.SumMeanings.{seen_meaning, sums_meaning}
@@ -29,7 +30,8 @@ use Rattle.kruskal_wallis.proofs.CentredNarrows.{IsHeldPartial, held-at, reached
 use Rattle.kruskal_wallis.proofs.CentredSquares.{taken-is}
 use Rattle.kruskal_wallis.proofs.Corners.{corners}
 use Rattle.kruskal_wallis.proofs.RankKeys.{end-long, long, partial_is, parts-small, size-within}
-use Rattle.symmetry_reduction.proofs.GroupSums.{length-plus, plus-at}
+use Rattle.networks.proofs.Swaps.{length-plus}
+use Rattle.symmetry_reduction.proofs.GroupSums.{plus-at}
 use Rattle.kruskal_wallis.proofs.RankNarrows.{length-parts}
 
 -- ---- sums of squares
@@ -73,11 +75,12 @@ part-held e (suc j) (x ∷ xs) h = by (nat_lt j (length xs)) (taken x (part_sum 
 
 -- ---- places of a list
 
-plus-apart : (p a s : List ℤ) → plus_each p (plus_each a s) ≡ plus_each (plus_each p a) s
-plus-apart [] a s = refl
-plus-apart (x ∷ p) [] s = refl
-plus-apart (x ∷ p) (y ∷ a) [] = refl
-plus-apart (x ∷ p) (y ∷ a) (z ∷ s) = rw (plus-apart p a s, one x y z) refl
+plus-apart : (p a s : List ℤ) → length s ≡ length a → plus p (plus a s) ≡ plus (plus p a) s
+plus-apart [] a s e = refl
+plus-apart (x ∷ p) [] [] e = refl
+plus-apart (x ∷ p) [] (z ∷ s) e = absurd (omega (arith, e))
+plus-apart (x ∷ p) (y ∷ a) [] e = absurd (omega (arith, e))
+plus-apart (x ∷ p) (y ∷ a) (z ∷ s) e = rw (plus-apart p a s (omega (arith, e)), one x y z) refl
   where
     one : (x y z : ℤ) → x +ℤ (y +ℤ z) ≡ (x +ℤ y) +ℤ z
     one x y z = omega (arith, ints)
@@ -155,7 +158,7 @@ module _ (s : CentredSums) where
 
   -- what the groups of a room can still get, seen from the middle
   abbrev ends : ℕ → List ℤ → End → List ℤ
-  ends g f e = plus_each (parts_of e (later g) (sizes_in f)) shifts
+  ends g f e = plus (parts_of e (later g) (sizes_in f)) shifts
 
   pub parts-beside : (g : ℕ) (f p : List ℤ) → AreReached (over_rooms (seen_meaning s)) g f p → (e : End) → length shifts ≡ length (parts_of e (later g) (sizes_in f))
   parts-beside g f p r e = shifts-long ∙ sym (parts-wide g f p r e)
@@ -171,7 +174,7 @@ module _ (s : CentredSums) where
     partial-few = as-few (length p) kept.wide
 
     pub ends-long : (e : End) → length (ends g f e) ≡ length p
-    ends-long e = length-plus (parts_of e (later g) (sizes_in f)) shifts (parts-beside g f p r e) ∙ parts-wide g f p r e ∙ sym kept.wide
+    ends-long e = length-plus (parts_of e (later g) (sizes_in f)) shifts ∙ parts-wide g f p r e ∙ sym kept.wide
 
     parts-in : (e : End) → length (parts_of e (later g) (sizes_in f)) ≡ length p
     parts-in e = parts-wide g f p r e ∙ sym kept.wide
@@ -241,22 +244,22 @@ module _ (s : CentredSums) where
     }
 
     -- between which sums the groups end, by what they have and what they can still get
-    pub side-is : (e : End) → plus_each p (ends g f e) ≡ plus_each (plus_each p (parts_of e (later g) (sizes_in f))) shifts
-    side-is e = plus-apart p (parts_of e (later g) (sizes_in f)) shifts
+    pub side-is : (e : End) → plus p (ends g f e) ≡ plus (plus p (parts_of e (later g) (sizes_in f))) shifts
+    side-is e = plus-apart p (parts_of e (later g) (sizes_in f)) shifts (parts-beside g f p r e)
 
-    pub side-long : (e : End) → length (plus_each p (ends g f e)) ≡ length s.sums.rows.items
-    side-long e = length-plus p (ends g f e) (ends-long e) ∙ kept.wide
+    pub side-long : (e : End) → length (plus p (ends g f e)) ≡ length s.sums.rows.items
+    side-long e = length-plus p (ends g f e) ∙ kept.wide
 
-    side-within : (e : End) (i : ℕ) → unsigned_abs (get_or (plus_each p (ends g f e)) i (pos 0)) ≤ all
+    side-within : (e : End) (i : ℕ) → unsigned_abs (get_or (plus p (ends g f e)) i (pos 0)) ≤ all
     side-within e i = elim (cases_lt i (length p)) [
       | inl here ↦
           (let (a, b, t, seen) = seen-at e i in
           rw (plus-at p (ends g f e) i (ends-long e) here, end-is e i here, seen.sum_is, seen.part_is, seen.taken) (omega (arith, ints, seen.within, seen.less)))
-      | inr past ↦ rw (none-behind (plus_each p (ends g f e)) i (omega (arith, past, length-plus p (ends g f e) (ends-long e)))) (omega arith)
+      | inr past ↦ rw (none-behind (plus p (ends g f e)) i (omega (arith, past, length-plus p (ends g f e)))) (omega arith)
     ]
 
-    pub box-fits : s.sums.bound < 2 ^ 124 → greatest_squares (plus_each p (ends g f Least)) (plus_each p (ends g f Greatest)) s.sums.factors.items < 2 ^ 127
-    box-fits n = omega (arith, n, squaring.one_each, squaring.few_rows, corners all s.sums.bound s.sums.factors.items (plus_each p (ends g f Least)) (plus_each p (ends g f Greatest)) squaring.bounded (side-within Least) (side-within Greatest), mul-le-mul_right' (length s.sums.factors.items) 8 s.sums.bound (omega (arith, squaring.one_each, squaring.few_rows)))
+    pub box-fits : s.sums.bound < 2 ^ 124 → greatest_squares (plus p (ends g f Least)) (plus p (ends g f Greatest)) s.sums.factors.items < 2 ^ 127
+    box-fits n = omega (arith, n, squaring.one_each, squaring.few_rows, corners all s.sums.bound s.sums.factors.items (plus p (ends g f Least)) (plus p (ends g f Greatest)) squaring.bounded (side-within Least) (side-within Greatest), mul-le-mul_right' (length s.sums.factors.items) 8 s.sums.bound (omega (arith, squaring.one_each, squaring.few_rows)))
       where
         mul-le-mul_right' : (a b c : ℕ) → a ≤ b → a * c ≤ b * c
         mul-le-mul_right' a b c h = grind (arith, h)

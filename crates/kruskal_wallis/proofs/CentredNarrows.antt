@@ -21,14 +21,15 @@ use Rattle.label_network.specs.Meanings.{AreReached, IsMeasure, Meaning}
 use Rattle.label_network.proofs.Rows.{fits-long}
 use Rattle.label_network.proofs.Narrowing.{IsLeft, IsNarrowing, measured, reached-kept}
 use Rattle.kruskal_wallis.specs.CentredSums.{IsCentred, centred_meaning, from_middle, seen_highs, seen_lows}
-use Rattle.symmetry_reduction.specs.GroupSums.{AreHeld, plus_each}
+use Rattle.symmetry_reduction.specs.GroupSums.{AreHeld}
+use Rattle.networks.specs.PartialSums.{plus}
 use Rattle.kruskal_wallis.specs.RankSums.{score_parts}
 use Rattle.kruskal_wallis.specs.RankSumSteps.{IsSquaring}
-use Rattle.symmetry_reduction.proofs.GroupSums.{length-plus}
+use Rattle.networks.proofs.Swaps.{length-plus}
 use Rattle.kruskal_wallis.proofs.RankNarrows.{IsPartial, column-size, highs-end, in-box, length-parts, lows-end, sizes-zeros}
 
 -- a box is as much narrower where all ends are moved alike
-narrower-seen : (ls hs ps qs shifts : List ℤ) → IsNarrower ls hs ps qs → IsNarrower (plus_each ls shifts) (plus_each hs shifts) (plus_each ps shifts) (plus_each qs shifts)
+narrower-seen : (ls hs ps qs shifts : List ℤ) → IsNarrower ls hs ps qs → IsNarrower (plus ls shifts) (plus hs shifts) (plus ps shifts) (plus qs shifts)
 narrower-seen [] [] [] [] shifts n = tt
 narrower-seen [] [] [] (q ∷ qs) shifts n = absurd n
 narrower-seen [] [] (p ∷ ps) qs shifts n = absurd n
@@ -36,7 +37,7 @@ narrower-seen [] (h ∷ hs) ps qs shifts n = absurd n
 narrower-seen (l ∷ ls) [] ps qs shifts n = absurd n
 narrower-seen (l ∷ ls) (h ∷ hs) [] qs shifts n = absurd n
 narrower-seen (l ∷ ls) (h ∷ hs) (p ∷ ps) [] shifts n = absurd n
-narrower-seen (l ∷ ls) (h ∷ hs) (p ∷ ps) (q ∷ qs) [] n = tt
+narrower-seen (l ∷ ls) (h ∷ hs) (p ∷ ps) (q ∷ qs) [] n = n
 narrower-seen (l ∷ ls) (h ∷ hs) (p ∷ ps) (q ∷ qs) (s ∷ shifts) n = (moved l p s n.0, moved p q s n.1, moved q h s n.2, narrower-seen ls hs ps qs shifts n.3)
   where
     moved : (a b s : ℤ) → a ≤ℤ b → (a +ℤ s) ≤ℤ (b +ℤ s)
@@ -52,15 +53,15 @@ held-at (z ∷ zs) (suc i) h = held-at zs i h.1
 more-held : (z s : ℤ) (n : ℕ) → z ≡ pos (nat_abs z) → s ≡ pos (nat_abs s) → z +ℤ (pos n *ℤ s) ≡ pos (nat_abs (z +ℤ (pos n *ℤ s)))
 more-held z s n h k = rw (h, k) refl
 
-held-plus : (s : ℤ) (p : List ℤ) (x : List ℕ) → s ≡ pos (nat_abs s) → AreHeld p → AreHeld (plus_each p (score_parts s x))
+held-plus : (s : ℤ) (p : List ℤ) (x : List ℕ) → s ≡ pos (nat_abs s) → AreHeld p → AreHeld (plus p (score_parts s x))
 held-plus s [] x k h = tt
-held-plus s (z ∷ p) [] k h = tt
+held-plus s (z ∷ p) [] k h = h
 held-plus s (z ∷ p) (n ∷ x) k h = (more-held z s n h.0 k, held-plus s p x k h.1)
 
 size-more : (z s : ℤ) (n : ℕ) → z ≡ pos (nat_abs z) → s ≡ pos (nat_abs s) → unsigned_abs (z +ℤ (pos n *ℤ s)) ≡ unsigned_abs z + n * unsigned_abs s
 size-more z s n h k = rw (h, k) refl
 
-sizes-more : (s : ℤ) (p : List ℤ) (x : List ℕ) → s ≡ pos (nat_abs s) → AreHeld p → length x ≡ length p → absolute_sum (plus_each p (score_parts s x)) ≡ absolute_sum p + sum x * unsigned_abs s
+sizes-more : (s : ℤ) (p : List ℤ) (x : List ℕ) → s ≡ pos (nat_abs s) → AreHeld p → length x ≡ length p → absolute_sum (plus p (score_parts s x)) ≡ absolute_sum p + sum x * unsigned_abs s
 sizes-more s [] [] k h l = omega arith
 sizes-more s [] (n ∷ x) k h l = absurd (omega (arith, l))
 sizes-more s (z ∷ p) [] k h l = absurd (omega (arith, l))
@@ -86,13 +87,13 @@ module _ (factors : List ℕ) (bound base middle : ℕ) (scores : List ℤ) (col
   partial-of : (g : ℕ) (r : List ℕ) (p : List ℤ) → Kept g r p → IsPartial scores columns rows g r p
   partial-of g r p k = record { wide = k.wide; small = omega (arith, k.whole) }
 
-  keeping : (g : ℕ) (r x : List ℕ) (p : List ℤ) → g < length columns → IsLeft m g r → IsChoice (slice_index columns g) r x → Kept g r p → Kept (g + 1) (minus r x) (plus_each p (score_parts (score_of scores g) x))
+  keeping : (g : ℕ) (r x : List ℕ) (p : List ℤ) → g < length columns → IsLeft m g r → IsChoice (slice_index columns g) r x → Kept g r p → Kept (g + 1) (minus r x) (plus p (score_parts (score_of scores g) x))
   keeping g r x p before l o k =
       let s : ℤ = score_of scores g in
       let held = held-at scores g (recursion_from_All _ scores c.held) in
       let long : length x ≡ length p = o.long ∙ fits-long r rows l.within ∙ sym k.wide in
       record {
-        wide = length-plus p (score_parts s x) (length-parts s x ∙ long) ∙ k.wide;
+        wide = length-plus p (score_parts s x) ∙ k.wide;
         held = held-plus s p x held k.held;
         whole = omega (arith, k.whole, sizes-more s p x held k.held long, ap (λ n. n * unsigned_abs s) o.whole, column-size factors bound scores columns rows judge h g r x p before l o (partial-of g r p k));
       }
@@ -100,7 +101,7 @@ module _ (factors : List ℕ) (bound base middle : ℕ) (scores : List ℤ) (col
   narrower-box : (g : ℕ) (r x : List ℕ) (p : List ℤ) (before : g < length columns) (l : IsLeft m g r) (o : IsChoice (slice_index columns g) r x) (k : Kept g r p)
       → let later = replicate (slice_index columns g) (score_of scores g) ++ later_scores scores columns (g + 1) in
       let next = later_scores scores columns (g + 1) in
-      let q = plus_each p (score_parts (score_of scores g) x) in
+      let q = plus p (score_parts (score_of scores g) x) in
       IsNarrower (seen_lows shifts later r p) (seen_highs shifts later r p) (seen_lows shifts next (minus r x) q) (seen_highs shifts next (minus r x) q)
   narrower-box g r x p before l o k = narrower-seen _ _ _ _ shifts (in-box factors bound scores columns rows judge h g r x p before l o (partial-of g r p k))
 
@@ -108,7 +109,7 @@ module _ (factors : List ℕ) (bound base middle : ℕ) (scores : List ℤ) (col
   capped a b i = omega (arith, ints, i)
 
   -- at the end the sums are those of all scores
-  whole-end : (r : List ℕ) (p : List ℤ) → Kept (length columns) r p → pos (min (base + factored_squares (plus_each p shifts) factors) bound) ≡ pos (factored_squares p factors)
+  whole-end : (r : List ℕ) (p : List ℤ) → Kept (length columns) r p → pos (min (base + factored_squares (plus p shifts) factors) bound) ≡ pos (factored_squares p factors)
   whole-end r p k =
       let all : ℕ = absolute_sum (subjects scores columns) in
       let end : absolute_sum p ≡ all = omega (arith, k.whole, ap absolute_sum (later-end scores columns h.long)) in
@@ -121,10 +122,10 @@ module _ (factors : List ℕ) (bound base middle : ℕ) (scores : List ℤ) (col
     falls = λ g r x p before l o k. rw (later-next scores columns g before h.long) (capped _ _ (greatest_squares-falls _ _ _ _ factors (narrower-box g r x p before l o k)));
     low_end = λ r p l k.
         let same : length p ≡ length r = k.wide ∙ sym (fits-long r rows l.within) in
-        rw (later-end scores columns h.long, lows-end p r same, highs-end p r same, least_squares-point (plus_each p shifts) factors) (whole-end r p k);
+        rw (later-end scores columns h.long, lows-end p r same, highs-end p r same, least_squares-point (plus p shifts) factors) (whole-end r p k);
     high_end = λ r p l k.
         let same : length p ≡ length r = k.wide ∙ sym (fits-long r rows l.within) in
-        rw (later-end scores columns h.long, lows-end p r same, highs-end p r same, greatest_squares-point (plus_each p shifts) factors) (whole-end r p k);
+        rw (later-end scores columns h.long, lows-end p r same, highs-end p r same, greatest_squares-point (plus p shifts) factors) (whole-end r p k);
   }
 
   first-kept : Kept 0 rows (replicate (length rows) (pos 0))

@@ -12,7 +12,8 @@ use Rattle.later_scores.specs.LaterSums.{subjects}
 use Rattle.weights.specs.Numbers.{absolute_sum}
 use Rattle.weights.specs.declared.TheConstants.{MAX}
 use Rattle.kruskal_wallis.specs.CentredSums.{AreParts, IsCentred, from_middle, middle_squares}
-use Rattle.symmetry_reduction.specs.GroupSums.{AreHeld, plus_each}
+use Rattle.symmetry_reduction.specs.GroupSums.{AreHeld}
+use Rattle.networks.specs.PartialSums.{plus}
 
 pub taken-is : (n m : ℕ) → pos n *ℤ (pos 0 -ℤ pos m) ≡ pos 0 -ℤ pos (n * m)
 taken-is n m = grind (arith, ints)
@@ -54,7 +55,7 @@ one-place f n m z held =
         right f n m a = grind arith
 
 squares-seen : (l m : ℕ) (p : List ℤ) (factors rows : List ℕ) → AreParts l factors rows → AreHeld p → length p ≡ length rows
-    → factored_squares (plus_each p (from_middle m rows)) factors + 2 * (l * (m * absolute_sum p)) ≡ factored_squares p factors + l * (m * (m * sum rows))
+    → factored_squares (plus p (from_middle m rows)) factors + 2 * (l * (m * absolute_sum p)) ≡ factored_squares p factors + l * (m * (m * sum rows))
 squares-seen l m [] [] [] parts held e = grind arith
 squares-seen l m [] [] (n ∷ rows) parts held e = absurd parts
 squares-seen l m [] (f ∷ factors) [] parts held e = absurd parts
@@ -77,7 +78,7 @@ squares-seen l m (z ∷ p) (f ∷ factors) (n ∷ rows) parts held e =
 
 -- and so the sums' own squares are those of what is seen with what all have alike
 pub seen-value : (l m all : ℕ) (p : List ℤ) (factors rows : List ℕ) → AreParts l factors rows → AreHeld p → length p ≡ length rows → absolute_sum p ≡ all → m * sum rows ≤ all
-    → middle_squares l m all (sum rows) + factored_squares (plus_each p (from_middle m rows)) factors ≡ factored_squares p factors
+    → middle_squares l m all (sum rows) + factored_squares (plus p (from_middle m rows)) factors ≡ factored_squares p factors
 seen-value l m all p factors rows parts held e whole below =
     let left : ℕ = 2 * all - m * sum rows in
     let twice : 2 * all ≡ m * sum rows + left = omega (arith, below) in
@@ -129,7 +130,7 @@ centred l all n bound factors scores columns rows some any count whole parts hel
       held = All-from_recursion _ scores held;
       below = subst (λ k. middle * k ≤ absolute_sum (subjects scores columns)) count (subst (λ a. middle * n ≤ a) whole below);
       value = λ p h e w.
-          subst (λ k. middle_squares l middle all k + factored_squares (plus_each p (from_middle middle rows)) factors ≡ factored_squares p factors) (sym count)
+          subst (λ k. middle_squares l middle all k + factored_squares (plus p (from_middle middle rows)) factors ≡ factored_squares p factors) (sym count)
           (seen-value l middle all p factors rows parts h e (w ∙ sym whole) (subst (λ k. middle * k ≤ all) count below));
       base_fits = omega (arith, middle-within l middle all n any below, fits);
       middle_fits = subst (λ a. middle ≤ a) whole (div-le_self all n);

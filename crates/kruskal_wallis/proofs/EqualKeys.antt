@@ -14,7 +14,7 @@ use Rattle.networks.specs.Completions.{over_arcs}
 use Rattle.networks.specs.Symmetries.{IsSymmetry}
 use Rattle.networks.proofs.Lumping.{over_allowed}
 use Rattle.networks.proofs.Steps.{reached-next}
-use Rattle.networks.proofs.Swaps.{length-swap, map-swap, swap_at}
+use Rattle.networks.proofs.Swaps.{length-plus, length-swap, map-swap, plus-swap, swap_at}
 use Rattle.room_network.proofs.RoomKeys.{IsKey, choices_before, is_key, partial-next, room-next, weighed}
 use Rattle.later_scores.specs.LaterSums.{greatest_sum, later_scores, least_sum}
 use Rattle.label_network.specs.LabelNetwork.{label_network, over_rooms}
@@ -29,7 +29,7 @@ use Rattle.scores.specs.PlaceScores.{common_multiple}
 use Rattle.kruskal_wallis.specs.KruskalWallis.{size_factors}
 use Rattle.kruskal_wallis.specs.SumMeanings.{sums_meaning}
 use Rattle.kruskal_wallis.specs.CentredSums.{IsCentred, centred_meaning, from_middle}
-use Rattle.symmetry_reduction.specs.GroupSums.{plus_each}
+use Rattle.networks.specs.PartialSums.{plus}
 use Rattle.kruskal_wallis.specs.RankSums.{score_parts, squares_meaning}
 use Rattle.kruskal_wallis.specs.RankSumSteps.{IsSquaring}
 use Rattle.kruskal_wallis.specs.declared.rank_sums.RankSums.{RankSums}
@@ -38,17 +38,7 @@ use Rattle.symmetry_reduction.specs.OrderedGroups.{IsExchange, same_at, exchange
 use Rattle.symmetry_reduction.specs.ReducedNetworks.{MayBeReduced}
 use Rattle.symmetry_reduction.proofs.PlaceOrder.{back-key, front-key, swap-same}
 use Rattle.kruskal_wallis.proofs.CentredNarrows.{centred_measure}
-use Rattle.symmetry_reduction.proofs.GroupSums.{length-plus}
 use Rattle.kruskal_wallis.proofs.RankNarrows.{length-parts, squares_measure}
-
-plus_each-swap : (i : ℕ) (p a : List ℤ) → length a ≡ length p → plus_each (swap_at i p) (swap_at i a) ≡ swap_at i (plus_each p a)
-plus_each-swap i [] a e = refl
-plus_each-swap i (x ∷ p) [] e = absurd (omega arith)
-plus_each-swap zero (x ∷ []) (v ∷ []) e = refl
-plus_each-swap zero (x ∷ []) (v ∷ w ∷ a) e = absurd (omega arith)
-plus_each-swap zero (x ∷ y ∷ p) (v ∷ []) e = absurd (omega arith)
-plus_each-swap zero (x ∷ y ∷ p) (v ∷ w ∷ a) e = refl
-plus_each-swap (suc i) (x ∷ p) (v ∷ a) e = ap (λ zs. (x +ℤ v) ∷ zs) (plus_each-swap i p a (omega arith))
 
 squares-swap : (i : ℕ) (p : List ℤ) (f : List ℕ) → length f ≡ length p → factored_squares (swap_at i p) (swap_at i f) ≡ factored_squares p f
 squares-swap i [] f e = refl
@@ -144,14 +134,14 @@ module _ (factors : List ℕ) (bound : ℕ) (scores : List ℤ) (columns rows : 
       let sizes : List ℕ = sizes_in (room k) in
       let parts : List ℤ = score_parts s c in
       let left : List ℤ = map pos (minus sizes c) in
-      let sums : List ℤ = plus_each (partial k) parts in
+      let sums : List ℤ = plus (partial k) parts in
       let long : length left ≡ length rows = length-pos (minus sizes c) ∙ length-minus sizes c ∙ sizes-long g k r in
-      ap (λ q. map pos (minus q (swap_at i c)) ++ plus_each (partial (exchange (length rows) i k)) (score_parts s (swap_at i c))) (exchange-sizes i g k r)
-      ∙ ap (λ q. map pos (minus (swap_at i sizes) (swap_at i c)) ++ plus_each q (score_parts s (swap_at i c))) (exchange-partial i g k r)
-      ∙ ap (λ q. map pos q ++ plus_each (swap_at i (partial k)) (score_parts s (swap_at i c))) (minus-swap i sizes c (l ∙ sym (sizes-long g k r)))
-      ∙ ap (λ q. q ++ plus_each (swap_at i (partial k)) (score_parts s (swap_at i c))) (map-swap pos i (minus sizes c))
-      ∙ ap (λ q. swap_at i left ++ plus_each (swap_at i (partial k)) q) (map-swap (λ x. pos x *ℤ s) i c)
-      ∙ ap (λ q. swap_at i left ++ q) (plus_each-swap i (partial k) parts (length-parts s c ∙ l ∙ sym (partial-long g k r)))
+      ap (λ q. map pos (minus q (swap_at i c)) ++ plus (partial (exchange (length rows) i k)) (score_parts s (swap_at i c))) (exchange-sizes i g k r)
+      ∙ ap (λ q. map pos (minus (swap_at i sizes) (swap_at i c)) ++ plus q (score_parts s (swap_at i c))) (exchange-partial i g k r)
+      ∙ ap (λ q. map pos q ++ plus (swap_at i (partial k)) (score_parts s (swap_at i c))) (minus-swap i sizes c (l ∙ sym (sizes-long g k r)))
+      ∙ ap (λ q. q ++ plus (swap_at i (partial k)) (score_parts s (swap_at i c))) (map-swap pos i (minus sizes c))
+      ∙ ap (λ q. swap_at i left ++ plus (swap_at i (partial k)) q) (map-swap (λ x. pos x *ℤ s) i c)
+      ∙ ap (λ q. swap_at i left ++ q) (plus-swap i (partial k) parts (length-parts s c ∙ l ∙ sym (partial-long g k r)))
       ∙ sym (
       ap (λ q. swap_at i q ++ swap_at i (partial (left ++ sums))) (front-key (length rows) left sums long)
       ∙ ap (λ q. swap_at i left ++ swap_at i q) (back-key (length rows) left sums long))
@@ -181,7 +171,7 @@ module _ (factors : List ℕ) (bound : ℕ) (scores : List ℤ) (columns rows : 
 
   -- what a choice at sizes and sums adds to a sum over arcs
   abbrev term : (List ℤ → ℕ) → ℕ → List ℕ → List ℤ → List ℕ → ℕ
-  term f g r p c = number_of_labellings c * f (map pos (minus r c) ++ plus_each p (score_parts (score_of scores g) c))
+  term f g r p c = number_of_labellings c * f (map pos (minus r c) ++ plus p (score_parts (score_of scores g) c))
 
   exchange-arcs : (f : List ℤ → ℕ) (g : ℕ) (k j : List ℤ) → ((l i : List ℤ) → IsReached n (g + 1) l → IsExchange rows l i → f i ≡ f l) → IsReached n g k → IsExchange rows k j → g < n.count → over_arcs n f g j ≡ over_arcs n f g k
   exchange-arcs f g k j even_f r (i, s, e) before =
@@ -245,15 +235,15 @@ module _ (factors : List ℕ) (bound : ℕ) (scores : List ℤ) (columns rows : 
     abbrev sizes : List ℕ
     sizes = sizes_in (room k)
 
-    pub box-side : (part : ℕ → ℤ) → plus_each (partial here) (map part (sizes_in (room here))) ≡ swap_at i (plus_each (partial k) (map part sizes))
+    pub box-side : (part : ℕ → ℤ) → plus (partial here) (map part (sizes_in (room here))) ≡ swap_at i (plus (partial k) (map part sizes))
     box-side part =
-        ap (λ q. plus_each (partial here) (map part q)) (exchange-sizes i g k r)
-        ∙ ap (λ q. plus_each q (map part (swap_at i sizes))) (exchange-partial i g k r)
-        ∙ ap (plus_each (swap_at i (partial k))) (map-swap part i sizes)
-        ∙ plus_each-swap i (partial k) (map part sizes) (length-map sizes part ∙ sizes-long g k r ∙ sym (partial-long g k r))
+        ap (λ q. plus (partial here) (map part q)) (exchange-sizes i g k r)
+        ∙ ap (λ q. plus q (map part (swap_at i sizes))) (exchange-partial i g k r)
+        ∙ ap (plus (swap_at i (partial k))) (map-swap part i sizes)
+        ∙ plus-swap i (partial k) (map part sizes) (length-map sizes part ∙ sizes-long g k r ∙ sym (partial-long g k r))
 
-    pub side-long : (part : ℕ → ℤ) → length (plus_each (partial k) (map part sizes)) ≡ length rows
-    side-long part = length-plus (partial k) (map part sizes) (length-map sizes part ∙ sizes-long g k r ∙ sym (partial-long g k r)) ∙ partial-long g k r
+    pub side-long : (part : ℕ → ℤ) → length (plus (partial k) (map part sizes)) ≡ length rows
+    side-long part = length-plus (partial k) (map part sizes) ∙ partial-long g k r
 
   -- where the ends of intervals stay, groups of equal size may be put in order
   module _ (low-turn : (i g : ℕ) → same_at i rows ≡ true → (k : List ℤ) → IsReached n g k → low g (sizes_in (room (exchange (length rows) i k))) (partial (exchange (length rows) i k)) ≡ low g (sizes_in (room k)) (partial k))
@@ -311,11 +301,11 @@ module _ (factors : List ℕ) (bound : ℕ) (scores : List ℤ) (columns rows : 
     shifts-even : (i : ℕ) → same_at i rows ≡ true → swap_at i shifts ≡ shifts
     shifts-even i s = sym (map-swap (λ n. pos n *ℤ (pos 0 -ℤ pos middle)) i rows) ∙ ap (from_middle middle) (swap-same i rows s)
 
-    seen-swap : (i : ℕ) → same_at i rows ≡ true → (ends : List ℤ) → length ends ≡ length rows → plus_each (swap_at i ends) shifts ≡ swap_at i (plus_each ends shifts)
-    seen-swap i s ends l = ap (plus_each (swap_at i ends)) (sym (shifts-even i s)) ∙ plus_each-swap i ends shifts (shifts-long ∙ sym l)
+    seen-swap : (i : ℕ) → same_at i rows ≡ true → (ends : List ℤ) → length ends ≡ length rows → plus (swap_at i ends) shifts ≡ swap_at i (plus ends shifts)
+    seen-swap i s ends l = ap (plus (swap_at i ends)) (sym (shifts-even i s)) ∙ plus-swap i ends shifts (shifts-long ∙ sym l)
 
-    seen-long : (ends : List ℤ) → length ends ≡ length rows → length (plus_each ends shifts) ≡ length rows
-    seen-long ends l = length-plus ends shifts (shifts-long ∙ sym l) ∙ l
+    seen-long : (ends : List ℤ) → length ends ≡ length rows → length (plus ends shifts) ≡ length rows
+    seen-long ends l = length-plus ends shifts ∙ l
 
     pub centred-reduced : MayBeReduced rows (label_network centred) judge
     centred-reduced =

@@ -23,7 +23,8 @@ use Rattle.label_network.proofs.Rows.{fits-long}
 use Rattle.label_network.proofs.Narrowing.{chosen, reached-left}
 use Rattle.label_network.proofs.OverRooms.{over_place}
 use Rattle.symmetry_reduction.specs.ReducedNetworks.{reduced_network}
-use Rattle.symmetry_reduction.specs.GroupSums.{AreHeld, plus_each}
+use Rattle.symmetry_reduction.specs.GroupSums.{AreHeld}
+use Rattle.networks.specs.PartialSums.{plus}
 use Rattle.symmetry_reduction.specs.declared.orders.Order.{Order}
 use Rattle.packed_keys.specs.PackedGroups.{AddsSteps}
 use Rattle.packed_keys.specs.PackedKeys.{IsDigit, MayBePacked}
@@ -58,7 +59,7 @@ module _ (factors : List ℕ) (bound base middle : ℕ) (scores : List ℤ) (col
   -- the partials are those of the plain sums, and so is the value
   after-same : (cs : List (List ℕ)) (g : ℕ) (r : List ℕ) (p : List ℤ) → partial_after m g r p cs ≡ partial_after (squares_meaning factors bound scores columns rows judge) g r p cs
   after-same [] g r p = refl
-  after-same (x ∷ cs) g r p = after-same cs (g + 1) (minus r x) (plus_each p (score_parts (score_of scores g) x))
+  after-same (x ∷ cs) g r p = after-same cs (g + 1) (minus r x) (plus p (score_parts (score_of scores g) x))
 
   pub same-value : (xs : List ℕ) → labelling_value m xs ≡ labelling_value (squares_meaning factors bound scores columns rows judge) xs
   same-value xs = ap m.value (after-same (columns_of (length rows) columns xs) 0 rows m.first)

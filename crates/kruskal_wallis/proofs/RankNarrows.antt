@@ -25,8 +25,8 @@ use Rattle.label_network.specs.Linear.{score_of}
 use Rattle.label_network.specs.Meanings.{AreReached, IsMeasure}
 use Rattle.label_network.proofs.Rows.{fits-long}
 use Rattle.label_network.proofs.Narrowing.{IsLeft, IsNarrowing, measured, reached-kept, reached-left, sizes-next}
-use Rattle.symmetry_reduction.specs.GroupSums.{plus_each}
-use Rattle.symmetry_reduction.proofs.GroupSums.{length-plus}
+use Rattle.networks.specs.PartialSums.{plus}
+use Rattle.networks.proofs.Swaps.{length-plus}
 use Rattle.kruskal_wallis.specs.RankSums.{greatest_parts, least_parts, score_parts, squares_meaning}
 use Rattle.kruskal_wallis.specs.RankSumSteps.{IsSquaring}
 
@@ -54,7 +54,7 @@ beside p a b h = omega (arith, ints, h)
 -- ---- all groups
 
 narrower : (p : List ℤ) (r x : List ℕ) (c : ℕ) (v : ℤ) (later : List ℤ) → length p ≡ length r → fits x r ≡ true → sum x ≤ c → sum (minus r x) ≤ length later
-    → IsNarrower (plus_each p (least_parts (replicate c v ++ later) r)) (plus_each p (greatest_parts (replicate c v ++ later) r)) (plus_each (plus_each p (score_parts v x)) (least_parts later (minus r x))) (plus_each (plus_each p (score_parts v x)) (greatest_parts later (minus r x)))
+    → IsNarrower (plus p (least_parts (replicate c v ++ later) r)) (plus p (greatest_parts (replicate c v ++ later) r)) (plus (plus p (score_parts v x)) (least_parts later (minus r x))) (plus (plus p (score_parts v x)) (greatest_parts later (minus r x)))
 narrower [] r x c v later l f h e = tt
 narrower (p ∷ ps) [] x c v later l f h e = absurd (omega (arith, l))
 narrower (p ∷ ps) (m ∷ ms) [] c v later l f h e = absurd (cc f)
@@ -73,12 +73,12 @@ narrower (p ∷ ps) (m ∷ ms) (k ∷ x) c v later l f h e =
 
 -- after the last column the box is one point
 
-pub lows-end : (p : List ℤ) (r : List ℕ) → length p ≡ length r → plus_each p (least_parts [] r) ≡ p
+pub lows-end : (p : List ℤ) (r : List ℕ) → length p ≡ length r → plus p (least_parts [] r) ≡ p
 lows-end [] r l = refl
 lows-end (p ∷ ps) [] l = absurd (omega (arith, l))
 lows-end (p ∷ ps) (m ∷ ms) l = rw (part-none int_min m, +ℤ_idr p, lows-end ps ms (omega (arith, l))) refl
 
-pub highs-end : (p : List ℤ) (r : List ℕ) → length p ≡ length r → plus_each p (greatest_parts [] r) ≡ p
+pub highs-end : (p : List ℤ) (r : List ℕ) → length p ≡ length r → plus p (greatest_parts [] r) ≡ p
 highs-end [] r l = refl
 highs-end (p ∷ ps) [] l = absurd (omega (arith, l))
 highs-end (p ∷ ps) (m ∷ ms) l = rw (part-none int_max m, +ℤ_idr p, highs-end ps ms (omega (arith, l))) refl
@@ -88,7 +88,7 @@ highs-end (p ∷ ps) (m ∷ ms) l = rw (part-none int_max m, +ℤ_idr p, highs-e
 pub length-parts : (v : ℤ) (x : List ℕ) → length (score_parts v x) ≡ length x
 length-parts v x = length-map x (λ n. pos n *ℤ v)
 
-sizes-plus : (v : ℤ) (p : List ℤ) (x : List ℕ) → absolute_sum (plus_each p (score_parts v x)) ≤ absolute_sum p + sum x * unsigned_abs v
+sizes-plus : (v : ℤ) (p : List ℤ) (x : List ℕ) → absolute_sum (plus p (score_parts v x)) ≤ absolute_sum p + sum x * unsigned_abs v
 sizes-plus v [] x = omega arith
 sizes-plus v (p ∷ ps) [] = omega arith
 sizes-plus v (p ∷ ps) (k ∷ x) =
@@ -118,14 +118,14 @@ module _ (factors : List ℕ) (bound : ℕ) (scores : List ℤ) (columns rows : 
     room : sum (minus r x) ≤ length (later_scores scores columns (g + 1))
     room = omega (arith, sizes-next (squares_meaning factors bound scores columns rows judge) scores g r h.long before l, sum-minus r x c.fitting, c.whole)
 
-    keeping : IsPartial scores columns rows (g + 1) (minus r x) (plus_each p (score_parts (score_of scores g) x))
+    keeping : IsPartial scores columns rows (g + 1) (minus r x) (plus p (score_parts (score_of scores g) x))
     keeping =
         record {
-          wide = length-plus p (score_parts (score_of scores g) x) choice-long ∙ k.wide;
+          wide = length-plus p (score_parts (score_of scores g) x) ∙ k.wide;
           small = omega (arith, k.small, column-size, sizes-plus (score_of scores g) p x, (ap (λ n. n * unsigned_abs (score_of scores g)) c.whole));
         }
 
-    pub in-box : IsNarrower (plus_each p (least_parts (replicate (slice_index columns g) (score_of scores g) ++ later_scores scores columns (g + 1)) r)) (plus_each p (greatest_parts (replicate (slice_index columns g) (score_of scores g) ++ later_scores scores columns (g + 1)) r)) (plus_each (plus_each p (score_parts (score_of scores g) x)) (least_parts (later_scores scores columns (g + 1)) (minus r x))) (plus_each (plus_each p (score_parts (score_of scores g) x)) (greatest_parts (later_scores scores columns (g + 1)) (minus r x)))
+    pub in-box : IsNarrower (plus p (least_parts (replicate (slice_index columns g) (score_of scores g) ++ later_scores scores columns (g + 1)) r)) (plus p (greatest_parts (replicate (slice_index columns g) (score_of scores g) ++ later_scores scores columns (g + 1)) r)) (plus (plus p (score_parts (score_of scores g) x)) (least_parts (later_scores scores columns (g + 1)) (minus r x))) (plus (plus p (score_parts (score_of scores g) x)) (greatest_parts (later_scores scores columns (g + 1)) (minus r x)))
     in-box = narrower p r x (slice_index columns g) (score_of scores g) (later_scores scores columns (g + 1)) wide-left c.fitting (omega (arith, c.whole)) room
 
   capped : (a b : ℕ) → a ≤ b → pos (min a bound) ≤ℤ pos (min b bound)

@@ -20,9 +20,9 @@ use Rattle.label_network.proofs.LinearValues.{drop-head}
 use Rattle.scores.specs.Scores.{labelled_sum}
 use Rattle.scores.proofs.LabelledSums.{labelled-none}
 use Rattle.kruskal_wallis.specs.KruskalWallis.{group_sums}
-use Rattle.symmetry_reduction.specs.GroupSums.{plus_each}
+use Rattle.networks.specs.PartialSums.{plus}
 use Rattle.kruskal_wallis.specs.RankSums.{score_parts, squares_meaning}
-use Rattle.symmetry_reduction.proofs.GroupSums.{length-plus}
+use Rattle.networks.proofs.Swaps.{length-plus}
 use Rattle.kruskal_wallis.proofs.RankNarrows.{length-parts}
 
 -- ---- one group
@@ -57,18 +57,18 @@ joined : (p a b c : ℤ) → c ≡ a +ℤ b → (p +ℤ a) +ℤ b ≡ p +ℤ c
 joined p a b c e = omega (arith, ints, e)
 
 blocks : (is : List ℕ) (p : List ℤ) (c : ℕ) (s : ℤ) (rest : List ℤ) (xs : List ℕ) → length p ≡ length is
-    → plus_each (plus_each p (score_parts s (map (λ i. count_of i (take c xs)) is))) (map (λ i. labelled_sum i rest (drop c xs)) is) ≡ plus_each p (map (λ i. labelled_sum i (replicate c s ++ rest) xs) is)
+    → plus (plus p (score_parts s (map (λ i. count_of i (take c xs)) is))) (map (λ i. labelled_sum i rest (drop c xs)) is) ≡ plus p (map (λ i. labelled_sum i (replicate c s ++ rest) xs) is)
 blocks [] [] c s rest xs l = refl
 blocks [] (p ∷ ps) c s rest xs l = absurd (omega (arith, l))
 blocks (i ∷ is) [] c s rest xs l = absurd (omega (arith, l))
 blocks (i ∷ is) (p ∷ ps) c s rest xs l = rw (joined p _ _ _ (block i c s rest xs), blocks is ps c s rest xs (omega (arith, l))) refl
 
-plus-none : (p : List ℤ) (is xs : List ℕ) → length p ≡ length is → p ≡ plus_each p (map (λ i. labelled_sum i [] xs) is)
+plus-none : (p : List ℤ) (is xs : List ℕ) → length p ≡ length is → p ≡ plus p (map (λ i. labelled_sum i [] xs) is)
 plus-none [] is xs l = refl
 plus-none (p ∷ ps) [] xs l = absurd (omega (arith, l))
 plus-none (p ∷ ps) (i ∷ is) xs l = rw (← plus-none ps is xs (omega (arith, l)), +ℤ_idr p) refl
 
-none-plus : (q : List ℤ) → plus_each (replicate (length q) (pos 0)) q ≡ q
+none-plus : (q : List ℤ) → plus (replicate (length q) (pos 0)) q ≡ q
 none-plus [] = refl
 none-plus (a ∷ q) = rw (none-plus q, +ℤ_idl a) refl
 
@@ -80,22 +80,22 @@ length-sums k scores xs = length-map (labels k) (λ i. labelled_sum i scores xs)
 
 module _ (factors : List ℕ) (bound : ℕ) (scores : List ℤ) (columns rows : List ℕ) (judge : Judge) where
   sums-from : (k : ℕ) (cs : List ℕ) (ss : List ℤ) (g : ℕ) (r : List ℕ) (p : List ℤ) (xs : List ℕ) → drop g scores ≡ ss → length ss ≡ length cs → length p ≡ k
-      → partial_after (squares_meaning factors bound scores columns rows judge) g r p (columns_of k cs xs) ≡ plus_each p (group_sums k (subjects ss cs) xs)
+      → partial_after (squares_meaning factors bound scores columns rows judge) g r p (columns_of k cs xs) ≡ plus p (group_sums k (subjects ss cs) xs)
   sums-from k [] [] g r p xs d e l = plus-none p (labels k) xs (l ∙ (let n = length-labels k in omega (arith, n)))
   sums-from k [] (s ∷ ss) g r p xs d e l = absurd (omega (arith, e))
   sums-from k (c ∷ cs) [] g r p xs d e l = absurd (omega (arith, e))
   sums-from k (c ∷ cs) (s ∷ ss) g r p xs d e l =
       let x : List ℕ = counts_of k (take c xs) in
       let here = drop-head g scores s ss d in
-      let next : List ℤ = plus_each p (score_parts (score_of scores g) x) in
-      let long : length next ≡ k = length-plus p (score_parts (score_of scores g) x) (omega (arith, length-parts (score_of scores g) x, length-counts_of k (take c xs), l)) ∙ l in
+      let next : List ℤ = plus p (score_parts (score_of scores g) x) in
+      let long : length next ≡ k = length-plus p (score_parts (score_of scores g) x) ∙ l in
       sums-from k cs ss (g + 1) (minus r x) next (drop c xs) here.1 (omega (arith, e)) long
-      ∙ ap (λ z. plus_each (plus_each p (score_parts z x)) (group_sums k (subjects ss cs) (drop c xs))) here.0
+      ∙ ap (λ z. plus (plus p (score_parts z x)) (group_sums k (subjects ss cs) (drop c xs))) here.0
       ∙ blocks (labels k) p c s (subjects ss cs) xs (omega (arith, l, length-labels k))
 
   pub value-is : length scores ≡ length columns → (xs : List ℕ) → labelling_value (squares_meaning factors bound scores columns rows judge) xs ≡ pos (factored_squares (group_sums (length rows) (subjects scores columns) xs) factors)
   value-is long xs =
       ap (λ p. pos (factored_squares p factors))
       (sums-from (length rows) columns scores 0 rows (replicate (length rows) (pos 0)) xs refl long (length-replicate (length rows) (pos 0))
-      ∙ ap (λ n. plus_each (replicate n (pos 0)) (group_sums (length rows) (subjects scores columns) xs)) (let n = length-sums (length rows) (subjects scores columns) xs in omega (arith, n))
+      ∙ ap (λ n. plus (replicate n (pos 0)) (group_sums (length rows) (subjects scores columns) xs)) (let n = length-sums (length rows) (subjects scores columns) xs in omega (arith, n))
       ∙ none-plus (group_sums (length rows) (subjects scores columns) xs))

@@ -9,7 +9,7 @@ use Rattle.scores.specs.PlaceScores.{common_multiple}
 use Rattle.scores.specs.declared.kinds.ScoreKind.TheVariants.{Wilcoxon}
 use Rattle.sample_reader.specs.PooledSample.{paired_subjects}
 use Rattle.completion_bounds.specs.Boxes.{factored_squares}
-use Rattle.symmetry_reduction.specs.GroupSums.{plus_each}
+use Rattle.networks.specs.PartialSums.{plus}
 use Rattle.kruskal_wallis.specs.CentredSums.{from_middle, middle_squares}
 use Rattle.kruskal_wallis.specs.KruskalWallis.{ScoredGroups, kruskal_wallis_test}
 
@@ -63,5 +63,5 @@ beside_greater = refl
 beside_middle : middle_squares 2 4 12 3 ≡ 96
 beside_middle = refl
 
-beside_seen : factored_squares (plus_each (pos 3 ∷ pos 9 ∷ []) (from_middle 4 (1 ∷ 2 ∷ []))) (2 ∷ 1 ∷ []) ≡ 3
+beside_seen : factored_squares (plus (pos 3 ∷ pos 9 ∷ []) (from_middle 4 (1 ∷ 2 ∷ []))) (2 ∷ 1 ∷ []) ≡ 3
 beside_seen = refl

@@ -10,7 +10,8 @@ use Rattle.later_scores.specs.LaterSums.{later_scores, subjects}
 use Rattle.label_network.specs.Meanings.{Meaning}
 use Rattle.weights.specs.Numbers.{absolute_sum}
 use Rattle.weights.specs.declared.TheConstants.{MAX}
-use Rattle.symmetry_reduction.specs.GroupSums.{AreHeld, plus_each}
+use Rattle.symmetry_reduction.specs.GroupSums.{AreHeld}
+use Rattle.networks.specs.PartialSums.{plus}
 use Rattle.kruskal_wallis.specs.RankSums.{greatest_parts, least_parts, score_parts, squares_meaning}
 
 -- what the middle takes from the sum of each group: as if each subject had so much less
@@ -24,10 +25,10 @@ middle_squares multiple middle all n = multiple * (middle * (2 * all - middle * 
 
 -- between which sums, with this added to each, the groups of a key end
 abbrev pub seen_lows : List ℤ → List ℤ → List ℕ → List ℤ → List ℤ
-seen_lows shifts later r p = plus_each (plus_each p (least_parts later r)) shifts
+seen_lows shifts later r p = plus (plus p (least_parts later r)) shifts
 
 abbrev pub seen_highs : List ℤ → List ℤ → List ℕ → List ℤ → List ℤ
-seen_highs shifts later r p = plus_each (plus_each p (greatest_parts later r)) shifts
+seen_highs shifts later r p = plus (plus p (greatest_parts later r)) shifts
 
 abbrev pub centred_low : List ℕ → ℕ → ℕ → List ℤ → List ℤ → List ℕ → List ℤ → ℤ
 centred_low factors bound base shifts later r p =
@@ -49,8 +50,8 @@ centred_meaning factors bound base middle scores columns rows judge =
     let later = later_scores scores columns in
     record (squares_meaning factors bound scores columns rows judge) {
       outlook = λ g r.
-          plus_each (least_parts (later g) r) shifts
-          ++ plus_each (greatest_parts (later g) r) shifts;
+          plus (least_parts (later g) r) shifts
+          ++ plus (greatest_parts (later g) r) shifts;
       low = λ g r p. centred_low factors bound base shifts (later g) r p;
       high = λ g r p. centred_high factors bound base shifts (later g) r p;
     }
@@ -69,7 +70,7 @@ pub record IsCentred (factors : List ℕ) (bound base middle : ℕ) (scores : Li
   pub below : middle * sum rows ≤ absolute_sum (subjects scores columns)
   pub value : (p : List ℤ) → AreHeld p → length p ≡ length rows
       → absolute_sum p ≡ absolute_sum (subjects scores columns)
-      → base + factored_squares (plus_each p (from_middle middle rows)) factors
+      → base + factored_squares (plus p (from_middle middle rows)) factors
       ≡ factored_squares p factors
   pub base_fits : base ≤ bound
   pub middle_fits : middle ≤ absolute_sum (subjects scores columns)

@@ -12,7 +12,7 @@ use Rattle.later_scores.specs.LaterSums.{greatest_sum, later_scores, least_sum}
 use Rattle.label_network.specs.LabelNetwork.{label_network}
 use Rattle.label_network.specs.Linear.{score_of}
 use Rattle.label_network.specs.Meanings.{Meaning}
-use Rattle.symmetry_reduction.specs.GroupSums.{plus_each}
+use Rattle.networks.specs.PartialSums.{plus}
 use Rattle.pooled_columns.specs.PooledColumns.{column_scores, column_sizes, pooled_values}
 use Rattle.kruskal_wallis.specs.KruskalWallis.{ScoredGroups, kruskal_wallis_test, size_factors}
 
@@ -31,14 +31,14 @@ greatest_parts later sizes = map (λ n. greatest_sum n later) sizes
 -- the least sum of squares over the box of these ranges, no more than the bound
 abbrev pub squares_low : List ℕ → ℕ → List ℤ → List ℕ → List ℤ → ℤ
 squares_low factors bound later r p =
-    pos (min (least_squares (plus_each p (least_parts later r))
-    (plus_each p (greatest_parts later r)) factors) bound)
+    pos (min (least_squares (plus p (least_parts later r))
+    (plus p (greatest_parts later r)) factors) bound)
 
 -- and the greatest
 abbrev pub squares_high : List ℕ → ℕ → List ℤ → List ℕ → List ℤ → ℤ
 squares_high factors bound later r p =
-    pos (min (greatest_squares (plus_each p (least_parts later r))
-    (plus_each p (greatest_parts later r)) factors) bound)
+    pos (min (greatest_squares (plus p (least_parts later r))
+    (plus p (greatest_parts later r)) factors) bound)
 
 -- The factored sum of the groups' squared sums, between its ends over the box of the sums that the
 -- groups can come to.
@@ -52,7 +52,7 @@ squares_meaning factors bound scores columns rows judge = record {
   outlook_width = 2 * length rows;
   first = replicate (length rows) (pos 0);
   step = λ g r x. score_parts (score_of scores g) x;
-  advance = λ g r x p. plus_each p (score_parts (score_of scores g) x);
+  advance = λ g r x p. plus p (score_parts (score_of scores g) x);
   outlook = λ g r.
       least_parts (later_scores scores columns g) r
       ++ greatest_parts (later_scores scores columns g) r;

@@ -8,7 +8,8 @@ ghost use Rattle.later_scores.specs.LaterSums.{subjects};
 ghost use Rattle.label_network.specs.LabelNetwork.{over_rooms};
 ghost use Rattle.kruskal_wallis.specs.CentredSums.{AreParts, HasNarrowBoxes, IsCentred, centred_meaning, middle_squares};
 ghost use Rattle.kruskal_wallis.specs.RankSumSteps.{AreAddable, AreNarrow};
-ghost use Rattle.symmetry_reduction.specs.GroupSums.{AreHeld, plus_each};
+ghost use Rattle.symmetry_reduction.specs.GroupSums.{AreHeld};
+ghost use Rattle.networks.specs.PartialSums.{plus};
 ghost use Rattle.networks.specs.Judged.{rule_in, verdict_of};
 
 use crate::rank_sums::{RankSums, plus_each, score_parts};
@@ -56,7 +57,7 @@ fn ends<'a>(partial: &[i128], added: &[i128], numbers: &'a mut [i32; 8]) -> &'a 
     requires few { length partial.now ≤ 8 }
     requires narrow { AreNarrow partial.now added.now }
     requires one_each { length added.now ≡ length partial.now }
-    ensures { result.now ≡ plus_each partial.now added.now }
+    ensures { result.now ≡ plus partial.now added.now }
 {
     let ends = &mut numbers[..partial.len()];
     for i in 0..partial.len() {
@@ -142,8 +143,8 @@ impl CentredSums {
         requires greatest { AreAddable partial.now greatest.now }
         requires as_many { length least.now ≡ length partial.now }
         requires and_as_many { length greatest.now ≡ length partial.now }
-        ensures { let lows = plus_each partial.now least.now in
-            let highs = plus_each partial.now greatest.now in
+        ensures { let lows = plus partial.now least.now in
+            let highs = plus partial.now greatest.now in
             let factors = self.now.sums.factors.items in
             let bound = self.now.sums.bound in
             let low = pos (min (self.now.base + least_squares lows highs factors) bound) in

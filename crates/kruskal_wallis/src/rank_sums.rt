@@ -9,7 +9,7 @@ ghost use Rattle.room_network.specs.Meanings.{IsRoom};
 ghost use Rattle.label_network.specs.LabelNetwork.{over_rooms};
 ghost use Rattle.label_network.specs.Meanings.{sizes_in};
 ghost use Rattle.networks.specs.Judged.{rule_in, verdict_of};
-ghost use Rattle.symmetry_reduction.specs.GroupSums.{plus_each};
+ghost use Rattle.networks.specs.PartialSums.{plus};
 ghost use Rattle.kruskal_wallis.specs.RankSums.{greatest_parts, least_parts, score_parts, squares_meaning};
 ghost use Rattle.kruskal_wallis.specs.RankSumSteps.{AreAddable, AreEnough, AreRankSums, AreTabled, IsSquaring, parts_of};
 
@@ -66,7 +66,7 @@ pub(crate) fn plus_each(partial: &[i128], added: &[i128], next: &mut [i128])
     requires fits { AreAddable partial.now added.now }
     requires one_each { length added.now ≡ length partial.now }
     requires room { length next.old ≡ length partial.now }
-    ensures { next.new ≡ plus_each partial.now added.now }
+    ensures { next.new ≡ plus partial.now added.now }
 {
     for i in 0..partial.len() {
         next[i] = plus(partial[i], added[i]);
@@ -165,12 +165,12 @@ impl RankSums {
         requires greatest { AreAddable partial.now greatest.now }
         requires as_many { length least.now ≡ length partial.now }
         requires and_as_many { length greatest.now ≡ length partial.now }
-        ensures low { let lows = plus_each partial.now least.now in
-            let highs = plus_each partial.now greatest.now in
+        ensures low { let lows = plus partial.now least.now in
+            let highs = plus partial.now greatest.now in
             result.low ≡ pos (min (least_squares lows highs self.now.factors.items)
             self.now.bound) }
-        ensures high { let lows = plus_each partial.now least.now in
-            let highs = plus_each partial.now greatest.now in
+        ensures high { let lows = plus partial.now least.now in
+            let highs = plus partial.now greatest.now in
             result.high ≡ pos (min (greatest_squares lows highs self.now.factors.items)
             self.now.bound) }
     {

@@ -11,7 +11,7 @@ use Rattle.room_network.specs.Plans.{Plan}
 use Rattle.room_network.specs.RoomNetworks.{room_network}
 use Rattle.room_network.proofs.RoomKeys.{KeepsWidth, back_is, front_is, is_allowed, is_key, weighed}
 use Rattle.room_network.proofs.RoomLaws.{widths_kept}
-use Rattle.symmetry_reduction.specs.GroupSums.{plus_each}
+use Rattle.networks.specs.PartialSums.{plus}
 use Rattle.symmetry_reduction.specs.OrderedGroups.{groups_in_order, stay}
 use Rattle.symmetry_reduction.specs.declared.orders.Order.{Order}
 use Rattle.symmetry_reduction.specs.ReducedNetworks.{reduced_network}
@@ -96,11 +96,11 @@ module _ {plan : Plan} {m : Meaning} {sizes : List ℕ} {order : Order} {bits : 
     added-long : length added ≡ length partial
     added-long = i.adds.wide g room c partial move ∙ i.adds.steps ∙ sym partial-long
 
-    pub next-plus : drop w (o.next g key c) ≡ plus_each partial added
+    pub next-plus : drop w (o.next g key c) ≡ plus partial added
     next-plus =
         let left : List ℤ = m.floor.next g room c in
         let left_long : length left ≡ w = kept.next_long g room c l in
-        let sum : List ℤ = plus_each partial added in
+        let sum : List ℤ = plus partial added in
         ap (λ q. drop w (groups_in_order order sizes (m.floor.next g q c ++ m.advance g q c (drop w key)))) (front_is w room partial l)
         ∙ ap (λ p. drop w (groups_in_order order sizes (left ++ m.advance g room c p))) (back_is w room partial l)
         ∙ ap (λ p. drop w (groups_in_order order sizes (left ++ p))) (i.adds.moves g room c partial move stays)
@@ -110,7 +110,7 @@ module _ {plan : Plan} {m : Meaning} {sizes : List ℕ} {order : Order} {bits : 
     each : AllByRecursion (IsDigit (2 ^ bits)) partial
     each = subst (AllByRecursion (IsDigit (2 ^ bits))) (back_is w room partial l) (i.may.each g key r)
 
-    next-each : AllByRecursion (IsDigit (2 ^ bits)) (plus_each partial added)
+    next-each : AllByRecursion (IsDigit (2 ^ bits)) (plus partial added)
     next-each = subst (AllByRecursion (IsDigit (2 ^ bits))) next-plus (i.may.each (g + 1) (o.next g key c) (reached-next o g key c r before h))
 
     pub step-digits : AreDigits bits added

@@ -3,7 +3,8 @@
 use Rattle.std.specs.Prelude.{◌≡◌, ℕ, ◌+◌, ◌^◌, ℤ, pos, Bool, true, if◌then◌else◌, List, [], ◌∷◌, ◌++◌, length}
 use Rattle.networks.specs.Network.{Network, IsReached}
 use Rattle.room_network.specs.Meanings.{IsMove, Meaning}
-use Rattle.symmetry_reduction.specs.GroupSums.{AreHeld, plus_each}
+use Rattle.symmetry_reduction.specs.GroupSums.{AreHeld}
+use Rattle.networks.specs.PartialSums.{plus}
 use Rattle.symmetry_reduction.specs.OrderedGroups.{groups_in_order, stay}
 use Rattle.symmetry_reduction.specs.ReducedNetworks.{reduced_network}
 use Rattle.symmetry_reduction.specs.declared.orders.Order.{Order}
@@ -19,7 +20,7 @@ pub record AddsSteps (order : Order) (m : Meaning) : Type 0 where
       → AreHeld (m.step g room c)
   pub moves : (g : ℕ) (room : List ℤ) (c : List ℕ) (p : List ℤ) → IsMove m g room c p
       → stay order (m.floor.next g room c) ≡ true
-      → m.advance g room c p ≡ plus_each p (m.step g room c)
+      → m.advance g room c p ≡ plus p (m.step g room c)
 
 -- whether groups stay as they stand after a choice, 1 or 0, and, if so, what it adds to the one
 -- number

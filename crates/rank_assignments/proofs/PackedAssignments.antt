@@ -13,7 +13,8 @@ use Rattle.room_network.specs.Meanings.{IsMove}
 use Rattle.label_network.specs.Meanings.{sizes_in}
 use Rattle.label_network.proofs.Narrowing.{chosen}
 use Rattle.label_network.proofs.Rows.{length-abs}
-use Rattle.symmetry_reduction.specs.GroupSums.{AreHeld, plus_each}
+use Rattle.symmetry_reduction.specs.GroupSums.{AreHeld}
+use Rattle.networks.specs.PartialSums.{plus}
 use Rattle.symmetry_reduction.specs.OrderedGroups.{stay}
 use Rattle.symmetry_reduction.specs.declared.orders.Order.TheVariants.{Sums, SumsWhereAllRemain}
 use Rattle.packed_keys.specs.PackedGroups.{AddsSteps}
@@ -42,7 +43,7 @@ raises-held : (v : ℕ) (c : List ℕ) → AreHeld (raises v c)
 raises-held v [] = tt
 raises-held v (n ∷ c) = (refl, raises-held v c)
 
-gained-plus : (v : ℕ) (c sums : List ℕ) → length c ≡ length sums → map pos (gained v c sums) ≡ plus_each (map pos sums) (raises v c)
+gained-plus : (v : ℕ) (c sums : List ℕ) → length c ≡ length sums → map pos (gained v c sums) ≡ plus (map pos sums) (raises v c)
 gained-plus v [] [] l = refl
 gained-plus v [] (s ∷ sums) l = absurd (omega (arith, l))
 gained-plus v (n ∷ c) [] l = absurd (omega (arith, l))
@@ -98,7 +99,7 @@ module _ (k : ℕ) (vs : List Assignment) (judge : Judge) (a : AreAssignments k 
         let s : IsAssigned k vs judge a g room p = assigned k vs judge a reflections m g room p v.reached in
         ap (λ number. map pos (upright number (gained n c (sizes_in p)))) (no-reflection g v.before (stays-within k (assignment_at vs g).closes _ stays))
         ∙ gained-plus n c (sizes_in p) (long g room c p v ∙ sym (length-abs p ∙ s.long))
-        ∙ ap (λ q. plus_each q (raises n c)) (sym s.held));
+        ∙ ap (λ q. plus q (raises n c)) (sym s.held));
   }
     where
       long : (g : ℕ) (room : List ℤ) (c : List ℕ) (p : List ℤ) → IsMove (assigned_sums k vs reflections judge) g room c p → length c ≡ k

@@ -2,22 +2,18 @@
 use Rattle.std.proofs.Common.{◌≡◌, ℕ, zero, suc, ◌+◌, ◌<◌, List, [], ◌∷◌, length, take, set, get_or, refl, sym, ◌∙◌, ap, arith}
 use Rattle.std.specs.Prelude.{ℤ, pos, ◌+ℤ◌}
 use Rattle.label_network.proofs.Rows.{grown, written}
-use Rattle.symmetry_reduction.specs.GroupSums.{plus_each}
+use Rattle.networks.specs.PartialSums.{plus}
+use Rattle.networks.proofs.Swaps.{length-plus}
 
-pub length-plus : (p a : List ℤ) → length a ≡ length p → length (plus_each p a) ≡ length p
-length-plus [] a l = refl
-length-plus (p ∷ ps) [] l = absurd (omega (arith, l))
-length-plus (p ∷ ps) (a ∷ rest) l = ap suc (length-plus ps rest (omega (arith, l)))
-
-pub plus-at : (p a : List ℤ) (i : ℕ) → length a ≡ length p → i < length p → get_or (plus_each p a) i (pos 0) ≡ get_or p i (pos 0) +ℤ get_or a i (pos 0)
+pub plus-at : (p a : List ℤ) (i : ℕ) → length a ≡ length p → i < length p → get_or (plus p a) i (pos 0) ≡ get_or p i (pos 0) +ℤ get_or a i (pos 0)
 plus-at [] a i l h = absurd (omega (arith, h))
 plus-at (p ∷ ps) [] i l h = absurd (omega (arith, l))
 plus-at (p ∷ ps) (a ∷ rest) zero l h = refl
 plus-at (p ∷ ps) (a ∷ rest) (suc i) l h = plus-at ps rest i (omega (arith, l)) (omega (arith, h))
 
 -- a loop that writes them: one more, and all
-pub more-sums : (done p a : List ℤ) (i : ℕ) (z : ℤ) → length a ≡ length p → length done ≡ length p → i < length p → take i done ≡ take i (plus_each p a) → z ≡ get_or p i (pos 0) +ℤ get_or a i (pos 0) → take (i + 1) (set done i z) ≡ take (i + 1) (plus_each p a)
-more-sums done p a i z e l h f s = grown done (plus_each p a) i z (pos 0) (omega (arith, l, h)) (omega (arith, length-plus p a e, h)) f (s ∙ sym (plus-at p a i e h))
+pub more-sums : (done p a : List ℤ) (i : ℕ) (z : ℤ) → length a ≡ length p → length done ≡ length p → i < length p → take i done ≡ take i (plus p a) → z ≡ get_or p i (pos 0) +ℤ get_or a i (pos 0) → take (i + 1) (set done i z) ≡ take (i + 1) (plus p a)
+more-sums done p a i z e l h f s = grown done (plus p a) i z (pos 0) (omega (arith, l, h)) (omega (arith, length-plus p a, h)) f (s ∙ sym (plus-at p a i e h))
 
-pub all-sums : (done p a : List ℤ) (i : ℕ) → length a ≡ length p → length done ≡ length p → i ≡ length p → take i done ≡ take i (plus_each p a) → done ≡ plus_each p a
-all-sums done p a i e l h f = written done (plus_each p a) i (l ∙ sym h) (length-plus p a e ∙ sym h) f
+pub all-sums : (done p a : List ℤ) (i : ℕ) → length a ≡ length p → length done ≡ length p → i ≡ length p → take i done ≡ take i (plus p a) → done ≡ plus p a
+all-sums done p a i e l h f = written done (plus p a) i (l ∙ sym h) (length-plus p a ∙ sym h) f
