@@ -1,3 +1,7 @@
 mod LinearTests
 mod SingleSubjects
+mod OwnKeys
+mod PeeledUnits
+mod ProductKeys
+mod SplitColumns
 mod Vectors

@@ -1,15 +1,21 @@
 // The sum of products as the statistic of the linear-by-linear test, and its networks.
 ghost use Rattle.std.specs.Prelude.{◌≡◌, IfOk};
+ghost use Rattle.weights.specs.declared.tails.Tail.{Tail};
+ghost use Rattle.node_pool.specs.Nodes.{weighted};
+ghost use Rattle.node_pool.specs.PoolSteps.{nodes_of};
+ghost use Rattle.networks.specs.Completions.{extreme_weight};
 ghost use Rattle.networks.specs.Judged.{judge_of};
+ghost use Rattle.stage_network.specs.FromKeys.{AreStarts};
 ghost use Rattle.label_network.specs.LabelNetwork.{label_network};
 ghost use Rattle.linear_by_linear.specs.LinearByLinear.{linear_test};
-ghost use Rattle.linear_by_linear.specs.LinearNetworks.{subject_meaning};
+ghost use Rattle.linear_by_linear.specs.LinearNetworks.{product_meaning, subject_meaning};
 
 use crate::linear_table::ProductSum;
-use crate::single_subjects::{single_columns, subject_scores};
+use crate::single_subjects::{single_columns, subject_scores, subjects_before};
 use label_network::{LinearStages, linear_stages};
 use labelled::LabelStatistic;
 use networks::{Judge, Stages};
+use stage_network::sum_from_keys;
 use std::alloc::Global;
 use table_sums::labelled_sum;
 use weights::{NoMemory, Tail};
@@ -32,6 +38,30 @@ fn by_subjects(alloc: Global, sum: &ProductSum, judge: Judge) -> Result<LinearSt
         singles.as_slice(),
         judge,
     )
+}
+
+// The sum over keys of the network of columns by that of single subjects: a key is the same there,
+// at the stage of as many subjects.
+fn sum_by_subjects(
+    alloc: Global,
+    sum: &ProductSum,
+    judge: Judge,
+    tail: Tail,
+    stage: usize,
+    keys: &[i128],
+    weights: &[u128],
+) -> Result<u128, NoMemory>
+    requires judge { judge ≡ judge_of (linear_test sum.now) }
+    requires starts { let n = label_network (product_meaning sum.now) in
+        AreStarts n stage keys.now weights.now }
+    ensures { let n = label_network (product_meaning sum.now) in
+        IfOk result (λ sum. sum
+        ≡ weighted (extreme_weight n tail stage) (nodes_of n.width keys.now weights.now)) }
+{
+    let stages = by_subjects(alloc, sum, judge)?;
+    let at = subjects_before(sum.made().margins.columns.as_slice(), stage);
+    let sum = sum_from_keys(alloc, &stages, tail, at, keys, weights)?;
+    Ok(sum)
 }
 
 impl LabelStatistic for ProductSum {
@@ -86,6 +116,25 @@ impl LabelStatistic for ProductSum {
             self.stages_of(alloc, judge)
         } else {
             by_subjects(alloc, self, judge)
+        }
+    }
+
+    // By the network that the undivided run takes.
+    fn sum_onward(
+        &self,
+        alloc: Global,
+        judge: Judge,
+        tail: Tail,
+        stage: usize,
+        keys: &[i128],
+        weights: &[u128],
+    ) -> Result<u128, NoMemory> {
+        if self.made().margins.rows.len() == 2 {
+            let stages = self.stages_of(alloc, judge)?;
+            let sum = sum_from_keys(alloc, &stages, tail, stage, keys, weights)?;
+            Ok(sum)
+        } else {
+            sum_by_subjects(alloc, self, judge, tail, stage, keys, weights)
         }
     }
 }

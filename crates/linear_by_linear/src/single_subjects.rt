@@ -1,9 +1,10 @@
 // The columns of a table as columns of one subject each.
-ghost use Rattle.std.specs.Prelude.{◌≡◌, ◌++◌, length, replicate, IfOk, OnOk};
+ghost use Rattle.std.specs.Prelude.{◌≡◌, ◌++◌, ◌^◌, ◌<◌, ◌≤◌, length, replicate, take, IfOk, OnOk};
+ghost use Rattle.std.specs.List.{sum};
 ghost use Rattle.later_scores.specs.LaterSums.{subjects};
 
 use std::alloc::Global;
-use weights::{Ints, NoMemory, Nums};
+use weights::{Ints, NoMemory, Nums, total_of};
 
 // Scores with so many more of one.
 fn push_times(scores: &mut Ints, score: i128, times: u64) -> Result<(), NoMemory>
@@ -40,4 +41,13 @@ pub(crate) fn single_columns(alloc: Global, subjects: usize) -> Result<Nums, NoM
         columns.push(1)?;
     }
     Ok(columns)
+}
+
+/// How many subjects the columns before a stage have.
+pub(crate) fn subjects_before(columns: &[u64], stage: usize) -> usize
+    requires within { stage ≤ length columns.now }
+    requires few { sum columns.now < 2 ^ 64 }
+    ensures { result ≡ sum (take stage columns.now) }
+{
+    total_of(&columns[..stage]) as usize
 }
