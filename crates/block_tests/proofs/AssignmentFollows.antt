@@ -2,6 +2,7 @@
 use Rattle.std.proofs.Common.{◌≡◌, ℕ, zero, suc, ◌+◌, ◌-◌, ◌*◌, ◌<◌, ◌≤◌, ◌⊎◌, inl, inr, List, [], ◌∷◌, ◌++◌, map, drop, length, replicate, Bool, true, false, cond, refl, sym, ◌∙◌, ap, subst, arith, add-one, nat_eq, length-append}
 use Rattle.std.specs.Prelude.{ℤ, pos}
 use Rattle.std.specs.List.{sum_by, sum, concat, AllByRecursion, list_all}
+use Rattle.std.proofs.Math.Seq.{take-length}
 use Rattle.std.proofs.lemmas.Bool.{eqb-true}
 use Rattle.std.proofs.lemmas.List.{length-replicate}
 use Rattle.std.proofs.lemmas.List.Elements.{All-from_recursion, recursion_from_All}
@@ -32,14 +33,14 @@ use Rattle.rank_assignments.specs.Assignments.{AreAssignments, ahead, all_assign
 use Rattle.rank_assignments.specs.Upright.{reflection_at}
 use Rattle.networks.specs.Distances.{squared}
 use Rattle.rank_assignments.specs.declared.assignment.Assignment.{Assignment}
-use Rattle.rank_assignments.proofs.ReflectionSteps.{are-reflections, reflections-even}
+use Rattle.rank_assignments.proofs.ReflectionSteps.{are-reflections, reflections-from}
 use Rattle.rank_assignments.proofs.AssignedNarrows.{IsAssigned, assigned-first, assigned_measure}
 use Rattle.rank_assignments.proofs.SumEnds.{pos-zeros}
 use Rattle.rank_assignments.proofs.AssignmentRooms.{pos-alike, assignment_width}
 use Rattle.rank_assignments.proofs.UprightSums.{squares-reflected}
 use Rattle.block_tests.specs.BlockSteps.{AreStages, IsWhole, ways_of}
 use Rattle.block_tests.specs.BlockTests.{BlockTests, added, block_counts, block_statistic, block_test, cut, rearrangements, square_sum, treatment_sums}
-use Rattle.block_tests.specs.EvenBlocks.{block_reflections, is_even}
+use Rattle.block_tests.specs.EvenBlocks.{assigned_before, block_reflections, is_even, reflected_from}
 use Rattle.block_tests.specs.PreparedSteps.{AreFitting}
 use Rattle.block_tests.specs.declared.kinds.BlockKind.TheVariants.{Friedman, Cochran}
 use Rattle.block_tests.proofs.EvenBlocks.{each-even}
@@ -169,12 +170,12 @@ module _ (k : ℕ) (rest : List Assignment) (after : (ahead k rest).owed ≡ k) 
             opens = subst (AreOpened k) (sym list) (λ e. absurd (cc e), next.opens);
           }
 
-record AreBlocksAhead (k : ℕ) (blocks : List (List ℕ)) : Type 0 where
-  owed : (ahead k (all_assignments blocks)).owed ≡ k
+pub record AreBlocksAhead (k : ℕ) (blocks : List (List ℕ)) : Type 0 where
+  pub owed : (ahead k (all_assignments blocks)).owed ≡ k
   ways : (ahead k (all_assignments blocks)).ways ≡ ways_of blocks
   opens : AreOpened k (all_assignments blocks)
 
-blocks-ahead : (k : ℕ) (blocks : List (List ℕ)) → 1 ≤ k → AllByRecursion (IsWhole k) blocks → AreBlocksAhead k blocks
+pub blocks-ahead : (k : ℕ) (blocks : List (List ℕ)) → 1 ≤ k → AllByRecursion (IsWhole k) blocks → AreBlocksAhead k blocks
 unfolding AreOpened
 blocks-ahead k [] some a = record { owed = refl; ways = refl; opens = tt }
 blocks-ahead k (counts ∷ blocks) some a =
@@ -243,7 +244,7 @@ module _ (tests : BlockTests) (f : AreFitting tests) (squares : (tests.kind ≡ 
   squared-is (inl e) r = rw e refl
   squared-is (inr e) r = rw e refl
 
-  stages : AreStages k blocks judge
+  pub stages : AreStages k blocks judge
   stages = are-stages tests f
 
   whole : AllByRecursion (IsWhole k) blocks
@@ -266,42 +267,50 @@ module _ (tests : BlockTests) (f : AreFitting tests) (squares : (tests.kind ≡ 
       ∙ ap (λ z. one_if (p z)) (sym (measured_at tests tail (concat xs) ∙ squared-is squares (concat xs)))
 
   -- sums and their reflection have the same squares
-  said-untold : (p : ℤ → Bool) → IsUntold k (said p)
+  pub said-untold : (p : ℤ → Bool) → IsUntold k (said p)
   said-untold p c s l a e = ap (λ n. one_if (p (pos n))) (squares-reflected c s a (ap (λ n. n * c) l ∙ e))
 
-  -- the numbers at which sums are reflected
-  abbrev reflections : List ℕ
-  reflections = block_reflections k blocks
+  -- ---- reflected from a stage on
 
-  reflections-are : AreReflections k vs reflections
-  reflections-are = are-reflections (list_all is_even blocks) k vs
+  module _ (cut : ℕ) where
+    -- the numbers at which sums are reflected
+    abbrev reflections : List ℕ
+    reflections = block_reflections k blocks cut
 
-  abbrev m : Meaning
-  m = assigned_sums k vs reflections judge
+    pub reflections-are : AreReflections k vs reflections
+    reflections-are = are-reflections (reflected_from blocks cut) k vs
 
-  even-assignments : (g : ℕ) → g < length vs → 0 < reflection_at reflections g → AreEvenAssignments k vs
-  even-assignments g h some = record { blocks = blocks; are = refl; whole = whole; even = each-even blocks (reflections-even (list_all is_even blocks) k vs g h some) }
+    abbrev m : Meaning
+    m = assigned_sums k vs reflections judge
 
-  -- no number is given yet
-  begun : IsAssigned k vs judge tests-assignments 0 (map pos (replicate k 1)) (map pos (replicate k 0))
-  begun =
-      subst (λ room. IsAssigned k vs judge tests-assignments 0 room (map pos (replicate k 0))) (sym (pos-alike k))
-      (subst (IsAssigned k vs judge tests-assignments 0 (unassigned k)) (sym (pos-zeros k)) (assigned-first k vs judge tests-assignments))
+    -- where they are, the blocks are even
+    pub even-assignments : (g : ℕ) → g < length vs → 0 < reflection_at reflections g → AreEvenAssignments k vs
+    even-assignments g h some = record { blocks = blocks; are = refl; whole = whole; even = each-even blocks (told (list_all is_even blocks) refl (reflections-from (reflected_from blocks cut) k vs g h some)) }
+      where
+        told : (b : Bool) → list_all is_even blocks ≡ b → assigned_before blocks (cond b cut (length blocks)) ≤ g → list_all is_even blocks ≡ true
+        told true e l = e
+        told false e l = absurd (omega (arith, l, h, ap (λ bs. length (all_assignments bs)) (take-length blocks)))
 
-  assignment-ends : (p : ℤ → Bool) → value_weights (assignment_network k vs reflections judge) p ≡ measured_weight (block_test tests) tail p
-  assignment-ends p =
-      room_ending m one_each (assignment_width k vs) p
-      ∙ ap (λ room. sum_by (λ w. path_weight (alone plan) 0 room w * said p (sizes_in (partial_after m 0 room (replicate k (pos 0)) w))) (paths (alone plan) (length vs - 0) 0 room)) (sym (pos-alike k))
-      ∙ ap (λ q. sum_by (λ w. path_weight (alone plan) 0 (map pos (replicate k 1)) w * said p (sizes_in (partial_after m 0 (map pos (replicate k 1)) q w))) (paths (alone plan) (length vs - 0) 0 (map pos (replicate k 1)))) (sym (pos-zeros k))
-      ∙ network-ways k vs reflections judge (said p) (length vs - 0) 0 (replicate k 1) (replicate k 0) (omega arith)
-      ∙ same-ways k (said p) stages.some (said-untold p) vs reflections judge tests-assignments reflections-are even-assignments (length vs - 0) 0 (replicate k 1) (replicate k 0) (omega arith) begun
-      ∙ blocks-arranged k (said p) blocks (replicate k 0) stages.some whole (length-replicate {A = ℕ} k 0)
-      ∙ sum_by-same_where (AreParts k (length blocks)) (λ xs. said p (summed xs (replicate k 0))) (λ xs. cond (p (measured (block_test tests) tail (concat xs))) (unit_weight (concat xs)) 0) (part-said p) (product (map labellings blocks)) (product-parts k blocks whole)
-      ∙ sym (sum_by-map (λ r. cond (p (measured (block_test tests) tail r)) (unit_weight r) 0) concat (product (map labellings blocks)))
-      ∙ sym (sum_by-filter unit_weight (λ r. p (measured (block_test tests) tail r)) (rearrangements blocks))
+    -- no number is given yet
+    begun : IsAssigned k vs judge tests-assignments 0 (map pos (replicate k 1)) (map pos (replicate k 0))
+    begun =
+        subst (λ room. IsAssigned k vs judge tests-assignments 0 room (map pos (replicate k 0))) (sym (pos-alike k))
+        (subst (IsAssigned k vs judge tests-assignments 0 (unassigned k)) (sym (pos-zeros k)) (assigned-first k vs judge tests-assignments))
 
-  pub tests-follow : Follows (block_test tests) tail (assignment_network k vs reflections judge)
-  tests-follow = record {
-    intervals = room_intervals m one_each (assignment_width k vs) (assigned_measure k vs judge tests-assignments reflections reflections-are);
-    ends = assignment-ends;
-  }
+    assignment-ends : (p : ℤ → Bool) → value_weights (assignment_network k vs reflections judge) p ≡ measured_weight (block_test tests) tail p
+    assignment-ends p =
+        room_ending m one_each (assignment_width k vs) p
+        ∙ ap (λ room. sum_by (λ w. path_weight (alone plan) 0 room w * said p (sizes_in (partial_after m 0 room (replicate k (pos 0)) w))) (paths (alone plan) (length vs - 0) 0 room)) (sym (pos-alike k))
+        ∙ ap (λ q. sum_by (λ w. path_weight (alone plan) 0 (map pos (replicate k 1)) w * said p (sizes_in (partial_after m 0 (map pos (replicate k 1)) q w))) (paths (alone plan) (length vs - 0) 0 (map pos (replicate k 1)))) (sym (pos-zeros k))
+        ∙ network-ways k vs reflections judge (said p) (length vs - 0) 0 (replicate k 1) (replicate k 0) (omega arith)
+        ∙ same-ways k (said p) stages.some (said-untold p) vs reflections judge tests-assignments reflections-are even-assignments (length vs - 0) 0 (replicate k 1) (replicate k 0) (omega arith) begun
+        ∙ blocks-arranged k (said p) blocks (replicate k 0) stages.some whole (length-replicate {A = ℕ} k 0)
+        ∙ sum_by-same_where (AreParts k (length blocks)) (λ xs. said p (summed xs (replicate k 0))) (λ xs. cond (p (measured (block_test tests) tail (concat xs))) (unit_weight (concat xs)) 0) (part-said p) (product (map labellings blocks)) (product-parts k blocks whole)
+        ∙ sym (sum_by-map (λ r. cond (p (measured (block_test tests) tail r)) (unit_weight r) 0) concat (product (map labellings blocks)))
+        ∙ sym (sum_by-filter unit_weight (λ r. p (measured (block_test tests) tail r)) (rearrangements blocks))
+
+    pub tests-follow : Follows (block_test tests) tail (assignment_network k vs reflections judge)
+    tests-follow = record {
+      intervals = room_intervals m one_each (assignment_width k vs) (assigned_measure k vs judge tests-assignments reflections reflections-are);
+      ends = assignment-ends;
+    }

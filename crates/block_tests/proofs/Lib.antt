@@ -15,5 +15,7 @@ pub mod EvenBlocks
 pub mod AssignmentLaw
 pub mod ReflectedWays
 pub mod AssignmentFollows
+pub mod AssignedKeys
+pub mod AssignedOnward
 pub mod CutSteps
 pub mod Vectors

@@ -168,7 +168,7 @@ squares-from-mean k bound blocks x same h fits centre beside =
 abbrev pub square_pieces : Pieces
 square_pieces = record { mass = λ g x. 1; added = λ g x. map pos x }
 
-stage-parts : (squares : CentredSquares) (k : ℕ) (blocks : List (List ℕ)) (judge : Judge) → All (IsWhole k) blocks → (rest : List (List ℕ)) (g : ℕ) → drop g blocks ≡ rest → AreParts (square_addends squares k blocks judge) square_pieces g (map labellings rest)
+pub stage-parts : (squares : CentredSquares) (k : ℕ) (blocks : List (List ℕ)) (judge : Judge) → All (IsWhole k) blocks → (rest : List (List ℕ)) (g : ℕ) → drop g blocks ≡ rest → AreParts (square_addends squares k blocks judge) square_pieces g (map labellings rest)
 stage-parts squares k blocks judge whole [] g e = tt
 stage-parts squares k blocks judge whole (b ∷ rest) g e =
     let here = at-head blocks g b rest [] e in
@@ -181,7 +181,7 @@ stage-parts squares k blocks judge whole (b ∷ rest) g e =
       stage-parts squares k blocks judge whole rest (g + 1) here.1,
     )
 
-plus-pos : (xs ys : List ℕ) → length xs ≡ length ys → plus (map pos xs) (map pos ys) ≡ map pos (added xs ys)
+pub plus-pos : (xs ys : List ℕ) → length xs ≡ length ys → plus (map pos xs) (map pos ys) ≡ map pos (added xs ys)
 plus-pos [] [] e = refl
 plus-pos [] (y ∷ ys) e = absurd (omega arith)
 plus-pos (x ∷ xs) [] e = absurd (omega arith)

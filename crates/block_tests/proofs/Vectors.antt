@@ -93,6 +93,11 @@ tied_even : is_even (counts_of 7 (2 ∷ 5 ∷ 5 ∷ [])) ≡ false
 tied_even = refl
 
 -- of two such blocks sums are reflected at 8 after the first one, and at 16 after the second
-untied_reflections : block_reflections 3 (untied ∷ untied ∷ []) ≡ 0 ∷ 0 ∷ 8 ∷ 0 ∷ 0 ∷ 16 ∷ []
+untied_reflections : block_reflections 3 (untied ∷ untied ∷ []) 0 ≡ 0 ∷ 0 ∷ 8 ∷ 0 ∷ 0 ∷ 16 ∷ []
 unfolding untied
 untied_reflections = refl
+
+-- and from the second one on at 16 alone
+late_reflections : block_reflections 3 (untied ∷ untied ∷ []) 1 ≡ 0 ∷ 0 ∷ 0 ∷ 0 ∷ 0 ∷ 16 ∷ []
+unfolding untied
+late_reflections = refl

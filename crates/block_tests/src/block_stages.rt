@@ -1,9 +1,11 @@
 // The networks of a test of blocks, under one type with a name: what takes a network is then told
 // of this type, and not of all that stands in it.
+ghost use Rattle.std.specs.Prelude.{◌≡◌, ◌+◌, ◌++◌, ◌≤◌, length};
+ghost use Rattle.rank_assignments.specs.Assignments.{unassigned};
 
 use crate::page::PageBlocks;
 use crate::squares::SquareBlocks;
-use networks::{AdditiveStages, Roomed, Stages, Verdict};
+use networks::{AdditiveStages, Onward, Roomed, Stages, Verdict, write_key};
 use rank_assignments::AssignedBlocks;
 use weights::Tail;
 
@@ -236,6 +238,48 @@ impl Roomed for BlockStages {
             BlockStages::Assigned(n) => n.same_for(stage, room, outlook, partial, tail),
             BlockStages::Squares(n) => n.same_for(stage, room, outlook, partial, tail),
             BlockStages::Page(n) => n.same_for(stage, room, outlook, partial, tail),
+        }
+    }
+}
+
+// The sums of treatments of which none has a number of a block yet, as a key of assignments.
+fn write_unassigned(sums: &[i128], key: &mut [i128])
+    requires few { length sums.now ≤ 8 }
+    requires room { length key.old ≡ length sums.now + length sums.now }
+    ensures { key.new ≡ unassigned (length sums.now) ++ sums.now }
+{
+    let ones = [1i128; 8];
+    write_key(&ones[..sums.len()], sums, key);
+}
+
+impl Onward for BlockStages {
+    ghost use Rattle.std.specs.Prelude.{◌≡◌, ◌++◌, length};
+    ghost use Rattle.rank_assignments.specs.Assignments.{unassigned};
+    ghost use Rattle.block_tests.specs.BlockStages.{AreTreatmentSums, of_kind, taken_of_kind};
+
+    ghost takes = { taken_of_kind
+        (λ n g key. AreTreatmentSums n.0.1.assignments.treatments key
+        (⟦<AssignedBlocks as Onward>⟧.takes n g
+        (unassigned n.0.1.assignments.treatments ++ key)))
+        (λ n g key. length key ≡ (⟦<SquareStages as Stages>⟧.network n).width)
+        (λ n g key. length key ≡ (⟦<PageStages as Stages>⟧.network n).width) };
+
+    ghost image_of = { of_kind
+        (λ n g key. ⟦<AssignedBlocks as Onward>⟧.image_of n g
+        (unassigned n.0.1.assignments.treatments ++ key))
+        (λ n g key. key)
+        (λ n g key. key) };
+
+    fn write_image(&self, stage: usize, key: &[i128], image: &mut [i128]) {
+        match self {
+            BlockStages::Assigned(n) => {
+                let mut numbers = [0i128; 16];
+                let whole = &mut numbers[..2 * key.len()];
+                write_unassigned(key, whole);
+                n.write_image(stage, whole, image);
+            }
+            BlockStages::Squares(_) => image.copy_from_slice(key),
+            BlockStages::Page(_) => image.copy_from_slice(key),
         }
     }
 }

@@ -32,9 +32,10 @@ abbrev pub shifting_step : Order → ℕ → List ℤ → List ℤ → List ℤ
 shifting_step order bits left added =
     shift (2 ^ bits) (stay order left) added ++ (left ++ added)
 
--- a key of a stage with groups of these sizes, which stand as in a reached key once they are in
--- order
-pub record AreOrderable (order : Order) (sizes : List ℕ) (n : Network) (g : ℕ) (key : List ℤ)
+-- a key with groups of these sizes, which stand as in a key that some stage reaches once they are
+-- in order
+pub record AreOrderable (order : Order) (sizes : List ℕ) (n : Network) (key : List ℤ)
     : Type 0 where
   pub long : length key ≡ length sizes + length sizes
-  pub reached : IsReached (reduced_network order sizes n) g (groups_in_order order sizes key)
+  pub stage : ℕ
+  pub reached : IsReached (reduced_network order sizes n) stage (groups_in_order order sizes key)

@@ -241,8 +241,8 @@ impl<R: Rooms, M: Measure> Onward for PackedGroups<R, M> {
     ghost use Rattle.packed_keys.specs.PackedGroups.{AreOrderable};
     ghost use Rattle.packed_keys.specs.PackedKeys.{packed_key};
 
-    ghost takes = { λ p.
-        AreOrderable p.0.3 p.0.2 (room_network (M.meaning p.0.1) (R.plan p.0.0).weight) };
+    ghost takes = { λ p g key.
+        AreOrderable p.0.3 p.0.2 (room_network (M.meaning p.0.1) (R.plan p.0.0).weight) key };
 
     ghost image_of = { λ p g key.
         packed_key (M.meaning p.0.1).floor.width (2 ^ p.1) (groups_in_order p.0.3 p.0.2 key) };
@@ -252,6 +252,6 @@ impl<R: Rooms, M: Measure> Onward for PackedGroups<R, M> {
         let mut numbers = [0i128; 16];
         let ordered = &mut numbers[..key.len()];
         groups.write_image(stage, key, ordered);
-        self.stages.write(stage, ordered, image);
+        self.stages.write(ordered, image);
     }
 }

@@ -91,8 +91,8 @@ impl<S: Roomed> Packed<S> {
     }
 
     /// Writes a reached key of the network packed.
-    pub(crate) fn write(&self, _stage: usize, key: &[i128], packed: &mut [i128])
-        requires reached { IsReached (S.Stages.network self.now.0) _stage key.now }
+    pub(crate) fn write(&self, key: &[i128], packed: &mut [i128])
+        requires reached { (g : ℕ) × IsReached (S.Stages.network self.now.0) g key.now }
         requires room { length packed.old ≡ S.room_width self.now.0 + 1 }
         ensures { packed.new ≡ packed_key (S.room_width self.now.0) (2 ^ self.now.1) key.now }
     {

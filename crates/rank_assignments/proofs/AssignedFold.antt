@@ -167,6 +167,15 @@ module _ (k : ℕ) (vs : List Assignment) (judge : Judge) (a : AreAssignments k 
     ap (exchange k i) e ∙ sym (exchange-next i g j c r (choice-long g j c r h o)),
   )
 
+  -- where no treatment has a number of the block, the sums may change places alone
+  pub sums-exchanged : (i g : ℕ) (sums : List ℤ) → IsReached n g (unassigned k ++ sums) → IsReached n g (unassigned k ++ swap_at i sums)
+  sums-exchanged i g sums r =
+      subst (IsReached n g)
+      (ap (λ q. swap_at i q ++ swap_at i (partial (unassigned k ++ sums))) (front-key k (unassigned k) sums (length-replicate k (pos 1)))
+      ∙ ap (λ q. swap_at i (unassigned k) ++ swap_at i q) (back-key k (unassigned k) sums (length-replicate k (pos 1)))
+      ∙ ap (λ q. q ++ swap_at i sums) (swap-replicate i k (pos 1)))
+      (exchange-stays i g (unassigned k ++ sums) r)
+
   -- an exchange of as many numbers as there are treatments
   exchange-is : (i : ℕ) (key other : List ℤ) → other ≡ exchange (length (alike k)) i key → other ≡ exchange k i key
   exchange-is i key other e = e ∙ ap (λ w. exchange w i key) wide

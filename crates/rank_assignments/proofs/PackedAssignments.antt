@@ -21,7 +21,7 @@ use Rattle.packed_keys.specs.PackedGroups.{AddsSteps}
 use Rattle.packed_keys.specs.PackedKeys.{IsDigit, MayBePacked}
 use Rattle.packed_keys.proofs.Widths.{bits-few, bits-fit}
 use Rattle.rank_assignments.specs.Reflections.{AreReflections}
-use Rattle.rank_assignments.specs.Assignments.{AreAssignments, alike, gained, has_room_for, one_each, order_for, raises, assigned_network, assigned_sums, assignment_at, assignment_network, unassigned}
+use Rattle.rank_assignments.specs.Assignments.{AreAssignments, gained, has_room_for, one_each, order_for, raises, assigned_network, assigned_sums, assignment_at, assignment_network, unassigned}
 use Rattle.rank_assignments.specs.Upright.{reflection_at, upright}
 use Rattle.rank_assignments.specs.declared.assignment.Assignment.{Assignment}
 use Rattle.rank_assignments.proofs.AssignedNarrows.{IsAssigned, assigned}

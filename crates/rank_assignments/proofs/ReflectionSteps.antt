@@ -22,23 +22,23 @@ use Rattle.rank_assignments.proofs.AssignmentSteps.{gained-at, held-at}
 
 -- ---- the numbers at which sums are reflected
 
-module _ (are_even : Bool) (k : ℕ) (vs : List Assignment) (g : ℕ) where
+module _ (may_be : Bool) (k : ℕ) (vs : List Assignment) (g : ℕ) where
   abbrev number : ℕ
   number = number_after k vs g
 
   abbrev is_mean : Bool
   is_mean = nat_eq (k * number + 2 * given (drop (g + 1) vs)) (2 * given vs)
 
-  -- one that is not 0 may be used, and blocks are even
-  pub reflection-told : 0 < reflection_of are_even k vs g → (are_even ≡ true) × IsReflection k vs g (reflection_of are_even k vs g)
-  reflection-told = by (are_even && (assignment_at vs g).closes && nat_le number (16 * (g + 1)) && is_mean) refl
+  -- one that is not 0 may be used
+  pub reflection-told : 0 < reflection_of may_be k vs g → (may_be ≡ true) × IsReflection k vs g (reflection_of may_be k vs g)
+  reflection-told = by (may_be && (assignment_at vs g).closes && nat_le number (16 * (g + 1)) && is_mean) refl
     where
-      by : (b : Bool) → (are_even && (assignment_at vs g).closes && nat_le number (16 * (g + 1)) && is_mean) ≡ b → 0 < cond b number 0 → (are_even ≡ true) × IsReflection k vs g (cond b number 0)
+      by : (b : Bool) → (may_be && (assignment_at vs g).closes && nat_le number (16 * (g + 1)) && is_mean) ≡ b → 0 < cond b number 0 → (may_be ≡ true) × IsReflection k vs g (cond b number 0)
       by false t some = absurd (omega (arith, some))
       by true t some =
-          let last = and_parts (are_even && (assignment_at vs g).closes && nat_le number (16 * (g + 1))) is_mean t in
-          let next = and_parts (are_even && (assignment_at vs g).closes) (nat_le number (16 * (g + 1))) last.0 in
-          let first = and_parts are_even (assignment_at vs g).closes next.0 in (
+          let last = and_parts (may_be && (assignment_at vs g).closes && nat_le number (16 * (g + 1))) is_mean t in
+          let next = and_parts (may_be && (assignment_at vs g).closes) (nat_le number (16 * (g + 1))) last.0 in
+          let first = and_parts may_be (assignment_at vs g).closes next.0 in (
             first.0,
             record {
               closes = first.1;
@@ -50,24 +50,25 @@ module _ (are_even : Bool) (k : ℕ) (vs : List Assignment) (g : ℕ) where
 
   -- it is found of what is left to be given
   pub reflection-found : (found left all : ℕ) → found ≡ number_after k vs g → left ≡ given (drop (g + 1) vs) → all ≡ given vs
-      → cond (are_even && (assignment_at vs g).closes && nat_le found (16 * (g + 1)) && nat_eq (k * found + 2 * left) (2 * all)) found 0 ≡ reflection_of are_even k vs g
+      → cond (may_be && (assignment_at vs g).closes && nat_le found (16 * (g + 1)) && nat_eq (k * found + 2 * left) (2 * all)) found 0 ≡ reflection_of may_be k vs g
   reflection-found found left all n l a = rw (n, l, a) refl
 
-module _ (are_even : Bool) (k : ℕ) (vs : List Assignment) where
-  reflection-here : (g : ℕ) → g < length vs → reflection_at (reflections_of are_even k vs) g ≡ reflection_of are_even k vs g
-  reflection-here g h = get_or-map-range_with_len (reflection_of are_even k vs) 0 (length vs) g g 0 h (omega arith)
+module _ (from k : ℕ) (vs : List Assignment) where
+  reflection-here : (g : ℕ) → g < length vs → reflection_at (reflections_of from k vs) g ≡ reflection_of (nat_le from g) k vs g
+  reflection-here g h = get_or-map-range_with_len (λ i. reflection_of (nat_le from i) k vs i) 0 (length vs) g g 0 h (omega arith)
 
-  told-here : (g : ℕ) → g < length vs → 0 < reflection_at (reflections_of are_even k vs) g → (are_even ≡ true) × IsReflection k vs g (reflection_of are_even k vs g)
-  told-here g h some = reflection-told are_even k vs g (omega (arith, some, reflection-here g h))
+  told-here : (g : ℕ) → g < length vs → 0 < reflection_at (reflections_of from k vs) g → (nat_le from g ≡ true) × IsReflection k vs g (reflection_of (nat_le from g) k vs g)
+  told-here g h some = reflection-told (nat_le from g) k vs g (omega (arith, some, reflection-here g h))
 
-  pub are-reflections : AreReflections k vs (reflections_of are_even k vs)
+  pub are-reflections : AreReflections k vs (reflections_of from k vs)
   are-reflections = record {
-    long = length-map (range_with_len 0 (length vs)) (reflection_of are_even k vs) ∙ length-range_with_len 0 (length vs);
+    long = length-map (range_with_len 0 (length vs)) (λ g. reflection_of (nat_le from g) k vs g) ∙ length-range_with_len 0 (length vs);
     each = λ g h some. subst (IsReflection k vs g) (sym (reflection-here g h)) (told-here g h some).1;
   }
 
-  pub reflections-even : (g : ℕ) → g < length vs → 0 < reflection_at (reflections_of are_even k vs) g → are_even ≡ true
-  reflections-even g h some = (told-here g h some).0
+  -- none before that one
+  pub reflections-from : (g : ℕ) → g < length vs → 0 < reflection_at (reflections_of from k vs) g → from ≤ g
+  reflections-from g h some = leb-true from g (told-here g h some).0
 
 -- what is ahead after a stage
 pub next-ahead : (k : ℕ) (vs : List Assignment) (table : List Ahead) → AreAhead k vs (length vs) table → (g : ℕ) (d : Ahead) → g < length vs → slice_index_or table (length vs - g - 1) d ≡ ahead_at k vs (g + 1)

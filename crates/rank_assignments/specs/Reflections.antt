@@ -1,6 +1,6 @@
--- Where sums are reflected: after a block, where all blocks are even. What a treatment gets of
--- later blocks is then as often so much more than the least as so much less than the most, so sums
--- and their reflection go on to the same squares.
+-- Where sums are reflected: after a block from a given one on, where all blocks are even. What a
+-- treatment gets of later blocks is then as often so much more than the least as so much less than
+-- the most, so sums and their reflection go on to the same squares.
 use Rattle.std.specs.Prelude.{◌≡◌, ℕ, ◌+◌, ◌-◌, ◌*◌, ◌≤◌, ◌<◌, List, map, drop, length, Bool, ◌&&◌, true, nat_eq, nat_le, if◌then◌else◌}
 use Rattle.std.specs.List.{range_with_len}
 use Rattle.rank_assignments.specs.Assignments.{ahead_at, centre, given, assignment_at}
@@ -16,18 +16,19 @@ number_after k vs g =
     let next = ahead_at k vs (g + 1) in
     2 * centre k vs - ((next.least + next.later_least) + (next.most + next.later_most))
 
--- Sums are reflected at it where all blocks are even, the assignment closes its block, and the
--- number is no greater than sums can be and twice their mean; elsewhere they are not, which 0 says.
+-- Sums are reflected at it where they may be, the assignment closes its block, and the number is no
+-- greater than sums can be and twice their mean; elsewhere they are not, which 0 says.
 abbrev pub reflection_of : Bool → ℕ → List Assignment → ℕ → ℕ
-reflection_of are_even k vs g =
+reflection_of may_be k vs g =
     let number = number_after k vs g in
     let is_mean = nat_eq (k * number + 2 * given (drop (g + 1) vs)) (2 * given vs) in
-    if are_even && (assignment_at vs g).closes && nat_le number (16 * (g + 1)) && is_mean
+    if may_be && (assignment_at vs g).closes && nat_le number (16 * (g + 1)) && is_mean
     then number else 0
 
--- of each assignment
-abbrev pub reflections_of : Bool → ℕ → List Assignment → List ℕ
-reflections_of are_even k vs = map (reflection_of are_even k vs) (range_with_len 0 (length vs))
+-- of each assignment, where they may be from one of them on
+abbrev pub reflections_of : ℕ → ℕ → List Assignment → List ℕ
+reflections_of from k vs =
+    map (λ g. reflection_of (nat_le from g) k vs g) (range_with_len 0 (length vs))
 
 -- ---- what is known of them
 

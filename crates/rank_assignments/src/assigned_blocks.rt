@@ -59,7 +59,7 @@ fn all_of(
     alloc: Global,
     items: &[Assignment],
     treatments: usize,
-    are_even: bool,
+    from: usize,
     judge: Judge,
 ) -> Result<Assignments, NoMemory>
     requires { AreAssignments treatments items.now judge }
@@ -67,18 +67,19 @@ fn all_of(
     ensures items { IfOk result (λ s. s.items.items ≡ items.now) }
     ensures judge { IfOk result (λ s. s.judge ≡ judge) }
     ensures reflections { IfOk result (λ s.
-        s.reflections.items ≡ reflections_of are_even treatments items.now) }
+        s.reflections.items ≡ reflections_of from treatments items.now) }
 {
     let own = Vec::from_slice(alloc, items)?;
-    Assignments::new(alloc, treatments, own, are_even, judge)
+    Assignments::new(alloc, treatments, own, from, judge)
 }
 
-/// The network of blocks of so many treatments with these assignments.
+/// The network of blocks of so many treatments with these assignments, after which sums may be
+/// reflected from one of them on.
 pub fn ordered_blocks(
     alloc: Global,
     items: &[Assignment],
     treatments: usize,
-    are_even: bool,
+    from: usize,
     judge: Judge,
 ) -> Result<OrderedBlocks, NoMemory>
     requires { AreAssignments treatments items.now judge }
@@ -88,7 +89,7 @@ pub fn ordered_blocks(
     ensures items { IfOk result (λ s. s.1.assignments.items.items ≡ items.now) }
     ensures judge { IfOk result (λ s. s.1.assignments.judge ≡ judge) }
     ensures reflections { IfOk result (λ s.
-        s.1.assignments.reflections.items ≡ reflections_of are_even treatments items.now) }
+        s.1.assignments.reflections.items ≡ reflections_of from treatments items.now) }
     ensures follows { let vs = items.now in
         IfOk result (λ s. (test : ConditionalTest) (tail : Tail) → judge ≡ judge_of test
         → Follows test tail
@@ -101,9 +102,9 @@ pub fn ordered_blocks(
         → IsReached (assignment_network treatments vs s.1.assignments.reflections.items judge)
         g key) }
 {
-    let given = all_of(alloc, items, treatments, are_even, judge)?;
-    let summed = all_of(alloc, items, treatments, are_even, judge)?;
-    let beside = all_of(alloc, items, treatments, are_even, judge)?;
+    let given = all_of(alloc, items, treatments, from, judge)?;
+    let summed = all_of(alloc, items, treatments, from, judge)?;
+    let beside = all_of(alloc, items, treatments, from, judge)?;
     let sizes = vec![in alloc; 1u64; treatments]?;
     let rooms = AssignmentRooms { assignments: given };
     let sums = AssignedSums {

@@ -153,12 +153,12 @@ fn given(treatments: usize, items: &[Assignment], _judge: Judge) -> u64
 }
 
 impl Assignments {
-    /// These assignments of so many treatments, which may be of even blocks.
+    /// These assignments of so many treatments, whose sums may be reflected from one of them on.
     pub(crate) fn new(
         alloc: Global,
         treatments: usize,
         items: Vec<Assignment>,
-        are_even: bool,
+        from: usize,
         judge: Judge,
     ) -> Result<Assignments, NoMemory>
         requires { AreAssignments treatments items.items judge }
@@ -166,7 +166,7 @@ impl Assignments {
         ensures items { IfOk result (λ s. s.items.items ≡ items.items) }
         ensures judge { IfOk result (λ s. s.judge ≡ judge) }
         ensures reflections { IfOk result (λ s.
-            s.reflections.items ≡ reflections_of are_even treatments items.items) }
+            s.reflections.items ≡ reflections_of from treatments items.items) }
     {
         let ahead = ahead_of(alloc, treatments, items.as_slice(), judge)?;
         let given = given(treatments, items.as_slice(), judge);
@@ -178,7 +178,7 @@ impl Assignments {
             items.as_slice(),
             ahead.as_slice(),
             given,
-            are_even,
+            from,
             judge,
         )?;
         Ok(Assignments {

@@ -33,34 +33,34 @@ fn is_mean(treatments: u64, number: u64, left: u64, given: u64) -> bool
     treatments * number + 2 * left == 2 * given
 }
 
-// The number, where it is used: where the blocks are even, after an assignment that closes its
-// block, and where it is no greater than sums may be and twice their mean.
-fn used(are_even: bool, closes: bool, number: u64, most: u64, is_mean: bool) -> u64
+// The number, where it is used: where it may be, after an assignment that closes its block, and
+// where it is no greater than sums may be and twice their mean.
+fn used(may_be: bool, closes: bool, number: u64, most: u64, is_mean: bool) -> u64
     ensures { result
-        ≡ (if are_even && closes && nat_le number most && is_mean then number else 0) }
+        ≡ (if may_be && closes && nat_le number most && is_mean then number else 0) }
 {
-    if are_even && closes && number <= most && is_mean {
+    if may_be && closes && number <= most && is_mean {
         number
     } else {
         0
     }
 }
 
-/// The numbers at which sums are reflected after assignments, where the blocks are even.
+/// The numbers at which sums are reflected after assignments from one of them on, or 0.
 pub(crate) fn reflections_of(
     alloc: Global,
     treatments: usize,
     items: &[Assignment],
     ahead: &[Ahead],
     all: u64,
-    are_even: bool,
+    from: usize,
     _judge: Judge,
 ) -> Result<Vec<u64>, NoMemory>
     requires assignments { AreAssignments treatments items.now _judge }
     requires ahead { AreAhead treatments items.now (length items.now) ahead.now }
     requires all { all ≡ given items.now }
     ensures { IfOk result (λ reflections. reflections.items
-        ≡ reflections_of are_even treatments items.now) }
+        ≡ reflections_of from treatments items.now) }
 {
     let count = items.len();
     let middle = all / treatments as u64;
@@ -72,7 +72,7 @@ pub(crate) fn reflections_of(
         let number = number_after(middle, ahead[count - stage - 1]);
         let is_mean = is_mean(treatments as u64, number, left, all);
         let most = 16 * (stage as u64 + 1);
-        let reflection = used(are_even, assignment.closes, number, most, is_mean);
+        let reflection = used(from <= stage, assignment.closes, number, most, is_mean);
         reflections.push(reflection)?;
     }
     Ok(reflections)

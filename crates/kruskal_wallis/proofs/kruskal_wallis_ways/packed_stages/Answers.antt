@@ -101,7 +101,7 @@ abbrev GoesOnWith : ScoredGroups → (LabelRooms × CentredSums × List ℕ × O
 GoesOnWith samples s =
     let k : ℕ = length s.0.1.sums.rows.items in
     let seen : Network = label_network (seen_meaning s.0.1) in
-    GoesOnFor (label_network (unpacked_meaning samples)) (packed_network k s.1 (reduced_network s.0.3 s.0.2 seen)) (AreOrderable s.0.3 s.0.2 seen) (λ g key. packed_key k (2 ^ s.1) (groups_in_order s.0.3 s.0.2 key))
+    GoesOnFor (label_network (unpacked_meaning samples)) (packed_network k s.1 (reduced_network s.0.3 s.0.2 seen)) (λ g key. AreOrderable s.0.3 s.0.2 seen key) (λ g key. packed_key k (2 ^ s.1) (groups_in_order s.0.3 s.0.2 key))
 
 pub returns-clause-goes_on : goal.returns-clause-goes_on
 returns-clause-goes_on c =
@@ -124,6 +124,7 @@ returns-clause-goes_on c =
           let there = (seen g h).reached key r in
           record {
             long = c.stages-count.ensures.lawful.long g key there ∙ (seen-ordered samples made.fitting stages.1 sums groups own).wide;
+            stage = g;
             reached = (ordered g (seen g h).within).reached key there;
           };
     })

@@ -38,7 +38,7 @@ given c =
       items = ap (λ (p : AssignmentRooms × AssignedSums). p.1.assignments.items.items) parts ∙ c.in_ok-summed.ensures.items;
       judge_is = ap (λ (p : AssignmentRooms × AssignedSums). p.1.assignments.judge) parts ∙ c.in_ok-summed.ensures.judge;
       reflections = subst (λ (p : AssignmentRooms × AssignedSums). AreReflections c.args.treatments c.args.items.now p.1.assignments.reflections.items) (sym parts)
-          (subst (AreReflections c.args.treatments c.args.items.now) (sym c.in_ok-summed.ensures.reflections) (are-reflections c.args.are_even c.args.treatments c.args.items.now));
+          (subst (AreReflections c.args.treatments c.args.items.now) (sym c.in_ok-summed.ensures.reflections) (are-reflections c.args.from c.args.treatments c.args.items.now));
       sizes = c.in_ok-sizes.ensures.items_if_clones_equal (λ y same. same);
     }
 

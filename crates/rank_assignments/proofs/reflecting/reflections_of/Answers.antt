@@ -38,15 +38,15 @@ loop-stage-preserved c =
     c.number_after-number.ensures.is
     ∙ ap (λ (z : Ahead). 2 * (c.args.all / k) - ((z.least + z.later_least) + (z.most + z.later_most))) (next-ahead k vs c.args.ahead.now c.requires.ahead g (record { owed = 0; ways = 0; least = 0; most = 0; later_least = 0; later_most = 0 }) c.loop-stage-test.true)
     ∙ ap (λ n. 2 * (n / k) - (((ahead_at k vs (g + 1)).least + (ahead_at k vs (g + 1)).later_least) + ((ahead_at k vs (g + 1)).most + (ahead_at k vs (g + 1)).later_most))) c.requires.all in
-    let found : c.used-reflection.result ≡ reflection_of c.args.are_even k vs g =
+    let found : c.used-reflection.result ≡ reflection_of (nat_le c.args.from g) k vs g =
     c.used-reflection.ensures
-    ∙ ap (λ b. cond (c.args.are_even && (assignment_at vs g).closes && nat_le number (16 * (g + 1)) && b) number 0) c.is_mean-is_mean.ensures
-    ∙ reflection-found c.args.are_even k vs g number (c.loop-stage.left - (assignment_at vs g).value * (assignment_at vs g).count) c.args.all is left c.requires.all in
+    ∙ ap (λ b. cond (nat_le c.args.from g && (assignment_at vs g).closes && nat_le number (16 * (g + 1)) && b) number 0) c.is_mean-is_mean.ensures
+    ∙ reflection-found (nat_le c.args.from g) k vs g number (c.loop-stage.left - (assignment_at vs g).value * (assignment_at vs g).count) c.args.all is left c.requires.all in
     record {
       left = left;
       small = omega (arith, c.loop-stage.invariant.small);
       done = c.in_ok-push.ensures.items
           ∙ ap (λ ms. ms ++ c.used-reflection.result ∷ []) c.loop-stage.invariant.done
-          ∙ ap (λ m. map (reflection_of c.args.are_even k vs) (range_with_len 0 g) ++ m ∷ []) found
-          ∙ sym (map-range_with_len_more (reflection_of c.args.are_even k vs) 0 g g (omega arith));
+          ∙ ap (λ m. map (λ i. reflection_of (nat_le c.args.from i) k vs i) (range_with_len 0 g) ++ m ∷ []) found
+          ∙ sym (map-range_with_len_more (λ i. reflection_of (nat_le c.args.from i) k vs i) 0 g g (omega arith));
     }

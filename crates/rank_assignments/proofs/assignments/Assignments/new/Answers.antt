@@ -16,5 +16,5 @@ invariant_of-result-clause-base_is c =
 
 pub invariant_of-result-clause-reflections_are : goal.invariant_of-result-clause-reflections_are
 invariant_of-result-clause-reflections_are c =
-    subst (AreReflections c.args.treatments c.args.items.items) (sym (c.in_ok-reflections.ensures ∙ ap (reflections_of c.args.are_even c.args.treatments) c.as_slice-3.ensures.value))
-    (are-reflections c.args.are_even c.args.treatments c.args.items.items)
+    subst (AreReflections c.args.treatments c.args.items.items) (sym (c.in_ok-reflections.ensures ∙ ap (reflections_of c.args.from c.args.treatments) c.as_slice-3.ensures.value))
+    (are-reflections c.args.from c.args.treatments c.args.items.items)

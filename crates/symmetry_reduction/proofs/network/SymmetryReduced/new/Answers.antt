@@ -1,8 +1,9 @@
-use Rattle.std.proofs.Common.{subst, sym}
+use Rattle.std.proofs.Common.{refl, subst, sym}
 use Rattle.networks.specs.GoesOn.{GoesOn}
 use Rattle.symmetry_reduction.specs.OrderedGroups.{groups_in_order}
 use Rattle.symmetry_reduction.specs.ReducedNetworks.{reduced_network}
 use Rattle.symmetry_reduction.specs.declared.orders.Order.{Order}
+use Rattle.symmetry_reduction.specs.declared.orders.Order.TheVariants.{Sums}
 use Rattle.networks.specs.Network.{Network}
 use Rattle.networks.specs.Rooms.{IsRoomed}
 use Rattle.room_network.specs.RoomNetworks.{room_network}
@@ -31,4 +32,4 @@ pub returns-clause-goes_on : goal.returns-clause-goes_on
 returns-clause-goes_on g c = λ is i h.
     let n : Network = room_network (g.M.Measure.meaning c.args.stages.1) (g.R.Rooms.plan c.args.stages.0).weight in
     let sizes = c.args.sizes.items in
-    subst (λ (o : Order). GoesOn n (reduced_network o sizes n) i i (groups_in_order o sizes)) (sym is) (reduced-goes_on c.requires.ordered c.stages-lawful.ensures.lawful i h)
+    subst (λ (o : Order). GoesOn n (reduced_network o sizes n) i i (groups_in_order o sizes)) (sym is) (reduced-goes_on Sums c.requires.ordered c.stages-lawful.ensures.lawful i h (λ k r. refl))
