@@ -575,7 +575,9 @@ INSIDE = [
     }),
     *(
         (["friedman"], f"{n} blocks of {k}, no ties", lambda dice, n=n, k=k: blocks(n, k, dice), {
-            "SuppDists": f"list(p.value = SuppDists::pFriedman(friedman.test(as.matrix(d))$statistic - 0.01, {k}, {n}, FALSE))",
+            # its tables have P(X > x): three quarters of a step below
+            "SuppDists": "list(p.value = SuppDists::pFriedman("
+            f"friedman.test(as.matrix(d))$statistic - {18 / (n * k * (k + 1))}, {k}, {n}, FALSE))",
         })
         for n, k in [(8, 5), (15, 4), (20, 3)]
     ),
@@ -650,6 +652,10 @@ def of_peer(package, call):
     return told if len(told) == 2 else ["-", "-"]
 
 
+# peers that read tables of sums, which were computed once: their rows are shown, and not counted
+TABLES_READ = {"SuppDists"}
+
+
 def inside(tests):
     print("| test | problem | p | seconds | peer | its p | its seconds | times ahead |\n|---|---|---|---|---|---|---|---|")
     Path("inside.R").write_text(INSIDE_R, encoding="utf-8")
@@ -665,7 +671,7 @@ def inside(tests):
             theirs, took = of_peer(package, call)
             ahead = "-" if took == "-" else f"{float(took) / seconds:.1f}"
             print(f"| `{words[0]}` | {what} | {p} | {seconds:.6f} | {package} | {theirs} | {took} | {ahead} |", flush=True)
-            if took != "-":
+            if took != "-" and package not in TABLES_READ:
                 best[what, words[0]] = min(best.get((what, words[0]), math.inf), float(took) / seconds)
     if best:
         mean = math.exp(sum(map(math.log, best.values())) / len(best))
